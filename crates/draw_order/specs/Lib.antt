@@ -1,0 +1,3 @@
+pub mod Draw
+pub mod Pairs
+pub mod Words

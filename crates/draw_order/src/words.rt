@@ -1,0 +1,33 @@
+//! Words from a generator of random numbers.
+ghost use Rattle.std.specs.Prelude.{◌≡◌, IfOk, OnOk, OnErr};
+ghost use Rattle.rand_core.specs.Stream.{next_u64};
+ghost use Rattle.draw_order.specs.Words.{next_words, stream_after};
+
+use rand_core::Rng;
+use room_types::{OutOfMemory, Word};
+use std::alloc::Global;
+
+/// The next `count` answers of the generator's `next_u64`, in order. The generator is left after them, or, where
+/// memory is refused, where it was.
+pub fn words_from<R: Rng>(
+    alloc: Global,
+    generator: &mut R,
+    count: usize,
+) -> Result<Vec<Word>, OutOfMemory>
+    ensures words { IfOk result (λ words. words.items ≡ next_words count (R.stream generator.old)) }
+    ensures after { OnOk result (R.stream generator.new ≡ stream_after count (R.stream generator.old)) }
+    ensures unchanged { OnErr result (R.stream generator.new ≡ R.stream generator.old) }
+{
+    // The memory is taken first, so that no word is drawn in vain.
+    let mut words = Vec::with_capacity(alloc, count)?;
+    for _place in 0..count {
+        words.push(next_word(generator))?;
+    }
+    Ok(words)
+}
+
+fn next_word<R: Rng>(generator: &mut R) -> Word
+    ensures { (result, R.stream generator.new) ≡ next_u64 (R.stream generator.old) }
+{
+    Word::new(generator.next_u64())
+}

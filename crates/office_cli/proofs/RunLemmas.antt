@@ -1,0 +1,20 @@
+-- Runs one after the other.
+use Rattle.std.proofs.Common.{◌≡◌, ℕ, List, [], ◌∷◌, ◌++◌, max, ◌∙◌, ap, subst, arith}
+use Rattle.std.proofs.lemmas.List.Concat.{flat_map-append}
+use Rattle.office_core.specs.declared.office.Office.{Office}
+use Rattle.office_cli.specs.declared.texts.Said.{Said}
+use Rattle.office_cli.specs.Texts.{text_of, status_of}
+use Rattle.office_cli.specs.Runs.{Run, texts_of, greatest_status}
+
+pub Run-append : (o m n : Office) (xs ys : List (List ℕ)) (rs ss : List Said) → Run o xs rs m → Run m ys ss n → Run o (xs ++ ys) (rs ++ ss) n
+Run-append o m n [] ys [] ss p q = subst (λ z. Run z ys ss n) p q
+Run-append o m n (x ∷ xs) ys (r ∷ rs) ss p q = (p.0, p.1, Run-append p.0 m n xs ys rs ss p.2 q)
+Run-append o m n [] ys (r ∷ rs) ss p q = absurd p
+Run-append o m n (x ∷ xs) ys [] ss p q = absurd p
+
+pub greatest_status-append : (rs ss : List Said) → greatest_status (rs ++ ss) ≡ max (greatest_status rs) (greatest_status ss)
+greatest_status-append [] ss = omega arith
+greatest_status-append (r ∷ rs) ss = ap (max (status_of r)) (greatest_status-append rs ss) ∙ omega arith
+
+pub texts_of-append : (rs ss : List Said) → texts_of (rs ++ ss) ≡ texts_of rs ++ texts_of ss
+texts_of-append rs ss = flat_map-append text_of rs ss

@@ -1,0 +1,11 @@
+use Rattle.std.proofs.Common.{◌≡◌, ◌∙◌, length, take, inr, refl, arith}
+use Rattle.std.proofs.lemmas.List.{take_all}
+use Rattle.office_cli.proofs.StreamLemmas.{or_true, Puts-kept}
+use Rattle.office_cli.proofs.carry_out.say.Goals as goal
+
+pub returns-in-Err-flush : goal.returns-in-Err-flush
+returns-in-Err-flush g c =
+    let text = c.args.text.now in
+    let whole : take (length text) text ≡ text = take_all (length text) text (omega arith) in
+    let sent = rw c.as_bytes.ensures.value at c.in-Ok.ensures.sent in
+    inr (refl, c.in-Err-flush.ensures.failed ∙ or_true _, length text, rw whole (Puts-kept _ _ _ _ sent c.in-Err-flush.ensures.bytes c.in-Err-flush.ensures.taken))

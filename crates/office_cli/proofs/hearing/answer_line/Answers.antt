@@ -1,0 +1,29 @@
+use Rattle.std.proofs.Common.{◌≡◌, ◌-◌, length, arith, ap, ◌∙◌, refl}
+use Rattle.office_cli.specs.Texts.{text_of}
+use Rattle.office_cli.proofs.StreamLemmas.{Puts-nil}
+use Rattle.office_cli.proofs.hearing.answer_line.Goals as goal
+
+pub returns-in-Ok-clause-broken : goal.returns-in-Ok-clause-broken
+returns-in-Ok-clause-broken g c =
+    let text : c.as_bytes.result.now ≡ text_of c.hear-said.result = c.as_bytes.ensures.value ∙ c.in-Ok.ensures in
+    let short = c.in-Err-send.ensures.short in
+    record {
+      said = c.hear-said.result;
+      sent = c.in-Err-send.sent;
+      unsent = length c.as_bytes.result.now - c.in-Err-send.sent;
+      step = c.hear-said.ensures.step;
+      written = rw text at c.in-Err-send.ensures.front;
+      all = omega (arith, short, ap length text);
+      suits = refl;
+    }
+
+pub returns-clause-broken : goal.returns-clause-broken
+returns-clause-broken g c = record {
+  said = c.hear-said.result;
+  sent = 0;
+  unsent = length (text_of c.hear-said.result);
+  step = c.hear-said.ensures.step;
+  written = Puts-nil _;
+  all = omega arith;
+  suits = omega arith;
+}

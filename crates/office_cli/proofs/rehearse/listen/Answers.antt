@@ -1,0 +1,36 @@
+use Rattle.std.proofs.Common.{arith, ◌∙◌, inl, inr, ap}
+use Rattle.std.proofs.lemmas.Result.{err_from_is_err_and}
+use Rattle.std.proofs.lemmas.Grind.{common_steps}
+use Rattle.room_types.specs.Watched.{counted}
+use Rattle.office_cli.proofs.StreamLemmas.{or_true, counted_one}
+use Rattle.office_cli.proofs.SessionLemmas.{Listened-nil, Listened-more, Listened-kept, Stopped-halted, Stopped-cut}
+use Rattle.office_cli.proofs.rehearse.listen.Goals as goal
+
+pub returns-in_err-take_piece-in-Ok-clause-stopped : goal.returns-in_err-take_piece-in-Ok-clause-stopped
+returns-in_err-take_piece-in-Ok-clause-stopped g c =
+    let p = err_from_is_err_and c.from_residual.result c.from_residual.ensures.1 in
+    rw (p.1, p.2) (Stopped-halted _ _ _ _ _ _ _ _ _ c.reads.invariant.heard c.in-Ok.ensures.bytes.0 c.in_err-take_piece-in-Ok.ensures.halted)
+
+pub returns-in-Err-clause-stopped : goal.returns-in-Err-clause-stopped
+returns-in-Err-clause-stopped g c = Stopped-cut _ _ _ _ (Listened-kept _ _ _ _ _ c.reads.invariant.heard c.in-Err.ensures.bytes) (inl (c.in-Err.ensures.failed ∙ or_true _))
+
+pub reads-preserved : goal.reads-preserved
+reads-preserved g c = record {
+  heard = Listened-more _ _ _ _ _ _ _ c.reads.invariant.heard c.in-Ok.ensures.bytes.0 c.in_ok-take_piece-in-Ok.ensures.heard;
+  bound = grind (arith, common_steps, c.in_ok-take_piece-in-Ok.ensures.bound, c.in-Ok.ensures.bound);
+  short = c.in_ok-take_piece-in-Ok.ensures.still_short;
+  count = c.in-Ok.ensures.reads ∙ ap (λ n. counted n 1) c.reads.invariant.count ∙ counted_one c.reads.counter c.reads-test.true;
+  lawful = c.in_ok-take_piece-in-Ok.ensures.lawful;
+}
+
+pub returns-clause-stopped : goal.returns-clause-stopped
+returns-clause-stopped g c = Stopped-cut _ _ _ _ c.reads.invariant.heard (inr (omega arith))
+
+pub reads-init : goal.reads-init
+reads-init g c = record {
+  heard = Listened-nil _ _;
+  bound = omega (arith, c.requires.sent);
+  short = c.requires.begun;
+  count = c.requires.reads;
+  lawful = c.requires.lawful;
+}

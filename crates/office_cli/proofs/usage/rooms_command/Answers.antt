@@ -1,0 +1,9 @@
+use Rattle.std.proofs.Common.{◌∙◌, ap, ap₂}
+use Rattle.std.proofs.lemmas.Result.{IfOk-weaker}
+use Rattle.clap.specs.Words.{App, with_subcommand}
+use Rattle.office_cli.proofs.usage.rooms_command.Goals as goal
+
+pub returns : goal.returns
+returns c =
+    let top = λ (a : App). a.top in
+    IfOk-weaker c.subcommand.result _ _ (λ r h. h.shape c.new-rehearse.ensures.local ∙ ap₂ with_subcommand c.plain_command.ensures.0 (ap top c.new-rehearse.ensures.app)) c.subcommand.ensures

@@ -1,0 +1,40 @@
+-- What the program does with the words after its name.
+use Rattle.std.specs.Prelude.{◌≡◌, ℕ, ◌⊎◌, true, Option, Some, None, take, codes}
+use Rattle.room_types.specs.Watched.{counted}
+use Rattle.office_core.specs.Office.{empty_office}
+use Rattle.office_core.specs.declared.office.Office.{Office}
+use Rattle.office_cli.specs.declared.ending.Ending.{Ending}
+use Rattle.office_cli.specs.declared.usage.Program.{Program}
+use Rattle.office_cli.specs.declared.usage.Program.TheVariants.{Rehearse}
+use Rattle.office_cli.specs.declared.words.WordFault.{WordFault}
+use Rattle.office_cli.specs.declared.words.WordFault.TheVariants.{NotUnderstood, OutOfMemory}
+use Rattle.office_cli.specs.Rehearsals.{Rehearses}
+use Rattle.office_cli.specs.Streams.{Input, Output, Puts}
+use Rattle.office_cli.specs.Texts.{ended}
+use Rattle.office_cli.specs.Words.{Text}
+
+-- The text went out and was flushed, and the exit status is the wanted one. Or the writer failed, and it is 3.
+abbrev pub Says : Text → ℕ → ℕ → Output → Output → Type 0
+Says text wanted status out out' =
+    ((status ≡ wanted) × Puts out out' text × (out'.flushes ≡ counted out.flushes 1))
+    ⊎ ((status ≡ 3) × (out'.failed ≡ true) × (sent : ℕ) × Puts out out' (take sent text))
+
+-- Words that are no line are told on standard error with status 2, and want of memory on standard output with status 3.
+abbrev pub Refuses : WordFault → ℕ → Output → Output → Output → Output → Type 0
+Refuses NotUnderstood status out out' error error' = Says (ended (codes "rooms: not understood")) 2 status error error' × (out' ≡ out)
+Refuses OutOfMemory status out out' error error' = Says (ended (codes "unavailable")) 3 status out out' × (error' ≡ error)
+
+-- an empty office hears standard input and answers on standard output
+abbrev pub RehearsesAnew : ℕ → Input → Input → Output → Output → Type 0
+RehearsesAnew status input input' out out' = (ending : Ending) × (office : Office) × Rehearses ending status empty_office office input input' out out'
+
+-- the line is done, or the words are refused that are none
+abbrev pub DoesLine : Option Program → ℕ → Input → Input → Output → Output → Output → Output → Type 0
+DoesLine (Some Rehearse) status input input' out out' error error' = RehearsesAnew status input input' out out' × (error' ≡ error)
+DoesLine None status input input' out out' error error' = Refuses NotUnderstood status out out' error error' × (input' ≡ input)
+
+-- What the words ask for is done, or memory is wanting to read them.
+abbrev pub CarriesOut : Option Program → ℕ → Input → Input → Output → Output → Output → Output → Type 0
+CarriesOut line status input input' out out' error error' =
+    DoesLine line status input input' out out' error error'
+    ⊎ (Refuses OutOfMemory status out out' error error' × (input' ≡ input))

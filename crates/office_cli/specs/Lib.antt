@@ -1,0 +1,13 @@
+pub mod Doing
+pub mod Lines
+pub mod Programs
+pub mod Rehearsals
+pub mod Runs
+pub mod Sentences
+pub mod Sessions
+pub mod Streams
+pub mod Tables
+pub mod Texts
+pub mod Understanding
+pub mod Usage
+pub mod Words

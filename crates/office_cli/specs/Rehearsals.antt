@@ -1,0 +1,55 @@
+-- What a rehearsal does, on each of its endings.
+use Rattle.std.specs.Prelude.{◌≡◌, ℕ, ◌<◌, ◌≤◌, ◌⊎◌, true, List, [], ◌++◌, length, take}
+use Rattle.std.specs.List.{list_all}
+use Rattle.std.specs.Io.KnownBytes.{Consumes, IsAtEnd}
+use Rattle.room_types.specs.Watched.{counted}
+use Rattle.office_core.specs.declared.office.Office.{Office}
+use Rattle.office_cli.specs.declared.texts.Said.{Said}
+use Rattle.office_cli.specs.declared.ending.Ending.{Ending}
+use Rattle.office_cli.specs.declared.ending.Ending.TheVariants.{Ended, ReadFault, WriteFault, NoMemory}
+use Rattle.office_cli.specs.Lines.{is_short, line_limit, read_limit, lines_of, ended_lines, last_part}
+use Rattle.office_cli.specs.Streams.{Input, Output, Puts}
+use Rattle.office_cli.specs.Runs.{Run, texts_of, greatest_status}
+
+-- The whole input was heard: each of its lines was answered in turn, all texts went out, and one flush followed.
+pub record WholeInput (old new : Office) (input input' : Input) (output output' : Output) (status : ℕ) : Type 0 where
+  pub bytes : List ℕ
+  pub answers : List Said
+  pub read : Consumes input.remaining input'.remaining bytes
+  pub end : IsAtEnd input'.remaining
+  pub short : list_all is_short (lines_of bytes) ≡ true
+  pub run : Run old (lines_of bytes) answers new
+  pub written : Puts output output' (texts_of answers)
+  pub flushed : output'.flushes ≡ counted output.flushes 1
+  pub greatest : status ≡ greatest_status answers
+
+-- Some lines of the bytes read, from the first on, were answered, and the first `sent` bytes of their texts went out.
+pub record PartOfInput (old new : Office) (input input' : Input) (output output' : Output) (sent : ℕ) : Type 0 where
+  pub bytes : List ℕ
+  pub lines : List (List ℕ)
+  pub others : List (List ℕ)
+  pub answers : List Said
+  pub read : Consumes input.remaining input'.remaining bytes
+  pub cut : lines_of bytes ≡ lines ++ others
+  pub run : Run old lines answers new
+  pub written : Puts output output' (take sent (texts_of answers))
+  pub within : sent ≤ length (texts_of answers)
+
+-- The lines that were ended before a fault were answered, and all their texts went out.
+-- Then a line is too long, or all that was read was heard and a read failed or too many were needed.
+pub record WholeLines (old new : Office) (input input' : Input) (output output' : Output) : Type 0 where
+  pub heard : List ℕ
+  pub unheard : List ℕ
+  pub answers : List Said
+  pub read : Consumes input.remaining input'.remaining (heard ++ unheard)
+  pub run : Run old (ended_lines heard) answers new
+  pub written : Puts output output' (texts_of answers)
+  pub cause : (line_limit < length (last_part heard)) ⊎ ((unheard ≡ []) × ((input'.failed ≡ true) ⊎ (read_limit ≤ input'.reads)))
+
+-- What a rehearsal did, by its ending. A write fault comes only where the writer failed.
+abbrev pub Rehearses : Ending → ℕ → Office → Office → Input → Input → Output → Output → Type 0
+Rehearses Ended status old new input input' output output' = WholeInput old new input input' output output' status
+Rehearses ReadFault status old new input input' output output' = (status ≡ 3) × WholeLines old new input input' output output'
+Rehearses (WriteFault sent) status old new input input' output output' =
+    (status ≡ 3) × (output'.failed ≡ true) × PartOfInput old new input input' output output' sent
+Rehearses (NoMemory sent) status old new input input' output output' = (status ≡ 3) × PartOfInput old new input input' output output' sent

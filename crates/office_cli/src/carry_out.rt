@@ -1,0 +1,70 @@
+//! What the words after the program's name ask for, done over standard input, output and error.
+ghost use Rattle.std.specs.Prelude.{◌≡◌, map};
+ghost use Rattle.room_types.specs.Watched.{IsFresh};
+ghost use Rattle.office_cli.specs.Streams.{input_of, output_of};
+ghost use Rattle.office_cli.specs.Programs.{program_of};
+ghost use Rattle.office_cli.specs.Doing.{CarriesOut, Refuses, Says};
+
+use crate::program::program;
+use crate::rehearse::rehearse;
+use crate::send::send;
+use crate::texts::{NOT_UNDERSTOOD, UNAVAILABLE};
+use crate::usage::Program;
+use crate::words::WordFault;
+use office_core::Office;
+use room_types::Watched;
+use std::io::{Read, Write};
+
+/// Does what these words after the program's name ask for, and gives the exit status.
+pub fn carry_out<'a, R: Read, W: Write, E: Write>(
+    rt: &HostRuntime,
+    words: &'a [&'a str],
+    input: &mut Watched<R>,
+    output: &mut Watched<W>,
+    error: &mut Watched<E>,
+) -> u8
+    requires fresh_input { IsFresh input.old }
+    requires fresh_output { IsFresh output.old }
+    requires fresh_error { IsFresh error.old }
+    ensures { CarriesOut (program_of (map (λ word. word.now) words.entry.now)) result
+        (input_of R.remaining input.old) (input_of R.remaining input.new)
+        (output_of W.contents output.old) (output_of W.contents output.new)
+        (output_of E.contents error.old) (output_of E.contents error.new) }
+{
+    match program(rt.alloc(), words) {
+        Ok(Program::Rehearse) => {
+            let mut office = Office::empty(rt.alloc());
+            rehearse(rt.alloc(), &mut office, input, output).status
+        }
+        Err(fault) => refuse(fault, output, error),
+    }
+}
+
+/// Says that the words were not understood, on standard error, or that memory was refused, on standard output. Gives the exit status.
+pub fn refuse<W: Write, E: Write>(
+    fault: WordFault,
+    output: &mut Watched<W>,
+    error: &mut Watched<E>,
+) -> u8
+    ensures { Refuses fault result
+        (output_of W.contents output.old) (output_of W.contents output.new)
+        (output_of E.contents error.old) (output_of E.contents error.new) }
+{
+    match fault {
+        WordFault::NotUnderstood => say(error, "rooms: not understood\n", NOT_UNDERSTOOD),
+        WordFault::OutOfMemory => say(output, "unavailable\n", UNAVAILABLE),
+    }
+}
+
+// Writes the text and flushes. The exit status is this one, unless the device fails.
+fn say<W: Write>(output: &mut Watched<W>, text: &str, status: u8) -> u8
+    ensures { Says text.now status result (output_of W.contents output.old) (output_of W.contents output.new) }
+{
+    match send(output, text.as_bytes()) {
+        Ok(()) => match output.flush() {
+            Ok(()) => status,
+            Err(_) => UNAVAILABLE,
+        },
+        Err(_) => UNAVAILABLE,
+    }
+}

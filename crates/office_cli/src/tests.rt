@@ -1,0 +1,6 @@
+//! Worked scripts, streams that fail, and the words of the command line.
+mod failing;
+mod lines;
+mod scripts;
+mod streams;
+mod words;

@@ -1,0 +1,52 @@
+//! A stream that fails.
+use std::io;
+use std::io::{Error, ErrorKind, Read, Write};
+
+/// A reader of bytes, `piece` at a time, of which so many reads pass.
+#[derive(Drop)]
+pub struct FailingReader<'a> {
+    pub unread: &'a [u8],
+    pub piece: usize,
+    pub reads: usize,
+}
+
+impl Read for FailingReader<'_> {
+    fn read(&mut self, buf: &mut [u8]) -> io::Result<usize> {
+        if self.reads == 0 {
+            return Err(Error::from(ErrorKind::Other));
+        }
+        self.reads -= 1;
+        let len = self.piece.min(buf.len());
+        self.unread.read(&mut buf[..len])
+    }
+}
+
+/// A writer that keeps what it takes. So many writes and so many bytes pass, and the flush may fail.
+#[derive(Drop)]
+pub struct FailingWriter {
+    pub written: Vec<u8>,
+    pub writes: usize,
+    pub room: usize,
+    pub flushes: bool,
+}
+
+impl Write for FailingWriter {
+    fn write(&mut self, buf: &[u8]) -> io::Result<usize> {
+        if self.writes == 0 {
+            return Err(Error::from(ErrorKind::Other));
+        }
+        self.writes -= 1;
+        let len = self.room.min(buf.len());
+        self.room -= len;
+        self.written.extend_from_slice(&buf[..len])?;
+        Ok(len)
+    }
+
+    fn flush(&mut self) -> io::Result<()> {
+        if self.flushes {
+            Ok(())
+        } else {
+            Err(Error::from(ErrorKind::Other))
+        }
+    }
+}

@@ -1,0 +1,2 @@
+//! The commands, one in each file.
+pub mod add_room;

@@ -1,0 +1,2 @@
+//! The queries, one in each file.
+pub mod rooms;

@@ -1,0 +1,8 @@
+//! What the office is asked.
+
+/// What the office is asked.
+#[derive(Drop)]
+pub enum Query {
+    /// The rooms, by code.
+    Rooms,
+}

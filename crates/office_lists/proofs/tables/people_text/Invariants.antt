@@ -1,0 +1,7 @@
+use Rattle.std.proofs.Common.{◌≡◌, take}
+use Rattle.std.specs.String.{string_bytes}
+use Rattle.office_lists.specs.Tables.{people_table}
+use Rattle.office_lists.proofs.tables.people_text.Given as goal
+
+abbrev pub invariant-loop-row : goal.invariant-loop-row
+invariant-loop-row l = string_bytes l.text ≡ people_table (take l.row-index l.rows)

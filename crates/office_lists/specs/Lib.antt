@@ -1,0 +1,2 @@
+pub mod MoveDay
+pub mod Tables

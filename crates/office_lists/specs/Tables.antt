@@ -1,0 +1,39 @@
+-- The tables of text.
+use Rattle.std.specs.Prelude.{ℕ, ◌-◌, List, [], ◌∷◌, ◌++◌, replicate, codes, Option, unwrap_or}
+use Rattle.std.specs.List.{flat_map}
+use Rattle.std.specs.Fmt.{char_count}
+use Rattle.room_types.specs.Texts.{Text}
+use Rattle.room_types.specs.Rows.{state_text}
+use Rattle.room_types.specs.declared.rows.RoomRow.{RoomRow}
+use Rattle.room_types.specs.declared.rows.PersonRow.{PersonRow}
+
+-- the text, and spaces up to the width
+abbrev pub left_in : ℕ → Text → Text
+left_in width text = text ++ replicate (width - char_count text) 32
+
+-- a line of a table: each cell left in its column's width, two spaces between columns, the last cell as it is
+abbrev pub line : List ℕ → List Text → Text
+line (width ∷ widths) (cell ∷ cells) = left_in width cell ++ (codes "  " ++ line widths cells)
+line [] (cell ∷ cells) = cell ++ codes "\n"
+line widths [] = codes "\n"
+
+-- a table: the line of its headings, and one for each row
+abbrev pub table : {Row : Type 0} → List ℕ → List Text → (Row → List Text) → List Row → Text
+table widths headings cells rows = line widths headings ++ flat_map (λ row. line widths (cells row)) rows
+
+abbrev pub or_none : Option Text → Text
+or_none text = unwrap_or text (codes "none")
+
+abbrev pub rooms_table : List RoomRow → Text
+rooms_table =
+    table (8 ∷ 8 ∷ []) (codes "room" ∷ codes "state" ∷ codes "tenant" ∷ [])
+    (λ row. row.room ∷ state_text row.state ∷ or_none row.tenant ∷ [])
+
+abbrev pub people_table : List PersonRow → Text
+people_table =
+    table (12 ∷ 8 ∷ []) (codes "person" ∷ codes "home" ∷ codes "name" ∷ [])
+    (λ row. row.person ∷ or_none row.home ∷ row.name ∷ [])
+
+-- of people, each with the room that came out
+abbrev pub results_table : List (Text × Option Text) → Text
+results_table = table (12 ∷ []) (codes "person" ∷ codes "room" ∷ []) (λ row. row.0 ∷ or_none row.1 ∷ [])

@@ -1,0 +1,133 @@
+use crate::{move_day_text, people_text, results_text, rooms_text};
+use room_types::{Grammar, Move, PersonRow, RoomRow, State, Text, Wave};
+use std::alloc::Global;
+use std::process::Abort;
+use std::test::Fail;
+
+#[test]
+fn a_table_of_rooms(rt: HostRuntime) -> Result<(), Fail> {
+    let alloc = rt.alloc();
+    let mut rows = Vec::new(alloc);
+    assert_eq!(rt;
+        rooms_text(alloc, &rows)?.as_str(),
+        "room      state     tenant\n"
+    );
+    for (room, state, tenant) in [
+        ("ABCDEFGH", State::Occupied, Some("ABCDEFGH1234")),
+        ("H1", State::Free, None),
+        ("V-2", State::Shut, None),
+    ] {
+        rows.push(RoomRow {
+            room: text(&rt, alloc, room),
+            state,
+            tenant: optional(&rt, alloc, tenant),
+        })?;
+    }
+    let table = rooms_text(alloc, &rows)?;
+    assert_eq!(rt;
+        table.as_str(),
+        "room      state     tenant\nABCDEFGH  occupied  ABCDEFGH1234\nH1        free      none\nV-2       shut      none\n"
+    );
+    Ok(())
+}
+
+#[test]
+fn a_table_of_people(rt: HostRuntime) -> Result<(), Fail> {
+    let alloc = rt.alloc();
+    let mut rows = Vec::new(alloc);
+    for (person, home, name) in [("T1", Some("H1"), "Tim Tan"), ("T2", None, "Tom Tao")] {
+        rows.push(PersonRow {
+            person: text(&rt, alloc, person),
+            name: text(&rt, alloc, name),
+            home: optional(&rt, alloc, home),
+        })?;
+    }
+    let table = people_text(alloc, &rows)?;
+    assert_eq!(rt;
+        table.as_str(),
+        "person        home      name\nT1            H1        Tim Tan\nT2            none      Tom Tao\n"
+    );
+    Ok(())
+}
+
+#[test]
+fn a_table_of_results(rt: HostRuntime) -> Result<(), Fail> {
+    let alloc = rt.alloc();
+    let mut rows = Vec::new(alloc);
+    assert_eq!(rt;
+        results_text(alloc, &rows)?.as_str(),
+        "person        room\n"
+    );
+    for (person, room) in [("N", Some("V")), ("T1", Some("W")), ("T2", None)] {
+        rows.push((text(&rt, alloc, person), optional(&rt, alloc, room)))?;
+    }
+    let table = results_text(alloc, &rows)?;
+    assert_eq!(rt;
+        table.as_str(),
+        "person        room\nN             V\nT1            W\nT2            none\n"
+    );
+    Ok(())
+}
+
+#[test]
+fn move_day_of_a_swap_with_a_newcomer_behind(rt: HostRuntime) -> Result<(), Fail> {
+    let alloc = rt.alloc();
+    let moves = vec![in alloc;
+        moved(&rt, alloc, "T2", Some("H2"), "H1", Wave::Swap),
+        moved(&rt, alloc, "T1", Some("H1"), "H2", Wave::Swap),
+        moved(&rt, alloc, "N", None, "V", Wave::Nth(1)),
+    ]?;
+    let table = move_day_text(alloc, &moves)?;
+    assert_eq!(rt;
+        table.as_str(),
+        "wave  person        from      to\n1     N             none      V\nswap  T1            H1        H2\nswap  T2            H2        H1\n"
+    );
+    Ok(())
+}
+
+#[test]
+fn move_day_of_a_chain(rt: HostRuntime) -> Result<(), Fail> {
+    let alloc = rt.alloc();
+    assert_eq!(rt;
+        move_day_text(alloc, &[])?.as_str(),
+        "wave  person        from      to\n"
+    );
+    let moves = vec![in alloc;
+        moved(&rt, alloc, "T1", Some("H1"), "H2", Wave::Nth(2)),
+        moved(&rt, alloc, "T2", Some("H2"), "V", Wave::Nth(1)),
+    ]?;
+    let table = move_day_text(alloc, &moves)?;
+    assert_eq!(rt;
+        table.as_str(),
+        "wave  person        from      to\n1     T2            H2        V\n2     T1            H1        H2\n"
+    );
+    Ok(())
+}
+
+fn text<G: Grammar>(rt: &impl Abort, alloc: Global, text: &str) -> Text<G> {
+    match Text::read(alloc, text) {
+        Ok(text) => text,
+        Err(_) => panic!(rt; "{text} is not in the grammar"),
+    }
+}
+
+fn optional<G: Grammar>(rt: &impl Abort, alloc: Global, value: Option<&str>) -> Option<Text<G>> {
+    value.map(|value| text(rt, alloc, value))
+}
+
+fn moved(
+    rt: &impl Abort,
+    alloc: Global,
+    person: &str,
+    from: Option<&str>,
+    to: &str,
+    wave: Wave,
+) -> Move {
+    Move {
+        round: 1,
+        person: text(rt, alloc, person),
+        from: optional(rt, alloc, from),
+        to: Some(text(rt, alloc, to)),
+        wave,
+    }
+}

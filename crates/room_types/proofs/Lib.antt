@@ -1,0 +1,3 @@
+pub mod HexTexts
+pub mod Repeats
+pub mod Trees

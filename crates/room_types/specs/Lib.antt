@@ -1,0 +1,11 @@
+pub mod Choices
+pub mod Faults
+pub mod Grammars
+pub mod Kinds
+pub mod Phases
+pub mod Repeats
+pub mod Rows
+pub mod TextMaps
+pub mod Texts
+pub mod Watched
+pub mod Words

@@ -1,0 +1,47 @@
+-- What a watched reader or writer is seen as.
+use Rattle.std.specs.Prelude.{◌≡◌, ℕ, ◌+◌, ◌-◌, ◌^◌, min, Bool, true, false, Result, Ok, Err, List, length, nat_lt, ◌&&◌, ◌==◌}
+use Rattle.room_types.specs.declared.watched.Watched.{Watched}
+
+-- the reader or writer inside
+abbrev pub watched_inner : {T : Type 0} → Watched T → T
+watched_inner w = w.inner
+
+-- whether a call of it failed
+abbrev pub watched_failed : {T : Type 0} → Watched T → Bool
+watched_failed w = w.failed
+
+-- how often it was read, up to the greatest number that fits
+abbrev pub watched_reads : {T : Type 0} → Watched T → ℕ
+watched_reads w = w.reads
+
+-- how many bytes it took, up to the greatest number that fits
+abbrev pub watched_taken : {T : Type 0} → Watched T → ℕ
+watched_taken w = w.taken
+
+-- how often it was flushed, up to the greatest number that fits
+abbrev pub watched_flushes : {T : Type 0} → Watched T → ℕ
+watched_flushes w = w.flushes
+
+-- a count after n more
+abbrev pub counted : ℕ → ℕ → ℕ
+counted count n = min (count + n) (2 ^ 64 - 1)
+
+-- the call failed
+abbrev pub is_failure : {A E : Type 0} → Result A E → Bool
+is_failure (Ok x) = false
+is_failure (Err e) = true
+
+-- the write failed, or took none of at least one byte
+abbrev pub is_failed_write : {E : Type 0} → List ℕ → Result ℕ E → Bool
+is_failed_write buf (Ok n) = nat_lt 0 (length buf) && n == 0
+is_failed_write buf (Err e) = true
+
+-- the count of bytes after a write
+abbrev pub taken_after : {E : Type 0} → ℕ → Result ℕ E → ℕ
+taken_after taken (Ok n) = counted taken n
+taken_after taken (Err e) = taken
+
+-- neither failed nor read
+pub record IsFresh {T : Type 0} (w : Watched T) : Type 0 where
+  pub failed : w.failed ≡ false
+  pub reads : w.reads ≡ 0

@@ -1,0 +1,98 @@
+//! Lists of rooms, the best first.
+ghost use Rattle.std.specs.Prelude.{◌≡◌, None, Some, ◌⊎◌, MatchResult, IfOk, []};
+ghost use Rattle.std.specs.Option.{option_copied};
+ghost use Rattle.room_types.specs.Repeats.{first_repeated};
+ghost use Rattle.room_types.specs.Choices.{choices_fault, IsChoices};
+
+use crate::fault::{OutOfMemory, TypeFault};
+use crate::grammars::RoomCode;
+use std::alloc::{AllocError, Global};
+use std::marker::Model;
+
+/// How many rooms a list may have.
+pub const CHOICE_LIMIT: usize = 40;
+
+/// The rooms that a person lists, the best first: at most `CHOICE_LIMIT`, all different.
+#[derive(Debug, Drop)]
+pub struct Choices {
+    codes: Vec<RoomCode>,
+}
+
+impl Model for Choices {
+    ghost use Rattle.std.specs.Prelude.{List, ℕ};
+    ghost use Rattle.room_types.specs.Choices.{IsChoices};
+
+    ghost Value = { List (List ℕ) };
+
+    ghost view = { λ a. a.codes.items };
+
+    ghost invariant = { λ a. IsChoices a.codes.items };
+}
+
+impl Choices {
+    /// The list of these rooms: `TooManyChoices` where there are more than `CHOICE_LIMIT`, and else
+    /// `RoomRepeated` with the first code that also stands before its place.
+    pub fn read(codes: Vec<RoomCode>) -> Result<Choices, TypeFault>
+        ensures { MatchResult result (λ value. (value ≡ codes.items) × (choices_fault codes.items ≡ None))
+            (λ fault. (fault ≡ TypeFault.OutOfMemory) ⊎ (choices_fault codes.items ≡ Some fault)) }
+    {
+        if codes.len() > CHOICE_LIMIT {
+            return Err(TypeFault::TooManyChoices);
+        }
+        if let Some(code) = first_repeated(codes.as_slice()) {
+            return match code.copy() {
+                Ok(code) => Err(TypeFault::RoomRepeated(code)),
+                Err(_) => Err(TypeFault::OutOfMemory),
+            };
+        }
+        Ok(Choices { codes })
+    }
+
+    /// An equal list.
+    pub fn copy(&self) -> Result<Self, OutOfMemory>
+        ensures { IfOk result (λ copy. copy ≡ self.now) }
+    {
+        let copy = self.clone()?;
+        Ok(copy)
+    }
+
+    /// The rooms, the best first.
+    pub fn as_slice(&self) -> &[RoomCode]
+        ensures rooms { result.now ≡ self.now }
+        ensures choices { IsChoices self.now }
+    {
+        self.codes.as_slice()
+    }
+}
+
+impl Clone for Choices {
+    ghost is_clone = { λ x y. y ≡ x };
+
+    fn clone(&self) -> Result<Self, AllocError> {
+        let codes = copied(*self.codes.allocator(), self.codes.as_slice())?;
+        Ok(Choices { codes })
+    }
+}
+
+// The first code that also stands before its place. A list is short, so each place looks back over it.
+fn first_repeated(codes: &[RoomCode]) -> Option<&RoomCode>
+    ensures { option_copied result ≡ first_repeated [] codes.now }
+{
+    for (i, code) in codes.iter().enumerate() {
+        if codes[..i].contains(code) {
+            return Some(code);
+        }
+    }
+    None
+}
+
+// A copy of each code, in order.
+fn copied(alloc: Global, codes: &[RoomCode]) -> Result<Vec<RoomCode>, AllocError>
+    ensures { IfOk result (λ copies. copies.items ≡ codes.now) }
+{
+    let mut copies = Vec::with_capacity(alloc, codes.len())?;
+    for code in codes {
+        copies.push(code.clone()?)?;
+    }
+    Ok(copies)
+}

@@ -1,0 +1,37 @@
+//! The kinds of lists that are imported.
+ghost use Rattle.std.specs.Prelude.{◌≡◌, Some};
+ghost use Rattle.room_types.specs.Kinds.{kind_text};
+
+use std::fmt;
+
+/// What an imported list brings.
+#[derive(Clone, Copy, Debug, PartialEq, Eq, Drop)]
+pub enum ListKind {
+    /// Rooms, by code.
+    Rooms,
+    /// People, with name, key and home.
+    People,
+    /// The rooms that people choose.
+    Choices,
+}
+
+impl ListKind {
+    /// The kind's name, in lower case.
+    pub fn as_str(self) -> &'static str
+        ensures { result.now ≡ kind_text self }
+    {
+        match self {
+            ListKind::Rooms => "rooms",
+            ListKind::People => "people",
+            ListKind::Choices => "choices",
+        }
+    }
+}
+
+impl fmt::Display for ListKind {
+    ghost output = { λ kind. Some (kind_text kind) };
+
+    fn fmt<W: fmt::Write>(&self, f: &mut fmt::Formatter<W>) -> fmt::Result {
+        f.write_str(self.as_str())
+    }
+}

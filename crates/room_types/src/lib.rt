@@ -1,0 +1,31 @@
+//! The small types of a college's room exchange: texts, words, lists of rooms, maps, and watched streams.
+#![tactic(auto)]
+
+pub mod choices;
+pub mod fault;
+pub mod grammars;
+pub mod kinds;
+pub mod listing;
+pub mod moves;
+pub mod phase;
+pub mod rows;
+pub mod table;
+pub mod text;
+pub mod watched;
+pub mod word;
+
+pub use crate::choices::{CHOICE_LIMIT, Choices};
+pub use crate::fault::{OutOfMemory, TypeFault};
+pub use crate::grammars::{Key, Label, Name, PersonId, RoomCode};
+pub use crate::kinds::ListKind;
+pub use crate::listing::Listing;
+pub use crate::moves::{Move, Wave};
+pub use crate::phase::Phase;
+pub use crate::rows::{PersonRow, RoomRow, State};
+pub use crate::table::{Copied, Table};
+pub use crate::text::{Grammar, Text};
+pub use crate::watched::Watched;
+pub use crate::word::{WORD_DIGITS, Word};
+
+#[cfg(test)]
+mod tests;

@@ -1,0 +1,53 @@
+//! Moves from one room to another after a round.
+ghost use Rattle.std.specs.Prelude.{◌≡◌, IfOk};
+
+use crate::fault::OutOfMemory;
+use crate::grammars::{PersonId, RoomCode};
+use crate::rows::copy_optional;
+use std::alloc::AllocError;
+
+/// When a move takes place on the day of moving.
+#[derive(Clone, Copy, Debug, PartialEq, Eq, Drop)]
+pub enum Wave {
+    /// The movers pass their rooms round in a circle, so that none can be the first.
+    Swap,
+    /// The first wave moves into rooms that nobody leaves, and each further one into rooms that the wave before has left.
+    Nth(u16),
+}
+
+/// That a person has moved after a round.
+#[derive(Debug, Drop)]
+pub struct Move {
+    /// The number of the round, from 1.
+    pub round: u16,
+    pub person: PersonId,
+    /// The old room, or none of a newcomer.
+    pub from: Option<RoomCode>,
+    /// The new room.
+    pub to: Option<RoomCode>,
+    pub wave: Wave,
+}
+
+impl Move {
+    /// An equal move.
+    pub fn copy(&self) -> Result<Move, OutOfMemory>
+        ensures { IfOk result (λ copy. copy ≡ self.now) }
+    {
+        let copy = self.clone()?;
+        Ok(copy)
+    }
+}
+
+impl Clone for Move {
+    ghost is_clone = { λ x y. y ≡ x };
+
+    fn clone(&self) -> Result<Move, AllocError> {
+        Ok(Move {
+            round: self.round,
+            person: self.person.clone()?,
+            from: copy_optional(&self.from)?,
+            to: copy_optional(&self.to)?,
+            wave: self.wave,
+        })
+    }
+}

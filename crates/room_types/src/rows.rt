@@ -1,0 +1,66 @@
+//! The rows of replies, tables and exports.
+ghost use Rattle.std.specs.Prelude.{◌≡◌, IfOk, Some};
+ghost use Rattle.room_types.specs.Rows.{state_text};
+
+use crate::grammars::{Name, PersonId, RoomCode};
+use crate::text::{Grammar, Text};
+use std::alloc::AllocError;
+use std::fmt;
+
+/// Whether somebody may move into a room.
+#[derive(Clone, Copy, Debug, PartialEq, Eq, Drop)]
+pub enum State {
+    /// Nobody lives there.
+    Free,
+    /// It is somebody's home.
+    Occupied,
+    /// It is out of use, and nobody's home.
+    Shut,
+}
+
+impl State {
+    /// The state as it is printed.
+    pub fn as_str(self) -> &'static str
+        ensures { result.now ≡ state_text self }
+    {
+        match self {
+            State::Free => "free",
+            State::Occupied => "occupied",
+            State::Shut => "shut",
+        }
+    }
+}
+
+impl fmt::Display for State {
+    ghost output = { λ state. Some (state_text state) };
+
+    fn fmt<W: fmt::Write>(&self, f: &mut fmt::Formatter<W>) -> fmt::Result {
+        f.write_str(self.as_str())
+    }
+}
+
+/// A room, whether it can be moved into, and who lives there.
+#[derive(Debug, Drop)]
+pub struct RoomRow {
+    pub room: RoomCode,
+    pub state: State,
+    pub tenant: Option<PersonId>,
+}
+
+/// A person, without the key.
+#[derive(Debug, Drop)]
+pub struct PersonRow {
+    pub person: PersonId,
+    pub name: Name,
+    pub home: Option<RoomCode>,
+}
+
+/// A copy of a text, where there is one.
+pub fn copy_optional<G: Grammar>(text: &Option<Text<G>>) -> Result<Option<Text<G>>, AllocError>
+    ensures { IfOk result (λ copy. copy ≡ text.now) }
+{
+    match text {
+        Some(text) => Ok(Some(text.clone()?)),
+        None => Ok(None),
+    }
+}

@@ -1,0 +1,138 @@
+//! Maps from texts of one grammar.
+ghost use Rattle.std.specs.Prelude.{◌≡◌, OnOk, OnErr, IfOk, List, ℕ, ◌<◌, ◌^◌};
+ghost use Rattle.std.specs.Option.{option_copied};
+ghost use Rattle.std.specs.FinMap as map;
+ghost use Rattle.std.specs.Map.Iter.{ShowsInOrder, deref_pair};
+
+use crate::choices::Choices;
+use crate::fault::OutOfMemory;
+use crate::moves::Move;
+use crate::text::{Grammar, Text};
+use crate::word::Word;
+use std::alloc::Global;
+use std::collections::BTreeMap;
+use std::collections::btree_map::Iter;
+use std::marker::Model;
+
+/// Values whose clones are equal to them, which `Clone` alone does not say.
+pub trait Copied: Clone {
+    ghost same: { (x y : Self) → Self.is_clone x y → y ≡ x };
+}
+
+impl Copied for bool {
+    ghost same = { λ x y h. h };
+}
+
+impl Copied for u64 {
+    ghost same = { λ x y h. h };
+}
+
+impl Copied for () {
+    ghost same = { λ x y h. h };
+}
+
+impl Copied for Choices {
+    ghost same = { λ x y h. h };
+}
+
+impl Copied for Word {
+    ghost same = { λ x y h. h };
+}
+
+impl Copied for Move {
+    ghost same = { λ x y h. h };
+}
+
+/// A map from texts of the grammar G. Contracts see it as a finite map; look-ups are logarithmic.
+#[derive(Drop)]
+pub struct Table<G: Grammar, V> {
+    tree: BTreeMap<Text<G>, V>,
+}
+
+impl<G: Grammar, V> Model for Table<G, V> {
+    ghost use Rattle.std.specs.Coded.{coded_list, coded_ℕ};
+    ghost use Rattle.std.specs.FinMap.{from_entries, code};
+    ghost use Rattle.room_types.specs.Texts.{TextMap};
+
+    ghost Value = { TextMap V };
+
+    ghost coded = { code (coded_list coded_ℕ) V.code };
+
+    ghost view = { λ a. from_entries a.tree.entries };
+}
+
+impl<G: Grammar, V> Table<G, V> {
+    /// The map with no entries.
+    pub fn new(alloc: Global) -> Self
+        ensures { result ≡ map.empty }
+    {
+        Table {
+            tree: BTreeMap::new(alloc),
+        }
+    }
+
+    /// The value of the key, where it has one.
+    pub fn get(&self, key: &Text<G>) -> Option<&V>
+        ensures { option_copied result ≡ map.get self.now key.now }
+    {
+        self.tree.get(key)
+    }
+
+    /// Whether the key has a value.
+    pub fn contains_key(&self, key: &Text<G>) -> bool
+        ensures { result ≡ map.contains_key self.now key.now }
+    {
+        self.get(key).is_some()
+    }
+
+    /// How many keys have a value.
+    pub fn len(&self) -> usize
+        ensures { result ≡ map.len self.now }
+    {
+        self.tree.len()
+    }
+
+    /// The entries, by ascending key.
+    pub fn iter(&self) -> Iter<'_, Text<G>, V>
+        ensures rest { result ≡ map.entries self.now }
+        ensures runs { ShowsInOrder (deref_pair {K = List ℕ} {X = V}) }
+        ensures fits { map.len self.now < 2 ^ 63 }
+    {
+        self.tree.iter()
+    }
+}
+
+impl<G: Grammar, V: Drop> Table<G, V> {
+    /// Gives the key this value in place of any other. Where memory is refused the map is as before.
+    pub fn insert(&mut self, key: Text<G>, value: V) -> Result<(), OutOfMemory>
+        ensures inserted { OnOk result (self.new ≡ map.insert self.old key value) }
+        ensures refused { OnErr result (self.new ≡ self.old) }
+    {
+        self.tree.insert(key, value)?;
+        Ok(())
+    }
+
+    /// Takes the key and its value out, if it is there.
+    pub fn remove(&mut self, key: &Text<G>)
+        ensures { self.new ≡ map.remove self.old key.now }
+    {
+        let _ = self.tree.remove(key);
+    }
+
+    /// Takes out all entries.
+    pub fn clear(&mut self)
+        ensures { self.new ≡ map.empty }
+    {
+        self.tree.clear();
+    }
+}
+
+impl<G: Grammar, V: Copied> Table<G, V> {
+    /// An equal map.
+    pub fn copy(&self) -> Result<Self, OutOfMemory>
+        ensures { IfOk result (λ copy. copy ≡ self.now) }
+    {
+        let tree = self.tree.clone()?;
+        Ok(Table { tree })
+    }
+}
