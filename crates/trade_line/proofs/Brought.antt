@@ -1,0 +1,122 @@
+-- The turn that brings a tenant to the front.
+use Rattle.trade_line.proofs.Asked.{asked_split}
+use Rattle.std.proofs.Common.{◌≡◌, ℕ, suc, ◌+◌, ◌<◌, ◌≤◌, true, false, not, ◌&&◌, ◌==◌, ◌∷◌, ◌++◌, length, Some, is_some, set, refl, sym, ap, ◌∙◌, subst, inl, inr, arith, eqb-true, eq-eqb, get_or-set_same, get_or-set_other, length-set, pred, cond, Bool}
+use Rattle.std.proofs.lemmas.Bool.{cases_Bool, and_parts, and_from, and_right, or_cases, false_from_ne_true, both_ways}
+use Rattle.trade_line.specs.Below.{count_below}
+use Rattle.trade_line.specs.Market.{Market, home, tenant, is_tenant}
+use Rattle.trade_line.specs.TopTradingCycles.{wish}
+use Rattle.trade_line.specs.Inner.Removal.{Leads}
+use Rattle.trade_line.specs.Member.{among}
+use Rattle.trade_line.specs.Inner.Queue.{WaitsBehind}
+use Rattle.trade_line.specs.Line.{front_of, without}
+use Rattle.trade_line.specs.Inner.State.{State, stage_at, has_asked, given_to}
+use Rattle.trade_line.specs.Inner.Turn.{Asks, Onward, asked_in}
+use Rattle.trade_line.specs.Market.{list_of}
+use Rattle.trade_line.specs.Looks.{needed}
+use Rattle.trade_line.specs.Inner.Reads.{reads}
+use Rattle.trade_line.specs.Inner.Looks.{needed_behind, linked_line, served_needed, paid, front_reads}
+use Rattle.trade_line.proofs.Looks.{sum_le, need_read, linked_split}
+use Rattle.trade_line.proofs.Search.{not_yes, not_from}
+use Rattle.trade_line.proofs.Count.{count_less}
+use Rattle.trade_line.proofs.Unique.{same_stage}
+use Rattle.trade_line.proofs.Lines.{and_all, among-without, once_without, without-append, length-without, ascends_without}
+use Rattle.trade_line.proofs.Turns.{marked, brought, marked_stays, marked_unasked, tenant_home}
+
+module _ (m : Market) where
+  -- the tenant of the room comes to the front
+  pub bring_onward : (s : State) (a room t : ℕ) → Asks m a s → wish m (stage_at s) a ≡ Some room → tenant m room ≡ Some t → among s.line t ≡ true → has_asked s t ≡ false → Onward m s (brought s t)
+  bring_onward s a room t ask w e i new = record {
+    standing = record {
+      fits = record {
+        market = ask.fits.market;
+        asked_len = length-set s.asked t true ∙ ask.fits.asked_len;
+        remaining_len = ask.fits.remaining_len;
+        given_len = ask.fits.given_len;
+      };
+      queue = record {
+        waiting = t ∷ a ∷ ask.behind;
+        fresh = without t ask.fresh;
+        split = ap (λ z. t ∷ z) rest;
+        waiting_asked = λ p h. elim (or_cases (t == p) (among (a ∷ ask.behind) p) h) [
+          | inl y ↦ subst (λ z. has_asked (marked s t) z ≡ true) (eqb-true t p y) (get_or-set_same s.asked t true false t_below)
+          | inr y ↦ marked_stays m s t p t_below (ask.waiting_asked p y)
+        ];
+        fresh_unasked = λ p h.
+            (let b : (among ask.fresh p ≡ true) × (not (t == p) ≡ true) = and_parts (among ask.fresh p) (not (t == p)) (sym (among-without t ask.fresh p) ∙ h) in
+            get_or-set_other s.asked t p true false (λ pe. both_ways (t == p) (not_yes (t == p) b.1) (eq-eqb t p (sym pe))) ∙ ask.fresh_unasked p b.0);
+        waits = subst (λ z. WaitsBehind m z t (a ∷ ask.behind)) (sym stage) ((room, t_home.1, w), ask.waits);
+        least = λ p h. ask.least p (sym (people p) ∙ h);
+        ascends = ascends_without t ask.fresh ask.ascends;
+        once = (among-without t s.line t ∙ and_right (among s.line t) (not (t == t)) (rw (eq-eqb t t refl) refl), once_without t s.line ask.once);
+        known = λ p h. ask.known p (sym (people p) ∙ h);
+      };
+    };
+    fewer = (
+        let len : suc (length (without t s.line)) ≡ length s.line = length-without t s.line ask.once i in
+        let less : count_below m.people (λ p. is_tenant m p && not (has_asked (marked s t) p)) < count_below m.people (λ p. is_tenant m p && not (has_asked s p)) =
+        count_less m.people (λ p. is_tenant m p && not (has_asked (marked s t) p)) (λ p. is_tenant m p && not (has_asked s p)) t
+        (marked_unasked m s t t_below)
+        t_home.0 (and_from (is_tenant m t) (not (has_asked s t)) (ap is_some t_home.1) (not_from (has_asked s t) new))
+        (and_right (is_tenant m t) (not (has_asked (marked s t) t)) (ap not (get_or-set_same s.asked t true false t_below))) in
+        omega arith);
+    turns = bring_turns;
+    looks = bring_paid;
+    settles = λ f st. record {
+      served = λ p l h. st.served p l (people p ∙ h);
+      leads = subst (λ z. Leads m f z) stage st.leads;
+    };
+  }
+    where
+      t_home : (t < m.people) × (home m t ≡ Some room)
+      t_home = tenant_home m room t e
+
+      t_below : t < length s.asked
+      t_below = let l : t < m.people = t_home.0 in omega (arith, ask.fits.asked_len)
+
+      rest : without t s.line ≡ (a ∷ ask.behind) ++ without t ask.fresh
+      rest = ap (without t) ask.split ∙ without-append t (a ∷ ask.behind) ask.fresh (false_from_ne_true (among (a ∷ ask.behind) t) (λ y. both_ways (has_asked s t) new (ask.waiting_asked t y)))
+
+      bring_turns : pred (asked_in (set s.asked t true) (t ∷ without t s.line)) + length s.line ≤ suc (pred (asked_in s.asked s.line) + length (t ∷ without t s.line))
+      bring_turns =
+          let len : suc (length (without t s.line)) ≡ length s.line = length-without t s.line ask.once i in
+          let a1 : asked_in s.asked s.line ≡ suc (length ask.behind) = asked_split s.asked s.line (a ∷ ask.behind) ask.fresh ask.split ask.waiting_asked ask.fresh_unasked in
+          let a2 : asked_in (set s.asked t true) (t ∷ without t s.line) ≡ suc (suc (length ask.behind)) =
+          asked_split (set s.asked t true) (t ∷ without t s.line) (t ∷ a ∷ ask.behind) (without t ask.fresh) (ap (λ z. t ∷ z) rest)
+          (λ p h. elim (or_cases (t == p) (among (a ∷ ask.behind) p) h) [
+            | inl y ↦ subst (λ z. has_asked (marked s t) z ≡ true) (eqb-true t p y) (get_or-set_same s.asked t true false t_below)
+            | inr y ↦ marked_stays m s t p t_below (ask.waiting_asked p y)
+          ])
+          (λ p h.
+          (let b : (among ask.fresh p ≡ true) × (not (t == p) ≡ true) = and_parts (among ask.fresh p) (not (t == p)) (sym (among-without t ask.fresh p) ∙ h) in
+          get_or-set_other s.asked t p true false (λ pe. both_ways (t == p) (not_yes (t == p) b.1) (eq-eqb t p (sym pe))) ∙ ask.fresh_unasked p b.0)) in
+          omega arith
+
+      people : (p : ℕ) → among (t ∷ without t s.line) p ≡ among s.line p
+      people p =
+          elim (cases_Bool (t == p)) [
+            | inl y ↦ rw y (sym (subst (λ z. among s.line z ≡ true) (eqb-true t p y) i))
+            | inr n ↦ rw (among-without t s.line p, n) (and_all (among s.line p))
+          ]
+
+      bring_paid : paid m (brought s t) ≤ paid m s + front_reads m (stage_at s) (front_of s.line)
+      bring_paid =
+          let served : served_needed m (brought s t) ≤ served_needed m s =
+          sum_le m.people (λ p. cond (among s.line p) 0 (needed m p (given_to s p))) (λ p. cond (among (t ∷ without t s.line) p) 0 (needed m p (given_to s p)))
+          (λ y l. (let e : cond {A = ℕ} (among (t ∷ without t s.line) y) 0 (needed m y (given_to s y)) ≡ cond {A = ℕ} (among s.line y) 0 (needed m y (given_to s y)) = ap (λ (b : Bool). cond {A = ℕ} b 0 (needed m y (given_to s y))) (people y) in omega arith)) in
+          let chain : linked_line m (set s.asked t true) (t ∷ without t s.line) ≡ needed m a (home m t) + needed_behind m a ask.behind =
+          linked_split m (set s.asked t true) (t ∷ without t s.line) (t ∷ a ∷ ask.behind) (without t ask.fresh) (ap (λ z. t ∷ z) rest)
+          (λ p h. elim (or_cases (t == p) (among (a ∷ ask.behind) p) h) [
+            | inl y ↦ subst (λ z. has_asked (marked s t) z ≡ true) (eqb-true t p y) (get_or-set_same s.asked t true false t_below)
+            | inr y ↦ marked_stays m s t p t_below (ask.waiting_asked p y)
+          ])
+          (λ p h.
+          (let b : (among ask.fresh p ≡ true) × (not (t == p) ≡ true) = and_parts (among ask.fresh p) (not (t == p)) (sym (among-without t ask.fresh p) ∙ h) in
+          get_or-set_other s.asked t p true false (λ pe. both_ways (t == p) (not_yes (t == p) b.1) (eq-eqb t p (sym pe))) ∙ ask.fresh_unasked p b.0)) in
+          let chain2 : linked_line m s.asked s.line ≡ needed_behind m a ask.behind = linked_split m s.asked s.line (a ∷ ask.behind) ask.fresh ask.split ask.waiting_asked ask.fresh_unasked in
+          let read : needed m a (home m t) ≤ front_reads m (stage_at s) (front_of s.line) =
+          subst (λ z. needed m a (home m t) ≤ front_reads m (stage_at s) z) (sym (ap front_of ask.split))
+          (subst (λ z. needed m a z ≤ reads (stage_at s).rooms (list_of m a)) (w ∙ sym t_home.1) (need_read m ask.fits.market (stage_at s) a)) in
+          omega arith
+
+      stage : stage_at (brought s t) ≡ stage_at s
+      stage = same_stage (stage_at (brought s t)) (stage_at s) people (λ r. refl)

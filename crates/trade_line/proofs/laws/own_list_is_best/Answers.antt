@@ -1,0 +1,5 @@
+use Rattle.trade_line.proofs.Manipulation.{list_proof}
+use Rattle.trade_line.proofs.laws.own_list_is_best.Goals as goal
+
+pub returns : goal.returns
+returns c = list_proof

@@ -1,0 +1,14 @@
+pub mod Below
+pub mod Market
+pub mod Problem
+pub mod TopTradingCycles
+pub mod Member
+pub mod Rank
+pub mod Looks
+pub mod Assignment
+pub mod TradeApart
+pub mod OtherList
+pub mod Line
+pub mod Size
+pub mod Outcome
+pub mod Inner

@@ -1,0 +1,14 @@
+-- How a person ranks a room or nothing, by the recorded list.
+use Rattle.std.specs.Prelude.{ℕ, suc, ◌+◌, cond, Option, Some, None, List, [], ◌∷◌, length, is_none, ◌==◌}
+use Rattle.trade_line.specs.Market.{Market, home, list_of, is_room}
+use Rattle.trade_line.specs.Member.{among}
+
+-- the place of x in the list, from 0, and the length where it is not there
+abbrev pub place : ℕ → List ℕ → ℕ
+place x [] = 0
+place x (y ∷ ys) = cond (y == x) 0 (suc (place x ys))
+
+-- how p ranks a room or nothing: the place on the list, then the floor, then all else
+abbrev pub rank : Market → ℕ → Option ℕ → ℕ
+rank m p None = cond (is_none (home m p)) (length (list_of m p)) (length (list_of m p) + 1)
+rank m p (Some x) = cond (among (list_of m p) x) (place x (list_of m p)) (cond (is_room x (home m p)) (length (list_of m p)) (length (list_of m p) + 1))

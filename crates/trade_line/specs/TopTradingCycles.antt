@@ -1,0 +1,77 @@
+-- Top trading cycles in simultaneous steps (Shapley and Scarf 1974, who name David Gale; with vacant rooms and newcomers
+-- Abdulkadiroglu and Sönmez 1999).
+use Rattle.std.specs.List.{range_with_len}
+use Rattle.std.specs.Option.{unwrap_or}
+use Rattle.std.specs.Prelude.{ℕ, suc, Bool, cond, Option, Some, None, List, ◌==◌, not, zero, ◌&&◌, nat_lt, find, map}
+use Rattle.trade_line.specs.Below.{some_below, or_else, first_below, count_below, times}
+use Rattle.trade_line.specs.Market.{Market, floor, list_of, is_room, tenant}
+
+-- which people and which rooms remain
+pub record Stage : Type 0 where
+  pub people : ℕ → Bool
+  pub rooms : ℕ → Bool
+
+-- all of them
+unfoldable pub start : Market → Stage
+start m = record { people = λ p. nat_lt p m.people; rooms = λ r. nat_lt r m.rooms }
+
+-- the first remaining room on the list of p, or else the floor
+unfoldable pub wish : Market → Stage → ℕ → Option ℕ
+wish m s p = or_else (find s.rooms (list_of m p)) (floor m p)
+
+-- the first remaining person
+unfoldable pub first : Market → Stage → ℕ
+first m s = unwrap_or (first_below m.people s.people) 0
+
+-- the tenant where the tenant remains, or else the first remaining person
+abbrev pub tenant_or_first : Market → Stage → Option ℕ → ℕ
+tenant_or_first m s None = first m s
+tenant_or_first m s (Some t) = cond (s.people t) t (first m s)
+
+-- to whom a room points
+unfoldable pub holder : Market → Stage → ℕ → ℕ
+holder m s r = tenant_or_first m s (tenant m r)
+
+-- to whom a wish of p points: nothing, as a wish of p, points to p
+abbrev pub target : Market → Stage → ℕ → Option ℕ → ℕ
+target m s p None = p
+target m s p (Some r) = holder m s r
+
+unfoldable pub successor : Market → Stage → ℕ → ℕ
+successor m s p = target m s p (wish m s p)
+
+-- how many people remain
+abbrev pub remaining_count : Market → Stage → ℕ
+remaining_count m s = count_below m.people s.people
+
+-- p remains, and comes back to p after 1 to `remaining_count` successors
+unfoldable pub on_cycle : Market → Stage → ℕ → Bool
+on_cycle m s p = s.people p && some_below (remaining_count m s) (λ k. times (suc k) (successor m s) p == p)
+
+-- whether one of the group wishes for r
+unfoldable pub taken : Market → Stage → (ℕ → Bool) → ℕ → Bool
+taken m s group r = some_below m.people (λ p. group p && is_room r (wish m s p))
+
+-- the group leaves, with the rooms that its people wish for
+unfoldable pub leave : Market → Stage → (ℕ → Bool) → Stage
+leave m s group = record {
+  people = λ p. s.people p && not (group p);
+  rooms = λ r. s.rooms r && not (taken m s group r);
+}
+
+-- everybody on a cycle leaves
+abbrev pub step : Market → Stage → Stage
+step m s = leave m s (on_cycle m s)
+
+-- what p gets in the next k steps
+unfoldable pub gets_within : Market → ℕ → Stage → ℕ → Option ℕ
+gets_within m zero s p = None
+gets_within m (suc k) s p = cond (on_cycle m s p) (wish m s p) (gets_within m k (step m s) p)
+
+-- what p gets
+unfoldable pub gets : Market → ℕ → Option ℕ
+gets m p = gets_within m m.people (start m) p
+
+-- what each person gets, in priority order
+unfoldable pub ttc : Market → List (Option ℕ)
+ttc m = map (gets m) (range_with_len 0 m.people)

@@ -1,0 +1,16 @@
+-- Groups of tenants that could trade their own homes apart from all others (the strict core of Shapley and Scarf 1974, for groups of tenants).
+use Rattle.std.specs.Prelude.{◌≡◌, ℕ, ◌<◌, ◌≤◌, Bool, true, Option, Some}
+use Rattle.trade_line.specs.Market.{Market, home}
+use Rattle.trade_line.specs.Rank.{rank}
+
+-- a group of tenants that hand out their own homes among themselves
+pub record TradesApart (m : Market) (group : ℕ → Bool) (a : ℕ → Option ℕ) : Type 0 where
+  pub people : (p : ℕ) → group p ≡ true → p < m.people
+  pub tenants : (p : ℕ) → group p ≡ true → (h : ℕ) × (home m p ≡ Some h)
+  pub own : (p : ℕ) → group p ≡ true → (q : ℕ) × (group q ≡ true) × (a p ≡ home m q)
+  pub differ : (p q : ℕ) → group p ≡ true → group q ≡ true → a p ≡ a q → p ≡ q
+
+-- no such group does better: where none of it is worse off, all get the same
+abbrev pub HasNoBetterTradeApart : Market → (ℕ → Option ℕ) → Type 0
+HasNoBetterTradeApart m f =
+    (group : ℕ → Bool) (a : ℕ → Option ℕ) → TradesApart m group a → ((p : ℕ) → group p ≡ true → rank m p (a p) ≤ rank m p (f p)) → (p : ℕ) → group p ≡ true → a p ≡ f p

@@ -1,0 +1,54 @@
+// The memory of a run, taken before it begins.
+ghost use Rattle.std.specs.Prelude.{◌≡◌, ℕ, ◌<◌, length, slice_set, vec_len, IfSome, true};
+ghost use Rattle.std.specs.Prelude.{IfOk};
+ghost use Rattle.trade_line.specs.Size.{Size, size_of};
+ghost use Rattle.trade_line.specs.Inner.Fresh.{IsFresh};
+
+use crate::out_of_memory::OutOfMemory;
+use crate::problem::Problem;
+use crate::progress::Progress;
+use std::alloc::Global;
+use std::marker::Model;
+
+/// All the memory that a run of so many people and rooms takes.
+#[derive(Drop)]
+pub struct Bench {
+    asked: Vec<bool>,
+    remaining: Vec<bool>,
+    given: Vec<Option<usize>>,
+}
+
+impl Model for Bench {
+    ghost Value = { Size };
+
+    ghost view = { λ b. record { people = length b.asked.items; rooms = length b.remaining.items } };
+
+    ghost invariant = { λ b. IsFresh b.asked.items b.remaining.items b.given.items };
+}
+
+impl Bench {
+    /// The bench for a run of the problem, or that the memory for it was refused.
+    pub fn new(alloc: Global, problem: &Problem) -> Result<Self, OutOfMemory>
+        ensures { IfOk result (λ b. b ≡ size_of problem.now) }
+    {
+        let people = problem.people();
+        let rooms = problem.rooms();
+        Ok(Bench {
+            asked: vec![in alloc; false; people]?,
+            remaining: vec![in alloc; true; rooms]?,
+            given: vec![in alloc; None; people]?,
+        })
+    }
+
+    pub(crate) fn into_progress(self) -> Progress
+        ensures fresh { IsFresh result.asked.items result.remaining.items result.given.items }
+        ensures people { length result.asked.items ≡ self.people }
+        ensures rooms { length result.remaining.items ≡ self.rooms }
+    {
+        Progress {
+            asked: self.asked,
+            remaining: self.remaining,
+            given: self.given,
+        }
+    }
+}

@@ -1,0 +1,124 @@
+// A problem as it is handed in: its faults are still to be looked for.
+ghost use Rattle.std.specs.Prelude.{◌≡◌, ◌≢◌, ◌<◌, ◌↔◌, ℕ, All, AllPairs, IsTrue, IfOk, IfErr, IfSome, OnOk, length, slice_index_or, ◌⊎◌};
+ghost use Rattle.trade_line.specs.Market.{IsIndexed, HomesDiffer, ListsDiffer, OwnUnlisted};
+ghost use Rattle.trade_line.specs.Problem.{IsFirstFault};
+ghost use Rattle.trade_line.specs.Inner.Draft.{drafted};
+ghost use Rattle.trade_line.specs.Inner.Tenants.{IsTenants};
+
+use crate::fault::TradeFault;
+use crate::out_of_memory::OutOfMemory;
+use std::alloc::Global;
+
+#[derive(Drop)]
+pub(crate) struct Draft {
+    pub(crate) order_len: usize,
+    pub(crate) room_count: usize,
+    pub(crate) homes: Vec<Option<usize>>,
+    pub(crate) lists: Vec<Vec<usize>>,
+}
+
+fn are_homes_known(homes: &[Option<usize>], room_count: usize) -> bool
+    ensures { IsTrue result ↔ All (λ home. IfSome home (λ room. room < room_count)) homes.now }
+{
+    homes.iter().all(|home| match home {
+        Some(room) => *room < room_count,
+        None => true,
+    })
+}
+
+pub(crate) fn is_list_known(list: &[usize], room_count: usize) -> bool
+    ensures { IsTrue result ↔ All (λ room. room < room_count) list.now }
+{
+    list.iter().all(|room| *room < room_count)
+}
+
+fn are_lists_known(lists: &[Vec<usize>], room_count: usize) -> bool
+    ensures { IsTrue result ↔ All (λ list. All (λ room. room < room_count) list.items) lists.now }
+{
+    lists.iter().all(|list| is_list_known(list, room_count))
+}
+
+// Whether the list has no room twice. The last person who listed each room stands in `last`, and becomes this one.
+pub(crate) fn is_distinct(list: &[usize], person: usize, last: &mut [usize]) -> bool
+    requires known { All (λ room. room < length last.old) list.now }
+    requires unmarked { All (λ other. other ≢ person) last.old }
+    ensures distinct { IsTrue result ↔ AllPairs ◌≢◌ list.now }
+    ensures last { (r : ℕ) → r < length last.old → (slice_index_or last.new r 0 ≡ slice_index_or last.old r 0) ⊎ (slice_index_or last.new r 0 ≡ person) }
+{
+    for room in list {
+        if last[*room] == person {
+            return false;
+        }
+        last[*room] = person;
+    }
+    true
+}
+
+// Whether the list lacks the home.
+pub(crate) fn lacks(list: &[usize], home: Option<usize>) -> bool
+    ensures { IsTrue result ↔ ((r : ℕ) → home ≡ Some r → All (λ room. room ≢ r) list.now) }
+{
+    match home {
+        Some(own) => list.iter().all(|room| *room != own),
+        None => true,
+    }
+}
+
+impl Draft {
+    pub(crate) fn is_indexed(&self) -> bool
+        ensures { IsTrue result ↔ IsIndexed (drafted self.now) }
+    {
+        if self.homes.len() != self.order_len || self.lists.len() != self.order_len {
+            return false;
+        }
+        are_homes_known(&self.homes, self.room_count)
+            && are_lists_known(&self.lists, self.room_count)
+    }
+
+    // Who lives in each room.
+    pub(crate) fn tenants(&self, alloc: Global) -> Result<Vec<Option<usize>>, TradeFault>
+        requires { IsIndexed (drafted self.now) }
+        ensures tenants { IfOk result (λ tenants. IsTenants (drafted self.now) tenants.items) }
+        ensures differ { OnOk result (HomesDiffer (drafted self.now)) }
+        ensures fault { IfErr result (IsFirstFault (drafted self.now)) }
+    {
+        let mut tenants = vec![in alloc; None; self.room_count]?;
+        for (person, home) in self.homes.iter().enumerate() {
+            if let Some(room) = *home {
+                if tenants[room].is_some() {
+                    return Err(TradeFault::HomeShared);
+                }
+                tenants[room] = Some(person);
+            }
+        }
+        Ok(tenants)
+    }
+
+    // Whether no list has a room twice.
+    pub(crate) fn do_lists_differ(&self, alloc: Global) -> Result<bool, OutOfMemory>
+        requires { IsIndexed (drafted self.now) }
+        ensures { IfOk result (λ differ. IsTrue differ ↔ ListsDiffer (drafted self.now)) }
+    {
+        let nobody = self.lists.len();
+        let mut last = vec![in alloc; nobody; self.room_count]?;
+        for (person, list) in self.lists.iter().enumerate() {
+            if !is_distinct(list, person, &mut last) {
+                return Ok(false);
+            }
+        }
+        Ok(true)
+    }
+
+    // Whether nobody lists their own home.
+    pub(crate) fn is_own_unlisted(&self) -> bool
+        requires { IsIndexed (drafted self.now) }
+        ensures { IsTrue result ↔ OwnUnlisted (drafted self.now) }
+    {
+        for (person, list) in self.lists.iter().enumerate() {
+            if !lacks(list, self.homes[person]) {
+                return false;
+            }
+        }
+        true
+    }
+}

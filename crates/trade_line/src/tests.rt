@@ -1,0 +1,51 @@
+// What no clause says: that the definitions give what they should at worked examples, and that calls succeed.
+mod compared;
+mod faults;
+mod lines;
+mod worked;
+
+use crate::bench::Bench;
+use crate::fault::TradeFault;
+use crate::line::Line;
+use crate::out_of_memory::OutOfMemory;
+use crate::outcome::Outcome;
+use crate::problem::Problem;
+use crate::trade::run;
+use std::alloc::Global;
+
+fn problem_of(
+    alloc: Global,
+    rooms: usize,
+    homes: &[Option<usize>],
+    lists: &[&[usize]],
+) -> Result<Problem, TradeFault> {
+    let mut recorded = Vec::new(alloc);
+    for list in lists {
+        recorded.push(Vec::from_slice(alloc, list)?)?;
+    }
+    Problem::new(
+        alloc,
+        homes.len(),
+        rooms,
+        Vec::from_slice(alloc, homes)?,
+        recorded,
+    )
+}
+
+fn outcome_over<L: Line>(alloc: Global, problem: &Problem) -> Result<Outcome, OutOfMemory> {
+    let line = L::whole(alloc, problem.people())?;
+    let bench = Bench::new(alloc, problem)?;
+    Ok(run(problem, line, bench))
+}
+
+fn rooms_of(
+    alloc: Global,
+    problem: &Problem,
+    outcome: &Outcome,
+) -> Result<Vec<Option<usize>>, OutOfMemory> {
+    let mut rooms = Vec::new(alloc);
+    for person in 0..problem.people() {
+        rooms.push(outcome.room_of(person))?;
+    }
+    Ok(rooms)
+}

@@ -1,0 +1,121 @@
+// You request my house, I get your turn.
+ghost use Rattle.std.specs.Prelude.{◌≡◌, ◌+◌, ◌≤◌, ◌<◌, ◌^◌, Some};
+ghost use Rattle.std.specs.List.{range_with_len};
+ghost use Rattle.trade_line.specs.Looks.{all_needed};
+ghost use Rattle.trade_line.specs.Size.{size_of};
+ghost use Rattle.trade_line.specs.Market.{tenant_count};
+ghost use Rattle.trade_line.specs.TopTradingCycles.{wish, ttc};
+ghost use Rattle.trade_line.specs.Line.{front_of};
+ghost use Rattle.trade_line.specs.Assignment.{IsAssignment, IsIndividuallyRational, IsEfficient, given_in};
+ghost use Rattle.trade_line.specs.TradeApart.{HasNoBetterTradeApart};
+ghost use Rattle.trade_line.specs.Inner.Reads.{reads};
+ghost use Rattle.trade_line.specs.Market.{list_of};
+ghost use Rattle.trade_line.specs.Inner.State.{state_of, stage_at};
+ghost use Rattle.trade_line.specs.Inner.Turn.{Standing, Asks, Onward};
+ghost use Rattle.trade_line.specs.Inner.Loop.{Ring, Closed};
+
+use crate::bench::Bench;
+use crate::line::Line;
+use crate::outcome::Outcome;
+use crate::problem::Problem;
+use crate::progress::Progress;
+
+// The front of the line, up to the tenant, is a loop: each gets the home of the one before, and the first gets the room.
+fn close_loop<L: Line>(
+    problem: &Problem,
+    tenant: usize,
+    room: usize,
+    line: &mut L,
+    progress: &mut Progress,
+)
+    requires { Ring problem.now tenant room (state_of (L.people line.old) progress.old) }
+    ensures { Closed problem.now tenant room (state_of (L.people line.old) progress.old) (state_of (L.people line.new) progress.new) }
+{
+    let mut next = Some(room);
+    while let Some(person) = line.front() {
+        progress.grant(person, next);
+        line.drop_front();
+        if person == tenant {
+            break;
+        }
+        next = problem.home_of(person);
+    }
+}
+
+// The person at the front asks for the room.
+fn serve<L: Line>(
+    problem: &Problem,
+    person: usize,
+    room: usize,
+    line: &mut L,
+    progress: &mut Progress,
+)
+    requires asks { Asks problem.now person (state_of (L.people line.old) progress.old) }
+    requires wish { wish problem.now (stage_at (state_of (L.people line.old) progress.old)) person ≡ Some room }
+    ensures { Onward problem.now (state_of (L.people line.old) progress.old) (state_of (L.people line.new) progress.new) }
+{
+    match problem.tenant_of(room) {
+        Some(tenant) if line.holds(tenant) => {
+            if progress.asked[tenant] {
+                close_loop(problem, tenant, room, line, progress);
+            } else {
+                progress.mark(tenant);
+                line.bring_to_front(tenant);
+            }
+        }
+        _ => {
+            progress.grant(person, Some(room));
+            line.drop_front();
+        }
+    }
+}
+
+// One turn of the person at the front, and how many entries it reads.
+fn turn<L: Line>(problem: &Problem, person: usize, line: &mut L, progress: &mut Progress) -> usize
+    requires front { front_of (L.people line.old) ≡ Some person }
+    requires standing { Standing problem.now (state_of (L.people line.old) progress.old) }
+    ensures onward { Onward problem.now (state_of (L.people line.old) progress.old) (state_of (L.people line.new) progress.new) }
+    ensures looks { result ≡ reads (stage_at (state_of (L.people line.old) progress.old)).rooms (list_of problem.now person) }
+    ensures few { result < 2 ^ 63 }
+{
+    progress.mark(person);
+    let found = problem.best_remaining(person, &progress.remaining);
+    match found.room {
+        Some(room) => serve(problem, person, room, line, progress),
+        None => {
+            progress.grant(person, problem.home_of(person));
+            line.drop_front();
+        }
+    }
+    found.looks
+}
+
+/// Carries out the exchange by "you request my house, I get your turn" (Abdulkadiroglu and Sönmez 1999). The person at the
+/// front of the line asks for the best remaining room on their list, or else takes the floor: the own home, or no room. Where
+/// the tenant of that room still waits, the tenant comes to the front first, or, having asked already, closes a loop in which
+/// each gets the home of the next. The rooms are those of top trading cycles. The line begins with all people in priority
+/// order, and the bench is made for as many people and rooms. It takes no memory.
+pub fn run<L: Line>(problem: &Problem, line: L, bench: Bench) -> Outcome
+    requires line { L.people line ≡ range_with_len 0 problem.now.people }
+    requires bench { bench ≡ size_of problem.now }
+    ensures rooms { result.rooms ≡ ttc problem.now }
+    ensures assignment { IsAssignment problem.now (given_in result.rooms) }
+    ensures rational { IsIndividuallyRational problem.now (given_in result.rooms) }
+    ensures efficient { IsEfficient problem.now (given_in result.rooms) }
+    ensures apart { HasNoBetterTradeApart problem.now (given_in result.rooms) }
+    ensures asks_least { problem.now.people ≤ result.asks }
+    ensures asks_most { result.asks ≤ problem.now.people + tenant_count problem.now }
+    ensures looks_least { all_needed problem.now (given_in result.rooms) ≤ result.looks }
+{
+    let _people = problem.people();
+    let mut line = line;
+    let mut progress = bench.into_progress();
+    let mut asks: u128 = 0;
+    let mut looks: u128 = 0;
+    while let Some(person) = line.front() {
+        let read = turn(problem, person, &mut line, &mut progress);
+        asks += 1;
+        looks += read as u128;
+    }
+    Outcome::new(progress.given, asks, looks)
+}
