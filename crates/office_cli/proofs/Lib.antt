@@ -1,6 +1,9 @@
+pub mod CodeLemmas
 pub mod LineLemmas
+pub mod NameLemmas
 pub mod ProgramLemmas
 pub mod RehearsalLemmas
+pub mod RoundLemmas
 pub mod RunLemmas
 pub mod SentenceLemmas
 pub mod SessionLemmas

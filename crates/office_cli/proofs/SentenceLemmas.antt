@@ -1,5 +1,6 @@
 -- What texts say that are not blank.
 use Rattle.std.proofs.Common.{◌≡◌, ℕ, Bool, true, false, List, Option, Some, None, refl}
+use Rattle.std.specs.Prelude.{OnErr, Result, Ok, Err}
 use Rattle.std.specs.Str.{is_utf8, IsUtf8}
 use Rattle.std.proofs.lemmas.Str.{IsUtf8-from_is_utf8, is_utf8-from_IsUtf8}
 use Rattle.office_cli.specs.Words.{request_of}
@@ -28,3 +29,8 @@ sentence_of_bytes text blank not_text = rw (blank, false_by (is_utf8 text) (λ e
 pub sentence_of_its_words : (text : List ℕ) → is_blank text ≡ false → IsUtf8 text → sentence_of_text text ≡ sentence_of_words (words_of text)
 unfolding sentence_of_text
 sentence_of_its_words text blank is_text = rw (blank, is_utf8-from_IsUtf8 text is_text) refl
+
+-- a fact that holds anyway
+pub at_error : {A E P : Type 0} (result : Result A E) → P → OnErr result P
+at_error (Ok x) p = tt
+at_error (Err e) p = p

@@ -1,5 +1,5 @@
 -- What the program does with the words after its name.
-use Rattle.std.specs.Prelude.{◌≡◌, ℕ, ◌⊎◌, true, Option, Some, None, take, codes}
+use Rattle.std.specs.Prelude.{◌≡◌, ℕ, ◌⊎◌, true, [], ◌∷◌, Option, Some, None, take, codes}
 use Rattle.room_types.specs.Watched.{counted}
 use Rattle.office_core.specs.Office.{empty_office}
 use Rattle.office_core.specs.declared.office.Office.{Office}
@@ -10,8 +10,8 @@ use Rattle.office_cli.specs.declared.words.WordFault.{WordFault}
 use Rattle.office_cli.specs.declared.words.WordFault.TheVariants.{NotUnderstood, OutOfMemory}
 use Rattle.office_cli.specs.Rehearsals.{Rehearses}
 use Rattle.office_cli.specs.Streams.{Input, Output, Puts}
-use Rattle.office_cli.specs.Texts.{ended}
-use Rattle.office_cli.specs.Words.{Text}
+use Rattle.office_cli.specs.Replies.{line_of}
+use Rattle.room_types.specs.Texts.{Text}
 
 -- The text went out and was flushed, and the exit status is the wanted one. Or the writer failed, and it is 3.
 abbrev pub Says : Text → ℕ → ℕ → Output → Output → Type 0
@@ -21,8 +21,8 @@ Says text wanted status out out' =
 
 -- Words that are no line are told on standard error with status 2, and want of memory on standard output with status 3.
 abbrev pub Refuses : WordFault → ℕ → Output → Output → Output → Output → Type 0
-Refuses NotUnderstood status out out' error error' = Says (ended (codes "rooms: not understood")) 2 status error error' × (out' ≡ out)
-Refuses OutOfMemory status out out' error error' = Says (ended (codes "unavailable")) 3 status out out' × (error' ≡ error)
+Refuses NotUnderstood status out out' error error' = Says (line_of (codes "rooms: not understood" ∷ [])) 2 status error error' × (out' ≡ out)
+Refuses OutOfMemory status out out' error error' = Says (line_of (codes "unavailable" ∷ [])) 3 status out out' × (error' ≡ error)
 
 -- an empty office hears standard input and answers on standard output
 abbrev pub RehearsesAnew : ℕ → Input → Input → Output → Output → Type 0

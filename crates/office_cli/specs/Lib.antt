@@ -1,13 +1,15 @@
 pub mod Doing
 pub mod Lines
 pub mod Programs
+pub mod RefusalTexts
 pub mod Rehearsals
+pub mod Replies
 pub mod Runs
 pub mod Sentences
 pub mod Sessions
 pub mod Streams
-pub mod Tables
 pub mod Texts
 pub mod Understanding
 pub mod Usage
+pub mod Values
 pub mod Words

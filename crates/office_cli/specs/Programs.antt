@@ -5,7 +5,7 @@ use Rattle.clap.specs.Words.{Kinds, Row, fault_of, subcommand_of}
 use Rattle.office_cli.specs.declared.usage.Program.{Program}
 use Rattle.office_cli.specs.declared.usage.Program.TheVariants.{Rehearse}
 use Rattle.office_cli.specs.Usage.{usage}
-use Rattle.office_cli.specs.Words.{Text}
+use Rattle.room_types.specs.Texts.{Text}
 
 -- the line of a subcommand with its entries
 abbrev pub entered_line : Text × List Row → Option Program

@@ -1,11 +1,11 @@
 -- Runs of requests and of lines.
-use Rattle.std.specs.Prelude.{◌≡◌, ℕ, ◌⊎◌, max, List, [], ◌∷◌, Option, Some, None}
+use Rattle.std.specs.Prelude.{◌≡◌, ℕ, ◌⊎◌, max, List, [], ◌∷◌, Option, Some, None, Result, Ok, Err}
 use Rattle.std.specs.List.{flat_map}
 use Rattle.office_core.specs.Commands.{accepts, next, reply_to}
-use Rattle.office_core.specs.Queries.{answer_to}
+use Rattle.office_core.specs.Queries.{told}
 use Rattle.office_core.specs.declared.office.Office.{Office}
 use Rattle.office_core.specs.declared.refusal.Refusal.{Refusal}
-use Rattle.office_core.specs.declared.decision.Reply.{Reply as CoreReply}
+use Rattle.office_core.specs.declared.reply.Reply.{Reply as CoreReply}
 use Rattle.office_cli.specs.declared.requests.Request.{Request}
 use Rattle.office_cli.specs.declared.requests.Request.TheVariants as request
 use Rattle.office_cli.specs.declared.requests.Answer.{Answer}
@@ -27,10 +27,15 @@ abbrev pub office_but : Option Refusal → Office → Office → Office
 office_but None old new = new
 office_but (Some refusal) old new = old
 
+-- the reply or the refusal that is told
+abbrev pub answer_told : Result CoreReply Refusal → Answer
+answer_told (Ok reply) = Reply reply
+answer_told (Err refusal) = Refused refusal
+
 -- the answer of an office to a request
 abbrev pub answer_of : Office → Request → Answer
 answer_of office (request.Office command) = answer_but (accepts office command) (reply_to office command)
-answer_of office (request.Ask query) = Reply (answer_to office query)
+answer_of office (request.Ask query) = answer_told (told office query)
 
 -- the office after a request; a query changes nothing
 abbrev pub office_after : Office → Request → Office

@@ -3,7 +3,8 @@ use Rattle.std.specs.Prelude.{ℕ, Bool, true, false, ◌&&◌, not, List, lengt
 use Rattle.std.specs.List.{slice_split, list_all}
 use Rattle.std.specs.Str.{is_utf8}
 use Rattle.std.specs.Str.Lines.{strip_carriage_return}
-use Rattle.office_cli.specs.Words.{Text, request_of}
+use Rattle.room_types.specs.Texts.{Text}
+use Rattle.office_cli.specs.Words.{request_of}
 use Rattle.office_cli.specs.declared.requests.Request.{Request}
 use Rattle.office_cli.specs.declared.sentences.Sentence.{Sentence}
 use Rattle.office_cli.specs.declared.sentences.Sentence.TheVariants.{Silent, Asks, Unclear}

@@ -3,8 +3,12 @@ use Rattle.std.specs.Prelude.{◌≡◌, ⊤, Option, Some, None, Result, Ok, Er
 use Rattle.office_cli.specs.declared.words.WordFault.{WordFault}
 use Rattle.office_cli.specs.declared.words.WordFault.TheVariants.{NotUnderstood, OutOfMemory}
 
--- What was read is what the words mean. They were not understood where they mean nothing, and memory may be wanting at any words.
+-- What was read is seen as what the words mean. They were not understood where they mean nothing, and memory may be wanting at any words.
+abbrev pub UnderstandsAs : {X Y : Type 0} → (X → Y) → Option Y → Result X WordFault → Type 0
+UnderstandsAs view meaning (Ok x) = meaning ≡ Some (view x)
+UnderstandsAs view meaning (Err NotUnderstood) = meaning ≡ None
+UnderstandsAs view meaning (Err OutOfMemory) = ⊤
+
+-- what was read is what the words mean
 abbrev pub Understands : {X : Type 0} → Option X → Result X WordFault → Type 0
-Understands meaning (Ok x) = meaning ≡ Some x
-Understands meaning (Err NotUnderstood) = meaning ≡ None
-Understands meaning (Err OutOfMemory) = ⊤
+Understands meaning result = UnderstandsAs (λ x. x) meaning result

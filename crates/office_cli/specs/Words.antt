@@ -1,36 +1,93 @@
 -- The request that the words of a line are.
-use Rattle.std.specs.Prelude.{ℕ, Bool, List, [], ◌∷◌, Option, Some, None, codes, if◌then◌else◌, option_map}
+use Rattle.std.specs.Prelude.{List, [], ◌∷◌, Option, Some, None, codes, if◌then◌else◌, option_and_then, option_map}
 use Rattle.std.specs.Str.{bytes_eq}
-use Rattle.room_types.specs.Grammars.{is_room_code}
-use Rattle.office_core.specs.declared.command.Command.TheVariants.{AddRoom}
-use Rattle.office_core.specs.declared.query.Query.TheVariants.{Rooms}
+use Rattle.room_types.specs.Grammars.{is_key, is_name, is_person_id, is_room_code}
+use Rattle.room_types.specs.Texts.{Text}
+use Rattle.office_core.specs.declared.command.Command.TheVariants.{AddPerson, AddRoom, Cancel, CloseRound, Leave, OpenRound, Remove, Reopen, SetChoices, SetHome, Shut, Withdraw}
+use Rattle.office_core.specs.declared.query.Query.TheVariants.{Me, Moves, People, Rooms, Round}
+use Rattle.office_cli.specs.Values.{choices_in, in_grammar, joined, only, round_number}
 use Rattle.office_cli.specs.declared.requests.Request.{Request}
 use Rattle.office_cli.specs.declared.requests.Request.TheVariants.{Office, Ask}
 
-abbrev pub Text : Type 0
-Text = List ℕ
-
--- the word, where it is in the grammar
-abbrev pub in_grammar : (Text → Bool) → Text → Option Text
-in_grammar is_text word = if is_text word then Some word else None
-
--- the room code that a word is
-abbrev pub code : Text → Option Text
-code word = in_grammar is_room_code word
-
 -- `room CODE`
 abbrev pub add_room : List Text → Option Request
-add_room (room ∷ []) = option_map (λ r. Office (AddRoom r)) (code room)
-add_room _ = None
+add_room words = option_map (λ room. Office (AddRoom room)) (only is_room_code words)
+
+-- `person ID KEY NAME..`, without home; the rest of the words is the name
+abbrev pub add_person : List Text → Option Request
+add_person (person ∷ key ∷ name) =
+    option_and_then (λ id. option_and_then (λ k.
+    option_map (λ n. Office (AddPerson id n k None)) (in_grammar is_name (joined name)))
+    (in_grammar is_key key)) (in_grammar is_person_id person)
+add_person _ = None
+
+-- `home ID CODE`
+abbrev pub set_home : List Text → Option Request
+set_home (person ∷ room ∷ []) = option_and_then (λ id. option_map (λ code. Office (SetHome id code)) (in_grammar is_room_code room)) (in_grammar is_person_id person)
+set_home _ = None
+
+-- `leave ID`
+abbrev pub leave : List Text → Option Request
+leave words = option_map (λ person. Office (Leave person)) (only is_person_id words)
+
+-- `remove ID`
+abbrev pub remove : List Text → Option Request
+remove words = option_map (λ person. Office (Remove person)) (only is_person_id words)
+
+-- `shut CODE`
+abbrev pub shut : List Text → Option Request
+shut words = option_map (λ room. Office (Shut room)) (only is_room_code words)
+
+-- `reopen CODE`
+abbrev pub reopen : List Text → Option Request
+reopen words = option_map (λ room. Office (Reopen room)) (only is_room_code words)
+
+-- `choose ID CODE..`, no code or more
+abbrev pub set_choices : List Text → Option Request
+set_choices (person ∷ rooms) = option_and_then (λ id. option_map (λ choices. Office (SetChoices id choices)) (choices_in rooms)) (in_grammar is_person_id person)
+set_choices [] = None
+
+-- `withdraw ID`
+abbrev pub withdraw : List Text → Option Request
+withdraw words = option_map (λ person. Office (Withdraw person)) (only is_person_id words)
+
+-- `moves N`, N being 1 to 4 decimal digits
+abbrev pub ask_moves : List Text → Option Request
+ask_moves (round ∷ []) = option_map (λ number. Ask (Moves number)) (round_number round)
+ask_moves _ = None
+
+-- `me KEY`
+abbrev pub ask_me : List Text → Option Request
+ask_me words = option_map (λ key. Ask (Me key)) (only is_key words)
 
 -- a word after which none may stand
 abbrev pub alone : Request → List Text → Option Request
 alone request [] = Some request
 alone request (word ∷ rest) = None
 
+-- the request of the words after this first one
+abbrev pub request_after : Text → List Text → Option Request
+request_after verb rest =
+    if bytes_eq verb (codes "room") then add_room rest
+    else if bytes_eq verb (codes "person") then add_person rest
+    else if bytes_eq verb (codes "home") then set_home rest
+    else if bytes_eq verb (codes "leave") then leave rest
+    else if bytes_eq verb (codes "remove") then remove rest
+    else if bytes_eq verb (codes "shut") then shut rest
+    else if bytes_eq verb (codes "reopen") then reopen rest
+    else if bytes_eq verb (codes "open") then alone (Office OpenRound) rest
+    else if bytes_eq verb (codes "close") then alone (Office CloseRound) rest
+    else if bytes_eq verb (codes "cancel") then alone (Office Cancel) rest
+    else if bytes_eq verb (codes "choose") then set_choices rest
+    else if bytes_eq verb (codes "withdraw") then withdraw rest
+    else if bytes_eq verb (codes "rooms") then alone (Ask Rooms) rest
+    else if bytes_eq verb (codes "people") then alone (Ask People) rest
+    else if bytes_eq verb (codes "round") then alone (Ask Round) rest
+    else if bytes_eq verb (codes "moves") then ask_moves rest
+    else if bytes_eq verb (codes "me") then ask_me rest
+    else None
+
 -- the request, if the words are one
 abbrev pub request_of : List Text → Option Request
 request_of [] = None
-request_of (verb ∷ rest) = if bytes_eq verb (codes "room") then add_room rest
-    else if bytes_eq verb (codes "rooms") then alone (Ask Rooms) rest
-    else None
+request_of (verb ∷ rest) = request_after verb rest

@@ -1,7 +1,7 @@
 //! Requests, handled by an office.
 ghost use Rattle.std.specs.Prelude.{◌≡◌, IfOk};
 ghost use Rattle.office_core.specs.Changes.{applied_all};
-ghost use Rattle.office_core.specs.Office.{IsLawful};
+ghost use Rattle.office_core.specs.Laws.{IsLawful};
 ghost use Rattle.office_cli.specs.Runs.{Handles, Step};
 ghost use Rattle.office_cli.specs.Sentences.{sentence_of};
 ghost use Rattle.office_cli.specs.declared.requests.Request.TheVariants.{Office as Request-Office, Ask as Request-Ask};
@@ -9,10 +9,7 @@ ghost use Rattle.office_cli.specs.declared.requests.Request.TheVariants.{Office 
 use crate::requests::{Answer, Request};
 use crate::sentences::{Sentence, read_line};
 use crate::texts::Said;
-use office_core::answer::answer;
-use office_core::apply::apply;
-use office_core::decide::decide;
-use office_core::{Change, Command, Office, Query, Refusal};
+use office_core::{Change, Command, Office, Query, Refusal, answer, apply_all, decide};
 use room_types::OutOfMemory;
 use std::alloc::Global;
 
@@ -66,9 +63,7 @@ fn changed(office: &Office, changes: &[Change]) -> Result<Office, OutOfMemory>
     ensures { IfOk result (λ next. next ≡ applied_all office.now changes.now) }
 {
     let mut next = office.copy()?;
-    for change in changes {
-        apply(&mut next, change)?;
-    }
+    apply_all(&mut next, changes)?;
     Ok(next)
 }
 

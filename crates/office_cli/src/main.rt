@@ -6,13 +6,16 @@ pub mod ending;
 pub mod handle;
 pub mod hearing;
 pub mod program;
+pub mod refusals;
 pub mod rehearse;
+pub mod replies;
 pub mod requests;
 pub mod send;
 pub mod sentences;
-pub mod tables;
+
 pub mod texts;
 pub mod usage;
+pub mod values;
 pub mod words;
 
 use crate::carry_out::refuse;

@@ -2,7 +2,7 @@
 ghost use Rattle.std.specs.Prelude.{◌≡◌, ◌^◌, ◌≤◌, OnOk, IfErr, false, vec_len};
 ghost use Rattle.std.specs.Io.KnownBytes.{IsAtEnd};
 ghost use Rattle.room_types.specs.Watched.{watched_inner, watched_failed, watched_reads, watched_flushes, counted, IsFresh};
-ghost use Rattle.office_core.specs.Office.{IsLawful};
+ghost use Rattle.office_core.specs.Laws.{IsLawful};
 ghost use Rattle.office_cli.specs.Rehearsals.{Rehearses};
 ghost use Rattle.office_cli.specs.Streams.{input_of, output_of};
 ghost use Rattle.office_cli.specs.Sessions.{Listened, Stopped, Finished, Unfinished, OnlyWhereFailed, state};

@@ -1,14 +1,12 @@
-//! The texts of answers, and their statuses.
-ghost use Rattle.std.specs.Prelude.{◌≡◌, ◌++◌, IfOk, OnOk, string_bytes, codes};
-ghost use Rattle.std.specs.Fmt.{decimal};
-ghost use Rattle.office_core.specs.Refusals.{refusal_name, refusal_number};
-ghost use Rattle.office_cli.specs.Texts.{text_of as text-of, status_of as status-of, refusal_text, reply_text};
+//! What is said of lines, and the statuses of lines.
+ghost use Rattle.std.specs.Prelude.{◌≡◌, IfOk, string_bytes};
+ghost use Rattle.office_cli.specs.Texts.{text_of as text-of, status_of as status-of};
 
+use crate::refusals::text_of_refusal;
+use crate::replies::text_of_reply;
 use crate::requests::Answer;
-use crate::tables::rooms_text;
-use office_core::{Refusal, Reply};
 use room_types::OutOfMemory;
-use std::alloc::{AllocError, Global};
+use std::alloc::Global;
 
 /// What is said of a line.
 #[derive(Drop)]
@@ -58,27 +56,10 @@ pub fn status_of(said: &Said) -> u8
     }
 }
 
-fn line(alloc: Global, text: &str) -> Result<String, OutOfMemory>
+/// A line of its own.
+pub fn line(alloc: Global, text: &str) -> Result<String, OutOfMemory>
     ensures { IfOk result (λ line. string_bytes line ≡ text.now) }
 {
     let line = String::from_str(alloc, text)?;
     Ok(line)
-}
-
-fn text_of_reply(alloc: Global, reply: &Reply) -> Result<String, OutOfMemory>
-    ensures { IfOk result (λ text. string_bytes text ≡ reply_text reply.now) }
-{
-    match reply {
-        Reply::Done => line(alloc, "ok\n"),
-        Reply::Rooms(rows) => rooms_text(alloc, rows.as_slice()),
-    }
-}
-
-fn text_of_refusal(alloc: Global, refusal: &Refusal) -> Result<String, OutOfMemory>
-    ensures { IfOk result (λ text. string_bytes text ≡ refusal_text refusal.now) }
-{
-    let number = refusal.number();
-    let name = refusal.name();
-    let text = format!(in alloc; "refused {number} {name}\n")?;
-    Ok(text)
 }

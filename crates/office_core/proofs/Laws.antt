@@ -1,46 +1,57 @@
--- An accepted command leads from a lawful office to a lawful one.
-use Rattle.std.proofs.Common.{◌≡◌, ℕ, ◌+◌, ◌≤◌, Bool, true, false, List, [], ◌∷◌, Option, Some, None, cond, refl, ap, ◌∙◌, sym, subst, arith}
-use Rattle.std.specs.Prelude.{nat_le, Result, Ok, Err, IfOk}
-use Rattle.std.proofs.lemmas.Bool.{leb-false}
-use Rattle.std.specs.FinMap as map
-use Rattle.std.specs.FinMap.{len-empty}
-use Rattle.room_types.specs.Texts.{Text, text_cmp}
-use Rattle.room_types.specs.TextMaps.{len-put_fresh}
-use Rattle.office_core.specs.Office.{IsLawful, empty_office, knows_room, room_limit}
-use Rattle.office_core.specs.Changes.{applied_all}
-use Rattle.office_core.specs.Commands.{Check, first_refusal, checks, accepts, next, LeadsOn, Decides}
-use Rattle.office_core.specs.declared.office.Office.{Office}
+-- The changes of each accepted command lead from a lawful office to a lawful one.
+use Rattle.std.proofs.Common.{◌≡◌, List, Option, Some, None, sym, subst}
+use Rattle.std.specs.Prelude.{Result, Ok, Err, IfOk}
+pub mod AddPerson
+pub mod AddRoom
+pub mod Cancel
+pub mod CloseRound
+pub mod Leave
+pub mod OpenRound
+pub mod Remove
+pub mod Reopen
+pub mod SetChoices
+pub mod SetHome
+pub mod Shut
+pub mod Withdraw
+use Rattle.office_core.specs.Changes.{LeadsOn}
+use Rattle.office_core.specs.Checks.{Decides}
+use Rattle.office_core.specs.Commands.{checks, accepts, next, reply_to, changes_of}
+use Rattle.office_core.specs.Laws.{IsLawful}
 use Rattle.office_core.specs.declared.command.Command.{Command}
-use Rattle.office_core.specs.declared.command.Command.TheVariants.{AddRoom}
+use Rattle.office_core.specs.declared.command.Command.TheVariants as command
 use Rattle.office_core.specs.declared.decision.Decision.{Decision}
+use Rattle.office_core.specs.declared.office.Office.{Office}
 use Rattle.office_core.specs.declared.refusal.Refusal.{Refusal}
+use Rattle.office_core.proofs.Laws.AddPerson.{add_person-leads}
+use Rattle.office_core.proofs.Laws.AddRoom.{add_room-leads}
+use Rattle.office_core.proofs.Laws.Cancel.{cancel-leads}
+use Rattle.office_core.proofs.Laws.CloseRound.{close_round-leads}
+use Rattle.office_core.proofs.Laws.Leave.{leave-leads}
+use Rattle.office_core.proofs.Laws.OpenRound.{open_round-leads}
+use Rattle.office_core.proofs.Laws.Remove.{remove-leads}
+use Rattle.office_core.proofs.Laws.Reopen.{reopen-leads}
+use Rattle.office_core.proofs.Laws.SetChoices.{set_choices-leads}
+use Rattle.office_core.proofs.Laws.SetHome.{set_home-leads}
+use Rattle.office_core.proofs.Laws.Shut.{shut-leads}
+use Rattle.office_core.proofs.Laws.Withdraw.{withdraw-leads}
 
--- no check of the list applies
-abbrev pub NoneApplies : List Check → Type 0
-NoneApplies [] = Unit {0}
-NoneApplies (check ∷ others) = (check.0 ≡ false) × NoneApplies others
+pub leads_on : (office : Office) (given : Command) → IsLawful office → accepts office given ≡ None → LeadsOn office (next office given) (changes_of office given)
+leads_on office (command.AddRoom room) l h = add_room-leads office room l h
+leads_on office (command.AddPerson person name key home) l h = add_person-leads office person name key home l h
+leads_on office (command.SetHome person room) l h = set_home-leads office person room l h
+leads_on office (command.Leave person) l h = leave-leads office person l h
+leads_on office (command.Remove person) l h = remove-leads office person l h
+leads_on office (command.Shut room) l h = shut-leads office room l h
+leads_on office (command.Reopen room) l h = reopen-leads office room l h
+leads_on office command.OpenRound l h = open_round-leads office l h
+leads_on office (command.SetChoices person choices) l h = set_choices-leads office person choices l h
+leads_on office (command.Withdraw person) l h = withdraw-leads office person l h
+leads_on office command.CloseRound l h = close_round-leads office l h
+leads_on office command.Cancel l h = cancel-leads office l h
 
-pub none_applies : (list : List Check) → first_refusal list ≡ None → NoneApplies list
-none_applies [] h = tt
-none_applies (check ∷ others) h =
-    elim (check.0) as (λ b. cond b (Some check.1) (first_refusal others) ≡ None → (b ≡ false) × NoneApplies others) [
-      | true ↦ λ e. cc
-      | false ↦ λ e. (refl, none_applies others e)
-    ] h
-
-pub empty-lawful : IsLawful empty_office
-empty-lawful = record { few_rooms = subst (λ n. n ≤ room_limit) (sym (len-empty text_cmp _)) (omega arith) }
-
-pub add_room-lawful : (office : Office) (room : Text) → IsLawful office → accepts office (AddRoom room) ≡ None → IsLawful (next office (AddRoom room))
-add_room-lawful office room l h =
-    let n = none_applies (checks office (AddRoom room)) h in
-    record { few_rooms = omega (arith, len-put_fresh office.rooms room false n.0, leb-false room_limit (map.len office.rooms) n.1.0) }
-
--- a decision leads to the next office
-pub decision-leads : (office : Office) (command : Command) (result : Result Decision Refusal) → IsLawful office → Decides office command result
-    → IfOk result (λ decision. LeadsOn office command decision.changes.items)
-decision-leads office (AddRoom room) (Ok decision) l d = record {
-  leads = ap (λ changes. applied_all office changes) d.changes;
-  lawful = add_room-lawful office room l d.accepted;
-}
-decision-leads office (AddRoom room) (Err refusal) l d = tt
+pub decision_leads : (office : Office) (given : Command) (result : Result Decision Refusal) → IsLawful office
+    → Decides (checks office given) (reply_to office given) (changes_of office given) result
+    → IfOk result (λ decision. LeadsOn office (next office given) decision.changes.items)
+decision_leads office given (Ok decision) l d =
+    subst (λ changes. LeadsOn office (next office given) changes) (sym d.changed) (leads_on office given l d.accepted)
+decision_leads office given (Err refusal) l d = tt

@@ -1,1 +1,12 @@
+pub mod Checks
+pub mod Empty
+pub mod Homes
+pub mod InTurn
 pub mod Laws
+pub mod MoveMaps
+pub mod Over
+pub mod People
+pub mod Register
+pub mod Untouched
+pub mod Tenants
+pub mod Wishes

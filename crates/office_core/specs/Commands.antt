@@ -1,33 +1,51 @@
 -- The command table: what each command is refused for, what it does, and what it answers.
-use Rattle.std.specs.Prelude.{◌≡◌, Bool, false, nat_le, List, [], ◌∷◌, Option, None, Some, if◌then◌else◌, ◌⊎◌, MatchResult, Result}
-use Rattle.std.specs.FinMap as map
-use Rattle.office_core.specs.Office.{room_limit, knows_room, IsLawful}
-use Rattle.office_core.specs.Changes.{applied_all}
+use Rattle.std.specs.Prelude.{List, Option}
+pub mod AddPerson
+pub mod AddRoom
+pub mod Cancel
+pub mod CloseRound
+pub mod Leave
+pub mod OpenRound
+pub mod Remove
+pub mod Reopen
+pub mod SetChoices
+pub mod SetHome
+pub mod Shut
+pub mod Withdraw
+use Rattle.office_core.specs.Checks.{Check, first_refusal}
 use Rattle.office_core.specs.declared.office.Office.{Office}
 use Rattle.office_core.specs.declared.change.Change.{Change}
-use Rattle.office_core.specs.declared.change.Change.TheVariants.{PutRoom}
-use Rattle.office_core.specs.declared.command.Command.{Command}
-use Rattle.office_core.specs.declared.command.Command.TheVariants.{AddRoom}
+use Rattle.office_core.specs.declared.reply.Reply.{Reply}
 use Rattle.office_core.specs.declared.refusal.Refusal.{Refusal}
-use Rattle.office_core.specs.declared.refusal.Refusal.TheVariants.{DuplicateRoom, LimitReached, OutOfMemory}
-use Rattle.office_core.specs.declared.decision.Reply.{Reply}
-use Rattle.office_core.specs.declared.decision.Reply.TheVariants as reply
-use Rattle.office_core.specs.declared.decision.Decision.{Decision}
-
--- a refusal, and whether it applies
-abbrev pub Check : Type 0
-Check = Bool × Refusal
-
--- the first refusal that applies
-abbrev pub first_refusal : List Check → Option Refusal
-first_refusal [] = None
-first_refusal (check ∷ checks) = if check.0 then Some check.1 else first_refusal checks
+use Rattle.office_core.specs.declared.command.Command.{Command}
+use Rattle.office_core.specs.declared.command.Command.TheVariants as command
+use Rattle.office_core.specs.Commands.AddPerson as add_person
+use Rattle.office_core.specs.Commands.AddRoom as add_room
+use Rattle.office_core.specs.Commands.Cancel as cancel
+use Rattle.office_core.specs.Commands.CloseRound as close_round
+use Rattle.office_core.specs.Commands.Leave as leave
+use Rattle.office_core.specs.Commands.OpenRound as open_round
+use Rattle.office_core.specs.Commands.Remove as remove
+use Rattle.office_core.specs.Commands.Reopen as reopen
+use Rattle.office_core.specs.Commands.SetChoices as set_choices
+use Rattle.office_core.specs.Commands.SetHome as set_home
+use Rattle.office_core.specs.Commands.Shut as shut
+use Rattle.office_core.specs.Commands.Withdraw as withdraw
 
 -- each refusal of a command, in the order of its line
 abbrev pub checks : Office → Command → List Check
-checks office (AddRoom room) =
-    (knows_room office room, DuplicateRoom)
-    ∷ (nat_le room_limit (map.len office.rooms), LimitReached) ∷ []
+checks office (command.AddRoom room) = add_room.checks office room
+checks office (command.AddPerson person name key home) = add_person.checks office person name key home
+checks office (command.SetHome person room) = set_home.checks office person room
+checks office (command.Leave person) = leave.checks office person
+checks office (command.Remove person) = remove.checks office person
+checks office (command.Shut room) = shut.checks office room
+checks office (command.Reopen room) = reopen.checks office room
+checks office command.OpenRound = open_round.checks office
+checks office (command.SetChoices person choices) = set_choices.checks office person choices
+checks office (command.Withdraw person) = withdraw.checks office person
+checks office command.CloseRound = close_round.checks office
+checks office command.Cancel = cancel.checks office
 
 -- the first refusal that applies, or none
 abbrev pub accepts : Office → Command → Option Refusal
@@ -35,30 +53,45 @@ accepts office command = first_refusal (checks office command)
 
 -- the office after an accepted command
 abbrev pub next : Office → Command → Office
-next office (AddRoom room) = record office { rooms = map.insert office.rooms room false }
+next office (command.AddRoom room) = add_room.next office room
+next office (command.AddPerson person name key home) = add_person.next office person name key home
+next office (command.SetHome person room) = set_home.next office person room
+next office (command.Leave person) = leave.next office person
+next office (command.Remove person) = remove.next office person
+next office (command.Shut room) = shut.next office room
+next office (command.Reopen room) = reopen.next office room
+next office command.OpenRound = open_round.next office
+next office (command.SetChoices person choices) = set_choices.next office person choices
+next office (command.Withdraw person) = withdraw.next office person
+next office command.CloseRound = close_round.next office
+next office command.Cancel = cancel.next office
 
 -- the reply to an accepted command
 abbrev pub reply_to : Office → Command → Reply
-reply_to office (AddRoom room) = reply.Done
+reply_to office (command.AddRoom room) = add_room.reply_to office room
+reply_to office (command.AddPerson person name key home) = add_person.reply_to office person
+reply_to office (command.SetHome person room) = set_home.reply_to office person room
+reply_to office (command.Leave person) = leave.reply_to office person
+reply_to office (command.Remove person) = remove.reply_to office person
+reply_to office (command.Shut room) = shut.reply_to office room
+reply_to office (command.Reopen room) = reopen.reply_to office room
+reply_to office command.OpenRound = open_round.reply_to office
+reply_to office (command.SetChoices person choices) = set_choices.reply_to office person choices
+reply_to office (command.Withdraw person) = withdraw.reply_to office person
+reply_to office command.CloseRound = close_round.reply_to office
+reply_to office command.Cancel = cancel.reply_to office
 
--- the changes that carry a command out, in order
+-- the changes that carry an accepted command out, in order
 abbrev pub changes_of : Office → Command → List Change
-changes_of office (AddRoom room) = PutRoom room false ∷ []
-
--- the reply and the changes are those of the command
-pub record IsDecision (office : Office) (command : Command) (decision : Decision) : Type 0 where
-  pub accepted : accepts office command ≡ None
-  pub reply : decision.reply ≡ reply_to office command
-  pub changes : decision.changes.items ≡ changes_of office command
-
--- the changes lead to the next office, which is lawful
-pub record LeadsOn (office : Office) (command : Command) (changes : List Change) : Type 0 where
-  pub leads : applied_all office changes ≡ next office command
-  pub lawful : IsLawful (next office command)
-
--- want of memory, or the first refusal of the command's line that applies
-abbrev pub IsRefusal : Office → Command → Refusal → Type 0
-IsRefusal office command refusal = (accepts office command ≡ Some refusal) ⊎ (refusal ≡ OutOfMemory)
-
-abbrev pub Decides : Office → Command → Result Decision Refusal → Type 0
-Decides office command result = MatchResult result (IsDecision office command) (IsRefusal office command)
+changes_of office (command.AddRoom room) = add_room.changes_of office room
+changes_of office (command.AddPerson person name key home) = add_person.changes_of office person name key home
+changes_of office (command.SetHome person room) = set_home.changes_of office person room
+changes_of office (command.Leave person) = leave.changes_of office person
+changes_of office (command.Remove person) = remove.changes_of office person
+changes_of office (command.Shut room) = shut.changes_of office room
+changes_of office (command.Reopen room) = reopen.changes_of office room
+changes_of office command.OpenRound = open_round.changes_of office
+changes_of office (command.SetChoices person choices) = set_choices.changes_of office person choices
+changes_of office (command.Withdraw person) = withdraw.changes_of office person
+changes_of office command.CloseRound = close_round.changes_of office
+changes_of office command.Cancel = cancel.changes_of office

@@ -1,5 +1,11 @@
+pub mod Answers
 pub mod Changes
+pub mod Checks
 pub mod Commands
+pub mod Laws
+pub mod Limits
+pub mod Moves
 pub mod Office
+pub mod Phases
 pub mod Queries
 pub mod Refusals

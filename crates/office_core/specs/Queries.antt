@@ -1,32 +1,26 @@
--- The replies to queries.
-use Rattle.std.specs.Prelude.{◌≡◌, Bool, false, List, None, if◌then◌else◌, map, MatchResult, Result}
-use Rattle.std.specs.FinMap as maps
-use Rattle.room_types.specs.Texts.{Text}
-use Rattle.room_types.specs.declared.rows.State.{State}
-use Rattle.room_types.specs.declared.rows.State.TheVariants.{Free, Shut}
-use Rattle.room_types.specs.declared.rows.RoomRow.{RoomRow}
+-- The query table: what each query is answered.
+use Rattle.std.specs.Prelude.{◌≡◌, Result, Ok, Err, MatchResult, ◌⊎◌}
+pub mod Me
+pub mod Moves
+pub mod People
+pub mod Rooms
+pub mod Round
 use Rattle.office_core.specs.declared.office.Office.{Office}
 use Rattle.office_core.specs.declared.query.Query.{Query}
 use Rattle.office_core.specs.declared.query.Query.TheVariants as query
 use Rattle.office_core.specs.declared.refusal.Refusal.{Refusal}
 use Rattle.office_core.specs.declared.refusal.Refusal.TheVariants.{OutOfMemory}
-use Rattle.office_core.specs.declared.decision.Reply.{Reply}
-use Rattle.office_core.specs.declared.decision.Reply.TheVariants as reply
+use Rattle.office_core.specs.declared.reply.Reply.{Reply}
+use Rattle.office_core.specs.Queries.Me as me
+use Rattle.office_core.specs.Queries.Moves as moves
+use Rattle.office_core.specs.Queries.People as people
+use Rattle.office_core.specs.Queries.Rooms as rooms
+use Rattle.office_core.specs.Queries.Round as round
 
-abbrev pub state_of : Bool → State
-state_of shut = if shut then Shut else Free
-
-abbrev pub room_row : Text × Bool → RoomRow
-room_row entry = record { room = entry.0; state = state_of entry.1; tenant = None }
-
--- by code
-abbrev pub room_rows : Office → List RoomRow
-room_rows office = map room_row (maps.entries office.rooms)
-
--- the reply to a query
-abbrev pub answer_to : Office → Query → Reply
-answer_to office query.Rooms = reply.Rooms (room_rows office)
-
--- the reply, or want of memory
-abbrev pub Answers : Office → Query → Result Reply Refusal → Type 0
-Answers office asked result = MatchResult result (λ given. given ≡ answer_to office asked) (λ refusal. refusal ≡ OutOfMemory)
+-- the reply, or the refusal
+abbrev pub told : Office → Query → Result Reply Refusal
+told office query.Rooms = rooms.told office
+told office query.People = people.told office
+told office query.Round = round.told office
+told office (query.Moves number) = moves.told office number
+told office (query.Me key) = me.told office key

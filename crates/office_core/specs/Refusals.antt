@@ -1,14 +1,42 @@
--- The numbers and names by which refusals are known.
+-- The numbers and names of refusals.
 use Rattle.std.specs.Prelude.{ℕ, List, codes}
 use Rattle.office_core.specs.declared.refusal.Refusal.{Refusal}
-use Rattle.office_core.specs.declared.refusal.Refusal.TheVariants.{DuplicateRoom, LimitReached, OutOfMemory}
+use Rattle.office_core.specs.declared.refusal.Refusal.TheVariants.{BadPhase, UnknownPerson, UnknownRoom, DuplicateRoom, DuplicatePerson, KeyInUse, RoomShut, RoomTaken, HasHome, NoHome, Withdrawn, WrongWordCount, LimitReached, NotInRound, NoSuchRound, NotShut, OutOfMemory}
 
-abbrev pub refusal_number : Refusal → ℕ
-refusal_number DuplicateRoom = 4
-refusal_number LimitReached = 13
-refusal_number OutOfMemory = 19
+abbrev pub number_of : Refusal → ℕ
+number_of (BadPhase phase) = 1
+number_of UnknownPerson = 2
+number_of (UnknownRoom room) = 3
+number_of DuplicateRoom = 4
+number_of DuplicatePerson = 5
+number_of KeyInUse = 6
+number_of (RoomShut room) = 7
+number_of RoomTaken = 8
+number_of HasHome = 9
+number_of NoHome = 10
+number_of Withdrawn = 11
+number_of (WrongWordCount want got) = 12
+number_of LimitReached = 13
+number_of NotInRound = 16
+number_of NoSuchRound = 17
+number_of NotShut = 18
+number_of OutOfMemory = 19
 
-abbrev pub refusal_name : Refusal → List ℕ
-refusal_name DuplicateRoom = codes "DuplicateRoom"
-refusal_name LimitReached = codes "LimitReached"
-refusal_name OutOfMemory = codes "OutOfMemory"
+abbrev pub name_of : Refusal → List ℕ
+name_of (BadPhase phase) = codes "BadPhase"
+name_of UnknownPerson = codes "UnknownPerson"
+name_of (UnknownRoom room) = codes "UnknownRoom"
+name_of DuplicateRoom = codes "DuplicateRoom"
+name_of DuplicatePerson = codes "DuplicatePerson"
+name_of KeyInUse = codes "KeyInUse"
+name_of (RoomShut room) = codes "RoomShut"
+name_of RoomTaken = codes "RoomTaken"
+name_of HasHome = codes "HasHome"
+name_of NoHome = codes "NoHome"
+name_of Withdrawn = codes "Withdrawn"
+name_of (WrongWordCount want got) = codes "WrongWordCount"
+name_of LimitReached = codes "LimitReached"
+name_of NotInRound = codes "NotInRound"
+name_of NoSuchRound = codes "NoSuchRound"
+name_of NotShut = codes "NotShut"
+name_of OutOfMemory = codes "OutOfMemory"

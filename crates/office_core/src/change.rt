@@ -1,9 +1,56 @@
 //! The changes that commands are made of.
-use room_types::RoomCode;
+use room_types::{Choices, Key, Move, Name, PersonId, Phase, RoomCode, Word};
 
-/// One change of what the office keeps.
+/// One change of an office.
 #[derive(Drop)]
 pub enum Change {
-    /// The room is known from now on, shut or not.
-    PutRoom { room: RoomCode, shut: bool },
+    /// A room is there, and is shut or not.
+    PutRoom {
+        room: RoomCode,
+        shut: bool,
+    },
+    /// A person is there.
+    PutPerson {
+        person: PersonId,
+        name: Name,
+        key: Key,
+        home: Option<RoomCode>,
+    },
+    /// A person is no longer there.
+    DropPerson {
+        person: PersonId,
+    },
+    /// A known person has this home from then on, or none. Of an unknown person it changes nothing.
+    PutHome {
+        person: PersonId,
+        home: Option<RoomCode>,
+    },
+    /// A person has left the round.
+    PutWithdrawn {
+        person: PersonId,
+    },
+    /// A person's list is this one. An empty list is not recorded.
+    PutChoices {
+        person: PersonId,
+        choices: Choices,
+    },
+    /// A person drew this word.
+    PutWord {
+        person: PersonId,
+        word: Word,
+    },
+    /// A person gets this room in the round, or none.
+    PutResult {
+        person: PersonId,
+        room: Option<RoomCode>,
+    },
+    /// A person has moved.
+    AddMove(Move),
+    /// The round has this number and phase.
+    PutRound {
+        number: u16,
+        phase: Phase,
+    },
+    /// Lists, withdrawals, words and results go.
+    ClearRound,
 }

@@ -1,9 +1,54 @@
 //! What the office is asked to do.
-use room_types::RoomCode;
+use room_types::{Choices, Key, Name, PersonId, RoomCode};
 
-/// What the office is asked to do.
+/// A command of the office, or of a resident.
 #[derive(Drop)]
 pub enum Command {
-    /// A room is added, which is not shut.
-    AddRoom { room: RoomCode },
+    /// Adds a room that is not shut.
+    AddRoom {
+        room: RoomCode,
+    },
+    /// Adds a person, perhaps with a home.
+    AddPerson {
+        person: PersonId,
+        name: Name,
+        key: Key,
+        home: Option<RoomCode>,
+    },
+    /// Gives a home to somebody who has none.
+    SetHome {
+        person: PersonId,
+        room: RoomCode,
+    },
+    /// Takes somebody's home.
+    Leave {
+        person: PersonId,
+    },
+    /// Removes a person who has no home.
+    Remove {
+        person: PersonId,
+    },
+    /// Shuts a room, whose tenancy ends.
+    Shut {
+        room: RoomCode,
+    },
+    /// Opens a shut room again.
+    Reopen {
+        room: RoomCode,
+    },
+    /// Begins a round.
+    OpenRound,
+    /// Replaces a person's list.
+    SetChoices {
+        person: PersonId,
+        choices: Choices,
+    },
+    /// Takes a person, and that person's room, out of the round.
+    Withdraw {
+        person: PersonId,
+    },
+    /// Makes the lists final.
+    CloseRound,
+    /// Gives the round up.
+    Cancel,
 }

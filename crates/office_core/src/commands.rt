@@ -1,2 +1,14 @@
-//! The commands, one in each file.
+//! The commands, one file each.
+pub mod add_person;
 pub mod add_room;
+pub mod cancel;
+pub mod close_round;
+pub mod homes;
+pub mod leave;
+pub mod open_round;
+pub mod remove;
+pub mod reopen;
+pub mod set_choices;
+pub mod set_home;
+pub mod shut;
+pub mod withdraw;

@@ -1,19 +1,10 @@
-//! What a request leads to.
+//! What a command leads to.
 ghost use Rattle.std.specs.Prelude.{◌≡◌, IfOk, IfErr, [], ◌∷◌};
 
 use crate::change::Change;
 use crate::refusal::Refusal;
-use room_types::{Listing, RoomRow};
+use crate::reply::Reply;
 use std::alloc::Global;
-
-/// The reply to a request that is not refused.
-#[derive(Drop)]
-pub enum Reply {
-    /// The command was carried out.
-    Done,
-    /// The rooms, by code.
-    Rooms(Listing<RoomRow>),
-}
 
 /// The reply to an accepted command, and the changes that carry it out, in order.
 #[derive(Drop)]
@@ -24,11 +15,26 @@ pub struct Decision {
 
 /// The decision of one change.
 pub fn one_change(alloc: Global, reply: Reply, change: Change) -> Result<Decision, Refusal>
-    ensures reply { IfOk result (λ decision. decision.reply ≡ reply) }
-    ensures changes { IfOk result (λ decision. decision.changes.items ≡ change ∷ []) }
-    ensures refusal { IfErr result (λ refusal. refusal ≡ Refusal.OutOfMemory) }
+    ensures ok { IfOk result (λ d. (d.reply ≡ reply) × (d.changes.items ≡ change ∷ [])) }
+    ensures err { IfErr result (λ refusal. refusal ≡ Refusal.OutOfMemory) }
 {
     let mut changes = Vec::new(alloc);
     changes.push(change)?;
+    Ok(Decision { reply, changes })
+}
+
+/// The decision of two changes.
+pub fn two_changes(
+    alloc: Global,
+    reply: Reply,
+    first: Change,
+    second: Change,
+) -> Result<Decision, Refusal>
+    ensures ok { IfOk result (λ d. (d.reply ≡ reply) × (d.changes.items ≡ first ∷ second ∷ [])) }
+    ensures err { IfErr result (λ refusal. refusal ≡ Refusal.OutOfMemory) }
+{
+    let mut changes = Vec::new(alloc);
+    changes.push(first)?;
+    changes.push(second)?;
     Ok(Decision { reply, changes })
 }

@@ -1,21 +1,37 @@
 //! The office of a college's room exchange: what it keeps, the commands that change it, and the queries that it answers.
 #![tactic(auto)]
 
-pub mod answer;
-pub mod apply;
+pub mod answering;
+pub mod applying;
 pub mod change;
 pub mod command;
 pub mod commands;
-pub mod decide;
+pub mod deciding;
 pub mod decision;
+pub mod limits;
+pub mod look;
+pub mod moves;
 pub mod office;
+pub mod person;
+pub mod phases;
 pub mod queries;
 pub mod query;
 pub mod refusal;
+pub mod reply;
 
+pub use crate::answering::answer;
+pub use crate::applying::{apply, apply_all};
 pub use crate::change::Change;
 pub use crate::command::Command;
-pub use crate::decision::{Decision, Reply};
-pub use crate::office::{Office, ROOM_LIMIT};
+pub use crate::deciding::decide;
+pub use crate::decision::Decision;
+pub use crate::limits::{PEOPLE_LIMIT, ROOM_LIMIT, ROUND_LIMIT};
+pub use crate::moves::{Moved, RoundMoves, Rounds};
+pub use crate::office::{Assigned, Office};
+pub use crate::person::Person;
 pub use crate::query::Query;
 pub use crate::refusal::Refusal;
+pub use crate::reply::{Reply, Standing};
+
+#[cfg(test)]
+mod tests;

@@ -1,29 +1,73 @@
 //! What the office keeps.
 ghost use Rattle.std.specs.Prelude.{◌≡◌, IfOk};
-ghost use Rattle.office_core.specs.Office.{empty_office, IsLawful};
+ghost use Rattle.office_core.specs.Laws.{IsLawful};
+ghost use Rattle.office_core.specs.Office.{empty_office};
 
-use room_types::grammars::RoomCodes;
-use room_types::{OutOfMemory, Table};
-use std::alloc::Global;
+use crate::moves::{RoundMoves, Rounds};
+use crate::person::Person;
+use room_types::grammars::{PersonIds, RoomCodes};
+use room_types::rows::copy_optional;
+use room_types::{Choices, Copied, OutOfMemory, Phase, RoomCode, Table, Word};
+use std::alloc::{AllocError, Global};
 
-/// How many rooms an office may have.
-pub const ROOM_LIMIT: usize = 2000;
+/// What a participant gets in a round.
+#[derive(Drop)]
+pub struct Assigned {
+    /// The room, or none for no room.
+    pub room: Option<RoomCode>,
+}
 
-/// The rooms of a college. The definitions speak of this very record, with finite maps for its tables.
+impl Clone for Assigned {
+    ghost is_clone = { λ x y. y ≡ x };
+
+    fn clone(&self) -> Result<Assigned, AllocError> {
+        Ok(Assigned {
+            room: copy_optional(&self.room)?,
+        })
+    }
+}
+
+impl Copied for Assigned {
+    ghost same = { λ x y h. h };
+}
+
+/// The rooms and people of a college, the round under way, and the moves of earlier rounds.
 #[derive(Drop)]
 pub struct Office {
     /// Whether each room is shut.
     pub rooms: Table<RoomCodes, bool>,
+    pub people: Table<PersonIds, Person>,
+    /// The rooms that a person listed, the best first. Nobody has an empty list here.
+    pub choices: Table<PersonIds, Choices>,
+    /// Who has left the round.
+    pub withdrawn: Table<PersonIds, ()>,
+    /// The word that each participant drew.
+    pub words: Table<PersonIds, Word>,
+    /// The room that each participant gets, or none.
+    pub results: Table<PersonIds, Assigned>,
+    /// The moves of each round that is over. No round has an empty table here.
+    pub moves: Rounds<RoundMoves>,
+    /// The number of the last round, or 0 before the first.
+    pub number: u16,
+    pub phase: Phase,
 }
 
 impl Office {
-    /// The office with nothing in it.
+    /// The office with nothing in it, before the first round.
     pub fn empty(alloc: Global) -> Office
         ensures empty { result ≡ empty_office }
         ensures lawful { IsLawful result }
     {
         Office {
             rooms: Table::new(alloc),
+            people: Table::new(alloc),
+            choices: Table::new(alloc),
+            withdrawn: Table::new(alloc),
+            words: Table::new(alloc),
+            results: Table::new(alloc),
+            moves: Rounds::new(alloc),
+            number: 0,
+            phase: Phase::Idle,
         }
     }
 
@@ -33,6 +77,14 @@ impl Office {
     {
         Ok(Office {
             rooms: self.rooms.copy()?,
+            people: self.people.copy()?,
+            choices: self.choices.copy()?,
+            withdrawn: self.withdrawn.copy()?,
+            words: self.words.copy()?,
+            results: self.results.copy()?,
+            moves: self.moves.copy()?,
+            number: self.number,
+            phase: self.phase,
         })
     }
 }

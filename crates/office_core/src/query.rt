@@ -1,8 +1,17 @@
 //! What the office is asked.
+use room_types::Key;
 
-/// What the office is asked.
+/// A question of the office, or of a resident.
 #[derive(Drop)]
 pub enum Query {
-    /// The rooms, by code.
+    /// The rooms by code.
     Rooms,
+    /// The people by identifier.
+    People,
+    /// The round's number and phase, and how many people there are.
+    Round,
+    /// The moves of the round of this number.
+    Moves(u16),
+    /// What the person of this key sees.
+    Me(Key),
 }

@@ -1,56 +1,141 @@
-//! Why a request is refused.
-ghost use Rattle.std.specs.Prelude.{◌≡◌};
-ghost use Rattle.office_core.specs.Refusals.{refusal_number, refusal_name};
-ghost use Rattle.office_core.specs.declared.refusal.Refusal.TheVariants.{OutOfMemory as Refusal-OutOfMemory};
+//! Why a command or a query is refused.
+ghost use Rattle.std.specs.Prelude.{◌≡◌, ◌⊎◌};
+ghost use Rattle.office_core.specs.Refusals.{number_of, name_of};
 
-use room_types::OutOfMemory;
-use std::alloc::AllocFailed;
+use room_types::{OutOfMemory, Phase, RoomCode};
+use std::alloc::{AllocError, AllocFailed};
 
-/// Why a request is refused. It then changed nothing.
+/// Why a command or a query is refused. Nothing is changed by it.
 #[derive(Drop)]
 pub enum Refusal {
-    /// The room is known already.
+    /// Not in this phase.
+    BadPhase(Phase),
+    /// Nobody has this identifier, or this key.
+    UnknownPerson,
+    UnknownRoom(RoomCode),
     DuplicateRoom,
-    /// There are as many as an office may have.
+    DuplicatePerson,
+    /// Somebody else has this key.
+    KeyInUse,
+    RoomShut(RoomCode),
+    /// Somebody lives there.
+    RoomTaken,
+    HasHome,
+    NoHome,
+    /// The person has left the round.
+    Withdrawn,
+    /// As many words are wanted as there are participants.
+    WrongWordCount { want: usize, got: usize },
+    /// There are as many rooms, people or rounds as there may be.
     LimitReached,
+    /// The person has left the round, and so has no place in the order.
+    NotInRound,
+    /// The round has not begun, or is still under way.
+    NoSuchRound,
+    NotShut,
     /// Memory was refused.
     OutOfMemory,
 }
 
 impl Refusal {
-    /// The number by which the refusal is known.
+    /// The refusal's number, as it is printed.
     pub fn number(&self) -> u8
-        ensures { result ≡ refusal_number self.now }
+        ensures { result ≡ number_of self.now }
     {
         match self {
+            Refusal::BadPhase(_) => 1,
+            Refusal::UnknownPerson => 2,
+            Refusal::UnknownRoom(_) => 3,
             Refusal::DuplicateRoom => 4,
+            Refusal::DuplicatePerson => 5,
+            Refusal::KeyInUse => 6,
+            Refusal::RoomShut(_) => 7,
+            Refusal::RoomTaken => 8,
+            Refusal::HasHome => 9,
+            Refusal::NoHome => 10,
+            Refusal::Withdrawn => 11,
+            Refusal::WrongWordCount { .. } => 12,
             Refusal::LimitReached => 13,
+            Refusal::NotInRound => 16,
+            Refusal::NoSuchRound => 17,
+            Refusal::NotShut => 18,
             Refusal::OutOfMemory => 19,
         }
     }
 
-    /// The refusal's name.
+    /// The refusal's name, as it is printed.
     pub fn name(&self) -> &'static str
-        ensures { result.now ≡ refusal_name self.now }
+        ensures { result.now ≡ name_of self.now }
     {
         match self {
+            Refusal::BadPhase(_) => "BadPhase",
+            Refusal::UnknownPerson => "UnknownPerson",
+            Refusal::UnknownRoom(_) => "UnknownRoom",
             Refusal::DuplicateRoom => "DuplicateRoom",
+            Refusal::DuplicatePerson => "DuplicatePerson",
+            Refusal::KeyInUse => "KeyInUse",
+            Refusal::RoomShut(_) => "RoomShut",
+            Refusal::RoomTaken => "RoomTaken",
+            Refusal::HasHome => "HasHome",
+            Refusal::NoHome => "NoHome",
+            Refusal::Withdrawn => "Withdrawn",
+            Refusal::WrongWordCount { .. } => "WrongWordCount",
             Refusal::LimitReached => "LimitReached",
+            Refusal::NotInRound => "NotInRound",
+            Refusal::NoSuchRound => "NoSuchRound",
+            Refusal::NotShut => "NotShut",
             Refusal::OutOfMemory => "OutOfMemory",
         }
     }
 }
 
+/// That a room is not known.
+pub fn unknown_room(room: &RoomCode) -> Refusal
+    ensures { (result ≡ Refusal.UnknownRoom room.now) ⊎ (result ≡ Refusal.OutOfMemory) }
+{
+    match room.copy() {
+        Ok(room) => Refusal::UnknownRoom(room),
+        Err(_) => Refusal::OutOfMemory,
+    }
+}
+
+/// That a room is shut.
+pub fn room_shut(room: &RoomCode) -> Refusal
+    ensures { (result ≡ Refusal.RoomShut room.now) ⊎ (result ≡ Refusal.OutOfMemory) }
+{
+    match room.copy() {
+        Ok(room) => Refusal::RoomShut(room),
+        Err(_) => Refusal::OutOfMemory,
+    }
+}
+
 impl From<OutOfMemory> for Refusal {
-    ghost from_gives = { λ _ refusal. refusal ≡ Refusal-OutOfMemory };
+    ghost use Rattle.std.specs.Prelude.{◌≡◌};
+    ghost use Rattle.office_core.specs.declared.refusal.Refusal.TheVariants.{OutOfMemory};
+
+    ghost from_gives = { λ _ refusal. refusal ≡ OutOfMemory };
 
     fn from(_error: OutOfMemory) -> Refusal {
         Refusal::OutOfMemory
     }
 }
 
+impl From<AllocError> for Refusal {
+    ghost use Rattle.std.specs.Prelude.{◌≡◌};
+    ghost use Rattle.office_core.specs.declared.refusal.Refusal.TheVariants.{OutOfMemory};
+
+    ghost from_gives = { λ _ refusal. refusal ≡ OutOfMemory };
+
+    fn from(_error: AllocError) -> Refusal {
+        Refusal::OutOfMemory
+    }
+}
+
 impl<T: Drop> From<AllocFailed<T>> for Refusal {
-    ghost from_gives = { λ _ refusal. refusal ≡ Refusal-OutOfMemory };
+    ghost use Rattle.std.specs.Prelude.{◌≡◌};
+    ghost use Rattle.office_core.specs.declared.refusal.Refusal.TheVariants.{OutOfMemory};
+
+    ghost from_gives = { λ _ refusal. refusal ≡ OutOfMemory };
 
     fn from(_error: AllocFailed<T>) -> Refusal {
         Refusal::OutOfMemory

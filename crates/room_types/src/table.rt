@@ -105,8 +105,8 @@ impl<G: Grammar, V> Table<G, V> {
 impl<G: Grammar, V: Drop> Table<G, V> {
     /// Gives the key this value in place of any other. Where memory is refused the map is as before.
     pub fn insert(&mut self, key: Text<G>, value: V) -> Result<(), OutOfMemory>
-        ensures inserted { OnOk result (self.new ≡ map.insert self.old key value) }
-        ensures refused { OnErr result (self.new ≡ self.old) }
+        ensures ok { OnOk result (self.new ≡ map.insert self.old key value) }
+        ensures err { OnErr result (self.new ≡ self.old) }
     {
         self.tree.insert(key, value)?;
         Ok(())

@@ -68,7 +68,7 @@ fn reads_words(rt: HostRuntime) {
             Ok(Request::Ask(Query::Rooms))
         )
     );
-    match words_to_command(rt.alloc(), &["room", "H1"]) {
+    match &words_to_command(rt.alloc(), &["room", "H1"]) {
         Ok(Request::Office(Command::AddRoom { room })) => assert_eq!(rt; room.as_str(), "H1"),
         _ => assert!(rt; false),
     }

@@ -1,18 +1,23 @@
 //! A room that is not shut is added.
-ghost use Rattle.office_core.specs.Commands.{Decides};
-ghost use Rattle.office_core.specs.declared.command.Command.TheVariants.{AddRoom};
+ghost use Rattle.office_core.specs.Checks.{Decides};
+ghost use Rattle.office_core.specs.Commands.AddRoom.{checks, reply_to, changes_of};
 
 use crate::change::Change;
-use crate::decision::{Decision, Reply, one_change};
-use crate::office::{Office, ROOM_LIMIT};
+use crate::decision::{Decision, one_change};
+use crate::limits::ROOM_LIMIT;
+use crate::office::Office;
+use crate::phases::is_preparing;
 use crate::refusal::Refusal;
+use crate::reply::Reply;
 use room_types::RoomCode;
 use std::alloc::Global;
 
-/// Decides whether the room may be added.
 pub fn add_room(alloc: Global, office: &Office, room: &RoomCode) -> Result<Decision, Refusal>
-    ensures { Decides office.now (AddRoom room.now) result }
+    ensures { Decides (checks office.now room.now) (reply_to office.now room.now) (changes_of office.now room.now) result }
 {
+    if !is_preparing(office.phase) {
+        return Err(Refusal::BadPhase(office.phase));
+    }
     if office.rooms.contains_key(room) {
         return Err(Refusal::DuplicateRoom);
     }

@@ -1,28 +1,68 @@
 //! The rooms by code.
-ghost use Rattle.std.specs.Prelude.{◌≡◌, IfOk};
-ghost use Rattle.office_core.specs.Queries.{room_rows, state_of};
+ghost use Rattle.std.specs.Prelude.{◌≡◌, IfOk, List, ℕ};
+ghost use Rattle.std.specs.Option.{option_copied};
+ghost use Rattle.std.specs.FinMap as map;
+ghost use Rattle.office_core.specs.Answers.{Tells};
+ghost use Rattle.office_core.specs.Office.{tenant};
+ghost use Rattle.office_core.specs.Queries.Rooms.{told, state_of};
 
 use crate::office::Office;
-use room_types::{Listing, OutOfMemory, RoomRow, State};
+use crate::refusal::Refusal;
+use crate::reply::Reply;
+use room_types::grammars::RoomCodes;
+use room_types::{Listing, OutOfMemory, PersonId, RoomRow, State, Table};
 use std::alloc::Global;
 
-/// The rooms by code.
-pub fn rooms(alloc: Global, office: &Office) -> Result<Listing<RoomRow>, OutOfMemory>
-    ensures { IfOk result (λ rows. rows ≡ room_rows office.now) }
+pub fn rooms(alloc: Global, office: &Office) -> Result<Reply, Refusal>
+    ensures { Tells (told office.now) result }
 {
+    let tenants = tenants(alloc, office)?;
     let mut rows = Vec::new(alloc);
     for (room, shut) in office.rooms.iter() {
+        let tenant = copy_person(tenants.get(room))?;
+        let state = state_of(*shut, &tenant);
+        let room = room.copy()?;
         rows.push(RoomRow {
-            room: room.copy()?,
-            state: state_of(*shut),
-            tenant: None,
+            room,
+            state,
+            tenant,
         })?;
     }
-    Ok(Listing::new(rows))
+    Ok(Reply::Rooms(Listing::new(rows)))
 }
 
-fn state_of(shut: bool) -> State
-    ensures { result ≡ state_of shut }
+/// Who lives in each room, found in one pass over the people.
+pub fn tenants(alloc: Global, office: &Office) -> Result<Table<RoomCodes, PersonId>, OutOfMemory>
+    ensures { IfOk result (λ tenants. (room : List ℕ) → map.get tenants room ≡ tenant office.now room) }
 {
-    if shut { State::Shut } else { State::Free }
+    let mut tenants = Table::new(alloc);
+    for (id, person) in office.people.iter() {
+        if let Some(home) = &person.home {
+            if !tenants.contains_key(home) {
+                tenants.insert(home.copy()?, id.copy()?)?;
+            }
+        }
+    }
+    Ok(tenants)
+}
+
+fn state_of(shut: bool, tenant: &Option<PersonId>) -> State
+    ensures { result ≡ state_of shut tenant.now }
+{
+    if shut {
+        State::Shut
+    } else if tenant.is_some() {
+        State::Occupied
+    } else {
+        State::Free
+    }
+}
+
+fn copy_person(person: Option<&PersonId>) -> Result<Option<PersonId>, OutOfMemory>
+    ensures { IfOk result (λ copy. copy ≡ option_copied person.entry) }
+{
+    match person {
+        Some(person) => Ok(Some(person.copy()?)),
+        None => Ok(None),
+    }
 }

@@ -1,5 +1,5 @@
 use Rattle.std.proofs.Common.{◌+◌, ◌*◌, ◌^◌, ◌≤◌, take, vec_len}
-use Rattle.office_core.specs.Office.{IsLawful}
+use Rattle.office_core.specs.Laws.{IsLawful}
 use Rattle.office_cli.specs.Streams.{output_of}
 use Rattle.office_cli.specs.Sessions.{Heard, state}
 use Rattle.office_cli.proofs.hearing.take_piece.Given as goal

@@ -1,6 +1,6 @@
 use Rattle.std.proofs.Common.{◌≡◌, ◌*◌, ◌^◌, ◌≤◌, vec_len}
 use Rattle.room_types.specs.Watched.{watched_inner, watched_reads}
-use Rattle.office_core.specs.Office.{IsLawful}
+use Rattle.office_core.specs.Laws.{IsLawful}
 use Rattle.office_cli.specs.Streams.{output_of}
 use Rattle.office_cli.specs.Sessions.{Listened, state}
 use Rattle.office_cli.proofs.rehearse.listen.Given as goal

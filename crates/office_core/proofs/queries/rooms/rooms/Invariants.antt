@@ -1,5 +1,5 @@
 use Rattle.std.proofs.Common.{◌≡◌, ◌++◌, map}
-use Rattle.office_core.specs.Queries.{room_row, room_rows}
+use Rattle.office_core.specs.Queries.Rooms.{room_row, room_rows}
 use Rattle.office_core.proofs.queries.rooms.rooms.Given as goal
 
 -- the rows so far and those of the rooms that are left are all rows
@@ -7,5 +7,5 @@ abbrev pub invariant-loop-room : goal.invariant-loop-room
 invariant-loop-room l = record {
   can : (goal.iterator-loop-room).can_next l.room-iterator;
   ends : (goal.iterator-loop-room).is_finite l.room-iterator;
-  rows : l.rows.items ++ map room_row l.room-iterator ≡ room_rows l.office;
+  rows : l.rows.items ++ map (room_row l.office) l.room-iterator ≡ room_rows l.office;
 }

@@ -1,0 +1,21 @@
+-- The lines of refusals.
+use Rattle.std.specs.Prelude.{ℕ, List, [], ◌∷◌, ◌++◌, codes}
+use Rattle.std.specs.Fmt.{decimal}
+use Rattle.room_types.specs.Phases.{phase_text}
+use Rattle.room_types.specs.Texts.{Text}
+use Rattle.office_core.specs.Refusals.{name_of, number_of}
+use Rattle.office_core.specs.declared.refusal.Refusal.{Refusal}
+use Rattle.office_cli.specs.Replies.{line_of}
+use Rattle.office_core.specs.declared.refusal.Refusal.TheVariants.{BadPhase, UnknownRoom, RoomShut, WrongWordCount}
+
+-- the values that a refusal has, after a space
+abbrev pub refusal_values : Refusal → Text
+refusal_values (BadPhase phase) = codes " " ++ phase_text phase
+refusal_values (UnknownRoom room) = codes " " ++ room
+refusal_values (RoomShut room) = codes " " ++ room
+refusal_values (WrongWordCount want got) = codes " want " ++ decimal want ++ codes " got " ++ decimal got
+refusal_values _ = []
+
+-- the number, the name and the values
+abbrev pub refusal_text : Refusal → Text
+refusal_text refusal = line_of (codes "refused " ∷ decimal (number_of refusal) ∷ codes " " ∷ name_of refusal ∷ refusal_values refusal ∷ [])

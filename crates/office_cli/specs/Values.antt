@@ -1,0 +1,46 @@
+-- The values that words are.
+use Rattle.std.specs.Prelude.{ℕ, Bool, ◌&&◌, List, [], ◌∷◌, length, Option, Some, None, codes, if◌then◌else◌, option_and_then, is_none}
+use Rattle.std.specs.Char.{is_ascii_digit}
+use Rattle.std.specs.Int.{is_in_range}
+use Rattle.std.specs.List.{join_by, list_all}
+use Rattle.std.specs.Str.Parse.{digits_value}
+use Rattle.room_types.specs.Choices.{choices_fault}
+use Rattle.room_types.specs.Grammars.{is_room_code}
+use Rattle.room_types.specs.Texts.{Text}
+
+-- the word, where it is in the grammar
+abbrev pub in_grammar : (Text → Bool) → Text → Option Text
+in_grammar is_text word = if is_text word then Some word else None
+
+-- the only word, where it is in the grammar
+abbrev pub only : (Text → Bool) → List Text → Option Text
+only is_text (word ∷ []) = in_grammar is_text word
+only is_text _ = None
+
+-- words joined by one space
+abbrev pub joined : List Text → Text
+joined words = join_by (λ word. word) (codes " ") words
+
+-- one code before others, where all are codes
+abbrev pub before_codes : Option Text → Option (List Text) → Option (List Text)
+before_codes (Some code) (Some others) = Some (code ∷ others)
+before_codes _ _ = None
+
+-- the codes that the words are, where each is one
+abbrev pub codes_of : List Text → Option (List Text)
+codes_of [] = Some []
+codes_of (word ∷ words) = before_codes (in_grammar is_room_code word) (codes_of words)
+
+-- the codes, where they are a list: not too many, and none twice
+abbrev pub as_choices : List Text → Option (List Text)
+as_choices codes = if is_none (choices_fault codes) then Some codes else None
+
+abbrev pub choices_in : List Text → Option (List Text)
+choices_in words = option_and_then as_choices (codes_of words)
+
+-- 1 to 4 decimal digits
+abbrev pub is_round_number : Text → Bool
+is_round_number word = is_in_range 1 4 (length word) && list_all is_ascii_digit word
+
+abbrev pub round_number : Text → Option ℕ
+round_number word = if is_round_number word then Some (digits_value 10 word) else None

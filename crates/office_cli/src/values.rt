@@ -1,0 +1,98 @@
+//! The values that words are.
+ghost use Rattle.std.specs.Prelude.{◌≡◌, length, map};
+ghost use Rattle.std.specs.Char.{is_ascii_digit};
+ghost use Rattle.std.specs.Int.{is_in_range};
+ghost use Rattle.std.specs.List.{list_all};
+ghost use Rattle.office_cli.specs.Understanding.{Understands, UnderstandsAs};
+ghost use Rattle.office_cli.specs.Values.{choices_in, codes_of, in_grammar, is_round_number, joined, only, round_number};
+ghost use Rattle.room_types.specs.Grammars.{is_name};
+
+use crate::words::WordFault;
+use room_types::{Choices, Grammar, Name, RoomCode, Text, TypeFault};
+use std::alloc::Global;
+
+/// How many digits the number of a round has at most.
+pub const ROUND_DIGITS: usize = 4;
+
+/// The value that a word is in its grammar.
+pub fn value_of<G: Grammar>(alloc: Global, word: &str) -> Result<Text<G>, WordFault>
+    ensures { Understands (in_grammar G.is_text word.now) result }
+{
+    match Text::read(alloc, word) {
+        Ok(value) => Ok(value),
+        Err(TypeFault::OutOfMemory) => Err(WordFault::OutOfMemory),
+        Err(_) => Err(WordFault::NotUnderstood),
+    }
+}
+
+/// The value that the only word is in its grammar.
+pub fn only_value<G: Grammar>(alloc: Global, words: &[&str]) -> Result<Text<G>, WordFault>
+    ensures { Understands (only G.is_text (map (λ word. word.now) words.now)) result }
+{
+    match words {
+        [word] => value_of(alloc, word),
+        _ => Err(WordFault::NotUnderstood),
+    }
+}
+
+/// The name that the words are, joined by one space.
+pub fn name_of(alloc: Global, words: &[&str]) -> Result<Name, WordFault>
+    ensures { Understands (in_grammar is_name (joined (map (λ word. word.now) words.now))) result }
+{
+    let name = words.join(alloc, " ")?;
+    value_of(alloc, name.as_str())
+}
+
+/// The list of rooms that the words are.
+pub fn choices_of(alloc: Global, words: &[&str]) -> Result<Choices, WordFault>
+    ensures { Understands (choices_in (map (λ word. word.now) words.now)) result }
+{
+    let codes = all_codes(alloc, words)?;
+    match Choices::read(codes) {
+        Ok(choices) => Ok(choices),
+        Err(TypeFault::OutOfMemory) => Err(WordFault::OutOfMemory),
+        Err(_) => Err(WordFault::NotUnderstood),
+    }
+}
+
+fn all_codes(alloc: Global, words: &[&str]) -> Result<Vec<RoomCode>, WordFault>
+    ensures { UnderstandsAs (λ codes. codes.items) (codes_of (map (λ word. word.now) words.now)) result }
+{
+    let mut codes = Vec::new(alloc);
+    for word in words {
+        codes.push(value_of(alloc, word)?)?;
+    }
+    Ok(codes)
+}
+
+/// The number of a round that a word of digits is.
+pub fn round_of(word: &str) -> Result<u16, WordFault>
+    ensures { Understands (round_number word.now) result }
+{
+    if !is_round_number(word) {
+        return Err(WordFault::NotUnderstood);
+    }
+    match word.parse::<u16>() {
+        Ok(number) => Ok(number),
+        Err(_) => Err(WordFault::NotUnderstood),
+    }
+}
+
+// Whether a word is 1 to 4 decimal digits.
+fn is_round_number(word: &str) -> bool
+    ensures { result ≡ is_round_number word.now }
+{
+    has_round_length(word) && has_digits_alone(word)
+}
+
+fn has_round_length(word: &str) -> bool
+    ensures { result ≡ is_in_range 1 4 (length word.now) }
+{
+    1 <= word.len() && word.len() <= ROUND_DIGITS
+}
+
+fn has_digits_alone(word: &str) -> bool
+    ensures { result ≡ list_all is_ascii_digit word.now }
+{
+    word.as_bytes().iter().all(|byte| byte.is_ascii_digit())
+}

@@ -1,0 +1,12 @@
+-- How much an office may hold.
+use Rattle.std.specs.Prelude.{ℕ}
+
+abbrev pub room_limit : ℕ
+room_limit = 2000
+
+abbrev pub people_limit : ℕ
+people_limit = 2000
+
+-- the number of the last round
+abbrev pub round_limit : ℕ
+round_limit = 9999

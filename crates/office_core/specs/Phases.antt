@@ -1,0 +1,43 @@
+-- Tests on phases.
+use Rattle.std.specs.Prelude.{Bool, true, false, ◌||◌}
+use Rattle.room_types.specs.declared.phase.Phase.{Phase}
+use Rattle.room_types.specs.declared.phase.Phase.TheVariants.{Idle, Opened, Closed, Ran, Published}
+
+abbrev pub is_idle : Phase → Bool
+is_idle Idle = true
+is_idle _ = false
+
+abbrev pub is_open : Phase → Bool
+is_open Opened = true
+is_open _ = false
+
+abbrev pub is_closed : Phase → Bool
+is_closed Closed = true
+is_closed _ = false
+
+abbrev pub is_published : Phase → Bool
+is_published Published = true
+is_published _ = false
+
+-- rooms and people may be added and shut
+abbrev pub is_preparing : Phase → Bool
+is_preparing phase = is_idle phase || is_open phase
+
+-- a round is under way and is not yet published
+abbrev pub may_cancel : Phase → Bool
+may_cancel Idle = false
+may_cancel Published = false
+may_cancel _ = true
+
+-- the words are drawn
+abbrev pub has_words : Phase → Bool
+has_words Idle = false
+has_words Opened = false
+has_words Closed = false
+has_words _ = true
+
+-- the results are there
+abbrev pub has_results : Phase → Bool
+has_results Ran = true
+has_results Published = true
+has_results _ = false

@@ -1,0 +1,47 @@
+//! A person is added, perhaps with a home.
+ghost use Rattle.office_core.specs.Checks.{Decides};
+ghost use Rattle.office_core.specs.Commands.AddPerson.{checks, reply_to, changes_of};
+
+use crate::change::Change;
+use crate::commands::homes::may_live_if_any;
+use crate::decision::{Decision, one_change};
+use crate::limits::PEOPLE_LIMIT;
+use crate::office::Office;
+use crate::phases::is_preparing;
+use crate::refusal::Refusal;
+use crate::reply::Reply;
+use room_types::rows::copy_optional;
+use room_types::{Key, Name, PersonId, RoomCode};
+use std::alloc::Global;
+
+pub fn add_person(
+    alloc: Global,
+    office: &Office,
+    person: &PersonId,
+    name: &Name,
+    key: &Key,
+    home: &Option<RoomCode>,
+) -> Result<Decision, Refusal>
+    ensures { Decides (checks office.now person.now name.now key.now home.now) (reply_to office.now person.now) (changes_of office.now person.now name.now key.now home.now) result }
+{
+    if !is_preparing(office.phase) {
+        return Err(Refusal::BadPhase(office.phase));
+    }
+    if office.people.contains_key(person) {
+        return Err(Refusal::DuplicatePerson);
+    }
+    if office.owner(key).is_some() {
+        return Err(Refusal::KeyInUse);
+    }
+    may_live_if_any(office, home)?;
+    if office.people.len() >= PEOPLE_LIMIT {
+        return Err(Refusal::LimitReached);
+    }
+    let change = Change::PutPerson {
+        person: person.copy()?,
+        name: name.copy()?,
+        key: key.copy()?,
+        home: copy_optional(home)?,
+    };
+    one_change(alloc, Reply::Done, change)
+}

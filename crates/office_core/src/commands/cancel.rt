@@ -1,0 +1,25 @@
+//! The round is given up.
+ghost use Rattle.office_core.specs.Checks.{Decides};
+ghost use Rattle.office_core.specs.Commands.Cancel.{checks, reply_to, changes_of};
+
+use crate::change::Change;
+use crate::decision::{Decision, two_changes};
+use crate::office::Office;
+use crate::phases::may_cancel;
+use crate::refusal::Refusal;
+use crate::reply::Reply;
+use room_types::Phase;
+use std::alloc::Global;
+
+pub fn cancel(alloc: Global, office: &Office) -> Result<Decision, Refusal>
+    ensures { Decides (checks office.now) (reply_to office.now) (changes_of office.now) result }
+{
+    if !may_cancel(office.phase) {
+        return Err(Refusal::BadPhase(office.phase));
+    }
+    let over = Change::PutRound {
+        number: office.number,
+        phase: Phase::Idle,
+    };
+    two_changes(alloc, Reply::Cancelled, Change::ClearRound, over)
+}

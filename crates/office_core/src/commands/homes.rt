@@ -1,0 +1,40 @@
+//! Whether a room can be listed, or be a home.
+ghost use Rattle.office_core.specs.Checks.{Passes, room_checks, home_checks, home_checks_if_any};
+
+use crate::office::Office;
+use crate::refusal::{Refusal, room_shut, unknown_room};
+use room_types::RoomCode;
+
+/// A room that is known and not shut.
+pub fn may_list(office: &Office, room: &RoomCode) -> Result<(), Refusal>
+    ensures { Passes (room_checks office.now room.now) result }
+{
+    if !office.rooms.contains_key(room) {
+        return Err(unknown_room(room));
+    }
+    if office.is_shut(room) {
+        return Err(room_shut(room));
+    }
+    Ok(())
+}
+
+/// A room that is known, not shut, and nobody's home.
+pub fn may_live(office: &Office, room: &RoomCode) -> Result<(), Refusal>
+    ensures { Passes (home_checks office.now room.now) result }
+{
+    may_list(office, room)?;
+    if office.tenant(room).is_some() {
+        return Err(Refusal::RoomTaken);
+    }
+    Ok(())
+}
+
+/// No room, or one that can be a home.
+pub fn may_live_if_any(office: &Office, home: &Option<RoomCode>) -> Result<(), Refusal>
+    ensures { Passes (home_checks_if_any office.now home.now) result }
+{
+    match home {
+        Some(room) => may_live(office, room),
+        None => Ok(()),
+    }
+}

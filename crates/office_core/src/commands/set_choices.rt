@@ -1,0 +1,50 @@
+//! A list of rooms replaces the one before.
+ghost use Rattle.std.specs.List.{flat_map};
+ghost use Rattle.office_core.specs.Checks.{Decides, Passes, room_checks};
+ghost use Rattle.office_core.specs.Commands.SetChoices.{checks, reply_to, changes_of};
+
+use crate::change::Change;
+use crate::commands::homes::may_list;
+use crate::decision::{Decision, one_change};
+use crate::office::Office;
+use crate::phases::is_open;
+use crate::refusal::Refusal;
+use crate::reply::Reply;
+use room_types::{Choices, PersonId, RoomCode};
+use std::alloc::Global;
+
+pub fn set_choices(
+    alloc: Global,
+    office: &Office,
+    person: &PersonId,
+    choices: &Choices,
+) -> Result<Decision, Refusal>
+    ensures { Decides (checks office.now person.now choices.now) (reply_to office.now person.now choices.now) (changes_of office.now person.now choices.now) result }
+{
+    if !is_open(office.phase) {
+        return Err(Refusal::BadPhase(office.phase));
+    }
+    if !office.people.contains_key(person) {
+        return Err(Refusal::UnknownPerson);
+    }
+    if office.has_withdrawn(person) {
+        return Err(Refusal::Withdrawn);
+    }
+    may_list_all(office, choices.as_slice())?;
+    let change = Change::PutChoices {
+        person: person.copy()?,
+        choices: choices.copy()?,
+    };
+    let choices = choices.copy()?;
+    one_change(alloc, Reply::Chosen { choices }, change)
+}
+
+/// Rooms that are all known and not shut, or the first refusal in their order.
+pub fn may_list_all(office: &Office, rooms: &[RoomCode]) -> Result<(), Refusal>
+    ensures { Passes (flat_map (room_checks office.now) rooms.now) result }
+{
+    for room in rooms {
+        may_list(office, room)?;
+    }
+    Ok(())
+}

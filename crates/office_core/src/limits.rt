@@ -1,0 +1,10 @@
+//! How much an office may hold.
+
+/// How many rooms there may be.
+pub const ROOM_LIMIT: usize = 2000;
+
+/// How many people there may be.
+pub const PEOPLE_LIMIT: usize = 2000;
+
+/// The number of the last round.
+pub const ROUND_LIMIT: u16 = 9999;

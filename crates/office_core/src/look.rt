@@ -1,0 +1,93 @@
+//! What is read from an office.
+ghost use Rattle.std.specs.Prelude.{◌≡◌, IfOk};
+ghost use Rattle.std.specs.Option.{option_copied};
+ghost use Rattle.office_core.specs.Office.{tenant, owner, is_shut, lives_in, has_withdrawn, participants, is_over, is_under_way, is_shown};
+
+use crate::office::Office;
+use crate::person::Person;
+use crate::phases::{is_idle, is_published};
+use room_types::{Key, OutOfMemory, PersonId, RoomCode};
+use std::alloc::Global;
+
+impl Office {
+    /// Who lives in a room.
+    pub fn tenant(&self, room: &RoomCode) -> Option<&PersonId>
+        ensures { option_copied result ≡ tenant self.now room.now }
+    {
+        for (id, person) in self.people.iter() {
+            if lives_in(person, room) {
+                return Some(id);
+            }
+        }
+        None
+    }
+
+    /// Whose key it is.
+    pub fn owner(&self, key: &Key) -> Option<&PersonId>
+        ensures { option_copied result ≡ owner self.now key.now }
+    {
+        for (id, person) in self.people.iter() {
+            if person.key == *key {
+                return Some(id);
+            }
+        }
+        None
+    }
+
+    /// Whether a room is known and shut.
+    pub fn is_shut(&self, room: &RoomCode) -> bool
+        ensures { result ≡ is_shut self.now room.now }
+    {
+        self.rooms.get(room).copied().unwrap_or(false)
+    }
+
+    /// Whether a person has left the round.
+    pub fn has_withdrawn(&self, person: &PersonId) -> bool
+        ensures { result ≡ has_withdrawn self.now person.now }
+    {
+        self.withdrawn.contains_key(person)
+    }
+
+    /// Whether a person sees the result.
+    pub fn is_shown(&self, person: &PersonId) -> bool
+        ensures { result ≡ is_shown self.now person.now }
+    {
+        is_published(self.phase) && !self.has_withdrawn(person)
+    }
+
+    /// Whether a round is settled or cancelled.
+    pub fn is_over(&self, round: u16) -> bool
+        ensures { result ≡ is_over self.now round }
+    {
+        1 <= round && round <= self.number && !self.is_under_way(round)
+    }
+
+    /// Whether a round has begun, and is neither settled nor cancelled.
+    pub fn is_under_way(&self, round: u16) -> bool
+        ensures { result ≡ is_under_way self.now round }
+    {
+        !is_idle(self.phase) && round == self.number
+    }
+
+    /// Who has not withdrawn, by identifier.
+    pub fn participants(&self, alloc: Global) -> Result<Vec<PersonId>, OutOfMemory>
+        ensures { IfOk result (λ people. people.items ≡ participants self.now) }
+    {
+        let mut people = Vec::new(alloc);
+        for (id, _) in self.people.iter() {
+            if !self.has_withdrawn(id) {
+                people.push(id.copy()?)?;
+            }
+        }
+        Ok(people)
+    }
+}
+
+fn lives_in(person: &Person, room: &RoomCode) -> bool
+    ensures { result ≡ lives_in room.now person.now }
+{
+    match &person.home {
+        Some(home) => home == room,
+        None => false,
+    }
+}

@@ -1,0 +1,45 @@
+//! What is kept of a person.
+ghost use Rattle.std.specs.Prelude.{◌≡◌, IfOk};
+
+use room_types::rows::copy_optional;
+use room_types::{Copied, Key, Name, OutOfMemory, RoomCode};
+use std::alloc::AllocError;
+
+/// What is kept of a person beside the identifier.
+#[derive(Drop)]
+pub struct Person {
+    pub name: Name,
+    /// What the person shows to be known.
+    pub key: Key,
+    /// Where the person lives, if anywhere.
+    pub home: Option<RoomCode>,
+}
+
+impl Person {
+    /// The same person with another home, or with none.
+    pub fn copy_with_home(&self, home: &Option<RoomCode>) -> Result<Person, OutOfMemory>
+        ensures { IfOk result (λ moved. moved ≡ record self.now { home = home.now }) }
+    {
+        Ok(Person {
+            name: self.name.copy()?,
+            key: self.key.copy()?,
+            home: copy_optional(home)?,
+        })
+    }
+}
+
+impl Clone for Person {
+    ghost is_clone = { λ x y. y ≡ x };
+
+    fn clone(&self) -> Result<Person, AllocError> {
+        Ok(Person {
+            name: self.name.clone()?,
+            key: self.key.clone()?,
+            home: copy_optional(&self.home)?,
+        })
+    }
+}
+
+impl Copied for Person {
+    ghost same = { λ x y h. h };
+}

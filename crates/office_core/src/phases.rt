@@ -1,0 +1,52 @@
+//! Tests on phases.
+ghost use Rattle.std.specs.Prelude.{◌≡◌};
+ghost use Rattle.office_core.specs.Phases.{is_idle, is_open, is_published, is_preparing, may_cancel};
+
+use room_types::Phase;
+
+/// Whether no round is under way.
+pub fn is_idle(phase: Phase) -> bool
+    ensures { result ≡ is_idle phase }
+{
+    match phase {
+        Phase::Idle => true,
+        _ => false,
+    }
+}
+
+/// Whether people may list rooms, or withdraw.
+pub fn is_open(phase: Phase) -> bool
+    ensures { result ≡ is_open phase }
+{
+    match phase {
+        Phase::Opened => true,
+        _ => false,
+    }
+}
+
+/// Whether everybody sees their result.
+pub fn is_published(phase: Phase) -> bool
+    ensures { result ≡ is_published phase }
+{
+    match phase {
+        Phase::Published => true,
+        _ => false,
+    }
+}
+
+/// Whether rooms and people may be added, and rooms be shut.
+pub fn is_preparing(phase: Phase) -> bool
+    ensures { result ≡ is_preparing phase }
+{
+    is_idle(phase) || is_open(phase)
+}
+
+/// Whether there is a round that can be given up.
+pub fn may_cancel(phase: Phase) -> bool
+    ensures { result ≡ may_cancel phase }
+{
+    match phase {
+        Phase::Idle | Phase::Published => false,
+        _ => true,
+    }
+}

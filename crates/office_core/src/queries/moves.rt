@@ -1,0 +1,40 @@
+//! The moves of a round that is over.
+ghost use Rattle.std.specs.Prelude.{◌≡◌, IfOk};
+ghost use Rattle.office_core.specs.Answers.{Tells};
+ghost use Rattle.office_core.specs.Queries.Moves.{told, move_rows};
+
+use crate::office::Office;
+use crate::refusal::Refusal;
+use crate::reply::Reply;
+use room_types::rows::copy_optional;
+use room_types::{Listing, Move, OutOfMemory};
+use std::alloc::Global;
+
+pub fn moves(alloc: Global, office: &Office, round: u16) -> Result<Reply, Refusal>
+    ensures { Tells (told office.now round) result }
+{
+    if !office.is_over(round) {
+        return Err(Refusal::NoSuchRound);
+    }
+    let rows = move_rows(alloc, office, round)?;
+    Ok(Reply::Moves(Listing::new(rows)))
+}
+
+fn move_rows(alloc: Global, office: &Office, round: u16) -> Result<Vec<Move>, OutOfMemory>
+    ensures { IfOk result (λ rows. rows.items ≡ move_rows office.now round) }
+{
+    let mut rows = Vec::new(alloc);
+    let Some(moves) = office.moves.get(round) else {
+        return Ok(rows);
+    };
+    for (id, moved) in moves.by_person.iter() {
+        rows.push(Move {
+            round,
+            person: id.copy()?,
+            from: copy_optional(&moved.from)?,
+            to: copy_optional(&moved.to)?,
+            wave: moved.wave,
+        })?;
+    }
+    Ok(rows)
+}

@@ -1,0 +1,18 @@
+//! The round's number and phase, with counts.
+ghost use Rattle.office_core.specs.Answers.{Tells};
+ghost use Rattle.office_core.specs.Queries.Round.{told};
+
+use crate::office::Office;
+use crate::refusal::Refusal;
+use crate::reply::Reply;
+
+pub fn round(office: &Office) -> Result<Reply, Refusal>
+    ensures { Tells (told office.now) result }
+{
+    Ok(Reply::Round {
+        number: office.number,
+        phase: office.phase,
+        people: office.people.len(),
+        withdrawn: office.withdrawn.len(),
+    })
+}
