@@ -49,7 +49,8 @@ fn identifiers(alloc: Global, lots: &[(Word, &PersonId)]) -> Result<Vec<PersonId
     Ok(people)
 }
 
-/// The law that lots of different people have one drawn order, the one that `drawn_order` of `specs/` computes. It does nothing.
+/// The law that lots of different people have one drawn order, the one that `drawn_order` of `specs/` computes.
+/// It does nothing.
 pub fn one_drawn_order()
     ensures { (lots : List Lot) → PeopleDiffer lots → HasOneDrawnOrder lots }
 {}

@@ -1,6 +1,7 @@
 pub mod CodeLemmas
 pub mod LineLemmas
 pub mod NameLemmas
+pub mod NumberLemmas
 pub mod ProgramLemmas
 pub mod RehearsalLemmas
 pub mod RoundLemmas

@@ -5,12 +5,13 @@ use Rattle.office_core.specs.Office.{empty_office}
 use Rattle.office_core.specs.declared.office.Office.{Office}
 use Rattle.office_cli.specs.declared.ending.Ending.{Ending}
 use Rattle.office_cli.specs.declared.usage.Program.{Program}
-use Rattle.office_cli.specs.declared.usage.Program.TheVariants.{Rehearse}
+use Rattle.office_cli.specs.declared.usage.Program.TheVariants.{Rehearse, Words}
 use Rattle.office_cli.specs.declared.words.WordFault.{WordFault}
 use Rattle.office_cli.specs.declared.words.WordFault.TheVariants.{NotUnderstood, OutOfMemory}
 use Rattle.office_cli.specs.Rehearsals.{Rehearses}
 use Rattle.office_cli.specs.Streams.{Input, Output, Puts}
-use Rattle.office_cli.specs.Replies.{line_of}
+use Rattle.office_cli.specs.OutputLines.{line_of}
+use Rattle.office_cli.specs.WordLines.{words_text}
 use Rattle.room_types.specs.Texts.{Text}
 
 -- The text went out and was flushed, and the exit status is the wanted one. Or the writer failed, and it is 3.
@@ -31,6 +32,7 @@ RehearsesAnew status input input' out out' = (ending : Ending) × (office : Offi
 -- the line is done, or the words are refused that are none
 abbrev pub DoesLine : Option Program → ℕ → Input → Input → Output → Output → Output → Output → Type 0
 DoesLine (Some Rehearse) status input input' out out' error error' = RehearsesAnew status input input' out out' × (error' ≡ error)
+DoesLine (Some (Words seed count)) status input input' out out' error error' = Says (words_text seed count) 0 status out out' × (error' ≡ error) × (input' ≡ input)
 DoesLine None status input input' out out' error error' = Refuses NotUnderstood status out out' error error' × (input' ≡ input)
 
 -- What the words ask for is done, or memory is wanting to read them.

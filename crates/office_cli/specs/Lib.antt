@@ -1,10 +1,13 @@
 pub mod Doing
 pub mod Lines
+pub mod OrderLines
+pub mod OutputLines
 pub mod Programs
 pub mod RefusalTexts
 pub mod Rehearsals
 pub mod Replies
 pub mod Runs
+pub mod Seeds
 pub mod Sentences
 pub mod Sessions
 pub mod Streams
@@ -12,4 +15,5 @@ pub mod Texts
 pub mod Understanding
 pub mod Usage
 pub mod Values
+pub mod WordLines
 pub mod Words

@@ -1,15 +1,32 @@
 -- The lines of the program, and the line that words are.
-use Rattle.std.specs.Prelude.{Bool, true, false, List, [], ◌∷◌, Option, Some, None, codes, if◌then◌else◌, option_and_then}
+use Rattle.std.specs.Prelude.{ℕ, Bool, true, false, List, [], ◌∷◌, Option, Some, None, codes, if◌then◌else◌, option_and_then, option_map}
 use Rattle.std.specs.Str.{bytes_eq}
-use Rattle.clap.specs.Words.{Kinds, Row, fault_of, subcommand_of}
+use Rattle.std.specs.Str.Parse.{digits_value, without_leading_plus}
+use Rattle.clap.specs.ValueTests.{is_unsigned_in}
+use Rattle.clap.specs.Words.{Kinds, Row, fault_of, first_of, one_of, subcommand_of}
 use Rattle.office_cli.specs.declared.usage.Program.{Program}
-use Rattle.office_cli.specs.declared.usage.Program.TheVariants.{Rehearse}
+use Rattle.office_cli.specs.declared.usage.Program.TheVariants.{Rehearse, Words}
+use Rattle.office_cli.specs.Seeds.{seed_of}
 use Rattle.office_cli.specs.Usage.{usage}
 use Rattle.room_types.specs.Texts.{Text}
 
+-- the number that a text is in decimal, where it lies in the bounds
+abbrev pub number_between : ℕ → ℕ → Text → Option ℕ
+number_between low high text = if is_unsigned_in low high text then Some (digits_value 10 (without_leading_plus text)) else None
+
+-- the number that an argument was given
+abbrev pub number_of : ℕ → ℕ → Text → List Row → Option ℕ
+number_of low high id rows = option_and_then (number_between low high) (one_of id rows)
+
+-- `words --seed HEX --count N`
+abbrev pub words_line : List Row → Option Program
+words_line rows = option_and_then (λ seed. option_map (λ count. Words seed count) (number_of 0 2000 (codes "count") rows)) (option_and_then seed_of (first_of (codes "seed") rows))
+
 -- the line of a subcommand with its entries
 abbrev pub entered_line : Text × List Row → Option Program
-entered_line (name, rows) = if bytes_eq name (codes "rehearse") then Some Rehearse else None
+entered_line (name, rows) = if bytes_eq name (codes "rehearse") then Some Rehearse
+    else if bytes_eq name (codes "words") then words_line rows
+    else None
 
 abbrev pub has_none : Kinds → Bool
 has_none [] = true

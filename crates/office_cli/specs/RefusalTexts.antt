@@ -1,11 +1,11 @@
 -- The lines of refusals.
-use Rattle.std.specs.Prelude.{ℕ, List, [], ◌∷◌, ◌++◌, codes}
+use Rattle.std.specs.Prelude.{[], ◌∷◌, ◌++◌, codes}
 use Rattle.std.specs.Fmt.{decimal}
 use Rattle.room_types.specs.Phases.{phase_text}
 use Rattle.room_types.specs.Texts.{Text}
 use Rattle.office_core.specs.Refusals.{name_of, number_of}
 use Rattle.office_core.specs.declared.refusal.Refusal.{Refusal}
-use Rattle.office_cli.specs.Replies.{line_of}
+use Rattle.office_cli.specs.OutputLines.{line_of}
 use Rattle.office_core.specs.declared.refusal.Refusal.TheVariants.{BadPhase, UnknownRoom, RoomShut, WrongWordCount}
 
 -- the values that a refusal has, after a space

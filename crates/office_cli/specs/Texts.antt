@@ -1,11 +1,12 @@
 -- What is printed for a line, and the statuses of lines.
-use Rattle.std.specs.Prelude.{ℕ, List, [], ◌∷◌, codes}
+use Rattle.std.specs.Prelude.{ℕ, [], ◌∷◌, codes}
 use Rattle.room_types.specs.Texts.{Text}
 use Rattle.office_cli.specs.declared.requests.Answer.TheVariants.{Reply, Refused, Unavailable}
 use Rattle.office_cli.specs.declared.texts.Said.{Said}
 use Rattle.office_cli.specs.declared.texts.Said.TheVariants.{Nothing, Answered, NotUnderstood}
 use Rattle.office_cli.specs.RefusalTexts.{refusal_text}
-use Rattle.office_cli.specs.Replies.{line_of, reply_text}
+use Rattle.office_cli.specs.OutputLines.{line_of}
+use Rattle.office_cli.specs.Replies.{reply_text}
 
 -- what is printed
 abbrev pub text_of : Said → Text

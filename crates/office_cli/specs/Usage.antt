@@ -1,9 +1,11 @@
 -- The subcommands of `rooms` and their arguments, as `clap` reads them.
-use Rattle.std.specs.Prelude.{◌≡◌, true, false, codes}
-use Rattle.clap.specs.Words.{App, app_of, new_app, with_subcommand}
+use Rattle.std.specs.Prelude.{◌≡◌, ℕ, pos, true, false, codes, Some}
+use Rattle.clap.specs.Words.{App, Rule, Text, app_of, new_app, new_rule, with_rule, with_subcommand}
 use Rattle.clap.specs.Simple.{on_top}
+use Rattle.clap.specs.declared.builder.action.ArgAction.TheVariants.{Set}
 use Rattle.clap.specs.declared.builder.command.Command.{Command}
 use Rattle.clap.specs.declared.builder.command.Command.TheViews.{out-Command}
+use Rattle.clap.specs.declared.builder.value_parser.ValueParser.TheVariants as parser
 
 -- the words are those after the program's name, there is a subcommand, and no help
 abbrev pub plain_usage : App
@@ -17,8 +19,19 @@ plain_usage = on_top (λ settings. record settings {
 abbrev pub rehearse_usage : App
 rehearse_usage = new_app (codes "rehearse")
 
+-- `--name VALUE`, which has to be there
+abbrev pub option : Text → Rule
+option name = record (new_rule name) { long = Some name; action = Some Set; required = true }
+
+-- `--name N`, a number from low to high
+abbrev pub number : ℕ → ℕ → Text → Rule
+number low high name = record (option name) { parser = Some (parser.Signed (pos low) (pos high)) }
+
+abbrev pub words_usage : App
+words_usage = with_rule (with_rule (new_app (codes "words")) (option (codes "seed"))) (number 0 2000 (codes "count"))
+
 abbrev pub usage : App
-usage = with_subcommand plain_usage rehearse_usage.top
+usage = with_subcommand (with_subcommand plain_usage rehearse_usage.top) words_usage.top
 
 -- the command is this one, and no argument of it is global
 abbrev pub IsCommand : App → Command → Type 0

@@ -21,15 +21,19 @@ only is_text _ = None
 abbrev pub joined : List Text → Text
 joined words = join_by (λ word. word) (codes " ") words
 
--- one code before others, where all are codes
-abbrev pub before_codes : Option Text → Option (List Text) → Option (List Text)
-before_codes (Some code) (Some others) = Some (code ∷ others)
-before_codes _ _ = None
+-- one value before others, where all are there
+abbrev pub before : {X : Type 0} → Option X → Option (List X) → Option (List X)
+before (Some value) (Some others) = Some (value ∷ others)
+before _ _ = None
+
+-- what the words are, where each is something
+abbrev pub all_of : {X : Type 0} → (Text → Option X) → List Text → Option (List X)
+all_of meaning [] = Some []
+all_of meaning (word ∷ words) = before (meaning word) (all_of meaning words)
 
 -- the codes that the words are, where each is one
 abbrev pub codes_of : List Text → Option (List Text)
-codes_of [] = Some []
-codes_of (word ∷ words) = before_codes (in_grammar is_room_code word) (codes_of words)
+codes_of words = all_of (in_grammar is_room_code) words
 
 -- the codes, where they are a list: not too many, and none twice
 abbrev pub as_choices : List Text → Option (List Text)

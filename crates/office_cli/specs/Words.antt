@@ -3,9 +3,10 @@ use Rattle.std.specs.Prelude.{List, [], ◌∷◌, Option, Some, None, codes, if
 use Rattle.std.specs.Str.{bytes_eq}
 use Rattle.room_types.specs.Grammars.{is_key, is_name, is_person_id, is_room_code}
 use Rattle.room_types.specs.Texts.{Text}
-use Rattle.office_core.specs.declared.command.Command.TheVariants.{AddPerson, AddRoom, Cancel, CloseRound, Leave, OpenRound, Remove, Reopen, SetChoices, SetHome, Shut, Withdraw}
-use Rattle.office_core.specs.declared.query.Query.TheVariants.{Me, Moves, People, Rooms, Round}
-use Rattle.office_cli.specs.Values.{choices_in, in_grammar, joined, only, round_number}
+use Rattle.room_types.specs.Words.{word_of}
+use Rattle.office_core.specs.declared.command.Command.TheVariants.{AddPerson, AddRoom, Cancel, CloseRound, Draw, Leave, OpenRound, Publish, Remove, Reopen, Run, SetChoices, SetHome, Settle, Shut, Withdraw}
+use Rattle.office_core.specs.declared.query.Query.TheVariants.{Me, Moves, Order, People, Results, Rooms, Round, WhatIf}
+use Rattle.office_cli.specs.Values.{all_of, choices_in, in_grammar, joined, only, round_number}
 use Rattle.office_cli.specs.declared.requests.Request.{Request}
 use Rattle.office_cli.specs.declared.requests.Request.TheVariants.{Office, Ask}
 
@@ -51,6 +52,10 @@ set_choices [] = None
 abbrev pub withdraw : List Text → Option Request
 withdraw words = option_map (λ person. Office (Withdraw person)) (only is_person_id words)
 
+-- `draw WORD..`, no word or more
+abbrev pub draw : List Text → Option Request
+draw words = option_map (λ drawn. Office (Draw drawn)) (all_of word_of words)
+
 -- `moves N`, N being 1 to 4 decimal digits
 abbrev pub ask_moves : List Text → Option Request
 ask_moves (round ∷ []) = option_map (λ number. Ask (Moves number)) (round_number round)
@@ -59,6 +64,11 @@ ask_moves _ = None
 -- `me KEY`
 abbrev pub ask_me : List Text → Option Request
 ask_me words = option_map (λ key. Ask (Me key)) (only is_key words)
+
+-- `whatif ID CODE..`, no code or more
+abbrev pub ask_what_if : List Text → Option Request
+ask_what_if (person ∷ rooms) = option_and_then (λ id. option_map (λ choices. Ask (WhatIf id choices)) (choices_in rooms)) (in_grammar is_person_id person)
+ask_what_if [] = None
 
 -- a word after which none may stand
 abbrev pub alone : Request → List Text → Option Request
@@ -77,14 +87,21 @@ request_after verb rest =
     else if bytes_eq verb (codes "reopen") then reopen rest
     else if bytes_eq verb (codes "open") then alone (Office OpenRound) rest
     else if bytes_eq verb (codes "close") then alone (Office CloseRound) rest
+    else if bytes_eq verb (codes "run") then alone (Office Run) rest
+    else if bytes_eq verb (codes "publish") then alone (Office Publish) rest
+    else if bytes_eq verb (codes "settle") then alone (Office Settle) rest
     else if bytes_eq verb (codes "cancel") then alone (Office Cancel) rest
     else if bytes_eq verb (codes "choose") then set_choices rest
     else if bytes_eq verb (codes "withdraw") then withdraw rest
+    else if bytes_eq verb (codes "draw") then draw rest
     else if bytes_eq verb (codes "rooms") then alone (Ask Rooms) rest
     else if bytes_eq verb (codes "people") then alone (Ask People) rest
     else if bytes_eq verb (codes "round") then alone (Ask Round) rest
+    else if bytes_eq verb (codes "order") then alone (Ask Order) rest
+    else if bytes_eq verb (codes "results") then alone (Ask Results) rest
     else if bytes_eq verb (codes "moves") then ask_moves rest
     else if bytes_eq verb (codes "me") then ask_me rest
+    else if bytes_eq verb (codes "whatif") then ask_what_if rest
     else None
 
 -- the request, if the words are one

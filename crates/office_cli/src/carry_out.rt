@@ -3,16 +3,18 @@ ghost use Rattle.std.specs.Prelude.{◌≡◌, map};
 ghost use Rattle.room_types.specs.Watched.{IsFresh};
 ghost use Rattle.office_cli.specs.Streams.{input_of, output_of};
 ghost use Rattle.office_cli.specs.Programs.{program_of};
-ghost use Rattle.office_cli.specs.Doing.{CarriesOut, Refuses, Says};
+ghost use Rattle.office_cli.specs.Doing.{CarriesOut, RehearsesAnew, Refuses, Says};
 
 use crate::program::program;
 use crate::rehearse::rehearse;
 use crate::send::send;
-use crate::texts::{NOT_UNDERSTOOD, UNAVAILABLE};
+use crate::texts::{ACCEPTED, NOT_UNDERSTOOD, UNAVAILABLE};
 use crate::usage::Program;
+use crate::word_lines::words_text;
 use crate::words::WordFault;
 use office_core::Office;
 use room_types::Watched;
+use std::alloc::Global;
 use std::io::{Read, Write};
 
 /// Does what these words after the program's name ask for, and gives the exit status.
@@ -32,12 +34,29 @@ pub fn carry_out<'a, R: Read, W: Write, E: Write>(
         (output_of E.contents error.old) (output_of E.contents error.new) }
 {
     match program(rt.alloc(), words) {
-        Ok(Program::Rehearse) => {
-            let mut office = Office::empty(rt.alloc());
-            rehearse(rt.alloc(), &mut office, input, output).status
-        }
+        Ok(Program::Rehearse) => rehearse_anew(rt.alloc(), input, output),
+        Ok(Program::Words { seed, count }) => match words_text(rt.alloc(), seed, count as usize) {
+            Ok(text) => say(output, text.as_str(), ACCEPTED),
+            Err(_) => refuse(WordFault::OutOfMemory, output, error),
+        },
         Err(fault) => refuse(fault, output, error),
     }
+}
+
+// An empty office hears the input.
+fn rehearse_anew<R: Read, W: Write>(
+    alloc: Global,
+    input: &mut Watched<R>,
+    output: &mut Watched<W>,
+) -> u8
+    requires fresh_input { IsFresh input.old }
+    requires fresh_output { IsFresh output.old }
+    ensures { RehearsesAnew result
+        (input_of R.remaining input.old) (input_of R.remaining input.new)
+        (output_of W.contents output.old) (output_of W.contents output.new) }
+{
+    let mut office = Office::empty(alloc);
+    rehearse(alloc, &mut office, input, output).status
 }
 
 /// Says that the words were not understood, on standard error, or that memory was refused, on standard output. Gives the exit status.

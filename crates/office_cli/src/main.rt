@@ -5,17 +5,19 @@ pub mod carry_out;
 pub mod ending;
 pub mod handle;
 pub mod hearing;
+pub mod order_lines;
 pub mod program;
 pub mod refusals;
 pub mod rehearse;
 pub mod replies;
 pub mod requests;
+pub mod seeds;
 pub mod send;
 pub mod sentences;
-
 pub mod texts;
 pub mod usage;
 pub mod values;
+pub mod word_lines;
 pub mod words;
 
 use crate::carry_out::refuse;

@@ -1,10 +1,11 @@
 //! The words after the program's name.
-ghost use Rattle.std.specs.Prelude.{◌≡◌, ◌≢◌, map};
-ghost use Rattle.clap.specs.Words.{found_of, kind_of, rows_of};
-ghost use Rattle.office_cli.specs.Programs.{entered_line, program_of};
+ghost use Rattle.std.specs.Prelude.{◌≡◌, ◌≢◌, map, option_map};
+ghost use Rattle.clap.specs.Words.{first_of, found_of, kind_of, rows_of};
+ghost use Rattle.office_cli.specs.Programs.{entered_line, number_of, program_of, words_line};
 ghost use Rattle.office_cli.specs.Understanding.{Understands};
 
-use crate::usage::{Program, rooms_command};
+use crate::seeds::seed_of;
+use crate::usage::{Program, WORDS_LIMIT, rooms_command};
 use crate::words::WordFault;
 use clap::error::ErrorKind;
 use clap::{ArgMatches, Error};
@@ -33,7 +34,33 @@ fn line<'a>(name: &str, entries: &ArgMatches<'a>) -> Result<Program, WordFault>
 {
     match name {
         "rehearse" => Ok(Program::Rehearse),
+        "words" => printing_words(entries).ok_or(WordFault::NotUnderstood),
         _ => Err(WordFault::NotUnderstood),
+    }
+}
+
+fn printing_words<'a>(entries: &ArgMatches<'a>) -> Option<Program>
+    ensures { result ≡ words_line (rows_of (found_of entries.now)) }
+{
+    let seed = seed_of(text(entries, "seed")?)?;
+    let count = number(entries, "count", WORDS_LIMIT)?;
+    Some(Program::Words { seed, count })
+}
+
+// The text that the argument was given.
+fn text<'a>(entries: &ArgMatches<'a>, id: &str) -> Option<&'a str>
+    ensures { option_map (λ given. given.now) result ≡ first_of id.now (rows_of (found_of entries.now)) }
+{
+    entries.get_str(id)
+}
+
+// The number up to `most` that the argument was given.
+fn number(entries: &ArgMatches, id: &str, most: u32) -> Option<u32>
+    ensures { result ≡ number_of 0 most id.now (rows_of (found_of entries.now)) }
+{
+    match entries.get_one::<u32>(id) {
+        Some(n) => { if n > most { None } else { Some(n) } }
+        None => None,
     }
 }
 

@@ -1,7 +1,13 @@
 //! Worked scripts, streams that fail, and the words of the command line.
+mod compared;
+mod draw;
+mod example;
 mod failing;
 mod lines;
 mod register;
+mod rounds;
 mod scripts;
+mod seeds;
 mod streams;
 mod words;
+mod years;

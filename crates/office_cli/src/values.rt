@@ -4,11 +4,12 @@ ghost use Rattle.std.specs.Char.{is_ascii_digit};
 ghost use Rattle.std.specs.Int.{is_in_range};
 ghost use Rattle.std.specs.List.{list_all};
 ghost use Rattle.office_cli.specs.Understanding.{Understands, UnderstandsAs};
-ghost use Rattle.office_cli.specs.Values.{choices_in, codes_of, in_grammar, is_round_number, joined, only, round_number};
+ghost use Rattle.room_types.specs.Words.{word_of};
+ghost use Rattle.office_cli.specs.Values.{all_of, choices_in, codes_of, in_grammar, is_round_number, joined, only, round_number};
 ghost use Rattle.room_types.specs.Grammars.{is_name};
 
 use crate::words::WordFault;
-use room_types::{Choices, Grammar, Name, RoomCode, Text, TypeFault};
+use room_types::{Choices, Grammar, Listing, Name, RoomCode, Text, TypeFault, Word};
 use std::alloc::Global;
 
 /// How many digits the number of a round has at most.
@@ -63,6 +64,26 @@ fn all_codes(alloc: Global, words: &[&str]) -> Result<Vec<RoomCode>, WordFault>
         codes.push(value_of(alloc, word)?)?;
     }
     Ok(codes)
+}
+
+/// The words of a draw that the words are.
+pub fn drawn_words(alloc: Global, words: &[&str]) -> Result<Listing<Word>, WordFault>
+    ensures { Understands (all_of word_of (map (λ word. word.now) words.now)) result }
+{
+    let mut drawn = Vec::new(alloc);
+    for word in words {
+        drawn.push(drawn_word(word)?)?;
+    }
+    Ok(Listing::new(drawn))
+}
+
+fn drawn_word(word: &str) -> Result<Word, WordFault>
+    ensures { Understands (word_of word.now) result }
+{
+    match Word::read(word) {
+        Ok(word) => Ok(word),
+        Err(_) => Err(WordFault::NotUnderstood),
+    }
 }
 
 /// The number of a round that a word of digits is.

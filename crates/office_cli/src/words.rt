@@ -1,10 +1,10 @@
 //! The request that the words of a line are.
 ghost use Rattle.std.specs.Prelude.{◌≡◌, map};
 ghost use Rattle.office_cli.specs.Understanding.{Understands};
-ghost use Rattle.office_cli.specs.Words.{add_person, add_room, alone as alone_of, ask_me, ask_moves, leave, remove, reopen, request_of, set_choices, set_home, shut, withdraw};
+ghost use Rattle.office_cli.specs.Words.{add_person, add_room, alone as alone_of, ask_me, ask_moves, ask_what_if, draw, leave, remove, reopen, request_of, set_choices, set_home, shut, withdraw};
 
 use crate::requests::Request;
-use crate::values::{choices_of, name_of, only_value, round_of, value_of};
+use crate::values::{choices_of, drawn_words, name_of, only_value, round_of, value_of};
 use office_core::{Command, Query};
 use std::alloc::{AllocError, AllocFailed, Global};
 
@@ -54,14 +54,21 @@ pub fn words_to_command(alloc: Global, words: &[&str]) -> Result<Request, WordFa
         "reopen" => reopening(alloc, rest),
         "open" => alone(rest, Request::Office(Command::OpenRound)),
         "close" => alone(rest, Request::Office(Command::CloseRound)),
+        "run" => alone(rest, Request::Office(Command::Run)),
+        "publish" => alone(rest, Request::Office(Command::Publish)),
+        "settle" => alone(rest, Request::Office(Command::Settle)),
         "cancel" => alone(rest, Request::Office(Command::Cancel)),
         "choose" => choosing(alloc, rest),
         "withdraw" => withdrawing(alloc, rest),
+        "draw" => drawing(alloc, rest),
         "rooms" => alone(rest, Request::Ask(Query::Rooms)),
         "people" => alone(rest, Request::Ask(Query::People)),
         "round" => alone(rest, Request::Ask(Query::Round)),
+        "order" => alone(rest, Request::Ask(Query::Order)),
+        "results" => alone(rest, Request::Ask(Query::Results)),
         "moves" => asking_moves(rest),
         "me" => asking_me(alloc, rest),
+        "whatif" => asking_what_if(alloc, rest),
         _ => Err(WordFault::NotUnderstood),
     }
 }
@@ -154,6 +161,13 @@ fn withdrawing(alloc: Global, words: &[&str]) -> Result<Request, WordFault>
     Ok(Request::Office(Command::Withdraw { person }))
 }
 
+fn drawing(alloc: Global, words: &[&str]) -> Result<Request, WordFault>
+    ensures { Understands (draw (map (λ word. word.now) words.now)) result }
+{
+    let words = drawn_words(alloc, words)?;
+    Ok(Request::Office(Command::Draw { words }))
+}
+
 fn asking_moves(words: &[&str]) -> Result<Request, WordFault>
     ensures { Understands (ask_moves (map (λ word. word.now) words.now)) result }
 {
@@ -171,6 +185,19 @@ fn asking_me(alloc: Global, words: &[&str]) -> Result<Request, WordFault>
 {
     let key = only_value(alloc, words)?;
     Ok(Request::Ask(Query::Me(key)))
+}
+
+fn asking_what_if(alloc: Global, words: &[&str]) -> Result<Request, WordFault>
+    ensures { Understands (ask_what_if (map (λ word. word.now) words.now)) result }
+{
+    match words {
+        [person, rooms @ ..] => {
+            let person = value_of(alloc, person)?;
+            let choices = choices_of(alloc, rooms)?;
+            Ok(Request::Ask(Query::WhatIf { person, choices }))
+        }
+        [] => Err(WordFault::NotUnderstood),
+    }
 }
 
 // The request of a word after which none may stand.

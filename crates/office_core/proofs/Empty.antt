@@ -26,6 +26,7 @@ no_wishes rooms people = record {
   choosers = λ p h. absurd (none_known _ (get-empty text_cmp p) h);
   listed = λ p codes e. absurd (none_some _ codes (get-empty text_cmp p) e);
   recorded = λ p e. none_some _ [] (get-empty text_cmp p) e;
+  chosen = λ p codes e. absurd (none_some _ codes (get-empty text_cmp p) e);
   withdrawers = λ p h. absurd (none_known _ (get-empty text_cmp p) h);
 }
 
@@ -41,7 +42,7 @@ empty_lawful = record {
   wishes = no_wishes map.empty map.empty;
   round = record { few_rounds = omega arith; numbered = λ e. absurd (cc); idle_choices = λ _. refl; idle_withdrawn = λ _. refl };
   words = record { none = λ _. refl; each = λ e. absurd (cc) };
-  results = record { none = λ _. refl };
+  results = record { none = λ _. refl; given = λ e. absurd (cc) };
   moves = record {
     over = λ round h. absurd (none_known _ (get-empty nat_cmp round) h);
     recorded = λ round kept e. absurd (none_some _ kept (get-empty nat_cmp round) e);

@@ -1,21 +1,25 @@
 -- The changes of each accepted command lead from a lawful office to a lawful one.
 use Rattle.std.proofs.Common.{◌≡◌, List, Option, Some, None, sym, subst}
-use Rattle.std.specs.Prelude.{Result, Ok, Err, IfOk}
+use Rattle.std.specs.Prelude.{Result, Ok, Err, IfOk, OnOk}
 pub mod AddPerson
 pub mod AddRoom
 pub mod Cancel
 pub mod CloseRound
+pub mod Draw
 pub mod Leave
 pub mod OpenRound
+pub mod Publish
 pub mod Remove
 pub mod Reopen
+pub mod Run
 pub mod SetChoices
 pub mod SetHome
+pub mod Settle
 pub mod Shut
 pub mod Withdraw
 use Rattle.office_core.specs.Changes.{LeadsOn}
 use Rattle.office_core.specs.Checks.{Decides}
-use Rattle.office_core.specs.Commands.{checks, accepts, next, reply_to, changes_of}
+use Rattle.office_core.specs.Commands.{IsFormed, checks, accepts, next, reply_to, changes_of}
 use Rattle.office_core.specs.Laws.{IsLawful}
 use Rattle.office_core.specs.declared.command.Command.{Command}
 use Rattle.office_core.specs.declared.command.Command.TheVariants as command
@@ -26,8 +30,12 @@ use Rattle.office_core.proofs.Laws.AddPerson.{add_person-leads}
 use Rattle.office_core.proofs.Laws.AddRoom.{add_room-leads}
 use Rattle.office_core.proofs.Laws.Cancel.{cancel-leads}
 use Rattle.office_core.proofs.Laws.CloseRound.{close_round-leads}
+use Rattle.office_core.proofs.Laws.Draw.{draw-leads}
 use Rattle.office_core.proofs.Laws.Leave.{leave-leads}
 use Rattle.office_core.proofs.Laws.OpenRound.{open_round-leads}
+use Rattle.office_core.proofs.Laws.Publish.{publish-leads}
+use Rattle.office_core.proofs.Laws.Run.{run-leads}
+use Rattle.office_core.proofs.Laws.Settle.{settle-leads}
 use Rattle.office_core.proofs.Laws.Remove.{remove-leads}
 use Rattle.office_core.proofs.Laws.Reopen.{reopen-leads}
 use Rattle.office_core.proofs.Laws.SetChoices.{set_choices-leads}
@@ -35,23 +43,27 @@ use Rattle.office_core.proofs.Laws.SetHome.{set_home-leads}
 use Rattle.office_core.proofs.Laws.Shut.{shut-leads}
 use Rattle.office_core.proofs.Laws.Withdraw.{withdraw-leads}
 
-pub leads_on : (office : Office) (given : Command) → IsLawful office → accepts office given ≡ None → LeadsOn office (next office given) (changes_of office given)
-leads_on office (command.AddRoom room) l h = add_room-leads office room l h
-leads_on office (command.AddPerson person name key home) l h = add_person-leads office person name key home l h
-leads_on office (command.SetHome person room) l h = set_home-leads office person room l h
-leads_on office (command.Leave person) l h = leave-leads office person l h
-leads_on office (command.Remove person) l h = remove-leads office person l h
-leads_on office (command.Shut room) l h = shut-leads office room l h
-leads_on office (command.Reopen room) l h = reopen-leads office room l h
-leads_on office command.OpenRound l h = open_round-leads office l h
-leads_on office (command.SetChoices person choices) l h = set_choices-leads office person choices l h
-leads_on office (command.Withdraw person) l h = withdraw-leads office person l h
-leads_on office command.CloseRound l h = close_round-leads office l h
-leads_on office command.Cancel l h = cancel-leads office l h
+pub leads_on : (office : Office) (given : Command) → IsFormed given → IsLawful office → accepts office given ≡ None → LeadsOn office (next office given) (changes_of office given)
+leads_on office (command.AddRoom room) f l h = add_room-leads office room l h
+leads_on office (command.AddPerson person name key home) f l h = add_person-leads office person name key home l h
+leads_on office (command.SetHome person room) f l h = set_home-leads office person room l h
+leads_on office (command.Leave person) f l h = leave-leads office person l h
+leads_on office (command.Remove person) f l h = remove-leads office person l h
+leads_on office (command.Shut room) f l h = shut-leads office room l h
+leads_on office (command.Reopen room) f l h = reopen-leads office room l h
+leads_on office command.OpenRound f l h = open_round-leads office l h
+leads_on office (command.SetChoices person choices) f l h = set_choices-leads office person choices f l h
+leads_on office (command.Withdraw person) f l h = withdraw-leads office person l h
+leads_on office command.CloseRound f l h = close_round-leads office l h
+leads_on office (command.Draw words) f l h = draw-leads office words l h
+leads_on office command.Run f l h = run-leads office l h
+leads_on office command.Publish f l h = publish-leads office l h
+leads_on office command.Settle f l h = settle-leads office l h
+leads_on office command.Cancel f l h = cancel-leads office l h
 
-pub decision_leads : (office : Office) (given : Command) (result : Result Decision Refusal) → IsLawful office
+pub decision_leads : (office : Office) (given : Command) (result : Result Decision Refusal) → IsLawful office → OnOk result (IsFormed given)
     → Decides (checks office given) (reply_to office given) (changes_of office given) result
     → IfOk result (λ decision. LeadsOn office (next office given) decision.changes.items)
-decision_leads office given (Ok decision) l d =
-    subst (λ changes. LeadsOn office (next office given) changes) (sym d.changed) (leads_on office given l d.accepted)
-decision_leads office given (Err refusal) l d = tt
+decision_leads office given (Ok decision) l f d =
+    subst (λ changes. LeadsOn office (next office given) changes) (sym d.changed) (leads_on office given f l d.accepted)
+decision_leads office given (Err refusal) l f d = tt

@@ -1,16 +1,16 @@
 -- The moves of rounds, after one more move.
-use Rattle.std.proofs.Common.{◌≡◌, ℕ, [], Option, Some, None, OnOk, OnErr, IsSome, Result, Ok, Err, cond, refl, ap, ◌∙◌, sym, subst}
+use Rattle.std.proofs.Common.{◌≡◌, ℕ, [], Option, Some, None, true, false, OnOk, OnErr, IsSome, Result, Ok, Err, cond, refl, ap, ◌∙◌, sym, subst}
 use Rattle.std.specs.Prelude.{unwrap_or}
 use Rattle.std.specs.declared.cmp.Ordering.TheVariants.{Less, Equal, Greater}
 use Rattle.std.specs.Ordering.{nat_cmp, is_eq}
 use Rattle.std.specs.Cmp.{nat_cmp_total}
 use Rattle.std.specs.BTreeMap as tree
 use Rattle.std.specs.BTreeMap.{BTreeMap}
-use Rattle.std.specs.Option.{option_map}
+use Rattle.std.specs.Option.{option_map, is_some}
 use Rattle.std.specs.Cmp.Lexicographic.{nat_list_cmp_total}
 use Rattle.std.specs.FinMap as map
-use Rattle.std.specs.FinMap.{from_entries, get-insert, same_map, nat_cmp-IsAntisymmetric}
-use Rattle.room_types.specs.Texts.{TextMap}
+use Rattle.std.specs.FinMap.{from_entries, get-empty, get-insert, same_map, nat_cmp-IsAntisymmetric}
+use Rattle.room_types.specs.Texts.{Text, TextMap, text_cmp}
 use Rattle.room_types.specs.declared.moves.Move.{Move}
 use Rattle.office_core.specs.Moves.{RoundMap, moves_of, with_move}
 use Rattle.office_core.specs.declared.moves.Moved.{Moved}
@@ -68,3 +68,11 @@ pub move-begun : (moves : RoundMap RoundMoves) (move : Move) → map.get moves m
     → map.insert moves move.round (record { by_person = map.insert map.empty move.person (record { from = move.from; to = move.to; wave = move.wave }) }) ≡ with_move moves move
 move-begun moves move none =
     ap (λ kept. map.insert moves move.round (record { by_person = map.insert (kept_moves kept) move.person (record { from = move.from; to = move.to; wave = move.wave }) })) (sym none)
+
+-- nobody has a move of a round that has none
+pub no_moves_known : (moves : RoundMap RoundMoves) (round : ℕ) (p : Text) → (map.contains_key moves round ≡ true → ⊥) → map.contains_key (moves_of moves round) p ≡ false
+no_moves_known moves round p none =
+    elim (map.get moves round) as (λ o. map.get moves round ≡ o → is_some (map.get (kept_moves o) p) ≡ false) [
+      | None ↦ λ _. ap is_some (get-empty text_cmp p)
+      | Some kept ↦ λ known. absurd (none (ap is_some known))
+    ] refl

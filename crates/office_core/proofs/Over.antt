@@ -1,6 +1,6 @@
 -- Which rounds are over, from one phase to the next.
 use Rattle.std.proofs.Common.{◌≡◌, ◌≢◌, ℕ, ◌+◌, ◌≤◌, Bool, true, false, not, ◌&&◌, refl, ap, ◌∙◌, sym, arith, eqb, inl, inr}
-use Rattle.std.proofs.lemmas.Bool.{leb-true, le-leb}
+use Rattle.std.proofs.lemmas.Bool.{leb-true, le-leb, eq-eqb}
 use Rattle.std.proofs.lemmas.Bool.Decides.{eqb_tells}
 use Rattle.std.specs.Prelude.{nat_le}
 use Rattle.room_types.specs.declared.phase.Phase.{Phase}
@@ -50,3 +50,16 @@ pub over-begun : (office : Office) → is_idle office.phase ≡ true → (round 
 over-begun office idle round o =
     let was : over_by true office.number round ≡ true = ap (λ b. over_by b office.number round) (sym idle) ∙ o in
     begun round office.number was
+
+not_both : (b c : Bool) → b ≡ false → c ≡ true → (not b && c) ≡ true
+not_both b c e f = (λ i. not (e i) && f i)
+
+none_of : (a b : Bool) → b ≡ true → (a && not b) ≡ false
+none_of true b e = ap not e
+none_of false b e = refl
+
+-- the round under way is not over
+pub under_way-not_over : (office : Office) → is_idle office.phase ≡ false → is_over office office.number ≡ false
+under_way-not_over office busy =
+    none_of (nat_le 1 office.number && nat_le office.number office.number) (not (is_idle office.phase) && eqb office.number office.number)
+    (not_both (is_idle office.phase) (eqb office.number office.number) busy (eq-eqb office.number office.number refl))

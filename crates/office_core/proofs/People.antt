@@ -62,13 +62,13 @@ none_passes test (e ∷ es) q v n h =
       ] h
     ] refl n
 
-text_eq-same : (a : Text) → text_eq a a ≡ true
+pub text_eq-same : (a : Text) → text_eq a a ≡ true
 text_eq-same a = nat_list_eq_equiv.refl a
 
 is_text-held : (o : Option Text) (text : Text) → o ≡ Some text → is_text o text ≡ true
 is_text-held o text e = ap (λ p. is_text p text) e ∙ text_eq-same text
 
-held-is_text : (o : Option Text) (text : Text) → is_text o text ≡ true → o ≡ Some text
+pub held-is_text : (o : Option Text) (text : Text) → is_text o text ≡ true → o ≡ Some text
 held-is_text None text e = cc
 held-is_text (Some other) text e = ap (λ t. Some t) (same_text other text (sym e))
 
@@ -85,11 +85,11 @@ nobody_has which m text none q h =
     let held : is_text (which found.0) text ≡ true = is_text-held (which found.0) text found.2 in
     cc
 
-first_T : (a b : Bool) → T (a && b) → T a
+pub first_T : (a b : Bool) → T (a && b) → T a
 first_T true b p = tt
 first_T false b p = p
 
-second_T : (a b : Bool) → T (a && b) → T b
+pub second_T : (a b : Bool) → T (a && b) → T b
 second_T true b p = p
 second_T false b p = absurd p
 
@@ -104,7 +104,7 @@ equal_at Equal p = refl
 equal_at Greater p = cc
 
 -- what is found lies above a key that is below all
-found_above : (x q : Text) (es : List (Text × Person)) (v : Person) → T (below_all text_cmp x es) → find text_cmp q es ≡ Some v → text_cmp x q ≡ Less
+pub found_above : {X : Type 0} (x q : Text) (es : List (Text × X)) (v : X) → T (below_all text_cmp x es) → find text_cmp q es ≡ Some v → text_cmp x q ≡ Less
 found_above x q [] v below h = cc
 found_above x q (e ∷ es) v below h =
     elim (eq_by_cmp text_cmp q e.0) as (λ b. eq_by_cmp text_cmp q e.0 ≡ b → cond b (Some e.1) (find text_cmp q es) ≡ Some v → text_cmp x q ≡ Less) [

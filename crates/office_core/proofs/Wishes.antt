@@ -5,6 +5,7 @@ use Rattle.std.specs.Option.{is_some}
 use Rattle.std.specs.List.{All}
 use Rattle.std.specs.Ordering.{eq_by_cmp}
 use Rattle.std.specs.FinMap as map
+use Rattle.room_types.specs.Choices.{IsChoices}
 use Rattle.room_types.specs.Texts.{Text, TextMap, text_cmp}
 use Rattle.room_types.specs.TextMaps.{text_cases, get-put_same, get-put_other, get-gone_same, get-gone_other, contains_key-put}
 use Rattle.office_core.specs.Changes.{with_list}
@@ -31,6 +32,7 @@ module _ (rooms : TextMap Bool) (people : TextMap Person) (choices : TextMap (Li
     choosers = l.choosers;
     listed = λ p codes e k d b. contains_key-put rooms room shut _ (l.listed p codes e k d b);
     recorded = l.recorded;
+    chosen = l.chosen;
     withdrawers = l.withdrawers;
   }
 
@@ -40,13 +42,14 @@ module _ (rooms : TextMap Bool) (people : TextMap Person) (choices : TextMap (Li
     choosers = λ p h. contains_key-put people person v p (l.choosers p h);
     listed = l.listed;
     recorded = l.recorded;
+    chosen = l.chosen;
     withdrawers = λ p h. contains_key-put people person v p (l.withdrawers p h);
   }
 
   -- a known person's list of known rooms
   pub list_put : (person : Text) (codes : List Text) → map.contains_key people person ≡ true → All (λ code. map.contains_key rooms code ≡ true) codes
-      → AreWishes rooms people (with_list choices person codes) withdrawn
-  list_put person codes known known_codes = record {
+      → IsChoices codes → AreWishes rooms people (with_list choices person codes) withdrawn
+  list_put person codes known known_codes formed = record {
     choosers = λ p e. elim (text_cases p person) as (λ _. map.contains_key people p ≡ true) [
       | inl same ↦ ap (λ q. map.contains_key people q) same ∙ known
       | inr other ↦ l.choosers p (sym (ap is_some (listed_other choices person codes p other)) ∙ e)
@@ -59,6 +62,10 @@ module _ (rooms : TextMap Bool) (people : TextMap Person) (choices : TextMap (Li
       | inl same ↦ (listed_same choices person codes [] p same e).1 refl
       | inr other ↦ l.recorded p (sym (listed_other choices person codes p other) ∙ e)
     ];
+    chosen = λ p others e. elim (text_cases p person) as (λ _. IsChoices others) [
+      | inl same ↦ subst (λ c. IsChoices c) (listed_same choices person codes others p same e).0 formed
+      | inr other ↦ l.chosen p others (sym (listed_other choices person codes p other) ∙ e)
+    ];
     withdrawers = l.withdrawers;
   }
 
@@ -68,6 +75,7 @@ module _ (rooms : TextMap Bool) (people : TextMap Person) (choices : TextMap (Li
     choosers = l.choosers;
     listed = l.listed;
     recorded = l.recorded;
+    chosen = l.chosen;
     withdrawers = λ p h. elim (text_cases p person) as (λ _. map.contains_key people p ≡ true) [
       | inl same ↦ ap (λ q. map.contains_key people q) same ∙ known
       | inr other ↦ l.withdrawers p (sym (ap is_some (get-put_other withdrawn person tt p other)) ∙ h)

@@ -4,14 +4,19 @@ pub mod AddPerson
 pub mod AddRoom
 pub mod Cancel
 pub mod CloseRound
+pub mod Draw
 pub mod Leave
 pub mod OpenRound
+pub mod Publish
 pub mod Remove
 pub mod Reopen
+pub mod Run
 pub mod SetChoices
 pub mod SetHome
+pub mod Settle
 pub mod Shut
 pub mod Withdraw
+use Rattle.room_types.specs.Choices.{IsChoices}
 use Rattle.office_core.specs.Checks.{Check, first_refusal}
 use Rattle.office_core.specs.declared.office.Office.{Office}
 use Rattle.office_core.specs.declared.change.Change.{Change}
@@ -23,14 +28,23 @@ use Rattle.office_core.specs.Commands.AddPerson as add_person
 use Rattle.office_core.specs.Commands.AddRoom as add_room
 use Rattle.office_core.specs.Commands.Cancel as cancel
 use Rattle.office_core.specs.Commands.CloseRound as close_round
+use Rattle.office_core.specs.Commands.Draw as draw
 use Rattle.office_core.specs.Commands.Leave as leave
 use Rattle.office_core.specs.Commands.OpenRound as open_round
+use Rattle.office_core.specs.Commands.Publish as publish
 use Rattle.office_core.specs.Commands.Remove as remove
 use Rattle.office_core.specs.Commands.Reopen as reopen
+use Rattle.office_core.specs.Commands.Run as run
 use Rattle.office_core.specs.Commands.SetChoices as set_choices
 use Rattle.office_core.specs.Commands.SetHome as set_home
+use Rattle.office_core.specs.Commands.Settle as settle
 use Rattle.office_core.specs.Commands.Shut as shut
 use Rattle.office_core.specs.Commands.Withdraw as withdraw
+
+-- what the types of a command's parts promise
+abbrev pub IsFormed : Command → Type 0
+IsFormed (command.SetChoices person choices) = IsChoices choices
+IsFormed _ = Unit {0}
 
 -- each refusal of a command, in the order of its line
 abbrev pub checks : Office → Command → List Check
@@ -45,6 +59,10 @@ checks office command.OpenRound = open_round.checks office
 checks office (command.SetChoices person choices) = set_choices.checks office person choices
 checks office (command.Withdraw person) = withdraw.checks office person
 checks office command.CloseRound = close_round.checks office
+checks office (command.Draw words) = draw.checks office words
+checks office command.Run = run.checks office
+checks office command.Publish = publish.checks office
+checks office command.Settle = settle.checks office
 checks office command.Cancel = cancel.checks office
 
 -- the first refusal that applies, or none
@@ -64,6 +82,10 @@ next office command.OpenRound = open_round.next office
 next office (command.SetChoices person choices) = set_choices.next office person choices
 next office (command.Withdraw person) = withdraw.next office person
 next office command.CloseRound = close_round.next office
+next office (command.Draw words) = draw.next office words
+next office command.Run = run.next office
+next office command.Publish = publish.next office
+next office command.Settle = settle.next office
 next office command.Cancel = cancel.next office
 
 -- the reply to an accepted command
@@ -79,6 +101,10 @@ reply_to office command.OpenRound = open_round.reply_to office
 reply_to office (command.SetChoices person choices) = set_choices.reply_to office person choices
 reply_to office (command.Withdraw person) = withdraw.reply_to office person
 reply_to office command.CloseRound = close_round.reply_to office
+reply_to office (command.Draw words) = draw.reply_to office words
+reply_to office command.Run = run.reply_to office
+reply_to office command.Publish = publish.reply_to office
+reply_to office command.Settle = settle.reply_to office
 reply_to office command.Cancel = cancel.reply_to office
 
 -- the changes that carry an accepted command out, in order
@@ -94,4 +120,8 @@ changes_of office command.OpenRound = open_round.changes_of office
 changes_of office (command.SetChoices person choices) = set_choices.changes_of office person choices
 changes_of office (command.Withdraw person) = withdraw.changes_of office person
 changes_of office command.CloseRound = close_round.changes_of office
+changes_of office (command.Draw words) = draw.changes_of office words
+changes_of office command.Run = run.changes_of office
+changes_of office command.Publish = publish.changes_of office
+changes_of office command.Settle = settle.changes_of office
 changes_of office command.Cancel = cancel.changes_of office

@@ -3,12 +3,14 @@ use Rattle.std.specs.Prelude.{◌≡◌, ℕ, ◌≤◌, Bool, true, false, ◌&
 use Rattle.std.specs.Option.{is_some}
 use Rattle.std.specs.List.{All}
 use Rattle.std.specs.FinMap as map
+use Rattle.room_types.specs.Choices.{IsChoices}
 use Rattle.room_types.specs.Texts.{Text, TextMap}
 use Rattle.room_types.specs.declared.phase.Phase.{Phase}
 use Rattle.office_core.specs.Limits.{room_limit, people_limit, round_limit}
 use Rattle.office_core.specs.Moves.{moves_of}
 use Rattle.office_core.specs.Office.{had_by, is_over}
 use Rattle.office_core.specs.Phases.{is_idle, has_words, has_results}
+use Rattle.office_core.specs.Round.{round_results}
 use Rattle.office_core.specs.declared.moves.Moved.{Moved}
 use Rattle.office_core.specs.declared.moves.RoundMoves.{RoundMoves}
 use Rattle.office_core.specs.declared.office.Office.{Office}
@@ -30,11 +32,12 @@ pub record IsRegister (rooms : TextMap Bool) (people : TextMap Person) : Type 0 
   pub few_rooms : map.len rooms ≤ room_limit
   pub few_people : map.len people ≤ people_limit
 
--- lists and withdrawals: of known people alone, and lists of known rooms that are not empty
+-- lists and withdrawals: of known people alone, and lists of known rooms, at most forty and none twice, that are not empty
 pub record AreWishes (rooms : TextMap Bool) (people : TextMap Person) (choices : TextMap (List Text)) (withdrawn : TextMap (Unit {0})) : Type 0 where
   pub choosers : (p : Text) → map.contains_key choices p ≡ true → map.contains_key people p ≡ true
   pub listed : (p : Text) (codes : List Text) → map.get choices p ≡ Some codes → All (λ code. map.contains_key rooms code ≡ true) codes
   pub recorded : (p : Text) → map.get choices p ≡ Some [] → ⊥
+  pub chosen : (p : Text) (codes : List Text) → map.get choices p ≡ Some codes → IsChoices codes
   pub withdrawers : (p : Text) → map.contains_key withdrawn p ≡ true → map.contains_key people p ≡ true
 
 -- the round: its number, and nothing that is left over between rounds
@@ -49,9 +52,10 @@ pub record AreWords (phase : Phase) (people : TextMap Person) (withdrawn : TextM
   pub none : has_words phase ≡ false → words ≡ map.empty
   pub each : has_words phase ≡ true → (p : Text) → map.contains_key words p ≡ (map.contains_key people p && not (map.contains_key withdrawn p))
 
--- results: none before the run
+-- results: none before the run, and from the run on those of top trading cycles for the round's problem
 pub record AreResults (office : Office) : Type 0 where
   pub none : has_results office.phase ≡ false → office.results ≡ map.empty
+  pub given : has_results office.phase ≡ true → office.results ≡ round_results office
 
 -- moves: of rounds that are over, and each into a room. A round without moves is not recorded.
 pub record AreMoves (office : Office) : Type 0 where

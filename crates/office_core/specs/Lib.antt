@@ -9,3 +9,7 @@ pub mod Office
 pub mod Phases
 pub mod Queries
 pub mod Refusals
+pub mod Round
+pub mod RoundLaws
+pub mod RoundProblem
+pub mod Settlement

@@ -7,6 +7,7 @@ use Rattle.std.specs.FinMap as map
 use Rattle.room_types.specs.Texts.{Text, TextMap}
 use Rattle.room_types.specs.declared.phase.Phase.TheVariants.{Idle}
 use Rattle.office_core.specs.Phases.{is_idle, is_published}
+use Rattle.office_core.specs.declared.office.Assigned.{Assigned}
 use Rattle.office_core.specs.declared.office.Office.{Office}
 use Rattle.office_core.specs.declared.person.Person.{Person}
 
@@ -85,6 +86,10 @@ has_withdrawn office person = map.contains_key office.withdrawn person
 -- the recorded list; the empty one where none is recorded
 abbrev pub choices_of : Office → Text → List Text
 choices_of office person = unwrap_or (map.get office.choices person) []
+
+-- the recorded result: the room that a participant gets, or none
+abbrev pub recorded_result : Office → Text → Option Text
+recorded_result office person = option_and_then (λ (given : Assigned). given.room) (map.get office.results person)
 
 -- who has not withdrawn, by identifier
 abbrev pub participants : Office → List Text

@@ -1,7 +1,7 @@
 -- Tests on phases.
 use Rattle.std.specs.Prelude.{Bool, true, false, ◌||◌}
 use Rattle.room_types.specs.declared.phase.Phase.{Phase}
-use Rattle.room_types.specs.declared.phase.Phase.TheVariants.{Idle, Opened, Closed, Ran, Published}
+use Rattle.room_types.specs.declared.phase.Phase.TheVariants.{Idle, Opened, Closed, Drawn, Ran, Published}
 
 abbrev pub is_idle : Phase → Bool
 is_idle Idle = true
@@ -14,6 +14,14 @@ is_open _ = false
 abbrev pub is_closed : Phase → Bool
 is_closed Closed = true
 is_closed _ = false
+
+abbrev pub is_drawn : Phase → Bool
+is_drawn Drawn = true
+is_drawn _ = false
+
+abbrev pub has_run : Phase → Bool
+has_run Ran = true
+has_run _ = false
 
 abbrev pub is_published : Phase → Bool
 is_published Published = true

@@ -2,9 +2,12 @@
 use Rattle.std.specs.Prelude.{◌≡◌, Result, Ok, Err, MatchResult, ◌⊎◌}
 pub mod Me
 pub mod Moves
+pub mod Order
 pub mod People
+pub mod Results
 pub mod Rooms
 pub mod Round
+pub mod WhatIf
 use Rattle.office_core.specs.declared.office.Office.{Office}
 use Rattle.office_core.specs.declared.query.Query.{Query}
 use Rattle.office_core.specs.declared.query.Query.TheVariants as query
@@ -13,14 +16,25 @@ use Rattle.office_core.specs.declared.refusal.Refusal.TheVariants.{OutOfMemory}
 use Rattle.office_core.specs.declared.reply.Reply.{Reply}
 use Rattle.office_core.specs.Queries.Me as me
 use Rattle.office_core.specs.Queries.Moves as moves
+use Rattle.office_core.specs.Queries.Order as order
 use Rattle.office_core.specs.Queries.People as people
+use Rattle.office_core.specs.Queries.Results as results
 use Rattle.office_core.specs.Queries.Rooms as rooms
 use Rattle.office_core.specs.Queries.Round as round
+use Rattle.office_core.specs.Queries.WhatIf as what_if
 
 -- the reply, or the refusal
 abbrev pub told : Office → Query → Result Reply Refusal
 told office query.Rooms = rooms.told office
 told office query.People = people.told office
 told office query.Round = round.told office
+told office query.Order = order.told office
+told office query.Results = results.told office
 told office (query.Moves number) = moves.told office number
 told office (query.Me key) = me.told office key
+told office (query.WhatIf person choices) = what_if.told office person choices
+
+-- nobody gains by another list
+abbrev pub GainsNothing : Office → Query → Reply → Type 0
+GainsNothing office (query.WhatIf person choices) reply = what_if.GainsNothing office person reply
+GainsNothing office _ reply = Unit {0}

@@ -1,5 +1,5 @@
 //! What the office is asked to do.
-use room_types::{Choices, Key, Name, PersonId, RoomCode};
+use room_types::{Choices, Key, Listing, Name, PersonId, RoomCode, Word};
 
 /// A command of the office, or of a resident.
 #[derive(Drop)]
@@ -49,6 +49,16 @@ pub enum Command {
     },
     /// Makes the lists final.
     CloseRound,
+    /// Gives each participant a word, by identifier.
+    Draw {
+        words: Listing<Word>,
+    },
+    /// Trades the rooms by the drawn order and the lists.
+    Run,
+    /// Shows everybody the result.
+    Publish,
+    /// Moves everybody to the room of the result, and ends the round.
+    Settle,
     /// Gives the round up.
     Cancel,
 }

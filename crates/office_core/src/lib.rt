@@ -18,6 +18,8 @@ pub mod queries;
 pub mod query;
 pub mod refusal;
 pub mod reply;
+pub mod round;
+pub mod settlement;
 
 pub use crate::answering::answer;
 pub use crate::applying::{apply, apply_all};
@@ -31,7 +33,7 @@ pub use crate::office::{Assigned, Office};
 pub use crate::person::Person;
 pub use crate::query::Query;
 pub use crate::refusal::Refusal;
-pub use crate::reply::{Reply, Standing};
+pub use crate::reply::{OrderRow, Reply, ResultRow, Standing};
 
 #[cfg(test)]
 mod tests;

@@ -1,6 +1,6 @@
 //! Tests on phases.
 ghost use Rattle.std.specs.Prelude.{◌≡◌};
-ghost use Rattle.office_core.specs.Phases.{is_idle, is_open, is_published, is_preparing, may_cancel};
+ghost use Rattle.office_core.specs.Phases.{is_idle, is_open, is_closed, is_published, is_preparing, may_cancel, has_words, is_drawn, has_run, has_results};
 
 use room_types::Phase;
 
@@ -20,6 +20,46 @@ pub fn is_open(phase: Phase) -> bool
 {
     match phase {
         Phase::Opened => true,
+        _ => false,
+    }
+}
+
+/// Whether the lists are final, and nothing is drawn yet.
+pub fn is_closed(phase: Phase) -> bool
+    ensures { result ≡ is_closed phase }
+{
+    match phase {
+        Phase::Closed => true,
+        _ => false,
+    }
+}
+
+/// Whether the words are drawn, and the rooms not traded yet.
+pub fn is_drawn(phase: Phase) -> bool
+    ensures { result ≡ is_drawn phase }
+{
+    match phase {
+        Phase::Drawn => true,
+        _ => false,
+    }
+}
+
+/// Whether the rooms are traded, and the results not published yet.
+pub fn has_run(phase: Phase) -> bool
+    ensures { result ≡ has_run phase }
+{
+    match phase {
+        Phase::Ran => true,
+        _ => false,
+    }
+}
+
+/// Whether the results are there.
+pub fn has_results(phase: Phase) -> bool
+    ensures { result ≡ has_results phase }
+{
+    match phase {
+        Phase::Ran | Phase::Published => true,
         _ => false,
     }
 }
@@ -47,6 +87,16 @@ pub fn may_cancel(phase: Phase) -> bool
 {
     match phase {
         Phase::Idle | Phase::Published => false,
+        _ => true,
+    }
+}
+
+/// Whether the words are drawn.
+pub fn has_words(phase: Phase) -> bool
+    ensures { result ≡ has_words phase }
+{
+    match phase {
+        Phase::Idle | Phase::Opened | Phase::Closed => false,
         _ => true,
     }
 }

@@ -1,5 +1,5 @@
 //! What the office is asked.
-use room_types::Key;
+use room_types::{Choices, Key, PersonId};
 
 /// A question of the office, or of a resident.
 #[derive(Drop)]
@@ -10,8 +10,14 @@ pub enum Query {
     People,
     /// The round's number and phase, and how many people there are.
     Round,
+    /// The participants in the drawn order.
+    Order,
+    /// What the participants get.
+    Results,
     /// The moves of the round of this number.
     Moves(u16),
     /// What the person of this key sees.
     Me(Key),
+    /// What another list would give a participant.
+    WhatIf { person: PersonId, choices: Choices },
 }

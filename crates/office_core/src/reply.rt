@@ -1,5 +1,22 @@
 //! What commands and queries are answered.
-use room_types::{Choices, Listing, Move, Name, PersonId, PersonRow, Phase, RoomCode, RoomRow};
+use room_types::{
+    Choices, Listing, Move, Name, PersonId, PersonRow, Phase, RoomCode, RoomRow, Word,
+};
+
+/// A participant, with the word that was drawn.
+#[derive(Drop)]
+pub struct OrderRow {
+    pub word: Word,
+    pub person: PersonId,
+}
+
+/// What a participant gets.
+#[derive(Drop)]
+pub struct ResultRow {
+    pub person: PersonId,
+    /// The room, or none for no room.
+    pub room: Option<RoomCode>,
+}
 
 /// What a person sees.
 #[derive(Drop)]
@@ -39,6 +56,19 @@ pub enum Reply {
     Closed {
         participants: usize,
     },
+    Drawn {
+        participants: usize,
+    },
+    Ran {
+        participants: usize,
+    },
+    Published {
+        participants: usize,
+    },
+    /// So many people move.
+    Settled {
+        moves: usize,
+    },
     Cancelled,
     /// By code.
     Rooms(Listing<RoomRow>),
@@ -51,7 +81,13 @@ pub enum Reply {
         people: usize,
         withdrawn: usize,
     },
+    /// In the drawn order.
+    Order(Listing<OrderRow>),
+    /// By identifier.
+    Results(Listing<ResultRow>),
     /// By identifier.
     Moves(Listing<Move>),
     Me(Standing),
+    /// The room that the other list would give, or none for no room.
+    WouldGet(Option<RoomCode>),
 }

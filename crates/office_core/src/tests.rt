@@ -1,6 +1,8 @@
 //! A small college, through its public calls.
 ghost use Rattle.office_core.specs.Laws.{IsLawful};
 
+mod round;
+
 use crate::answering::answer;
 use crate::applying::apply_all;
 use crate::command::Command;
@@ -9,7 +11,7 @@ use crate::office::Office;
 use crate::query::Query;
 use crate::refusal::Refusal;
 use crate::reply::Reply;
-use room_types::{Choices, Key, Name, PersonId, Phase, RoomCode, State, TypeFault};
+use room_types::{Choices, Key, Listing, Name, PersonId, Phase, RoomCode, State, TypeFault, Word};
 use std::alloc::Global;
 use std::process::Abort;
 
@@ -207,4 +209,73 @@ fn what_is_told(rt: HostRuntime) {
         rt.abort()
     };
     assert_eq!(rt; number(answer(alloc, &office, &Query::Me(key))), 2);
+}
+
+fn newcomer(alloc: Global, id: &str, name: &str, key: &str) -> Result<Command, Refusal> {
+    Ok(Command::AddPerson {
+        person: person(alloc, id)?,
+        name: read(Name::read(alloc, name))?,
+        key: read(Key::read(alloc, key))?,
+        home: None,
+    })
+}
+
+// Three people and no rooms, in a round that is closed.
+fn three_newcomers(alloc: Global, office: &mut Office) -> Result<(), Refusal>
+    requires { IsLawful office.old }
+    ensures { IsLawful office.new }
+{
+    let first = newcomer(alloc, "E1", "Ann Ash", "key00000000000e1")?;
+    let _ = carry_out(alloc, office, &first)?;
+    let second = newcomer(alloc, "E2", "Bo Birch", "key00000000000e2")?;
+    let _ = carry_out(alloc, office, &second)?;
+    let third = newcomer(alloc, "E3", "Cy Coy", "key00000000000e3")?;
+    let _ = carry_out(alloc, office, &third)?;
+    let _ = carry_out(alloc, office, &Command::OpenRound)?;
+    let _ = carry_out(alloc, office, &Command::CloseRound)?;
+    Ok(())
+}
+
+// A draw of these words.
+fn draw_of(alloc: Global, values: &[u64]) -> Result<Command, Refusal> {
+    let mut words = Vec::new(alloc);
+    for value in values {
+        words.push(Word::new(*value))?;
+    }
+    Ok(Command::Draw {
+        words: Listing::new(words),
+    })
+}
+
+#[test]
+fn equal_words_by_identifier(rt: HostRuntime) {
+    let alloc = rt.alloc();
+    let mut office = Office::empty(alloc);
+    assert!(rt; three_newcomers(alloc, &mut office).is_ok());
+    assert_eq!(rt; number(answer(alloc, &office, &Query::Order)), 1);
+    let Ok(too_few) = draw_of(alloc, &[1, 2]) else {
+        rt.abort()
+    };
+    let Err(Refusal::WrongWordCount { want, got }) = decide(alloc, &office, &too_few) else {
+        rt.abort()
+    };
+    assert!(rt; (want, got) == (3, 2));
+    let Ok(draw) = draw_of(alloc, &[5, 5, 0]) else {
+        rt.abort()
+    };
+    let Ok(Reply::Drawn { participants }) = carry_out(alloc, &mut office, &draw) else {
+        rt.abort()
+    };
+    assert_eq!(rt; participants, 3);
+    let Ok(Reply::Order(rows)) = answer(alloc, &office, &Query::Order) else {
+        rt.abort()
+    };
+    let rows = rows.as_slice();
+    assert_eq!(rt; rows.len(), 3);
+    assert_eq!(rt; rows[0].person.as_str(), "E3");
+    assert_eq!(rt; rows[1].person.as_str(), "E1");
+    assert_eq!(rt; rows[2].person.as_str(), "E2");
+    assert_eq!(rt; rows[1].word.value(), 5);
+    assert_eq!(rt; number(carry_out(alloc, &mut office, &Command::Cancel)), 0);
+    assert_eq!(rt; office.words.len(), 0);
 }

@@ -1,2 +1,5 @@
 pub mod Cells
+pub mod Chains
+pub mod Following
+pub mod Leavers
 pub mod StableSorts

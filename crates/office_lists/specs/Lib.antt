@@ -1,2 +1,4 @@
+pub mod Followers
 pub mod MoveDay
 pub mod Tables
+pub mod Waves

@@ -1,5 +1,5 @@
 //! The list for the day of moving.
-ghost use Rattle.std.specs.Prelude.{◌≡◌, ◌++◌, [], ◌∷◌, IfOk, OnOk, string_bytes, map, List};
+ghost use Rattle.std.specs.Prelude.{◌≡◌, ◌++◌, [], ◌∷◌, IfOk, OnOk, string_bytes, map};
 ghost use Rattle.office_lists.specs.Tables.{line};
 ghost use Rattle.office_lists.specs.MoveDay.{turn, move_cmp, ascending, wave_text, move_day_table};
 
@@ -73,7 +73,8 @@ fn push_move(
     from: &str,
     to: &str,
 ) -> Result<(), AllocError>
-    ensures { OnOk result (string_bytes text.new ≡ string_bytes text.old ++ line (4 ∷ 12 ∷ 8 ∷ []) (wave.now ∷ person.now ∷ from.now ∷ to.now ∷ [])) }
+    ensures { OnOk result (string_bytes text.new
+        ≡ string_bytes text.old ++ line (4 ∷ 12 ∷ 8 ∷ []) (wave.now ∷ person.now ∷ from.now ∷ to.now ∷ [])) }
 {
     writeln!(text, "{wave:<4}  {person:<12}  {from:<8}  {to}")
 }

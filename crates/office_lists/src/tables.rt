@@ -56,25 +56,28 @@ pub fn results_text(
 }
 
 fn push_room(text: &mut String, room: &str, state: &str, tenant: &str) -> Result<(), AllocError>
-    ensures { OnOk result (string_bytes text.new ≡ string_bytes text.old ++ line (8 ∷ 8 ∷ []) (room.now ∷ state.now ∷ tenant.now ∷ [])) }
+    ensures { OnOk result (string_bytes text.new
+        ≡ string_bytes text.old ++ line (8 ∷ 8 ∷ []) (room.now ∷ state.now ∷ tenant.now ∷ [])) }
 {
     writeln!(text, "{room:<8}  {state:<8}  {tenant}")
 }
 
 fn push_person(text: &mut String, person: &str, home: &str, name: &str) -> Result<(), AllocError>
-    ensures { OnOk result (string_bytes text.new ≡ string_bytes text.old ++ line (12 ∷ 8 ∷ []) (person.now ∷ home.now ∷ name.now ∷ [])) }
+    ensures { OnOk result (string_bytes text.new
+        ≡ string_bytes text.old ++ line (12 ∷ 8 ∷ []) (person.now ∷ home.now ∷ name.now ∷ [])) }
 {
     writeln!(text, "{person:<12}  {home:<8}  {name}")
 }
 
 fn push_result(text: &mut String, person: &str, room: &str) -> Result<(), AllocError>
-    ensures { OnOk result (string_bytes text.new ≡ string_bytes text.old ++ line (12 ∷ []) (person.now ∷ room.now ∷ [])) }
+    ensures { OnOk result (string_bytes text.new
+        ≡ string_bytes text.old ++ line (12 ∷ []) (person.now ∷ room.now ∷ [])) }
 {
     writeln!(text, "{person:<12}  {room}")
 }
 
-/// The text, or `none`.
-pub fn or_none<G: Grammar>(text: &Option<Text<G>>) -> &str
+// The text, or `none`.
+pub(crate) fn or_none<G: Grammar>(text: &Option<Text<G>>) -> &str
     ensures { result.now ≡ or_none text.now }
 {
     match text {

@@ -1,4 +1,6 @@
-use crate::{move_day_text, people_text, results_text, rooms_text};
+ghost use Rattle.std.specs.Prelude.{◌≡◌, Some};
+
+use crate::{Entry, move_day_text, people_text, results_text, rooms_text, waves};
 use room_types::{Grammar, Move, PersonRow, RoomRow, State, Text, Wave};
 use std::alloc::Global;
 use std::process::Abort;
@@ -104,7 +106,49 @@ fn move_day_of_a_chain(rt: HostRuntime) -> Result<(), Fail> {
     Ok(())
 }
 
-fn text<G: Grammar>(rt: &impl Abort, alloc: Global, text: &str) -> Text<G> {
+#[test]
+fn waves_of_a_swap_with_a_newcomer_behind(rt: HostRuntime) -> Result<(), Fail> {
+    let alloc = rt.alloc();
+    let entries = vec![in alloc;
+        entry(&rt, alloc, "N", None, "V"),
+        entry(&rt, alloc, "T1", Some("H1"), "H2"),
+        entry(&rt, alloc, "T2", Some("H2"), "H1"),
+    ]?;
+    let waves = waves(alloc, &entries)?;
+    assert_eq!(rt;
+        waves.as_slice(),
+        [Wave::Nth(1), Wave::Swap, Wave::Swap].as_slice()
+    );
+    Ok(())
+}
+
+#[test]
+fn waves_of_a_chain(rt: HostRuntime) -> Result<(), Fail> {
+    let alloc = rt.alloc();
+    let none = waves(alloc, &[])?;
+    assert!(rt; none.is_empty());
+    let entries = vec![in alloc;
+        entry(&rt, alloc, "T1", Some("H1"), "H2"),
+        entry(&rt, alloc, "T2", Some("H2"), "V"),
+    ]?;
+    let waves = waves(alloc, &entries)?;
+    assert_eq!(rt; waves.as_slice(), [Wave::Nth(2), Wave::Nth(1)].as_slice());
+    Ok(())
+}
+
+fn entry(rt: &impl Abort, alloc: Global, person: &str, from: Option<&str>, to: &str) -> Entry
+    ensures { result.2 ≡ Some to.now }
+{
+    (
+        text(rt, alloc, person),
+        optional(rt, alloc, from),
+        Some(text(rt, alloc, to)),
+    )
+}
+
+fn text<G: Grammar>(rt: &impl Abort, alloc: Global, text: &str) -> Text<G>
+    ensures { result ≡ text.now }
+{
     match Text::read(alloc, text) {
         Ok(text) => text,
         Err(_) => panic!(rt; "{text} is not in the grammar"),

@@ -14,7 +14,10 @@ const REGISTER: [(&str, &str); 28] = [
     ("person T2 key00000000000t1 Tom Tao", "refused 6 KeyInUse\n"),
     ("person T2 key00000000000t2 Tom Tao", "ok\n"),
     ("home T2 H1", "refused 8 RoomTaken\n"),
-    ("people", "person        home      name\nT1            H1        Tim Tan\nT2            none      Tom Tao\n"),
+    (
+        "people",
+        "person        home      name\nT1            H1        Tim Tan\nT2            none      Tom Tao\n",
+    ),
     ("leave T1", "ok\n"),
     ("leave T1", "refused 10 NoHome\n"),
     ("home T1 H9", "refused 3 UnknownRoom H9\n"),
@@ -66,7 +69,8 @@ const ROUND: [(&str, &str); 18] = [
     ("close", "closed 1\n"),
 ];
 
-fn hears(rt: &HostRuntime, script: &[(&str, &str)], status: u8) -> Result<bool, Fail> {
+/// Whether an empty office hears the lines, gives their answers and ends with this status.
+pub fn hears(rt: &HostRuntime, script: &[(&str, &str)], status: u8) -> Result<bool, Fail> {
     let lines = lines_of_script(rt.alloc(), script)?;
     let answers = answers_of_script(rt.alloc(), script, script.len())?;
     let (how, text) = rehearsed(rt.alloc(), lines.as_bytes());

@@ -1,6 +1,7 @@
 -- A recorded list keeps the laws.
 use Rattle.std.proofs.Common.{◌≡◌, List, None, refl}
 use Rattle.std.proofs.lemmas.Bool.{not-false}
+use Rattle.room_types.specs.Choices.{IsChoices}
 use Rattle.room_types.specs.Texts.{Text}
 use Rattle.office_core.specs.Changes.{LeadsOn}
 use Rattle.office_core.specs.Checks.{first_refusal}
@@ -12,16 +13,16 @@ use Rattle.office_core.proofs.Checks.{known_all}
 use Rattle.office_core.proofs.Untouched.{prepared, open_preparing, open_busy, undrawn, results_undrawn, moves_stay}
 use Rattle.office_core.proofs.Wishes.{list_put}
 
-pub set_choices-leads : (office : Office) (person : Text) (choices : List Text) → IsLawful office → first_refusal (checks office person choices) ≡ None
+pub set_choices-leads : (office : Office) (person : Text) (choices : List Text) → IsChoices choices → IsLawful office → first_refusal (checks office person choices) ≡ None
     → LeadsOn office (next office person choices) (changes_of office person choices)
-set_choices-leads office person choices l h =
+set_choices-leads office person choices formed l h =
     let n = none_applies (checks office person choices) h in
     let busy = open_busy office.phase (not-false _ n.0) in
     let u = undrawn office l (prepared office.phase (open_preparing office.phase (not-false _ n.0))) in
     let new : Office = next office person choices in
     let lawful : IsLawful new = record {
       register = l.register;
-      wishes = list_put office.rooms office.people office.choices office.withdrawn l.wishes person choices (not-false _ n.1.0) (known_all office choices n.1.1.1);
+      wishes = list_put office.rooms office.people office.choices office.withdrawn l.wishes person choices (not-false _ n.1.0) (known_all office choices n.1.1.1) formed;
       round = record { few_rounds = l.round.few_rounds; numbered = l.round.numbered; idle_choices = λ e. absurd (cc); idle_withdrawn = λ e. absurd (cc) };
       words = l.words;
       results = results_undrawn new u.has_no_results u.no_results;

@@ -1,10 +1,9 @@
 -- What a person sees of the office by the key.
-use Rattle.std.specs.Prelude.{Option, None, Some, Result, Ok, Err, option_and_then, if◌then◌else◌}
+use Rattle.std.specs.Prelude.{Option, None, Some, Result, Ok, Err, if◌then◌else◌}
 use Rattle.std.specs.FinMap as map
 use Rattle.room_types.specs.Texts.{Text}
-use Rattle.office_core.specs.Office.{owner, choices_of, has_withdrawn, is_shown}
+use Rattle.office_core.specs.Office.{owner, choices_of, has_withdrawn, is_shown, recorded_result}
 use Rattle.office_core.specs.declared.office.Office.{Office}
-use Rattle.office_core.specs.declared.office.Assigned.{Assigned}
 use Rattle.office_core.specs.declared.person.Person.{Person}
 use Rattle.office_core.specs.declared.refusal.Refusal.{Refusal}
 use Rattle.office_core.specs.declared.refusal.Refusal.TheVariants.{UnknownPerson}
@@ -14,7 +13,7 @@ use Rattle.office_core.specs.declared.reply.Reply.TheVariants as reply
 
 -- the result, hidden until it is published
 abbrev pub shown_result : Office → Text → Option Text
-shown_result office person = if is_shown office person then option_and_then (λ (given : Assigned). given.room) (map.get office.results person) else None
+shown_result office person = if is_shown office person then recorded_result office person else None
 
 abbrev pub standing_of : Office → Text → Person → Standing
 standing_of office person kept = record {

@@ -1,5 +1,7 @@
 //! A list of rooms replaces the one before.
+ghost use Rattle.std.specs.Prelude.{OnOk};
 ghost use Rattle.std.specs.List.{flat_map};
+ghost use Rattle.room_types.specs.Choices.{IsChoices};
 ghost use Rattle.office_core.specs.Checks.{Decides, Passes, room_checks};
 ghost use Rattle.office_core.specs.Commands.SetChoices.{checks, reply_to, changes_of};
 
@@ -19,7 +21,8 @@ pub fn set_choices(
     person: &PersonId,
     choices: &Choices,
 ) -> Result<Decision, Refusal>
-    ensures { Decides (checks office.now person.now choices.now) (reply_to office.now person.now choices.now) (changes_of office.now person.now choices.now) result }
+    ensures formed { OnOk result (IsChoices choices.now) }
+    ensures decides { Decides (checks office.now person.now choices.now) (reply_to office.now person.now choices.now) (changes_of office.now person.now choices.now) result }
 {
     if !is_open(office.phase) {
         return Err(Refusal::BadPhase(office.phase));

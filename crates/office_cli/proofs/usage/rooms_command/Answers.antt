@@ -6,4 +6,6 @@ use Rattle.office_cli.proofs.usage.rooms_command.Goals as goal
 pub returns : goal.returns
 returns c =
     let top = λ (a : App). a.top in
-    IfOk-weaker c.subcommand.result _ _ (λ r h. h.shape c.new-rehearse.ensures.local ∙ ap₂ with_subcommand c.plain_command.ensures.0 (ap top c.new-rehearse.ensures.app)) c.subcommand.ensures
+    let words = c.in_ok-words.ensures in
+    let one = c.in_ok-subcommand.ensures.shape c.new-rehearse.ensures.local ∙ ap₂ with_subcommand c.plain_command.ensures.0 (ap top c.new-rehearse.ensures.app) in
+    IfOk-weaker c.subcommand-2.result _ _ (λ r h. h.shape words.1 ∙ ap₂ with_subcommand one (ap top words.0)) c.subcommand-2.ensures

@@ -1,0 +1,26 @@
+//! Everybody sees their result.
+ghost use Rattle.office_core.specs.Checks.{Decides};
+ghost use Rattle.office_core.specs.Commands.Publish.{checks, reply_to, changes_of};
+
+use crate::change::Change;
+use crate::decision::{Decision, one_change};
+use crate::office::Office;
+use crate::phases::has_run;
+use crate::refusal::Refusal;
+use crate::reply::Reply;
+use room_types::Phase;
+use std::alloc::Global;
+
+pub fn publish(alloc: Global, office: &Office) -> Result<Decision, Refusal>
+    ensures { Decides (checks office.now) (reply_to office.now) (changes_of office.now) result }
+{
+    if !has_run(office.phase) {
+        return Err(Refusal::BadPhase(office.phase));
+    }
+    let participants = office.participants(alloc)?.len();
+    let change = Change::PutRound {
+        number: office.number,
+        phase: Phase::Published,
+    };
+    one_change(alloc, Reply::Published { participants }, change)
+}

@@ -1,0 +1,35 @@
+//! What the participants get.
+ghost use Rattle.std.specs.Prelude.{◌≡◌, IfOk};
+ghost use Rattle.office_core.specs.Answers.{Tells};
+ghost use Rattle.office_core.specs.Queries.Results.{told, result_rows};
+
+use crate::office::Office;
+use crate::phases::has_results;
+use crate::refusal::Refusal;
+use crate::reply::{Reply, ResultRow};
+use room_types::rows::copy_optional;
+use room_types::{Listing, OutOfMemory};
+use std::alloc::Global;
+
+pub fn results(alloc: Global, office: &Office) -> Result<Reply, Refusal>
+    ensures { Tells (told office.now) result }
+{
+    if !has_results(office.phase) {
+        return Err(Refusal::BadPhase(office.phase));
+    }
+    let rows = result_rows(alloc, office)?;
+    Ok(Reply::Results(Listing::new(rows)))
+}
+
+fn result_rows(alloc: Global, office: &Office) -> Result<Vec<ResultRow>, OutOfMemory>
+    ensures { IfOk result (λ rows. rows.items ≡ result_rows office.now) }
+{
+    let mut rows = Vec::new(alloc);
+    for (id, given) in office.results.iter() {
+        rows.push(ResultRow {
+            person: id.copy()?,
+            room: copy_optional(&given.room)?,
+        })?;
+    }
+    Ok(rows)
+}

@@ -1,0 +1,12 @@
+//! The round: its problem, what each participant gets, and what another list would give.
+pub mod laws;
+mod lists;
+mod names;
+mod other_list;
+pub(crate) mod people;
+mod problem;
+mod results;
+mod rooms;
+
+pub use crate::round::other_list::what_if;
+pub use crate::round::results::round_results;

@@ -1,0 +1,27 @@
+-- The leavers seen from the other end.
+use Rattle.std.specs.Prelude.{◌≡◌, ℕ, suc, ◌<◌, List, length, slice_index_or, Option, Some, ◌⊎◌}
+use Rattle.room_types.specs.declared.moves.Wave.{Wave}
+use Rattle.room_types.specs.declared.moves.Wave.TheVariants.{Swap, Nth}
+use Rattle.office_lists.specs.Waves.{next, followed}
+
+-- each leaver is an entry, and is that of one entry only
+pub record AreApart (leavers : List (Option ℕ)) : Type 0 where
+  pub within : (i j : ℕ) → next leavers i ≡ Some j → j < length leavers
+  pub one : (i j k : ℕ) → next leavers i ≡ Some k → next leavers j ≡ Some k → i ≡ j
+
+-- for each entry, the one whose leaver it is
+pub record AreFollowers (leavers followers : List (Option ℕ)) : Type 0 where
+  pub as_many : length followers ≡ length leavers
+  pub after : (i j : ℕ) → next followers j ≡ Some i → next leavers i ≡ Some j
+  pub before : (i j : ℕ) → next leavers i ≡ Some j → next followers j ≡ Some i
+
+-- the wave of entry i is a number
+abbrev pub IsNumbered : List Wave → ℕ → Type 0
+IsNumbered waves i = (number : ℕ) × (slice_index_or waves i Swap ≡ Nth number)
+
+-- the chain that ends at entry `end` has its numbers, from 1 on, and all else is as before
+pub record NumbersChain (followers : List (Option ℕ)) (end : ℕ) (old new : List Wave) : Type 0 where
+  pub reached : (count i : ℕ) → followed followers count end ≡ Some i → IsNumbered new i
+  pub right : (i number : ℕ) → slice_index_or new i Swap ≡ Nth number
+      → (slice_index_or old i Swap ≡ Nth number) ⊎ ((count : ℕ) × (number ≡ suc count) × (followed followers count end ≡ Some i))
+  pub kept : (i number : ℕ) → slice_index_or old i Swap ≡ Nth number → IsNumbered new i

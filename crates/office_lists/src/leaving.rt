@@ -1,0 +1,105 @@
+//! Waves: who has to move before whom.
+ghost use Rattle.std.specs.Prelude.{◌≡◌, ◌<◌, ◌≤◌, ℕ, List, Some, length, IfOk};
+ghost use Rattle.std.specs.BTreeMap.{get_by};
+ghost use Rattle.std.specs.Cmp.Lexicographic.{slice_cmp};
+ghost use Rattle.std.specs.Ordering.{nat_cmp};
+ghost use Rattle.room_types.specs.Texts.{Text};
+ghost use Rattle.office_lists.specs.Waves.{Mover, NewRoomsDiffer, AreWaves, HaveOneWaveEach, leaver, leavers as leavers_of, followed, waves_of};
+ghost use Rattle.office_lists.specs.Followers.{AreApart, AreFollowers, NumbersChain};
+
+use room_types::{OutOfMemory, PersonId, RoomCode, Wave};
+use std::alloc::{AllocError, Global};
+use std::collections::BTreeMap;
+
+/// How many people may move in one round.
+pub const MOVE_LIMIT: usize = 2_000;
+
+/// A person who moves, the old room and the new room.
+pub type Entry = (PersonId, Option<RoomCode>, Option<RoomCode>);
+
+/// The wave of each entry, in order: 1 where nobody leaves the new room, a swap where the movers pass their rooms
+/// round in a circle, and else the wave after that of the new room's leaver. It takes n log n comparisons.
+pub fn waves(alloc: Global, entries: &[Entry]) -> Result<Vec<Wave>, OutOfMemory>
+    requires few { length entries.now ≤ MOVE_LIMIT }
+    requires new_rooms_differ { NewRoomsDiffer entries.now }
+    ensures each { IfOk result (λ waves. AreWaves entries.now waves.items) }
+    ensures computed { IfOk result (λ waves. waves.items ≡ waves_of entries.now) }
+{
+    let leavers = leavers(alloc, entries)?;
+    let followers = followers(alloc, &leavers)?;
+    let mut waves = vec![in alloc; Wave::Swap; entries.len()]?;
+    for (end, leaver) in leavers.iter().enumerate() {
+        if leaver.is_none() {
+            number_chain(&mut waves, &followers, end);
+        }
+    }
+    Ok(waves)
+}
+
+// For each entry, the leaver of its new room.
+fn leavers(alloc: Global, entries: &[Entry]) -> Result<Vec<Option<usize>>, OutOfMemory>
+    ensures { IfOk result (λ leavers. leavers.items ≡ leavers_of entries.now) }
+{
+    let by_room = leavers_by_room(alloc, entries)?;
+    let mut leavers = Vec::with_capacity(alloc, entries.len())?;
+    for entry in entries {
+        let leaver = match &entry.2 {
+            Some(room) => by_room.get(&room.as_str()).copied(),
+            None => None,
+        };
+        leavers.push(leaver)?;
+    }
+    Ok(leavers)
+}
+
+// For each old room, the first entry that leaves it.
+fn leavers_by_room(alloc: Global, entries: &[Entry]) -> Result<BTreeMap<&str, usize>, AllocError>
+    ensures { IfOk result (λ by_room. (room : Text)
+        → get_by (λ key. slice_cmp nat_cmp room key.now) by_room ≡ leaver entries.now room) }
+{
+    let mut by_room = BTreeMap::new(alloc);
+    for (i, entry) in entries.iter().enumerate() {
+        if let Some(room) = &entry.1 {
+            if !by_room.contains_key(&room.as_str()) {
+                by_room.insert(room.as_str(), i)?;
+            }
+        }
+    }
+    Ok(by_room)
+}
+
+// For each entry, the one whose leaver it is.
+fn followers(alloc: Global, leavers: &[Option<usize>]) -> Result<Vec<Option<usize>>, OutOfMemory>
+    requires { AreApart leavers.now }
+    ensures { IfOk result (λ followers. AreFollowers leavers.now followers.items) }
+{
+    let mut followers = vec![in alloc; None; leavers.len()]?;
+    for (i, leaver) in leavers.iter().enumerate() {
+        if let Some(leaver) = leaver {
+            followers[*leaver] = Some(i);
+        }
+    }
+    Ok(followers)
+}
+
+// Numbers the moves of a chain, from the one at its end.
+fn number_chain(waves: &mut [Wave], followers: &[Option<usize>], end: usize)
+    requires within { (count i : ℕ) → followed followers.now count end ≡ Some i → i < length waves.old }
+    requires as_many { length followers.now ≡ length waves.old }
+    requires short { (count i : ℕ) → followed followers.now count end ≡ Some i → count < MOVE_LIMIT }
+    ensures { NumbersChain followers.now end waves.old waves.new }
+{
+    let mut number = 0u16;
+    let mut at = Some(end);
+    while let Some(here) = at {
+        number += 1;
+        waves[here] = Wave::Nth(number);
+        at = followers[here];
+    }
+}
+
+/// The law that each entry has one wave, the one that `wave_of` of `specs/` computes, where the new rooms differ.
+/// It does nothing.
+pub fn one_wave_each()
+    ensures { (entries : List Mover) → NewRoomsDiffer entries → HaveOneWaveEach entries }
+{}
