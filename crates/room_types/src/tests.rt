@@ -141,7 +141,7 @@ fn reads_and_prints_words(rt: HostRuntime) -> Result<(), TypeFault> {
     Ok(())
 }
 
-// The codes R1, R2, .. up to so many.
+// The codes R and a number, from 1 up to so many.
 fn codes(alloc: Global, count: usize) -> Result<Vec<RoomCode>, TypeFault> {
     let mut codes = Vec::new(alloc);
     for number in 1..=count {
