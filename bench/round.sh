@@ -1,6 +1,6 @@
 #!/bin/sh
 # Prints a whole round as lines: so many people and rooms, four fifths of the people with a home, and lists of 20 rooms
-# drawn by a fixed seed. To see how long it takes:
+# drawn by a fixed seed, the same each time with the same awk. To see how long it takes:
 #
 #     bench/round.sh 500 > /tmp/round.txt
 #     time ./rooms rehearse < /tmp/round.txt > /dev/null

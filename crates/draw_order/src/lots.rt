@@ -1,5 +1,5 @@
 //! The order in which the participants of a round choose.
-ghost use Rattle.std.specs.Prelude.{◌≡◌, List, ℕ, IfOk, map};
+ghost use Rattle.std.specs.Prelude.{◌≡◌, List, IfOk, map};
 ghost use Rattle.std.specs.List.Sorted.{IsPermutation, IsSorted};
 ghost use Rattle.draw_order.specs.Draw.{Lot, PeopleDiffer, IsDrawnOrder, HasOneDrawnOrder, drawn_order};
 ghost use Rattle.draw_order.specs.Pairs.{lot_of, pair_cmp};

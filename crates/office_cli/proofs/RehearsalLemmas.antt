@@ -1,5 +1,5 @@
 -- From what was heard to what a rehearsal did.
-use Rattle.std.proofs.Common.{◌≡◌, ℕ, ◌+◌, ◌≤◌, Bool, true, max, List, [], ◌∷◌, ◌++◌, length, take, refl, sym, ap, ◌∙◌, subst, arith, rules, tests, append_assoc, append-nil, length-append, inl, inr}
+use Rattle.std.proofs.Common.{◌≡◌, ℕ, ◌+◌, ◌≤◌, Bool, true, false, max, List, [], ◌∷◌, ◌++◌, length, take, refl, sym, ap, ◌∙◌, subst, arith, rules, tests, append-nil, length-append, inl, inr}
 use Rattle.std.specs.Prelude.{◌&&◌}
 use Rattle.std.specs.List.{list_all}
 use Rattle.std.specs.Io.KnownBytes.{Consumes, IsAtEnd}
@@ -38,8 +38,8 @@ lines_of-heard : (o : Office) (out : Output) (t : State) (bs : List ℕ) → Hea
 lines_of-heard o out t bs h = lines_of-is bs ∙ ap (λ b. ended_from [] bs ++ unended b) (sym h.begun)
 
 pub WholeInput-finished : (o o' : Office) (out out' : Output) (i i' : Input) (t : State) (sent status : ℕ) → Listened (start o out) t i.remaining i'.remaining → IsAtEnd i'.remaining
-    → length t.begun ≤ line_limit → Finished t o' out' sent status (counted t.out.flushes 1) → WholeInput o o' i i' out out' status
-WholeInput-finished o o' out out' i i' t sent status h end short f =
+    → length t.begun ≤ line_limit → Finished t o' out' sent status (counted t.out.flushes 1) → i'.failed ≡ false → out.failed ≡ false → WholeInput o o' i i' out out' status
+WholeInput-finished o o' out out' i i' t sent status h end short f reads writes =
     let lines = lines_of-heard o out t h.bytes h.heard in
     let answers = h.heard.answers in
     record {
@@ -51,13 +51,15 @@ WholeInput-finished o o' out out' i i' t sent status h end short f =
       run = rw lines (Run-append o t.office o' _ _ _ _ h.heard.run f.run);
       written = rw (texts_of-append answers f.answers) (Puts-trans out t.out out' _ _ h.heard.written f.written);
       flushed = f.flushed ∙ ap (λ n. counted n 1) h.heard.flushes;
+      no_read_failed = reads;
+      no_write_failed = f.failed ∙ h.heard.failed ∙ writes;
       greatest = f.greatest ∙ ap (λ n. max n (greatest_status f.answers)) h.heard.status ∙ omega (arith, greatest_status-append answers f.answers);
     }
 
 -- the last line was not finished
 part_unfinished : (o o' : Office) (out out' : Output) (i i' : Input) (t : State) (ending : Ending) (n : ℕ) → Listened (start o out) t i.remaining i'.remaining
-    → (f : Unfinished t ending o' out') → n ≡ t.sent + f.sent → PartOfInput o o' i i' out out' n
-part_unfinished o o' out out' i i' t ending n h f e =
+    → IsAtEnd i'.remaining → (f : Unfinished t ending o' out') → n ≡ t.sent + f.sent → PartOfInput o o' i i' out out' n
+part_unfinished o o' out out' i i' t ending n h end f e =
     let lines = lines_of-heard o out t h.bytes h.heard in
     let answers = h.heard.answers in
     let texts = texts_of-append answers f.answers in
@@ -68,34 +70,28 @@ part_unfinished o o' out out' i i' t ending n h f e =
       others = [];
       answers = answers ++ f.answers;
       read = h.read;
-      cut = sym (append-nil (lines_of h.bytes));
+      cut = inr (end, sym (append-nil (lines_of h.bytes)));
       run = rw lines (Run-append o t.office o' _ _ _ _ h.heard.run f.run);
       written = rw (texts, ← count, take-append-add (texts_of answers) (texts_of f.answers) f.sent) (Puts-trans out t.out out' _ _ h.heard.written f.written);
       within = omega (arith, ap length texts, length-append (texts_of answers) (texts_of f.answers), f.all, count);
     }
 
 pub Rehearses-unfinished : (o o' : Office) (out out' : Output) (i i' : Input) (t : State) (ending : Ending)
-    → Listened (start o out) t i.remaining i'.remaining → Unfinished t ending o' out' → OnlyWhereFailed ending out'.failed → Rehearses ending 3 o o' i i' out out'
-Rehearses-unfinished o o' out out' i i' t Ended h f w = absurd f.suits
-Rehearses-unfinished o o' out out' i i' t ReadFault h f w = let long = f.suits.1 in absurd (omega (arith, long))
-Rehearses-unfinished o o' out out' i i' t (WriteFault n) h f w = (refl, w, part_unfinished o o' out out' i i' t (WriteFault n) n h f f.suits)
-Rehearses-unfinished o o' out out' i i' t (NoMemory n) h f w = (refl, part_unfinished o o' out out' i i' t (NoMemory n) n h f f.suits)
-
--- the lines of more bytes
-lines_of_more : (heard rest : List ℕ) → lines_of (heard ++ rest) ≡ ended_from [] heard ++ (ended_from (begun_from [] heard) rest ++ unended (begun_from [] (heard ++ rest)))
-lines_of_more heard rest =
-    lines_of-is (heard ++ rest) ∙ ap (λ l. l ++ unended (begun_from [] (heard ++ rest))) (ended_from-append [] heard rest)
-    ∙ append_assoc (ended_from [] heard) (ended_from (begun_from [] heard) rest) (unended (begun_from [] (heard ++ rest)))
+    → Listened (start o out) t i.remaining i'.remaining → IsAtEnd i'.remaining → Unfinished t ending o' out' → OnlyWhereFailed ending out'.failed → Rehearses ending 3 o o' i i' out out'
+Rehearses-unfinished o o' out out' i i' t Ended h end f w = absurd f.suits
+Rehearses-unfinished o o' out out' i i' t ReadFault h end f w = let long = f.suits.1 in absurd (omega (arith, long))
+Rehearses-unfinished o o' out out' i i' t (WriteFault n) h end f w = (refl, w, part_unfinished o o' out out' i i' t (WriteFault n) n h end f f.suits)
+Rehearses-unfinished o o' out out' i i' t (NoMemory n) h end f w = (refl, part_unfinished o o' out out' i i' t (NoMemory n) n h end f f.suits)
 
 part_halted : (o o' : Office) (out out' : Output) (i i' : Input) (ending : Ending) (n : ℕ) (bytes : List ℕ) → Consumes i.remaining i'.remaining bytes
     → (f : Halted (start o out) ending o' out' bytes) → n ≡ 0 + f.sent → PartOfInput o o' i i' out out' n
 part_halted o o' out out' i i' ending n bytes r f e = record {
   bytes = bytes;
   lines = ended_from [] f.heard;
-  others = ended_from (begun_from [] f.heard) f.rest ++ unended (begun_from [] (f.heard ++ f.rest));
+  others = ended_from (begun_from [] f.heard) f.rest;
   answers = f.answers;
   read = r;
-  cut = ap lines_of f.cut ∙ lines_of_more f.heard f.rest;
+  cut = inl (ended_lines-is bytes ∙ ap (ended_from []) f.cut ∙ ended_from-append [] f.heard f.rest);
   run = f.run;
   written = let same : n ≡ f.sent = omega (arith, e) in rw same f.written;
   within = omega (arith, f.all, e);

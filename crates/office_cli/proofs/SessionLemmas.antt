@@ -25,7 +25,7 @@ both a b p q = rw (p, q) refl
 
 -- no bytes
 pub Heard-nil : (s : State) → Heard s s []
-Heard-nil s = record { answers = []; begun = refl; short = refl; run = refl; written = Puts-nil s.out; flushes = refl; sent = omega arith; status = omega arith }
+Heard-nil s = record { answers = []; begun = refl; short = refl; run = refl; written = Puts-nil s.out; flushes = refl; failed = refl; sent = omega arith; status = omega arith }
 
 -- bytes after bytes
 pub Heard-append : (s t u : State) (xs ys : List ℕ) → Heard s t xs → Heard t u ys → Heard s u (xs ++ ys)
@@ -40,6 +40,7 @@ Heard-append s t u xs ys p q =
       run = rw ended (Run-append s.office t.office u.office _ _ _ _ p.run q.run);
       written = rw texts (Puts-trans s.out t.out u.out _ _ p.written q.written);
       flushes = q.flushes ∙ p.flushes;
+      failed = q.failed ∙ p.failed;
       sent = omega (arith, p.sent, q.sent, ap length texts, length-append (texts_of p.answers) (texts_of q.answers));
       status = q.status ∙ ap (λ n. max n (greatest_status q.answers)) p.status ∙ omega (arith, greatest_status-append p.answers q.answers);
     }
@@ -100,6 +101,7 @@ newline_heard o o' out out' begun sent sent' status status' b e short h =
       run = (o', h.step, refl);
       written = rw text h.written;
       flushes = h.flushes;
+      failed = h.failed;
       sent = h.sent ∙ ap (λ l. sent + length l) (sym text);
       status = h.status ∙ omega arith;
     })
@@ -134,6 +136,7 @@ longer_heard o out begun sent status b e = record {
   run = rw e refl;
   written = Puts-nil out;
   flushes = refl;
+  failed = refl;
   sent = omega arith;
   status = omega arith;
 }
@@ -170,17 +173,9 @@ no_room s b = record {
 
 -- ---- the last line
 
-none_unended : (begun : List ℕ) → length begun ≡ 0 → unended begun ≡ []
-none_unended [] e = refl
-none_unended (b ∷ bs) e = absurd (omega arith)
-
 one_unended : (begun : List ℕ) → 0 < length begun → unended begun ≡ begun ∷ []
 one_unended [] e = absurd (omega arith)
 one_unended (b ∷ bs) e = refl
-
--- nothing has begun
-pub Finished-none : (s : State) → length s.begun ≡ 0 → Finished s s.office s.out s.sent s.status s.out.flushes
-Finished-none s e = record { answers = []; run = rw (none_unended s.begun e) refl; written = Puts-nil s.out; flushed = refl; sent_in_all = omega arith; greatest = omega arith }
 
 -- what had begun was answered
 pub Finished-answered : (o o' : Office) (out out' : Output) (begun : List ℕ) (sent sent' status status' : ℕ) → 0 < length begun
@@ -193,6 +188,7 @@ Finished-answered o o' out out' begun sent sent' status status' some h =
       run = rw (one_unended begun some) (o', h.step, refl);
       written = rw text h.written;
       flushed = h.flushes;
+      failed = h.failed;
       sent_in_all = h.sent ∙ ap (λ l. sent + length l) (sym text);
       greatest = h.status ∙ omega arith;
     }
@@ -212,18 +208,6 @@ Unfinished-broken o o' out out' begun sent status ending some h =
       all = h.all ∙ ap length (sym text);
       suits = h.suits;
     }
-
--- a flush after the last line
-pub Finished-flushed : (s : State) (o : Office) (out out' : Output) (sent status flushes : ℕ) → Finished s o out sent status flushes
-    → Keeps out.contents out'.contents → out'.taken ≡ out.taken → out'.flushes ≡ counted out.flushes 1 → Finished s o out' sent status (counted flushes 1)
-Finished-flushed s o out out' sent status flushes h k t f = record {
-  answers = h.answers;
-  run = h.run;
-  written = Puts-kept _ _ _ _ h.written k t;
-  flushed = f ∙ ap (λ n. counted n 1) h.flushed;
-  sent_in_all = h.sent_in_all;
-  greatest = h.greatest;
-}
 
 -- a flush that failed
 pub Finished-unflushed : (s : State) (o : Office) (out out' : Output) (sent status flushes : ℕ) → Finished s o out sent status flushes

@@ -1,6 +1,6 @@
 -- Bytes that go out one after the other.
-use Rattle.std.specs.Prelude.{◌||◌}
-use Rattle.std.proofs.Common.{◌≡◌, Bool, true, false, ℕ, zero, suc, ◌+◌, ◌<◌, ◌^◌, ◌-◌, List, [], ◌++◌, length, take, drop, refl, sym, ap, ◌∙◌, arith, append-nil, length-append}
+use Rattle.std.specs.Prelude.{◌||◌, ◌&&◌, ◌==◌}
+use Rattle.std.proofs.Common.{◌≡◌, Bool, true, false, ℕ, zero, suc, ◌+◌, ◌<◌, ◌^◌, ◌-◌, List, [], ◌++◌, length, take, drop, refl, sym, ap, ◌∙◌, arith, rules, tests, append-nil, length-append}
 use Rattle.std.specs.Io.KnownBytes.{Keeps, Appends}
 use Rattle.std.proofs.KnownBytes.{Appends-trans, Appends-nil, Appends-kept}
 use Rattle.std.proofs.lemmas.List.{take_all, length-drop}
@@ -61,6 +61,19 @@ pub or_true : (b : Bool) → (b || true) ≡ true
 or_true true = refl
 or_true false = refl
 
+pub or_false : (b : Bool) → (b || false) ≡ b
+or_false true = refl
+or_false false = refl
+
+and_or_false : (b c : Bool) → (b || (c && false)) ≡ b
+and_or_false true c = refl
+and_or_false false true = refl
+and_or_false false false = refl
+
+-- a write that took some bytes has not failed
+pub kept_by_write : (b c : Bool) (n : ℕ) → 0 < n → (b || (c && n == 0)) ≡ b
+kept_by_write b c n h = let some : (n == 0) ≡ false = search (rules, tests) in ap (λ d. b || (c && d)) some ∙ and_or_false b c
+
 -- one read more
-pub counted_one : (t : ℕ) → t < 1048576 → counted t 1 ≡ t + 1
+pub counted_one : (t : ℕ) → t < 2 ^ 63 → counted t 1 ≡ t + 1
 counted_one t h = omega arith

@@ -14,10 +14,10 @@ use Rattle.office_cli.specs.OutputLines.{line_of}
 use Rattle.office_cli.specs.WordLines.{words_text}
 use Rattle.room_types.specs.Texts.{Text}
 
--- The text went out and was flushed, and the exit status is the wanted one. Or the writer failed, and it is 3.
+-- The text went out and was flushed with no failure, and the exit status is the wanted one. Or the writer failed, and it is 3.
 abbrev pub Says : Text → ℕ → ℕ → Output → Output → Type 0
 Says text wanted status out out' =
-    ((status ≡ wanted) × Puts out out' text × (out'.flushes ≡ counted out.flushes 1))
+    ((status ≡ wanted) × Puts out out' text × (out'.flushes ≡ counted out.flushes 1) × (out'.failed ≡ out.failed))
     ⊎ ((status ≡ 3) × (out'.failed ≡ true) × (sent : ℕ) × Puts out out' (take sent text))
 
 -- Words that are no line are told on standard error with status 2, and want of memory on standard output with status 3.

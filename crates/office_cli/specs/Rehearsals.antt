@@ -1,5 +1,5 @@
 -- What a rehearsal does, on each of its endings.
-use Rattle.std.specs.Prelude.{◌≡◌, ℕ, ◌<◌, ◌≤◌, ◌⊎◌, true, List, [], ◌++◌, length, take}
+use Rattle.std.specs.Prelude.{◌≡◌, ℕ, ◌<◌, ◌≤◌, ◌⊎◌, true, false, List, [], ◌++◌, length, take}
 use Rattle.std.specs.List.{list_all}
 use Rattle.std.specs.Io.KnownBytes.{Consumes, IsAtEnd}
 use Rattle.room_types.specs.Watched.{counted}
@@ -11,7 +11,8 @@ use Rattle.office_cli.specs.Lines.{is_short, line_limit, read_limit, lines_of, e
 use Rattle.office_cli.specs.Streams.{Input, Output, Puts}
 use Rattle.office_cli.specs.Runs.{Run, texts_of, greatest_status}
 
--- The whole input was heard: each of its lines was answered in turn, all texts went out, and one flush followed.
+-- The whole input was heard, and no read, write or flush failed: each of its lines was answered in turn, all texts went out,
+-- and one flush followed.
 pub record WholeInput (old new : Office) (input input' : Input) (output output' : Output) (status : ℕ) : Type 0 where
   pub bytes : List ℕ
   pub answers : List Said
@@ -21,16 +22,19 @@ pub record WholeInput (old new : Office) (input input' : Input) (output output' 
   pub run : Run old (lines_of bytes) answers new
   pub written : Puts output output' (texts_of answers)
   pub flushed : output'.flushes ≡ counted output.flushes 1
+  pub no_read_failed : input'.failed ≡ false
+  pub no_write_failed : output'.failed ≡ false
   pub greatest : status ≡ greatest_status answers
 
--- Some lines of the bytes read, from the first on, were answered, and the first `sent` bytes of their texts went out.
+-- Some lines of the bytes read, from the first on, were answered, and the first `sent` bytes of their texts went out. A line
+-- is ended by its line feed, or by the end of the input where that was reached.
 pub record PartOfInput (old new : Office) (input input' : Input) (output output' : Output) (sent : ℕ) : Type 0 where
   pub bytes : List ℕ
   pub lines : List (List ℕ)
   pub others : List (List ℕ)
   pub answers : List Said
   pub read : Consumes input.remaining input'.remaining bytes
-  pub cut : lines_of bytes ≡ lines ++ others
+  pub cut : (ended_lines bytes ≡ lines ++ others) ⊎ (IsAtEnd input'.remaining × (lines_of bytes ≡ lines ++ others))
   pub run : Run old lines answers new
   pub written : Puts output output' (take sent (texts_of answers))
   pub within : sent ≤ length (texts_of answers)

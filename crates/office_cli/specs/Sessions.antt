@@ -42,6 +42,7 @@ pub record Heard (before after : State) (bytes : List ℕ) : Type 0 where
   pub run : Run before.office (ended_from before.begun bytes) answers after.office
   pub written : Puts before.out after.out (texts_of answers)
   pub flushes : after.out.flushes ≡ before.out.flushes
+  pub failed : after.out.failed ≡ before.out.failed
   pub sent : after.sent ≡ before.sent + length (texts_of answers)
   pub status : after.status ≡ max before.status (greatest_status answers)
 
@@ -78,6 +79,7 @@ pub record Answered (before after : State) (line : List ℕ) : Type 0 where
   pub step : Step before.office (sentence_of line) said after.office
   pub written : Puts before.out after.out (text_of said)
   pub flushes : after.out.flushes ≡ before.out.flushes
+  pub failed : after.out.failed ≡ before.out.failed
   pub sent : after.sent ≡ before.sent + length (text_of said)
   pub status : after.status ≡ max before.status (status_of said)
 
@@ -97,6 +99,7 @@ pub record Finished (before : State) (office : Office) (out : Output) (sent stat
   pub run : Run before.office (unended before.begun) answers office
   pub written : Puts before.out out (texts_of answers)
   pub flushed : out.flushes ≡ flushes
+  pub failed : out.failed ≡ before.out.failed
   pub sent_in_all : sent ≡ before.sent + length (texts_of answers)
   pub greatest : status ≡ max before.status (greatest_status answers)
 

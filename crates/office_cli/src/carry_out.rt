@@ -1,5 +1,5 @@
 //! What the words after the program's name ask for, done over standard input, output and error.
-ghost use Rattle.std.specs.Prelude.{◌≡◌, map};
+ghost use Rattle.std.specs.Prelude.{map};
 ghost use Rattle.room_types.specs.Watched.{IsFresh};
 ghost use Rattle.office_cli.specs.Streams.{input_of, output_of};
 ghost use Rattle.office_cli.specs.Programs.{program_of};

@@ -1,5 +1,5 @@
 //! Lines are heard byte by byte, and answered.
-ghost use Rattle.std.specs.Prelude.{◌≡◌, ◌+◌, ◌*◌, ◌^◌, ◌<◌, ◌≤◌, OnOk, IfErr, length, vec_len, [], ◌∷◌};
+ghost use Rattle.std.specs.Prelude.{◌+◌, ◌*◌, ◌^◌, ◌<◌, ◌≤◌, OnOk, IfErr, length, vec_len, [], ◌∷◌};
 ghost use Rattle.room_types.specs.Watched.{watched_failed};
 ghost use Rattle.office_core.specs.Laws.{IsLawful};
 ghost use Rattle.office_cli.specs.Streams.{output_of};

@@ -1,8 +1,9 @@
 //! A rehearsal: lines from a reader are heard by an office, and answered on a writer.
-ghost use Rattle.std.specs.Prelude.{◌≡◌, ◌^◌, ◌≤◌, OnOk, IfErr, false, vec_len};
+ghost use Rattle.std.specs.Prelude.{◌≡◌, ◌^◌, ◌≤◌, OnOk, IfErr, vec_len};
 ghost use Rattle.std.specs.Io.KnownBytes.{IsAtEnd};
 ghost use Rattle.room_types.specs.Watched.{watched_inner, watched_failed, watched_reads, watched_flushes, counted, IsFresh};
 ghost use Rattle.office_core.specs.Laws.{IsLawful};
+ghost use Rattle.office_cli.specs.Lines.{read_limit};
 ghost use Rattle.office_cli.specs.Rehearsals.{Rehearses};
 ghost use Rattle.office_cli.specs.Streams.{input_of, output_of};
 ghost use Rattle.office_cli.specs.Sessions.{Listened, Stopped, Finished, Unfinished, OnlyWhereFailed, state};
@@ -29,6 +30,7 @@ pub fn rehearse<R: Read, W: Write>(
     requires lawful { IsLawful office.old }
     requires fresh_input { IsFresh input.old }
     requires fresh_output { IsFresh output.old }
+    ensures few { watched_reads input.new ≤ read_limit }
     ensures rehearses { Rehearses result.ending result.status office.old office.new
         (input_of R.remaining input.old) (input_of R.remaining input.new)
         (output_of W.contents output.old) (output_of W.contents output.new) }
@@ -77,6 +79,8 @@ fn listen<R: Read, W: Write>(
         office.new (output_of W.contents output.new)
         (input_of R.remaining input.old) (input_of R.remaining input.new)) }
     ensures failed { IfErr result (λ ending. OnlyWhereFailed ending (watched_failed output.new)) }
+    ensures kept { OnOk result (watched_failed input.new ≡ watched_failed input.old) }
+    ensures few { watched_reads input.new ≤ read_limit }
     ensures bound { OnOk result (told.new.sent ≤ 2 ^ 100) }
     ensures short { OnOk result (vec_len begun.new ≤ 65536) }
     ensures lawful { IsLawful office.new }

@@ -11,6 +11,7 @@ pub fn send<W: Write>(output: &mut Watched<W>, text: &[u8]) -> Result<(), usize>
     ensures sent { OnOk result (Puts (output_of W.contents output.old) (output_of W.contents output.new) text.now) }
     ensures front { IfErr result (λ sent. Puts (output_of W.contents output.old) (output_of W.contents output.new) (take sent text.now)) }
     ensures short { IfErr result (λ sent. sent < length text.now) }
+    ensures kept { OnOk result (watched_failed output.new ≡ watched_failed output.old) }
     ensures failed { OnErr result (watched_failed output.new ≡ true) }
     ensures flushes { watched_flushes output.new ≡ watched_flushes output.old }
 {

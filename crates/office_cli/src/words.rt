@@ -194,7 +194,7 @@ fn asking_what_if(alloc: Global, words: &[&str]) -> Result<Request, WordFault>
         [person, rooms @ ..] => {
             let person = value_of(alloc, person)?;
             let choices = choices_of(alloc, rooms)?;
-            Ok(Request::Ask(Query::WhatIf { person, choices }))
+            Ok(Request::Ask(Query::WhatIf(person, choices)))
         }
         [] => Err(WordFault::NotUnderstood),
     }

@@ -25,6 +25,7 @@ with_list lists person (code ∷ codes) = map.insert lists person (code ∷ code
 abbrev pub without_round : Office → Office
 without_round office = record office { choices = map.empty; withdrawn = map.empty; words = map.empty; results = map.empty }
 
+-- the office after the change
 abbrev pub applied : Office → Change → Office
 applied office (PutRoom room shut) = record office { rooms = map.insert office.rooms room shut }
 applied office (PutPerson person name key home) = record office { people = map.insert office.people person (record { name = name; key = key; home = home }) }

@@ -28,6 +28,7 @@ room_checks office room =
 abbrev pub home_checks : Office → Text → List Check
 home_checks office room = room_checks office room ++ (is_taken office room, RoomTaken) ∷ []
 
+-- the checks of a home, where there is one
 abbrev pub home_checks_if_any : Office → Option Text → List Check
 home_checks_if_any office None = []
 home_checks_if_any office (Some room) = home_checks office room

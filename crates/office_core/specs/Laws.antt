@@ -63,6 +63,7 @@ pub record AreMoves (office : Office) : Type 0 where
   pub recorded : (round : ℕ) (kept : RoundMoves) → map.get office.moves round ≡ Some kept → kept.by_person ≡ map.empty → ⊥
   pub arrived : (round : ℕ) (p : Text) (moved : Moved) → map.get (moves_of office.moves round) p ≡ Some moved → is_some moved.to ≡ true
 
+-- all laws: what holds of an office before and after each command
 pub record IsLawful (office : Office) : Type 0 where
   pub register : IsRegister office.rooms office.people
   pub wishes : AreWishes office.rooms office.people office.choices office.withdrawn

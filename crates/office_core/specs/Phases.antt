@@ -3,26 +3,32 @@ use Rattle.std.specs.Prelude.{Bool, true, false, ◌||◌}
 use Rattle.room_types.specs.declared.phase.Phase.{Phase}
 use Rattle.room_types.specs.declared.phase.Phase.TheVariants.{Idle, Opened, Closed, Drawn, Ran, Published}
 
+-- no round is under way
 abbrev pub is_idle : Phase → Bool
 is_idle Idle = true
 is_idle _ = false
 
+-- people may list rooms, or withdraw
 abbrev pub is_open : Phase → Bool
 is_open Opened = true
 is_open _ = false
 
+-- the lists are final, and nothing is drawn yet
 abbrev pub is_closed : Phase → Bool
 is_closed Closed = true
 is_closed _ = false
 
+-- the words are drawn, and the rooms are not traded yet
 abbrev pub is_drawn : Phase → Bool
 is_drawn Drawn = true
 is_drawn _ = false
 
+-- the rooms are traded, and the results are not published yet
 abbrev pub has_run : Phase → Bool
 has_run Ran = true
 has_run _ = false
 
+-- everybody sees the result
 abbrev pub is_published : Phase → Bool
 is_published Published = true
 is_published _ = false

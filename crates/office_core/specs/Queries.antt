@@ -1,5 +1,5 @@
 -- The query table: what each query is answered.
-use Rattle.std.specs.Prelude.{◌≡◌, Result, Ok, Err, MatchResult, ◌⊎◌}
+use Rattle.std.specs.Prelude.{Result}
 pub mod Me
 pub mod Moves
 pub mod Order
@@ -12,7 +12,6 @@ use Rattle.office_core.specs.declared.office.Office.{Office}
 use Rattle.office_core.specs.declared.query.Query.{Query}
 use Rattle.office_core.specs.declared.query.Query.TheVariants as query
 use Rattle.office_core.specs.declared.refusal.Refusal.{Refusal}
-use Rattle.office_core.specs.declared.refusal.Refusal.TheVariants.{OutOfMemory}
 use Rattle.office_core.specs.declared.reply.Reply.{Reply}
 use Rattle.office_core.specs.Queries.Me as me
 use Rattle.office_core.specs.Queries.Moves as moves

@@ -7,30 +7,39 @@ use Rattle.office_core.specs.Round.{is_participant, round_people, round_rooms, r
 use Rattle.office_core.specs.declared.office.Office.{Office}
 
 -- nobody who takes part ranks what they get below their home, or below no room where they have none
-abbrev pub IsRoundRational : Office → Type 0
-IsRoundRational office =
-    (person : Text) → is_participant office person ≡ true → round_rank office person (result_of office person) ≤ round_rank office person (home_of office person)
+abbrev pub IsRationalFor : Office → (Text → Option Text) → Type 0
+IsRationalFor office gets =
+    (person : Text) → is_participant office person ≡ true
+    → round_rank office person (gets person) ≤ round_rank office person (home_of office person)
 
 -- rooms of the round, or nothing, for those who take part, and no room twice
 pub record IsRoundAssignment (office : Office) (gives : Text → Option Text) : Type 0 where
-  pub known : (person room : Text) → is_participant office person ≡ true → gives person ≡ Some room → is_some (number_in (round_rooms office) room) ≡ true
-  pub differ : (person other room : Text) → is_participant office person ≡ true → is_participant office other ≡ true → gives person ≡ Some room → gives other ≡ Some room → person ≡ other
+  pub known :
+      (person room : Text) → is_participant office person ≡ true
+      → gives person ≡ Some room → is_some (number_in (round_rooms office) room) ≡ true
+  pub differ :
+      (person other room : Text) → is_participant office person ≡ true → is_participant office other ≡ true
+      → gives person ≡ Some room → gives other ≡ Some room → person ≡ other
 
 -- an assignment at which nobody who takes part is worse off gives everybody the same: nobody can be better off
-abbrev pub IsRoundEfficient : Office → Type 0
-IsRoundEfficient office =
+abbrev pub IsEfficientFor : Office → (Text → Option Text) → Type 0
+IsEfficientFor office gets =
     (gives : Text → Option Text) → IsRoundAssignment office gives
-    → ((person : Text) → is_participant office person ≡ true → round_rank office person (gives person) ≤ round_rank office person (result_of office person))
-    → (person : Text) → is_participant office person ≡ true → gives person ≡ result_of office person
+    → ((person : Text) → is_participant office person ≡ true
+        → round_rank office person (gives person) ≤ round_rank office person (gets person))
+    → (person : Text) → is_participant office person ≡ true → gives person ≡ gets person
 
--- of the recorded results: nobody who takes part ranks the own one below the home, and an assignment at which nobody is worse
--- off gives everybody the same
+-- of what top trading cycles give
+abbrev pub IsRoundRational : Office → Type 0
+IsRoundRational office = IsRationalFor office (result_of office)
+
+abbrev pub IsRoundEfficient : Office → Type 0
+IsRoundEfficient office = IsEfficientFor office (result_of office)
+
+-- of the results that the office has recorded
 pub record AreFairResults (office : Office) : Type 0 where
-  pub rational : (person : Text) → is_participant office person ≡ true → round_rank office person (recorded_result office person) ≤ round_rank office person (home_of office person)
-  pub efficient :
-      (gives : Text → Option Text) → IsRoundAssignment office gives
-      → ((person : Text) → is_participant office person ≡ true → round_rank office person (gives person) ≤ round_rank office person (recorded_result office person))
-      → (person : Text) → is_participant office person ≡ true → gives person ≡ recorded_result office person
+  pub rational : IsRationalFor office (recorded_result office)
+  pub efficient : IsEfficientFor office (recorded_result office)
 
 -- two offices have the same rooms, people, lists, withdrawals and words
 pub record HaveSameEntries (one other : Office) : Type 0 where

@@ -33,9 +33,11 @@ moves_with round (mover ∷ others) (wave ∷ waves) = record { round = round; p
 moves_with round [] waves = []
 moves_with round (mover ∷ others) [] = []
 
+-- the moves of the round
 abbrev pub settled_moves : Office → List Move
 settled_moves office = moves_with office.number (movers office) (waves_of (movers office))
 
+-- the moves, recorded in turn
 abbrev pub with_moves : RoundMap RoundMoves → List Move → RoundMap RoundMoves
 with_moves kept [] = kept
 with_moves kept (move ∷ moves) = with_moves (with_move kept move) moves
@@ -45,5 +47,6 @@ abbrev pub settled_person : Office → Text × Person → Text × Person
 settled_person office entry =
     (entry.0, if is_participant office entry.0 then record entry.1 { home = recorded_result office entry.0 } else entry.1)
 
+-- everybody, after the day of moving
 abbrev pub settled_people : Office → TextMap Person
 settled_people office = map.from_entries (map_list (settled_person office) (map.entries office.people))

@@ -32,6 +32,6 @@ pub fn answer(alloc: Global, office: &Office, query: &Query) -> Result<Reply, Re
         Query::Results => results(alloc, office),
         Query::Moves(number) => moves(alloc, office, *number),
         Query::Me(key) => me(alloc, office, key),
-        Query::WhatIf { person, choices } => what_if(alloc, office, person, choices),
+        Query::WhatIf(person, choices) => what_if(alloc, office, person, choices),
     }
 }

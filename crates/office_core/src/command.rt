@@ -20,7 +20,7 @@ pub enum Command {
         person: PersonId,
         room: RoomCode,
     },
-    /// Takes somebody's home.
+    /// Ends a tenancy: the person has no home from then on.
     Leave {
         person: PersonId,
     },

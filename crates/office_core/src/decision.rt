@@ -1,4 +1,4 @@
-//! What a command leads to.
+//! The decision of a command.
 ghost use Rattle.std.specs.Prelude.{◌≡◌, IfOk, IfErr, [], ◌∷◌};
 
 use crate::change::Change;
@@ -14,7 +14,7 @@ pub struct Decision {
 }
 
 /// The decision of one change.
-pub fn one_change(alloc: Global, reply: Reply, change: Change) -> Result<Decision, Refusal>
+pub(crate) fn one_change(alloc: Global, reply: Reply, change: Change) -> Result<Decision, Refusal>
     ensures ok { IfOk result (λ d. (d.reply ≡ reply) × (d.changes.items ≡ change ∷ [])) }
     ensures err { IfErr result (λ refusal. refusal ≡ Refusal.OutOfMemory) }
 {
@@ -24,7 +24,7 @@ pub fn one_change(alloc: Global, reply: Reply, change: Change) -> Result<Decisio
 }
 
 /// The decision of two changes.
-pub fn two_changes(
+pub(crate) fn two_changes(
     alloc: Global,
     reply: Reply,
     first: Change,

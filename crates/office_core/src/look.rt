@@ -10,7 +10,7 @@ use room_types::{Key, OutOfMemory, PersonId, RoomCode};
 use std::alloc::Global;
 
 impl Office {
-    /// Who lives in a room.
+    /// Who lives in a room, or `None` where nobody does. It goes through the people.
     pub fn tenant(&self, room: &RoomCode) -> Option<&PersonId>
         ensures { option_copied result ≡ tenant self.now room.now }
     {
@@ -22,7 +22,7 @@ impl Office {
         None
     }
 
-    /// Whose key it is.
+    /// Whose key it is, or `None` where it is nobody's. It goes through the people.
     pub fn owner(&self, key: &Key) -> Option<&PersonId>
         ensures { option_copied result ≡ owner self.now key.now }
     {

@@ -12,9 +12,9 @@ use std::collections::BTreeMap;
 use std::marker::Model;
 
 /// What is kept of a move beside the round and the person.
-#[derive(Drop)]
+#[derive(Debug, Drop)]
 pub struct Moved {
-    /// The old room, or none of a newcomer.
+    /// The old room, or none for a newcomer.
     pub from: Option<RoomCode>,
     /// The new room.
     pub to: Option<RoomCode>,

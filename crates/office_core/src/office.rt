@@ -11,7 +11,7 @@ use room_types::{Choices, Copied, OutOfMemory, Phase, RoomCode, Table, Word};
 use std::alloc::{AllocError, Global};
 
 /// What a participant gets in a round.
-#[derive(Drop)]
+#[derive(Debug, Drop)]
 pub struct Assigned {
     /// The room, or none for no room.
     pub room: Option<RoomCode>,

@@ -17,7 +17,7 @@ pub struct Person {
 
 impl Person {
     /// The same person with another home, or with none.
-    pub fn copy_with_home(&self, home: &Option<RoomCode>) -> Result<Person, OutOfMemory>
+    pub(crate) fn copy_with_home(&self, home: &Option<RoomCode>) -> Result<Person, OutOfMemory>
         ensures { IfOk result (λ moved. moved ≡ record self.now { home = home.now }) }
     {
         Ok(Person {

@@ -8,70 +8,49 @@ use room_types::Phase;
 pub fn is_idle(phase: Phase) -> bool
     ensures { result ≡ is_idle phase }
 {
-    match phase {
-        Phase::Idle => true,
-        _ => false,
-    }
+    matches!(phase, Phase::Idle)
 }
 
 /// Whether people may list rooms, or withdraw.
 pub fn is_open(phase: Phase) -> bool
     ensures { result ≡ is_open phase }
 {
-    match phase {
-        Phase::Opened => true,
-        _ => false,
-    }
+    matches!(phase, Phase::Opened)
 }
 
 /// Whether the lists are final, and nothing is drawn yet.
 pub fn is_closed(phase: Phase) -> bool
     ensures { result ≡ is_closed phase }
 {
-    match phase {
-        Phase::Closed => true,
-        _ => false,
-    }
+    matches!(phase, Phase::Closed)
 }
 
 /// Whether the words are drawn, and the rooms not traded yet.
 pub fn is_drawn(phase: Phase) -> bool
     ensures { result ≡ is_drawn phase }
 {
-    match phase {
-        Phase::Drawn => true,
-        _ => false,
-    }
+    matches!(phase, Phase::Drawn)
 }
 
 /// Whether the rooms are traded, and the results not published yet.
 pub fn has_run(phase: Phase) -> bool
     ensures { result ≡ has_run phase }
 {
-    match phase {
-        Phase::Ran => true,
-        _ => false,
-    }
+    matches!(phase, Phase::Ran)
 }
 
 /// Whether the results are there.
 pub fn has_results(phase: Phase) -> bool
     ensures { result ≡ has_results phase }
 {
-    match phase {
-        Phase::Ran | Phase::Published => true,
-        _ => false,
-    }
+    matches!(phase, Phase::Ran | Phase::Published)
 }
 
 /// Whether everybody sees their result.
 pub fn is_published(phase: Phase) -> bool
     ensures { result ≡ is_published phase }
 {
-    match phase {
-        Phase::Published => true,
-        _ => false,
-    }
+    matches!(phase, Phase::Published)
 }
 
 /// Whether rooms and people may be added, and rooms be shut.
@@ -85,18 +64,12 @@ pub fn is_preparing(phase: Phase) -> bool
 pub fn may_cancel(phase: Phase) -> bool
     ensures { result ≡ may_cancel phase }
 {
-    match phase {
-        Phase::Idle | Phase::Published => false,
-        _ => true,
-    }
+    !matches!(phase, Phase::Idle | Phase::Published)
 }
 
 /// Whether the words are drawn.
 pub fn has_words(phase: Phase) -> bool
     ensures { result ≡ has_words phase }
 {
-    match phase {
-        Phase::Idle | Phase::Opened | Phase::Closed => false,
-        _ => true,
-    }
+    !matches!(phase, Phase::Idle | Phase::Opened | Phase::Closed)
 }

@@ -8,7 +8,7 @@ pub enum Query {
     Rooms,
     /// The people by identifier.
     People,
-    /// The round's number and phase, and how many people there are.
+    /// The last round's number and the phase, how many people there are, and how many have withdrawn.
     Round,
     /// The participants in the drawn order.
     Order,
@@ -19,5 +19,5 @@ pub enum Query {
     /// What the person of this key sees.
     Me(Key),
     /// What another list would give a participant.
-    WhatIf { person: PersonId, choices: Choices },
+    WhatIf(PersonId, Choices),
 }

@@ -6,32 +6,39 @@ use room_types::{OutOfMemory, Phase, RoomCode};
 use std::alloc::{AllocError, AllocFailed};
 
 /// Why a command or a query is refused. Nothing is changed by it.
-#[derive(Drop)]
+#[derive(Debug, Drop)]
 pub enum Refusal {
     /// Not in this phase.
     BadPhase(Phase),
     /// Nobody has this identifier, or this key.
     UnknownPerson,
+    /// No room has this code.
     UnknownRoom(RoomCode),
+    /// There is a room of this code.
     DuplicateRoom,
+    /// Somebody has this identifier.
     DuplicatePerson,
-    /// Somebody else has this key.
+    /// Somebody has this key.
     KeyInUse,
+    /// The room is out of use.
     RoomShut(RoomCode),
     /// Somebody lives there.
     RoomTaken,
+    /// The person has a home.
     HasHome,
+    /// The person has no home.
     NoHome,
     /// The person has left the round.
     Withdrawn,
-    /// As many words are wanted as there are participants.
+    /// There are `want` participants, and `got` words.
     WrongWordCount { want: usize, got: usize },
     /// There are as many rooms, people or rounds as there may be.
     LimitReached,
     /// The person has left the round, and so has no place in the order.
     NotInRound,
-    /// The round has not begun, or is still under way.
+    /// No round of this number is over: it is 0, has not begun, or is still under way.
     NoSuchRound,
+    /// The room is in use.
     NotShut,
     /// Memory was refused.
     OutOfMemory,
@@ -89,8 +96,8 @@ impl Refusal {
     }
 }
 
-/// That a room is not known.
-pub fn unknown_room(room: &RoomCode) -> Refusal
+/// `UnknownRoom` with a copy of the code, or `OutOfMemory`.
+pub(crate) fn unknown_room(room: &RoomCode) -> Refusal
     ensures { (result ≡ Refusal.UnknownRoom room.now) ⊎ (result ≡ Refusal.OutOfMemory) }
 {
     match room.copy() {
@@ -99,8 +106,8 @@ pub fn unknown_room(room: &RoomCode) -> Refusal
     }
 }
 
-/// That a room is shut.
-pub fn room_shut(room: &RoomCode) -> Refusal
+/// `RoomShut` with a copy of the code, or `OutOfMemory`.
+pub(crate) fn room_shut(room: &RoomCode) -> Refusal
     ensures { (result ≡ Refusal.RoomShut room.now) ⊎ (result ≡ Refusal.OutOfMemory) }
 {
     match room.copy() {

@@ -4,14 +4,14 @@ use room_types::{
 };
 
 /// A participant, with the word that was drawn.
-#[derive(Drop)]
+#[derive(Debug, Drop)]
 pub struct OrderRow {
     pub word: Word,
     pub person: PersonId,
 }
 
 /// What a participant gets.
-#[derive(Drop)]
+#[derive(Debug, Drop)]
 pub struct ResultRow {
     pub person: PersonId,
     /// The room, or none for no room.
@@ -19,7 +19,7 @@ pub struct ResultRow {
 }
 
 /// What a person sees.
-#[derive(Drop)]
+#[derive(Debug, Drop)]
 pub struct Standing {
     pub person: PersonId,
     pub name: Name,
@@ -37,10 +37,11 @@ pub struct Standing {
 }
 
 /// The reply to a command that was accepted, or to a query.
-#[derive(Drop)]
+#[derive(Debug, Drop)]
 pub enum Reply {
+    /// The command is carried out, and there is no more to say.
     Done,
-    /// A room was shut, which was the home of this person.
+    /// The room is shut; `displaced` lived there, if anybody did.
     Shut {
         displaced: Option<PersonId>,
     },
@@ -52,16 +53,21 @@ pub enum Reply {
     Chosen {
         choices: Choices,
     },
+    /// The person takes no part in the round.
     Withdrawn,
+    /// The lists are final, and so many people take part.
     Closed {
         participants: usize,
     },
+    /// Each participant has a word.
     Drawn {
         participants: usize,
     },
+    /// Each participant has a result.
     Ran {
         participants: usize,
     },
+    /// Each participant sees the result.
     Published {
         participants: usize,
     },
@@ -69,10 +75,11 @@ pub enum Reply {
     Settled {
         moves: usize,
     },
+    /// The round is given up.
     Cancelled,
-    /// By code.
+    /// The rooms, by code.
     Rooms(Listing<RoomRow>),
-    /// By identifier.
+    /// The people, by identifier.
     People(Listing<PersonRow>),
     /// The last round, how many people there are, and how many of them have withdrawn.
     Round {
@@ -81,12 +88,13 @@ pub enum Reply {
         people: usize,
         withdrawn: usize,
     },
-    /// In the drawn order.
+    /// The participants, in the drawn order.
     Order(Listing<OrderRow>),
-    /// By identifier.
+    /// What the participants get, by identifier.
     Results(Listing<ResultRow>),
-    /// By identifier.
+    /// The moves of a round, by identifier.
     Moves(Listing<Move>),
+    /// What the person of a key sees.
     Me(Standing),
     /// The room that the other list would give, or none for no room.
     WouldGet(Option<RoomCode>),

@@ -1,7 +1,6 @@
-//! A small college, through its public calls.
+//! Each public call with ample memory: a round from its commands to its moves.
+ghost use Rattle.std.specs.Prelude.{IfOk};
 ghost use Rattle.office_core.specs.Laws.{IsLawful};
-
-mod round;
 
 use crate::answering::answer;
 use crate::applying::apply_all;
@@ -11,233 +10,46 @@ use crate::office::Office;
 use crate::query::Query;
 use crate::refusal::Refusal;
 use crate::reply::Reply;
-use room_types::{Choices, Key, Listing, Name, PersonId, Phase, RoomCode, State, TypeFault, Word};
+use room_types::{Choices, Key, Listing, Name, PersonId, Phase, RoomCode, State, Wave, Word};
 use std::alloc::Global;
 use std::process::Abort;
+use std::test::Fail;
 
-fn room(alloc: Global, text: &str) -> Result<RoomCode, Refusal> {
-    read(RoomCode::read(alloc, text))
+fn room(alloc: Global, code: &str) -> Result<Command, Fail> {
+    let room = RoomCode::read(alloc, code)?;
+    Ok(Command::AddRoom { room })
 }
 
-fn person(alloc: Global, text: &str) -> Result<PersonId, Refusal> {
-    read(PersonId::read(alloc, text))
-}
-
-fn read<T: Drop>(value: Result<T, TypeFault>) -> Result<T, Refusal> {
-    match value {
-        Ok(value) => Ok(value),
-        Err(_) => Err(Refusal::OutOfMemory),
-    }
-}
-
-// Carries a command out on a copy, which takes the office's place.
-fn carry_out(alloc: Global, office: &mut Office, command: &Command) -> Result<Reply, Refusal>
-    requires { IsLawful office.old }
-    ensures { IsLawful office.new }
-{
-    let decision = decide(alloc, office, command)?;
-    let mut new = office.copy()?;
-    apply_all(&mut new, decision.changes.as_slice())?;
-    *office = new;
-    Ok(decision.reply)
-}
-
-// Two rooms, and a person in the first.
-fn furnish(alloc: Global, office: &mut Office) -> Result<(), Refusal>
-    requires { IsLawful office.old }
-    ensures { IsLawful office.new }
-{
-    let first = room(alloc, "H1")?;
-    let _ = carry_out(alloc, office, &Command::AddRoom { room: first })?;
-    let second = room(alloc, "H2")?;
-    let _ = carry_out(alloc, office, &Command::AddRoom { room: second })?;
-    let added = Command::AddPerson {
-        person: person(alloc, "T1")?,
-        name: read(Name::read(alloc, "Tim Tan"))?,
-        key: read(Key::read(alloc, "key00000000000t1"))?,
-        home: Some(room(alloc, "H1")?),
+fn person(alloc: Global, id: &str, key: &str, home: Option<&str>) -> Result<Command, Fail> {
+    let home = match home {
+        Some(code) => Some(RoomCode::read(alloc, code)?),
+        None => None,
     };
-    let _ = carry_out(alloc, office, &added)?;
-    Ok(())
-}
-
-// The numbers of refusals, and 0 for a reply.
-fn number(told: Result<Reply, Refusal>) -> u8 {
-    match told {
-        Ok(_) => 0,
-        Err(refusal) => refusal.number(),
-    }
-}
-
-#[test]
-fn the_register_between_rounds(rt: HostRuntime) {
-    let alloc = rt.alloc();
-    let mut office = Office::empty(alloc);
-    assert!(rt; furnish(alloc, &mut office).is_ok());
-    let Ok(t1) = person(alloc, "T1") else {
-        rt.abort()
-    };
-    let Ok(h2) = room(alloc, "H2") else {
-        rt.abort()
-    };
-    let moves_in = Command::SetHome {
-        person: t1,
-        room: h2,
-    };
-    assert_eq!(rt; number(carry_out(alloc, &mut office, &moves_in)), 9);
-    let Ok(t1) = person(alloc, "T1") else {
-        rt.abort()
-    };
-    let removed = Command::Remove { person: t1 };
-    assert_eq!(rt; number(carry_out(alloc, &mut office, &removed)), 9);
-    let Ok(t1) = person(alloc, "T1") else {
-        rt.abort()
-    };
-    let leaves = Command::Leave { person: t1 };
-    assert_eq!(rt; number(carry_out(alloc, &mut office, &leaves)), 0);
-    assert_eq!(rt; number(carry_out(alloc, &mut office, &leaves)), 10);
-    assert_eq!(rt; number(carry_out(alloc, &mut office, &moves_in)), 0);
-    let Ok(h2) = room(alloc, "H2") else {
-        rt.abort()
-    };
-    let reopened = Command::Reopen { room: h2 };
-    assert_eq!(rt; number(carry_out(alloc, &mut office, &reopened)), 18);
-    let Ok(h2) = room(alloc, "H2") else {
-        rt.abort()
-    };
-    let shut = Command::Shut { room: h2 };
-    let Ok(Reply::Shut { displaced }) = carry_out(alloc, &mut office, &shut) else {
-        rt.abort()
-    };
-    assert!(rt; displaced.is_some());
-    assert_eq!(rt; number(carry_out(alloc, &mut office, &shut)), 7);
-    assert_eq!(rt; number(carry_out(alloc, &mut office, &reopened)), 0);
-    assert_eq!(rt; number(carry_out(alloc, &mut office, &removed)), 0);
-    assert_eq!(rt; number(carry_out(alloc, &mut office, &removed)), 2);
-}
-
-#[test]
-fn a_round_that_is_cancelled(rt: HostRuntime) {
-    let alloc = rt.alloc();
-    let mut office = Office::empty(alloc);
-    assert!(rt; furnish(alloc, &mut office).is_ok());
-    assert_eq!(rt;
-        number(carry_out(alloc, &mut office, &Command::CloseRound)),
-        1
-    );
-    let Ok(Reply::Opened { round }) = carry_out(alloc, &mut office, &Command::OpenRound) else {
-        rt.abort()
-    };
-    assert_eq!(rt; round, 1);
-    let mut codes = Vec::new(alloc);
-    let Ok(h2) = room(alloc, "H2") else {
-        rt.abort()
-    };
-    assert!(rt; codes.push(h2).is_ok());
-    let Ok(choices) = Choices::read(codes) else {
-        rt.abort()
-    };
-    let Ok(t1) = person(alloc, "T1") else {
-        rt.abort()
-    };
-    let chooses = Command::SetChoices {
-        person: t1,
-        choices,
-    };
-    let Ok(Reply::Chosen { choices }) = carry_out(alloc, &mut office, &chooses) else {
-        rt.abort()
-    };
-    assert_eq!(rt; choices.as_slice().len(), 1);
-    let Ok(t1) = person(alloc, "T1") else {
-        rt.abort()
-    };
-    let withdraws = Command::Withdraw { person: t1 };
-    assert_eq!(rt; number(carry_out(alloc, &mut office, &withdraws)), 0);
-    assert_eq!(rt; number(carry_out(alloc, &mut office, &withdraws)), 0);
-    assert_eq!(rt; number(carry_out(alloc, &mut office, &chooses)), 11);
-    let Ok(Reply::Closed { participants }) = carry_out(alloc, &mut office, &Command::CloseRound)
-    else {
-        rt.abort()
-    };
-    assert_eq!(rt; participants, 0);
-    assert_eq!(rt; number(answer(alloc, &office, &Query::Moves(1))), 17);
-    assert_eq!(rt; number(carry_out(alloc, &mut office, &Command::Cancel)), 0);
-    let Ok(Reply::Moves(moves)) = answer(alloc, &office, &Query::Moves(1)) else {
-        rt.abort()
-    };
-    assert_eq!(rt; moves.as_slice().len(), 0);
-    assert_eq!(rt; office.choices.len(), 0);
-}
-
-#[test]
-fn what_is_told(rt: HostRuntime) {
-    let alloc = rt.alloc();
-    let mut office = Office::empty(alloc);
-    assert!(rt; furnish(alloc, &mut office).is_ok());
-    let Ok(Reply::Rooms(rooms)) = answer(alloc, &office, &Query::Rooms) else {
-        rt.abort()
-    };
-    assert_eq!(rt; rooms.as_slice().len(), 2);
-    assert!(rt; rooms.as_slice()[0].state == State::Occupied);
-    assert!(rt; rooms.as_slice()[1].state == State::Free);
-    let Ok(Reply::People(people)) = answer(alloc, &office, &Query::People) else {
-        rt.abort()
-    };
-    assert_eq!(rt; people.as_slice().len(), 1);
-    let Ok(
-        Reply::Round {
-            number: round,
-            phase,
-            people,
-            withdrawn,
-        },
-    ) = answer(alloc, &office, &Query::Round)
-    else {
-        rt.abort()
-    };
-    assert!(rt; (round, people, withdrawn) == (0, 1, 0));
-    assert!(rt; phase == Phase::Idle);
-    let Ok(key) = Key::read(alloc, "key00000000000t1") else {
-        rt.abort()
-    };
-    let Ok(Reply::Me(standing)) = answer(alloc, &office, &Query::Me(key)) else {
-        rt.abort()
-    };
-    assert!(rt; standing.home.is_some());
-    assert!(rt; !standing.shown);
-    let Ok(key) = Key::read(alloc, "key00000000000t9") else {
-        rt.abort()
-    };
-    assert_eq!(rt; number(answer(alloc, &office, &Query::Me(key))), 2);
-}
-
-fn newcomer(alloc: Global, id: &str, name: &str, key: &str) -> Result<Command, Refusal> {
     Ok(Command::AddPerson {
-        person: person(alloc, id)?,
-        name: read(Name::read(alloc, name))?,
-        key: read(Key::read(alloc, key))?,
-        home: None,
+        person: PersonId::read(alloc, id)?,
+        name: Name::read(alloc, "Tim Tan")?,
+        key: Key::read(alloc, key)?,
+        home,
     })
 }
 
-// Three people and no rooms, in a round that is closed.
-fn three_newcomers(alloc: Global, office: &mut Office) -> Result<(), Refusal>
-    requires { IsLawful office.old }
-    ensures { IsLawful office.new }
-{
-    let first = newcomer(alloc, "E1", "Ann Ash", "key00000000000e1")?;
-    let _ = carry_out(alloc, office, &first)?;
-    let second = newcomer(alloc, "E2", "Bo Birch", "key00000000000e2")?;
-    let _ = carry_out(alloc, office, &second)?;
-    let third = newcomer(alloc, "E3", "Cy Coy", "key00000000000e3")?;
-    let _ = carry_out(alloc, office, &third)?;
-    let _ = carry_out(alloc, office, &Command::OpenRound)?;
-    let _ = carry_out(alloc, office, &Command::CloseRound)?;
-    Ok(())
+// The rooms of these codes, which stand apart by spaces, the best first.
+fn choices(alloc: Global, codes: &str) -> Result<Choices, Fail> {
+    let mut rooms = Vec::new(alloc);
+    for code in codes.split_whitespace() {
+        rooms.push(RoomCode::read(alloc, code)?)?;
+    }
+    Ok(Choices::read(rooms)?)
 }
 
-// A draw of these words.
-fn draw_of(alloc: Global, values: &[u64]) -> Result<Command, Refusal> {
+fn choose(alloc: Global, id: &str, codes: &str) -> Result<Command, Fail> {
+    Ok(Command::SetChoices {
+        person: PersonId::read(alloc, id)?,
+        choices: choices(alloc, codes)?,
+    })
+}
+
+fn draw(alloc: Global, values: &[u64]) -> Result<Command, Fail> {
     let mut words = Vec::new(alloc);
     for value in values {
         words.push(Word::new(*value))?;
@@ -247,35 +59,246 @@ fn draw_of(alloc: Global, values: &[u64]) -> Result<Command, Refusal> {
     })
 }
 
-#[test]
-fn equal_words_by_identifier(rt: HostRuntime) {
-    let alloc = rt.alloc();
+// The homes of two tenants, and a vacant room.
+fn rooms(alloc: Global) -> Result<Vec<Command>, Fail> {
+    let mut commands = Vec::new(alloc);
+    for code in ["H1", "H2", "V"] {
+        commands.push(room(alloc, code)?)?;
+    }
+    Ok(commands)
+}
+
+// Two tenants and a newcomer.
+fn people(alloc: Global) -> Result<Vec<Command>, Fail> {
+    let mut commands = Vec::new(alloc);
+    for (id, key, home) in [
+        ("T1", "key00000000000t1", Some("H1")),
+        ("T2", "key00000000000t2", Some("H2")),
+        ("N", "key000000000000n", None),
+    ] {
+        commands.push(person(alloc, id, key, home)?)?;
+    }
+    Ok(commands)
+}
+
+// The tenants want each other's room, and the newcomer the first of them or the vacant one.
+fn lists(alloc: Global) -> Result<Vec<Command>, Fail> {
+    let mut commands = Vec::new(alloc);
+    for (id, codes) in [("T1", "H2"), ("T2", "H1"), ("N", "H1 V")] {
+        commands.push(choose(alloc, id, codes)?)?;
+    }
+    Ok(commands)
+}
+
+// The command of this verb about one person or one room.
+fn about(alloc: Global, verb: &str, name: &str) -> Result<Command, Fail> {
+    let command = match verb {
+        "leave" => Command::Leave {
+            person: PersonId::read(alloc, name)?,
+        },
+        "remove" => Command::Remove {
+            person: PersonId::read(alloc, name)?,
+        },
+        "withdraw" => Command::Withdraw {
+            person: PersonId::read(alloc, name)?,
+        },
+        "shut" => Command::Shut {
+            room: RoomCode::read(alloc, name)?,
+        },
+        _ => Command::Reopen {
+            room: RoomCode::read(alloc, name)?,
+        },
+    };
+    Ok(command)
+}
+
+// T1 leaves, and H2, the home of T2, is shut for a while.
+fn repairs(alloc: Global) -> Result<Vec<Command>, Fail> {
+    let mut commands = Vec::new(alloc);
+    for (verb, name) in [
+        ("leave", "T1"),
+        ("shut", "H2"),
+        ("reopen", "H2"),
+        ("remove", "T2"),
+    ] {
+        commands.push(about(alloc, verb, name)?)?;
+    }
+    Ok(commands)
+}
+
+// Carries a command out on a copy, which takes the office's place.
+fn carry_out(alloc: Global, office: &mut Office, command: &Command) -> Result<Reply, Refusal>
+    requires { IsLawful office.old }
+    ensures { IsLawful office.new }
+{
+    let decision = decide(alloc, office, command)?;
+    let mut next = office.copy()?;
+    apply_all(&mut next, &decision.changes)?;
+    *office = next;
+    Ok(decision.reply)
+}
+
+// Carries the commands out in turn, each of which must be accepted.
+fn carry_out_all(alloc: Global, office: &mut Office, commands: &[Command]) -> Result<(), Refusal>
+    requires { IsLawful office.old }
+    ensures { IsLawful office.new }
+{
+    for command in commands {
+        let _reply = carry_out(alloc, office, command)?;
+    }
+    Ok(())
+}
+
+// An office that knows the rooms and the people.
+fn furnished(alloc: Global) -> Result<Office, Fail>
+    ensures { IfOk result (λ office. IsLawful office) }
+{
     let mut office = Office::empty(alloc);
-    assert!(rt; three_newcomers(alloc, &mut office).is_ok());
-    assert_eq!(rt; number(answer(alloc, &office, &Query::Order)), 1);
-    let Ok(too_few) = draw_of(alloc, &[1, 2]) else {
-        rt.abort()
+    carry_out_all(alloc, &mut office, &rooms(alloc)?)?;
+    carry_out_all(alloc, &mut office, &people(alloc)?)?;
+    Ok(office)
+}
+
+// An office whose round is drawn: T1 before T2, and N last. The words are given by identifier.
+fn drawn(alloc: Global) -> Result<Office, Fail>
+    ensures { IfOk result (λ office. IsLawful office) }
+{
+    let mut office = furnished(alloc)?;
+    carry_out_all(alloc, &mut office, &[Command::OpenRound])?;
+    carry_out_all(alloc, &mut office, &lists(alloc)?)?;
+    carry_out_all(
+        alloc,
+        &mut office,
+        &[Command::CloseRound, draw(alloc, &[3, 1, 2])?],
+    )?;
+    Ok(office)
+}
+
+fn is_room(given: &Option<RoomCode>, code: &str) -> bool {
+    match given {
+        Some(given) => given.as_str() == code,
+        None => false,
+    }
+}
+
+#[test]
+fn settles_a_swap(rt: HostRuntime) -> Result<(), Fail> {
+    let alloc = rt.alloc();
+    let mut office = drawn(alloc)?;
+    carry_out_all(
+        alloc,
+        &mut office,
+        &[Command::Run, Command::Publish, Command::Settle],
+    )?;
+    assert!(rt; office.phase == Phase::Idle && office.results.len() == 0);
+    let Reply::Moves(moves) = answer(alloc, &office, &Query::Moves(1))? else {
+        panic!(rt; "no moves")
     };
-    let Err(Refusal::WrongWordCount { want, got }) = decide(alloc, &office, &too_few) else {
-        rt.abort()
-    };
-    assert!(rt; (want, got) == (3, 2));
-    let Ok(draw) = draw_of(alloc, &[5, 5, 0]) else {
-        rt.abort()
-    };
-    let Ok(Reply::Drawn { participants }) = carry_out(alloc, &mut office, &draw) else {
-        rt.abort()
-    };
-    assert_eq!(rt; participants, 3);
-    let Ok(Reply::Order(rows)) = answer(alloc, &office, &Query::Order) else {
-        rt.abort()
-    };
-    let rows = rows.as_slice();
+    let rows = moves.as_slice();
     assert_eq!(rt; rows.len(), 3);
-    assert_eq!(rt; rows[0].person.as_str(), "E3");
-    assert_eq!(rt; rows[1].person.as_str(), "E1");
-    assert_eq!(rt; rows[2].person.as_str(), "E2");
-    assert_eq!(rt; rows[1].word.value(), 5);
-    assert_eq!(rt; number(carry_out(alloc, &mut office, &Command::Cancel)), 0);
-    assert_eq!(rt; office.words.len(), 0);
+    assert!(rt; is_room(&rows[0].to, "V") && rows[0].wave == Wave::Nth(1));
+    assert!(rt; is_room(&rows[1].to, "H2") && rows[1].wave == Wave::Swap);
+    assert!(rt; is_room(&rows[2].to, "H1") && rows[2].wave == Wave::Swap);
+    Ok(())
+}
+
+#[test]
+fn gives_up_a_round(rt: HostRuntime) -> Result<(), Fail> {
+    let alloc = rt.alloc();
+    let mut office = drawn(alloc)?;
+    carry_out_all(alloc, &mut office, &[Command::Cancel])?;
+    assert!(rt; office.phase == Phase::Idle && office.number == 1);
+    assert!(rt; office.choices.len() == 0 && office.words.len() == 0);
+    Ok(())
+}
+
+#[test]
+fn keeps_the_register(rt: HostRuntime) -> Result<(), Fail> {
+    let alloc = rt.alloc();
+    let mut office = furnished(alloc)?;
+    carry_out_all(alloc, &mut office, &repairs(alloc)?)?;
+    let moves_in = Command::SetHome {
+        person: PersonId::read(alloc, "T1")?,
+        room: RoomCode::read(alloc, "V")?,
+    };
+    carry_out_all(alloc, &mut office, &[moves_in, Command::OpenRound])?;
+    let withdraw = about(alloc, "withdraw", "N")?;
+    carry_out_all(alloc, &mut office, &[withdraw, Command::CloseRound])?;
+    assert!(rt; office.people.len() == 2 && office.withdrawn.len() == 1);
+    assert!(rt; office.phase == Phase::Closed);
+    Ok(())
+}
+
+#[test]
+fn tells_the_register(rt: HostRuntime) -> Result<(), Fail> {
+    let alloc = rt.alloc();
+    let office = drawn(alloc)?;
+    let Reply::Rooms(rooms) = answer(alloc, &office, &Query::Rooms)? else {
+        panic!(rt; "no rooms")
+    };
+    let rows = rooms.as_slice();
+    assert!(rt;
+        rows.len() == 3 && rows[0].state == State::Occupied && rows[2].state == State::Free
+    );
+    let Reply::People(people) = answer(alloc, &office, &Query::People)? else {
+        panic!(rt; "no people")
+    };
+    let rows = people.as_slice();
+    assert!(rt; rows.len() == 3 && rows[0].home.is_none() && is_room(&rows[1].home, "H1"));
+    Ok(())
+}
+
+#[test]
+fn tells_the_round(rt: HostRuntime) -> Result<(), Fail> {
+    let alloc = rt.alloc();
+    let office = drawn(alloc)?;
+    let Reply::Round {
+        number,
+        phase,
+        people,
+        withdrawn,
+    } = answer(alloc, &office, &Query::Round)?
+    else {
+        panic!(rt; "no round")
+    };
+    assert!(rt; (number, people, withdrawn) == (1, 3, 0) && phase == Phase::Drawn);
+    let Reply::Order(order) = answer(alloc, &office, &Query::Order)? else {
+        panic!(rt; "no order")
+    };
+    let rows = order.as_slice();
+    assert!(rt; rows.len() == 3 && rows[0].person.as_str() == "T1" && rows[0].word.value() == 1);
+    assert!(rt; rows[1].person.as_str() == "T2" && rows[2].person.as_str() == "N");
+    Ok(())
+}
+
+#[test]
+fn tells_the_results(rt: HostRuntime) -> Result<(), Fail> {
+    let alloc = rt.alloc();
+    let mut office = drawn(alloc)?;
+    carry_out_all(alloc, &mut office, &[Command::Run])?;
+    let Reply::Results(results) = answer(alloc, &office, &Query::Results)? else {
+        panic!(rt; "no results")
+    };
+    let rows = results.as_slice();
+    assert!(rt; rows.len() == 3 && is_room(&rows[0].room, "V"));
+    assert!(rt; is_room(&rows[1].room, "H2") && is_room(&rows[2].room, "H1"));
+    let key = Key::read(alloc, "key00000000000t1")?;
+    let Reply::Me(standing) = answer(alloc, &office, &Query::Me(key))? else {
+        panic!(rt; "no standing")
+    };
+    assert!(rt; is_room(&standing.home, "H1") && !standing.shown && standing.result.is_none());
+    Ok(())
+}
+
+#[test]
+fn tells_what_another_list_would_give(rt: HostRuntime) -> Result<(), Fail> {
+    let alloc = rt.alloc();
+    let mut office = drawn(alloc)?;
+    carry_out_all(alloc, &mut office, &[Command::Run])?;
+    let asked = Query::WhatIf(PersonId::read(alloc, "T2")?, choices(alloc, "V")?);
+    let Reply::WouldGet(room) = answer(alloc, &office, &asked)? else {
+        panic!(rt; "no room")
+    };
+    assert!(rt; is_room(&room, "V"));
+    Ok(())
 }

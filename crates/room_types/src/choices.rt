@@ -6,6 +6,7 @@ ghost use Rattle.room_types.specs.Choices.{choices_fault, IsChoices};
 
 use crate::fault::{OutOfMemory, TypeFault};
 use crate::grammars::RoomCode;
+use crate::table::Copied;
 use std::alloc::{AllocError, Global};
 use std::marker::Model;
 
@@ -72,6 +73,10 @@ impl Clone for Choices {
         let codes = copied(*self.codes.allocator(), self.codes.as_slice())?;
         Ok(Choices { codes })
     }
+}
+
+impl Copied for Choices {
+    ghost same = { λ x y h. h };
 }
 
 // The first code that also stands before its place. A list is short, so each place looks back over it.

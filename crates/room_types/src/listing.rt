@@ -4,7 +4,7 @@ ghost use Rattle.std.specs.Prelude.{◌≡◌};
 use std::marker::Model;
 
 /// Items in order. Contracts see it as the list of its items, so that two listings of equal items are equal.
-#[derive(Drop)]
+#[derive(Debug, Drop)]
 pub struct Listing<T> {
     items: Vec<T>,
 }

@@ -4,6 +4,7 @@ ghost use Rattle.std.specs.Prelude.{◌≡◌, IfOk};
 use crate::fault::OutOfMemory;
 use crate::grammars::{PersonId, RoomCode};
 use crate::rows::copy_optional;
+use crate::table::Copied;
 use std::alloc::AllocError;
 
 /// When a move takes place on the day of moving.
@@ -21,7 +22,7 @@ pub struct Move {
     /// The number of the round, from 1.
     pub round: u16,
     pub person: PersonId,
-    /// The old room, or none of a newcomer.
+    /// The old room, or none for a newcomer.
     pub from: Option<RoomCode>,
     /// The new room.
     pub to: Option<RoomCode>,
@@ -50,4 +51,8 @@ impl Clone for Move {
             wave: self.wave,
         })
     }
+}
+
+impl Copied for Move {
+    ghost same = { λ x y h. h };
 }

@@ -1,4 +1,4 @@
-//! The rows of replies, tables and exports.
+//! The rows of replies and tables.
 ghost use Rattle.std.specs.Prelude.{◌≡◌, IfOk, Some};
 ghost use Rattle.room_types.specs.Rows.{state_text};
 

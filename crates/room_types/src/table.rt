@@ -4,11 +4,8 @@ ghost use Rattle.std.specs.Option.{option_copied};
 ghost use Rattle.std.specs.FinMap as map;
 ghost use Rattle.std.specs.Map.Iter.{ShowsInOrder, deref_pair};
 
-use crate::choices::Choices;
 use crate::fault::OutOfMemory;
-use crate::moves::Move;
 use crate::text::{Grammar, Text};
-use crate::word::Word;
 use std::alloc::Global;
 use std::collections::BTreeMap;
 use std::collections::btree_map::Iter;
@@ -28,18 +25,6 @@ impl Copied for u64 {
 }
 
 impl Copied for () {
-    ghost same = { λ x y h. h };
-}
-
-impl Copied for Choices {
-    ghost same = { λ x y h. h };
-}
-
-impl Copied for Word {
-    ghost same = { λ x y h. h };
-}
-
-impl Copied for Move {
     ghost same = { λ x y h. h };
 }
 
@@ -92,7 +77,7 @@ impl<G: Grammar, V> Table<G, V> {
         self.tree.len()
     }
 
-    /// The entries, by ascending key.
+    /// The entries, by ascending key, in linear time.
     pub fn iter(&self) -> Iter<'_, Text<G>, V>
         ensures rest { result ≡ map.entries self.now }
         ensures runs { ShowsInOrder (deref_pair {K = List ℕ} {X = V}) }

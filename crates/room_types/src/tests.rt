@@ -1,109 +1,14 @@
-//! Worked values of the small types, and each call once with ample memory.
-use crate::grammars::{Keys, Labels, Names, PersonIds, RoomCodes};
+//! Each call once with ample memory, and worked values.
+use crate::grammars::RoomCodes;
 use crate::{
-    CHOICE_LIMIT, Choices, Grammar, Listing, RoomCode, Table, Text, TypeFault, Watched, Word,
+    CHOICE_LIMIT, Choices, Listing, Move, PersonId, RoomCode, Table, TypeFault, Watched, Wave, Word,
 };
-use std::alloc::{AllocError, Global};
-use std::io::{Read, Write};
+use std::alloc::Global;
+use std::io;
+use std::io::{Error, ErrorKind, Read, Write};
 use std::process::Abort;
 
-// A text, so many times over.
-fn repeated(alloc: Global, text: &str, times: usize) -> Result<String, AllocError> {
-    let mut all = String::new(alloc);
-    for _ in 0..times {
-        all.push_str(text)?;
-    }
-    Ok(all)
-}
-
-// Whether the text is read, printed and copied as itself.
-fn is_kept<G: Grammar>(alloc: Global, text: &str) -> Result<bool, TypeFault> {
-    let value = Text::<G>::read(alloc, text)?;
-    let copy = value.copy()?;
-    let printed = format!(in alloc; "{value}")?;
-    Ok(value.as_str() == text && printed.as_str() == text && copy == value)
-}
-
-// Whether the text is refused as outside the grammar.
-fn is_bad<G: Grammar>(alloc: Global, text: &str) -> bool {
-    let fault = Text::<G>::read(alloc, text).err();
-    fault == Some(TypeFault::BadValue)
-}
-
-#[test]
-fn reads_texts(rt: HostRuntime) -> Result<(), TypeFault> {
-    let alloc = rt.alloc();
-    for text in ["H1", "A-1", "ABCDEFGH", "Z", "9", "A-"] {
-        assert!(rt; is_kept::<RoomCodes>(alloc, text)?, "room {text}");
-    }
-    for text in [
-        "",
-        "-A",
-        "h1",
-        "ABCDEFGHI",
-        "H_1",
-        "H 1",
-        "@",
-        "[",
-        "/",
-        ":",
-    ] {
-        assert!(rt; is_bad::<RoomCodes>(alloc, text), "room {text}");
-    }
-    for text in ["T1", "ABCDEFGHIJKL", "0"] {
-        assert!(rt; is_kept::<PersonIds>(alloc, text)?, "person {text}");
-    }
-    for text in ["", "ABCDEFGHIJKLM", "T-1", "t1"] {
-        assert!(rt; is_bad::<PersonIds>(alloc, text), "person {text}");
-    }
-    let longest = repeated(alloc, "k", 64)?;
-    for text in ["key00000000000t1", "abcdefghijklmnop", longest.as_str()] {
-        assert!(rt; is_kept::<Keys>(alloc, text)?, "key {text}");
-    }
-    let too_long = repeated(alloc, "k", 65)?;
-    for text in [
-        "key00000000000t",
-        "KEY00000000000T1",
-        "key-0000000000t1",
-        too_long.as_str(),
-    ] {
-        assert!(rt; is_bad::<Keys>(alloc, text), "key {text}");
-    }
-    let longest = repeated(alloc, "l", 32)?;
-    for text in ["p-1", "a", "0-", longest.as_str()] {
-        assert!(rt; is_kept::<Labels>(alloc, text)?, "label {text}");
-    }
-    let too_long = repeated(alloc, "l", 33)?;
-    for text in ["", "-p", "P-1", too_long.as_str()] {
-        assert!(rt; is_bad::<Labels>(alloc, text), "label {text}");
-    }
-    let longest = repeated(alloc, "n", 60)?;
-    for text in [
-        "Ann Ash",
-        "x",
-        "\u{a0}",
-        "Zo\u{eb} \u{d8}",
-        longest.as_str(),
-    ] {
-        assert!(rt; is_kept::<Names>(alloc, text)?, "name {text}");
-    }
-    let too_long = repeated(alloc, "n", 61)?;
-    for text in [
-        "",
-        "Ann  Ash",
-        " Ann",
-        "Ann ",
-        "a\u{1f}b",
-        "a\u{7f}",
-        "a\u{80}",
-        "a\u{85}b",
-        "a\u{9f}",
-        too_long.as_str(),
-    ] {
-        assert!(rt; is_bad::<Names>(alloc, text), "name {text}");
-    }
-    Ok(())
-}
+mod worked;
 
 #[test]
 fn compares_by_bytes(rt: HostRuntime) -> Result<(), TypeFault> {
@@ -112,31 +17,7 @@ fn compares_by_bytes(rt: HostRuntime) -> Result<(), TypeFault> {
     let long = RoomCode::read(alloc, "H10")?;
     let other = RoomCode::read(alloc, "H2")?;
     assert!(rt; short < long && long < other && short != other);
-    Ok(())
-}
-
-#[test]
-fn reads_and_prints_words(rt: HostRuntime) -> Result<(), TypeFault> {
-    let alloc = rt.alloc();
-    for (text, value, printed) in [
-        ("00000000000000FF", 255, "00000000000000ff"),
-        ("0123456789abcdef", 81985529216486895, "0123456789abcdef"),
-        ("FFFFFFFFFFFFFFFF", u64::MAX, "ffffffffffffffff"),
-        ("0000000000000000", 0, "0000000000000000"),
-    ] {
-        let word = Word::read(text)?;
-        assert_eq!(rt; word.value(), value, "of {text}");
-        assert_eq!(rt; format!(in alloc; "{word}")?.as_str(), printed, "of {text}");
-    }
-    for text in [
-        "",
-        "00000000000000F",
-        "00000000000000FF0",
-        "00000000000000FG",
-        "+0000000000000FF",
-    ] {
-        assert!(rt; Word::read(text).is_err(), "word {text}");
-    }
+    assert!(rt; short.copy()? == short);
     assert!(rt; Word::new(1) < Word::new(2));
     Ok(())
 }
@@ -146,37 +27,27 @@ fn codes(alloc: Global, count: usize) -> Result<Vec<RoomCode>, TypeFault> {
     let mut codes = Vec::new(alloc);
     for number in 1..=count {
         let text = format!(in alloc; "R{number}")?;
-        if codes.push(RoomCode::read(alloc, text.as_str())?).is_err() {
-            return Err(TypeFault::OutOfMemory);
-        }
-    }
-    Ok(codes)
-}
-
-// Three codes in order.
-fn three(alloc: Global, texts: [&str; 3]) -> Result<Vec<RoomCode>, TypeFault> {
-    let mut codes = Vec::new(alloc);
-    for text in texts {
-        if codes.push(RoomCode::read(alloc, text)?).is_err() {
-            return Err(TypeFault::OutOfMemory);
-        }
+        let code = RoomCode::read(alloc, text.as_str())?;
+        codes.push(code).map_err(|_| TypeFault::OutOfMemory)?;
     }
     Ok(codes)
 }
 
 #[test]
-fn reads_choices(rt: HostRuntime) -> Result<(), TypeFault> {
+fn copies_lists_and_moves(rt: HostRuntime) -> Result<(), TypeFault> {
     let alloc = rt.alloc();
-    let forty = Choices::read(codes(alloc, CHOICE_LIMIT)?)?;
-    assert_eq!(rt; forty.as_slice().len(), 40);
-    assert_eq!(rt; forty.copy()?.as_slice().len(), 40);
-    let too_many = Choices::read(codes(alloc, 41)?).err();
-    assert_eq!(rt; too_many, Some(TypeFault::TooManyChoices));
-    let repeated = Choices::read(three(alloc, ["H1", "V", "H1"])?).err();
-    assert_eq!(rt;
-        repeated,
-        Some(TypeFault::RoomRepeated(RoomCode::read(alloc, "H1")?))
-    );
+    let choices = Choices::read(codes(alloc, CHOICE_LIMIT)?)?;
+    assert_eq!(rt; choices.copy()?.as_slice().len(), CHOICE_LIMIT);
+    let moved = Move {
+        round: 3,
+        person: PersonId::read(alloc, "T1")?,
+        from: None,
+        to: Some(RoomCode::read(alloc, "H1")?),
+        wave: Wave::Nth(2),
+    };
+    let copy = moved.copy()?;
+    assert!(rt; copy.round == 3 && copy.person == moved.person && copy.from.is_none());
+    assert!(rt; copy.to == moved.to && copy.wave == Wave::Nth(2));
     Ok(())
 }
 
@@ -205,8 +76,57 @@ fn keeps_tables(rt: HostRuntime) -> Result<(), TypeFault> {
     Ok(())
 }
 
+// A device that counts the calls of it, and fails at each.
+#[derive(Drop)]
+struct Broken {
+    reads: u32,
+    writes: u32,
+    flushes: u32,
+}
+
+impl Read for Broken {
+    fn read(&mut self, _buf: &mut [u8]) -> io::Result<usize> {
+        self.reads = self.reads.saturating_add(1);
+        Err(Error::from(ErrorKind::Other))
+    }
+}
+
+impl Write for Broken {
+    fn write(&mut self, _buf: &[u8]) -> io::Result<usize> {
+        self.writes = self.writes.saturating_add(1);
+        Err(Error::from(ErrorKind::Other))
+    }
+
+    fn flush(&mut self) -> io::Result<()> {
+        self.flushes = self.flushes.saturating_add(1);
+        Err(Error::from(ErrorKind::Other))
+    }
+}
+
+fn watched_broken() -> Watched<Broken> {
+    Watched::new(Broken {
+        reads: 0,
+        writes: 0,
+        flushes: 0,
+    })
+}
+
+// Each call of a watched device is one of the device, and its failure is answered and remembered.
 #[test]
-fn watches_streams(rt: HostRuntime) -> std::io::Result<()> {
+fn passes_calls_on(rt: HostRuntime) {
+    let mut input = watched_broken();
+    assert!(rt; input.read(&mut [0u8; 1]).is_err() && input.failed() && input.reads() == 1);
+    assert_eq!(rt; input.into_inner().reads, 1);
+    let mut output = watched_broken();
+    assert!(rt; output.write(b"a").is_err() && output.failed() && output.taken() == 0);
+    assert_eq!(rt; output.into_inner().writes, 1);
+    let mut output = watched_broken();
+    assert!(rt; output.flush().is_err() && output.failed() && output.flushes() == 1);
+    assert_eq!(rt; output.into_inner().flushes, 1);
+}
+
+#[test]
+fn watches_streams(rt: HostRuntime) -> io::Result<()> {
     let mut input = Watched::new("ab".as_bytes());
     let mut byte = [0u8; 1];
     for taken in [1, 1, 0] {

@@ -83,9 +83,12 @@ impl<G: Grammar> Clone for Text<G> {
     }
 }
 
+/// As it is displayed.
 impl<G: Grammar> fmt::Debug for Text<G> {
+    ghost debug_output = { λ text. Some text };
+
     fn fmt<W: fmt::Write>(&self, f: &mut fmt::Formatter<W>) -> fmt::Result {
-        f.write_str(self.as_str())
+        fmt::Display::fmt(self, f)
     }
 }
 

@@ -3,6 +3,7 @@ ghost use Rattle.std.specs.Prelude.{◌≡◌, Some, None, MatchResult, IfSome, 
 ghost use Rattle.room_types.specs.Words.{word_of, word_text, hex_digit, hex_value};
 
 use crate::fault::TypeFault;
+use crate::table::Copied;
 use std::fmt;
 use std::marker::Model;
 
@@ -53,6 +54,10 @@ impl Word {
     {
         self.value
     }
+}
+
+impl Copied for Word {
+    ghost same = { λ x y h. h };
 }
 
 /// Sixteen hexadecimal digits in lower case.

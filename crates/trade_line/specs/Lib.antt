@@ -1,6 +1,7 @@
 pub mod Below
 pub mod Market
 pub mod Problem
+pub mod Faults
 pub mod TopTradingCycles
 pub mod Member
 pub mod Rank

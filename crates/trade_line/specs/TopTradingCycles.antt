@@ -19,7 +19,7 @@ start m = record { people = λ p. nat_lt p m.people; rooms = λ r. nat_lt r m.ro
 unfoldable pub wish : Market → Stage → ℕ → Option ℕ
 wish m s p = or_else (find s.rooms (list_of m p)) (floor m p)
 
--- the first remaining person
+-- the first remaining person, and 0 where nobody remains
 unfoldable pub first : Market → Stage → ℕ
 first m s = unwrap_or (first_below m.people s.people) 0
 

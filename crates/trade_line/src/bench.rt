@@ -1,6 +1,5 @@
-// The memory of a run, taken before it begins.
-ghost use Rattle.std.specs.Prelude.{◌≡◌, ℕ, ◌<◌, length, slice_set, vec_len, IfSome, true};
-ghost use Rattle.std.specs.Prelude.{IfOk};
+//! The memory of a run, taken before it begins.
+ghost use Rattle.std.specs.Prelude.{◌≡◌, ◌<◌, length, IfOk};
 ghost use Rattle.trade_line.specs.Size.{Size, size_of};
 ghost use Rattle.trade_line.specs.Inner.Fresh.{IsFresh};
 
@@ -40,6 +39,7 @@ impl Bench {
         })
     }
 
+    // The same memory, as what a run knows before its first turn.
     pub(crate) fn into_progress(self) -> Progress
         ensures fresh { IsFresh result.asked.items result.remaining.items result.given.items }
         ensures people { length result.asked.items ≡ self.people }

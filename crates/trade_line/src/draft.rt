@@ -1,4 +1,4 @@
-// A problem as it is handed in: its faults are still to be looked for.
+//! A problem as it is handed in: its faults are still to be looked for.
 ghost use Rattle.std.specs.Prelude.{◌≡◌, ◌≢◌, ◌<◌, ◌↔◌, ℕ, All, AllPairs, IsTrue, IfOk, IfErr, IfSome, OnOk, length, slice_index_or, ◌⊎◌};
 ghost use Rattle.trade_line.specs.Market.{IsIndexed, HomesDiffer, ListsDiffer, OwnUnlisted};
 ghost use Rattle.trade_line.specs.Problem.{IsFirstFault};
@@ -9,6 +9,7 @@ use crate::fault::TradeFault;
 use crate::out_of_memory::OutOfMemory;
 use std::alloc::Global;
 
+// How many people and rooms there are, where each person lives, and what each person lists.
 #[derive(Drop)]
 pub(crate) struct Draft {
     pub(crate) order_len: usize,
@@ -17,6 +18,7 @@ pub(crate) struct Draft {
     pub(crate) lists: Vec<Vec<usize>>,
 }
 
+// Whether each home is below the number of rooms.
 fn are_homes_known(homes: &[Option<usize>], room_count: usize) -> bool
     ensures { IsTrue result ↔ All (λ home. IfSome home (λ room. room < room_count)) homes.now }
 {
@@ -26,12 +28,14 @@ fn are_homes_known(homes: &[Option<usize>], room_count: usize) -> bool
     })
 }
 
+// Whether each room of the list is below the number of rooms.
 pub(crate) fn is_list_known(list: &[usize], room_count: usize) -> bool
     ensures { IsTrue result ↔ All (λ room. room < room_count) list.now }
 {
     list.iter().all(|room| *room < room_count)
 }
 
+// Whether this holds of each list.
 fn are_lists_known(lists: &[Vec<usize>], room_count: usize) -> bool
     ensures { IsTrue result ↔ All (λ list. All (λ room. room < room_count) list.items) lists.now }
 {
@@ -65,6 +69,7 @@ pub(crate) fn lacks(list: &[usize], home: Option<usize>) -> bool
 }
 
 impl Draft {
+    // Whether there is a home entry and a list for each person, and each room is below the number of rooms.
     pub(crate) fn is_indexed(&self) -> bool
         ensures { IsTrue result ↔ IsIndexed (drafted self.now) }
     {

@@ -1,5 +1,6 @@
-// Why a problem, or a list that is tried in one, is refused.
-ghost use Rattle.std.specs.Prelude.{◌≡◌};
+//! Why a problem, or a list that is tried in one, is refused.
+ghost use Rattle.std.specs.Prelude.{◌≡◌, Some};
+ghost use Rattle.trade_line.specs.Faults.{fault_text};
 ghost use Rattle.trade_line.specs.declared.fault.TradeFault.TheVariants.{OutOfMemory};
 
 use crate::out_of_memory;
@@ -24,13 +25,15 @@ pub enum TradeFault {
 }
 
 impl fmt::Display for TradeFault {
+    ghost output = { λ fault. Some (fault_text fault) };
+
     fn fmt<W: fmt::Write>(&self, f: &mut fmt::Formatter<W>) -> fmt::Result {
         f.write_str(match self {
-            TradeFault::BadIndex => "a number is out of range",
+            TradeFault::BadIndex => "a home or a list is missing, or a number is out of range",
             TradeFault::HomeShared => "two people have the same home",
             TradeFault::ListRepeats => "a list has a room twice",
             TradeFault::OwnRoomListed => "a person lists their own home",
-            TradeFault::OutOfMemory => "out of memory",
+            TradeFault::OutOfMemory => "memory was refused",
         })
     }
 }

@@ -1,4 +1,4 @@
-// Laws of the definitions, for every market.
+//! Laws of the definitions, for every market.
 ghost use Rattle.trade_line.specs.Market.{Market, IsMarket};
 ghost use Rattle.trade_line.specs.OtherList.{IsListProof};
 

@@ -1,4 +1,4 @@
-// The trade of rooms by top trading cycles.
+//! The trade of rooms by top trading cycles.
 #![tactic(auto)]
 
 pub mod bench;

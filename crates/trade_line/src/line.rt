@@ -1,5 +1,5 @@
-// The line of people who wait for their turn.
-ghost use Rattle.std.specs.Prelude.{◌≡◌, ℕ, ◌<◌, List, [], ◌∷◌, IfOk, IsTrue, false};
+//! The line of people who wait for their turn.
+ghost use Rattle.std.specs.Prelude.{◌≡◌, ℕ, ◌<◌, List, ◌∷◌, IfOk, IsTrue, false};
 ghost use Rattle.std.specs.List.{range_with_len};
 ghost use Rattle.trade_line.specs.Member.{among};
 ghost use Rattle.trade_line.specs.Line.{front_of, tail_of, is_none_left, without};
@@ -33,7 +33,7 @@ pub trait Line: Drop {
         requires { IsTrue (among (people self.old) person) }
         ensures { people self.new ≡ person ∷ without person (people self.old) };
 
-    /// Takes the first person out of the line.
+    /// Takes the first person out of the line, which is not empty.
     fn drop_front(&mut self)
         requires { is_none_left (people self.old) ≡ false }
         ensures { people self.new ≡ tail_of (people self.old) };
@@ -44,7 +44,8 @@ pub trait Line: Drop {
         ensures { people self.new ≡ without person (people self.old) };
 }
 
-/// A line kept in one vector, the front first.
+/// A line kept in one vector, the front first. `holds`, `bring_to_front`, `drop_front` and `drop_member` take time linear in
+/// its length.
 #[derive(Drop)]
 pub struct VecLine {
     order: Vec<usize>,
@@ -81,6 +82,7 @@ impl Line for VecLine {
 
     fn bring_to_front(&mut self, person: usize) {
         self.order.retain(|other| *other != person);
+        // It takes no memory: the place that the person had is free.
         let _ = self.order.insert(0, person);
     }
 

@@ -1,4 +1,7 @@
-// Want of memory.
+//! Want of memory.
+ghost use Rattle.std.specs.Prelude.{Some};
+ghost use Rattle.trade_line.specs.Faults.{want_of_memory_text};
+
 use std::alloc::{AllocError, AllocFailed};
 use std::error::Error;
 use std::fmt;
@@ -8,8 +11,10 @@ use std::fmt;
 pub struct OutOfMemory;
 
 impl fmt::Display for OutOfMemory {
+    ghost output = { λ _. Some want_of_memory_text };
+
     fn fmt<W: fmt::Write>(&self, f: &mut fmt::Formatter<W>) -> fmt::Result {
-        f.write_str("out of memory")
+        f.write_str("memory was refused")
     }
 }
 

@@ -1,5 +1,5 @@
-// Who gets which room.
-ghost use Rattle.std.specs.Prelude.{◌≡◌, ℕ, ◌<◌, length, slice_index_or, None};
+//! Who gets which room.
+ghost use Rattle.std.specs.Prelude.{◌≡◌, ◌<◌, slice_index_or, None};
 ghost use Rattle.trade_line.specs.Outcome.{Given};
 
 use std::marker::Model;

@@ -1,4 +1,4 @@
-// Top trading cycles in simultaneous steps, as the definition has them: slow and plain. What is fast is compared with it.
+//! Top trading cycles in simultaneous steps, as the definition has them: slow and plain. Tests compare `run` with it.
 ghost use Rattle.std.specs.Prelude.{◌≡◌, ◌<◌, IfOk, Some, None, length, replicate, true, false};
 ghost use Rattle.trade_line.specs.TopTradingCycles.{wish, first, successor, remaining_count, on_cycle, step, ttc};
 ghost use Rattle.trade_line.specs.Inner.Plain.{remains, AreMarks, Gives};
@@ -26,7 +26,7 @@ fn wish(problem: &Problem, stage: &Remaining, person: usize) -> Option<usize>
     }
 }
 
-// The first remaining person in priority order.
+// The first remaining person in priority order, and 0 where nobody remains.
 fn first(problem: &Problem, stage: &Remaining) -> usize
     requires { AreMarks problem.now stage.now }
     ensures { result ≡ first problem.now (remains stage.now) }

@@ -1,5 +1,5 @@
-// A problem: who lives where, and what each person lists.
-ghost use Rattle.std.specs.Prelude.{◌≡◌, ℕ, ◌<◌, ◌^◌, length, find, slice_index_or, false, IfOk, IfErr, OnOk, map};
+//! A problem: who lives where, and what each person lists.
+ghost use Rattle.std.specs.Prelude.{◌≡◌, ◌<◌, ◌^◌, length, find, slice_index_or, false, IfOk, IfErr, OnOk, map};
 ghost use Rattle.trade_line.specs.Market.{Market, IsMarket, home, list_of, tenant};
 ghost use Rattle.trade_line.specs.Problem.{market_of, IsFirstFault};
 ghost use Rattle.trade_line.specs.OtherList.{with_list, IsListFor, IsFirstListFault};
@@ -97,6 +97,7 @@ impl Problem {
         self.draft.room_count
     }
 
+    // Where the person lives, if anywhere.
     pub(crate) fn home_of(&self, person: usize) -> Option<usize>
         requires { person < self.now.people }
         ensures home { result ≡ home self.now person }
@@ -105,6 +106,7 @@ impl Problem {
         self.draft.homes[person]
     }
 
+    // Who lives in the room, if anybody.
     pub(crate) fn tenant_of(&self, room: usize) -> Option<usize>
         requires { room < self.now.rooms }
         ensures { result ≡ tenant self.now room }

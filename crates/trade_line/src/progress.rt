@@ -1,9 +1,10 @@
-// What a run knows between two turns.
+//! What a run knows between two turns.
 ghost use Rattle.std.specs.Prelude.{◌≡◌, ◌<◌, slice_set, vec_len, IfSome, true};
 ghost use Rattle.trade_line.specs.Inner.Queue.{close};
 
+// Who has asked, which rooms remain, and what each person was given.
 #[derive(Drop)]
-pub struct Progress {
+pub(crate) struct Progress {
     pub(crate) asked: Vec<bool>,
     pub(crate) remaining: Vec<bool>,
     pub(crate) given: Vec<Option<usize>>,

@@ -1,4 +1,4 @@
-// What no clause says: that the definitions give what they should at worked examples, and that calls succeed.
+//! What no clause says: that the definitions give what they should at worked examples, and that calls succeed.
 mod compared;
 mod faults;
 mod lines;

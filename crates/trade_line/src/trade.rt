@@ -1,15 +1,14 @@
-// You request my house, I get your turn.
+//! You request my house, I get your turn.
 ghost use Rattle.std.specs.Prelude.{◌≡◌, ◌+◌, ◌≤◌, ◌<◌, ◌^◌, Some};
 ghost use Rattle.std.specs.List.{range_with_len};
 ghost use Rattle.trade_line.specs.Looks.{all_needed};
 ghost use Rattle.trade_line.specs.Size.{size_of};
-ghost use Rattle.trade_line.specs.Market.{tenant_count};
+ghost use Rattle.trade_line.specs.Market.{list_of, tenant_count};
 ghost use Rattle.trade_line.specs.TopTradingCycles.{wish, ttc};
 ghost use Rattle.trade_line.specs.Line.{front_of};
 ghost use Rattle.trade_line.specs.Assignment.{IsAssignment, IsIndividuallyRational, IsEfficient, given_in};
 ghost use Rattle.trade_line.specs.TradeApart.{HasNoBetterTradeApart};
 ghost use Rattle.trade_line.specs.Inner.Reads.{reads};
-ghost use Rattle.trade_line.specs.Market.{list_of};
 ghost use Rattle.trade_line.specs.Inner.State.{state_of, stage_at};
 ghost use Rattle.trade_line.specs.Inner.Turn.{Standing, Asks, Onward};
 ghost use Rattle.trade_line.specs.Inner.Loop.{Ring, Closed};
@@ -94,7 +93,8 @@ fn turn<L: Line>(problem: &Problem, person: usize, line: &mut L, progress: &mut 
 /// front of the line asks for the best remaining room on their list, or else takes the floor: the own home, or no room. Where
 /// the tenant of that room still waits, the tenant comes to the front first, or, having asked already, closes a loop in which
 /// each gets the home of the next. The rooms are those of top trading cycles. The line begins with all people in priority
-/// order, and the bench is made for as many people and rooms. It takes no memory.
+/// order, and the bench is made for as many people and rooms. It takes no memory. Over a `VecLine` it takes time quadratic in
+/// people, and reads a list from its start again at each ask.
 pub fn run<L: Line>(problem: &Problem, line: L, bench: Bench) -> Outcome
     requires line { L.people line ≡ range_with_len 0 problem.now.people }
     requires bench { bench ≡ size_of problem.now }
@@ -107,6 +107,7 @@ pub fn run<L: Line>(problem: &Problem, line: L, bench: Bench) -> Outcome
     ensures asks_most { result.asks ≤ problem.now.people + tenant_count problem.now }
     ensures looks_least { all_needed problem.now (given_in result.rooms) ≤ result.looks }
 {
+    // The contract of this call tells the proof that the problem is well formed.
     let _people = problem.people();
     let mut line = line;
     let mut progress = bench.into_progress();

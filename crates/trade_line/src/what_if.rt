@@ -1,4 +1,4 @@
-// What a person would get by another list.
+//! What a person would get by another list.
 ghost use Rattle.std.specs.Prelude.{◌≡◌, ◌≤◌, IfOk, IfErr, OnOk};
 ghost use Rattle.trade_line.specs.OtherList.{with_list, IsListFor, IsFirstListFault};
 ghost use Rattle.trade_line.specs.Rank.{rank};

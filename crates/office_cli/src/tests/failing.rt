@@ -1,8 +1,8 @@
-//! A stream that fails.
+//! Streams that fail.
 use std::io;
 use std::io::{Error, ErrorKind, Read, Write};
 
-/// A reader of bytes, `piece` at a time, of which so many reads pass.
+/// A reader of bytes, `piece` at a time. So many reads pass, the next one fails, and it goes on after that.
 #[derive(Drop)]
 pub struct FailingReader<'a> {
     pub unread: &'a [u8],
@@ -13,6 +13,7 @@ pub struct FailingReader<'a> {
 impl Read for FailingReader<'_> {
     fn read(&mut self, buf: &mut [u8]) -> io::Result<usize> {
         if self.reads == 0 {
+            self.reads = usize::MAX;
             return Err(Error::from(ErrorKind::Other));
         }
         self.reads -= 1;
@@ -21,7 +22,8 @@ impl Read for FailingReader<'_> {
     }
 }
 
-/// A writer that keeps what it takes. So many writes and so many bytes pass, and the flush may fail.
+/// A writer that keeps what it takes. So many writes pass, the next one fails, and it goes on after that; it takes `room`
+/// bytes in all, and its flushes may fail.
 #[derive(Drop)]
 pub struct FailingWriter {
     pub written: Vec<u8>,
@@ -33,6 +35,7 @@ pub struct FailingWriter {
 impl Write for FailingWriter {
     fn write(&mut self, buf: &[u8]) -> io::Result<usize> {
         if self.writes == 0 {
+            self.writes = usize::MAX;
             return Err(Error::from(ErrorKind::Other));
         }
         self.writes -= 1;

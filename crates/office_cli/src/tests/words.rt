@@ -2,6 +2,7 @@
 use crate::carry_out::carry_out;
 use crate::program::program;
 use crate::requests::Request;
+use crate::tests::failing::FailingReader;
 use crate::usage::Program;
 use crate::words::{WordFault, words_to_command};
 use office_core::{Command, Query};
@@ -46,6 +47,49 @@ fn carries_out_lines(rt: HostRuntime) -> Result<(), Fail> {
     Ok(())
 }
 
+// A rehearsal's status is the program's.
+#[test]
+fn carries_out_rehearsals(rt: HostRuntime) -> Result<(), Fail> {
+    let rooms = "room      state     tenant\n";
+    for (lines, status, printed) in [
+        ("", 0, ""),
+        ("rooms\n", 0, rooms),
+        ("moves 1\n", 1, "refused 17 NoSuchRound\n"),
+        (
+            "room h1\nmoves 1\n",
+            2,
+            "not understood\nrefused 17 NoSuchRound\n",
+        ),
+    ] {
+        let mut input = Watched::new(lines.as_bytes());
+        let mut output = Watched::new(Vec::new(rt.alloc()));
+        let mut error = Watched::new(Vec::new(rt.alloc()));
+        assert_eq!(rt;
+            carry_out(&rt, &["rehearse"], &mut input, &mut output, &mut error),
+            status
+        );
+        assert_eq!(rt; output.into_inner().as_slice(), printed.as_bytes());
+        assert!(rt; error.into_inner().is_empty());
+    }
+    Ok(())
+}
+
+#[test]
+fn tells_where_standard_input_fails(rt: HostRuntime) {
+    let mut input = Watched::new(FailingReader {
+        unread: b"rooms\nrooms\n".as_slice(),
+        piece: 6,
+        reads: 1,
+    });
+    let mut output = Watched::new(Vec::new(rt.alloc()));
+    let mut error = Watched::new(Vec::new(rt.alloc()));
+    assert_eq!(rt; carry_out(&rt, &[], &mut input, &mut output, &mut error), 3);
+    assert_eq!(rt;
+        output.into_inner().as_slice(),
+        b"room      state     tenant\n".as_slice()
+    );
+}
+
 #[test]
 fn tells_where_standard_error_fails(rt: HostRuntime) {
     let mut input = Watched::new(b"".as_slice());
@@ -70,7 +114,7 @@ fn reads_words(rt: HostRuntime) {
     );
     match &words_to_command(rt.alloc(), &["room", "H1"]) {
         Ok(Request::Office(Command::AddRoom { room })) => assert_eq!(rt; room.as_str(), "H1"),
-        _ => assert!(rt; false),
+        _ => panic!(rt; "room H1 is no request"),
     }
     assert!(rt;
         matches!(

@@ -15,6 +15,7 @@ use Rattle.office_core.specs.declared.reply.Reply.TheVariants as reply
 abbrev pub shown_result : Office → Text → Option Text
 shown_result office person = if is_shown office person then recorded_result office person else None
 
+-- what the person sees
 abbrev pub standing_of : Office → Text → Person → Standing
 standing_of office person kept = record {
   person = person;
@@ -28,13 +29,16 @@ standing_of office person kept = record {
   result = shown_result office person;
 }
 
+-- of the person of this identifier, where that person is known
 abbrev pub told_person : Office → Text → Option Person → Result Reply Refusal
 told_person office person None = Err UnknownPerson
 told_person office person (Some kept) = Ok (reply.Me (standing_of office person kept))
 
+-- of the owner of a key, where it has one
 abbrev pub told_owner : Office → Option Text → Result Reply Refusal
 told_owner office None = Err UnknownPerson
 told_owner office (Some person) = told_person office person (map.get office.people person)
 
+-- what the owner of the key sees
 abbrev pub told : Office → Text → Result Reply Refusal
 told office key = told_owner office (owner office key)

@@ -14,6 +14,8 @@ use room_types::rows::copy_optional;
 use room_types::{Key, Name, PersonId, RoomCode};
 use std::alloc::Global;
 
+/// Decides to add a person. Refused in turn: `BadPhase` unless idle or open; `DuplicatePerson`; `KeyInUse`; for a home
+/// `UnknownRoom`, `RoomShut` or `RoomTaken`; `LimitReached` at `PEOPLE_LIMIT` people. It goes through the people.
 pub fn add_person(
     alloc: Global,
     office: &Office,

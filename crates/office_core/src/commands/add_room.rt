@@ -12,6 +12,8 @@ use crate::reply::Reply;
 use room_types::RoomCode;
 use std::alloc::Global;
 
+/// Decides to add a room that is not shut. Refused in turn: `BadPhase` unless idle or open; `DuplicateRoom`;
+/// `LimitReached` at `ROOM_LIMIT` rooms.
 pub fn add_room(alloc: Global, office: &Office, room: &RoomCode) -> Result<Decision, Refusal>
     ensures { Decides (checks office.now room.now) (reply_to office.now room.now) (changes_of office.now room.now) result }
 {

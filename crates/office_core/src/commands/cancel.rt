@@ -11,6 +11,8 @@ use crate::reply::Reply;
 use room_types::Phase;
 use std::alloc::Global;
 
+/// Decides to give the round up, whose number stays used. Refused with `BadPhase` where no round is under way, or its
+/// results are published.
 pub fn cancel(alloc: Global, office: &Office) -> Result<Decision, Refusal>
     ensures { Decides (checks office.now) (reply_to office.now) (changes_of office.now) result }
 {

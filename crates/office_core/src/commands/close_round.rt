@@ -11,6 +11,7 @@ use crate::reply::Reply;
 use room_types::Phase;
 use std::alloc::Global;
 
+/// Decides to make the lists final, and counts the participants. Refused with `BadPhase` unless open.
 pub fn close_round(alloc: Global, office: &Office) -> Result<Decision, Refusal>
     ensures { Decides (checks office.now) (reply_to office.now) (changes_of office.now) result }
 {

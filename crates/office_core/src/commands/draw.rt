@@ -12,6 +12,8 @@ use crate::reply::Reply;
 use room_types::{OutOfMemory, PersonId, Phase, Word};
 use std::alloc::Global;
 
+/// Decides that word i goes to participant i, in ascending identifier. Refused in turn: `BadPhase` unless closed;
+/// `WrongWordCount` unless there is one word for each participant.
 pub fn draw(alloc: Global, office: &Office, words: &[Word]) -> Result<Decision, Refusal>
     ensures { Decides (checks office.now words.now) (reply_to office.now words.now) (changes_of office.now words.now) result }
 {

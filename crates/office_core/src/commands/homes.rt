@@ -5,7 +5,7 @@ use crate::office::Office;
 use crate::refusal::{Refusal, room_shut, unknown_room};
 use room_types::RoomCode;
 
-/// A room that is known and not shut.
+/// Passes a room that is known and not shut; else it is `UnknownRoom` or `RoomShut`.
 pub fn may_list(office: &Office, room: &RoomCode) -> Result<(), Refusal>
     ensures { Passes (room_checks office.now room.now) result }
 {
@@ -18,7 +18,7 @@ pub fn may_list(office: &Office, room: &RoomCode) -> Result<(), Refusal>
     Ok(())
 }
 
-/// A room that is known, not shut, and nobody's home.
+/// Passes a room that `may_list` passes and that is nobody's home; else it is `RoomTaken`. It goes through the people.
 pub fn may_live(office: &Office, room: &RoomCode) -> Result<(), Refusal>
     ensures { Passes (home_checks office.now room.now) result }
 {
@@ -29,7 +29,7 @@ pub fn may_live(office: &Office, room: &RoomCode) -> Result<(), Refusal>
     Ok(())
 }
 
-/// No room, or one that can be a home.
+/// Passes no room, and a room that `may_live` passes.
 pub fn may_live_if_any(office: &Office, home: &Option<RoomCode>) -> Result<(), Refusal>
     ensures { Passes (home_checks_if_any office.now home.now) result }
 {

@@ -11,6 +11,7 @@ use crate::reply::Reply;
 use room_types::PersonId;
 use std::alloc::Global;
 
+/// Decides that a person has no home from then on. Refused in turn: `BadPhase` unless idle; `UnknownPerson`; `NoHome`.
 pub fn leave(alloc: Global, office: &Office, person: &PersonId) -> Result<Decision, Refusal>
     ensures { Decides (checks office.now person.now) (reply_to office.now person.now) (changes_of office.now person.now) result }
 {

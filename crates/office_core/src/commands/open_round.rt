@@ -12,6 +12,7 @@ use crate::reply::Reply;
 use room_types::Phase;
 use std::alloc::Global;
 
+/// Decides to begin the next round. Refused in turn: `BadPhase` unless idle; `LimitReached` after round `ROUND_LIMIT`.
 pub fn open_round(alloc: Global, office: &Office) -> Result<Decision, Refusal>
     ensures { Decides (checks office.now) (reply_to office.now) (changes_of office.now) result }
 {

@@ -11,6 +11,7 @@ use crate::reply::Reply;
 use room_types::Phase;
 use std::alloc::Global;
 
+/// Decides to show everybody their result. Refused with `BadPhase` unless the round has run and is not published.
 pub fn publish(alloc: Global, office: &Office) -> Result<Decision, Refusal>
     ensures { Decides (checks office.now) (reply_to office.now) (changes_of office.now) result }
 {

@@ -11,6 +11,8 @@ use crate::reply::Reply;
 use room_types::PersonId;
 use std::alloc::Global;
 
+/// Decides to forget a person who has no home; recorded moves stay. Refused in turn: `BadPhase` unless idle;
+/// `UnknownPerson`; `HasHome`.
 pub fn remove(alloc: Global, office: &Office, person: &PersonId) -> Result<Decision, Refusal>
     ensures { Decides (checks office.now person.now) (reply_to office.now person.now) (changes_of office.now person.now) result }
 {

@@ -11,6 +11,7 @@ use crate::reply::Reply;
 use room_types::RoomCode;
 use std::alloc::Global;
 
+/// Decides to bring a shut room back into use. Refused in turn: `BadPhase` unless idle or open; `UnknownRoom`; `NotShut`.
 pub fn reopen(alloc: Global, office: &Office, room: &RoomCode) -> Result<Decision, Refusal>
     ensures { Decides (checks office.now room.now) (reply_to office.now room.now) (changes_of office.now room.now) result }
 {

@@ -1,5 +1,5 @@
 //! The rooms are traded.
-ghost use Rattle.std.specs.Prelude.{◌≡◌, IfOk, ◌++◌, map as map_list};
+ghost use Rattle.std.specs.Prelude.{◌≡◌, IfOk, map as map_list};
 ghost use Rattle.std.specs.FinMap as map;
 ghost use Rattle.office_core.specs.Checks.{Decides};
 ghost use Rattle.office_core.specs.Commands.Run.{checks, reply_to, changes_of, result_put};
@@ -17,6 +17,8 @@ use room_types::rows::copy_optional;
 use room_types::{OutOfMemory, Phase, Table};
 use std::alloc::Global;
 
+/// Decides the exchange: each participant's result is the room of top trading cycles in the round's problem
+/// (Abdulkadiroglu and Sönmez 1999). Refused with `BadPhase` unless drawn.
 pub fn run(alloc: Global, office: &Office) -> Result<Decision, Refusal>
     requires { IsLawful office.now }
     ensures { Decides (checks office.now) (reply_to office.now) (changes_of office.now) result }

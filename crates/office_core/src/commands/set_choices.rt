@@ -15,6 +15,8 @@ use crate::reply::Reply;
 use room_types::{Choices, PersonId, RoomCode};
 use std::alloc::Global;
 
+/// Decides to replace a person's list. Refused in turn: `BadPhase` unless open; `UnknownPerson`; `Withdrawn`; for the
+/// first room that is not known or is shut `UnknownRoom` or `RoomShut`.
 pub fn set_choices(
     alloc: Global,
     office: &Office,

@@ -12,6 +12,8 @@ use crate::reply::Reply;
 use room_types::{PersonId, RoomCode};
 use std::alloc::Global;
 
+/// Decides that a person without a home moves into a room. Refused in turn: `BadPhase` unless idle; `UnknownPerson`;
+/// `HasHome`; `UnknownRoom`; `RoomShut`; `RoomTaken`. It goes through the people.
 pub fn set_home(
     alloc: Global,
     office: &Office,

@@ -1,5 +1,5 @@
 //! The participants move, the moves are recorded, and the round is over.
-ghost use Rattle.std.specs.Prelude.{◌≡◌, ◌++◌, length, IfOk, OnOk, OnErr, map as map_list};
+ghost use Rattle.std.specs.Prelude.{◌≡◌, ◌++◌, length, OnOk, map as map_list};
 ghost use Rattle.room_types.specs.declared.moves.Move.{Move};
 ghost use Rattle.office_core.specs.Checks.{Decides};
 ghost use Rattle.office_core.specs.Commands.Settle.{checks, reply_to, changes_of, leaving, arriving};
@@ -18,6 +18,8 @@ use room_types::rows::copy_optional;
 use room_types::{Move, OutOfMemory, Phase, Wave};
 use std::alloc::Global;
 
+/// Decides the day of moving: all movers leave, each arrives in the new room, the moves are recorded with their waves, and
+/// the round is over. Refused with `BadPhase` unless published.
 pub fn settle(alloc: Global, office: &Office) -> Result<Decision, Refusal>
     requires { IsLawful office.now }
     ensures { Decides (checks office.now) (reply_to office.now) (changes_of office.now) result }

@@ -12,6 +12,8 @@ use crate::reply::Reply;
 use room_types::RoomCode;
 use std::alloc::Global;
 
+/// Decides to take a room out of use; the reply names the tenant who loses the home. Refused in turn: `BadPhase` unless
+/// idle or open; `UnknownRoom`; `RoomShut`. It goes through the people.
 pub fn shut(alloc: Global, office: &Office, room: &RoomCode) -> Result<Decision, Refusal>
     ensures { Decides (checks office.now room.now) (reply_to office.now room.now) (changes_of office.now room.now) result }
 {

@@ -11,6 +11,8 @@ use crate::reply::Reply;
 use room_types::PersonId;
 use std::alloc::Global;
 
+/// Decides that a person, and that person's room, take no part in the round; a repeat changes nothing. Refused in turn:
+/// `BadPhase` unless open; `UnknownPerson`.
 pub fn withdraw(alloc: Global, office: &Office, person: &PersonId) -> Result<Decision, Refusal>
     ensures { Decides (checks office.now person.now) (reply_to office.now person.now) (changes_of office.now person.now) result }
 {

@@ -12,6 +12,7 @@ use room_types::rows::copy_optional;
 use room_types::{Choices, Key, OutOfMemory, PersonId, RoomCode};
 use std::alloc::Global;
 
+/// What the person of this key sees. Refused with `UnknownPerson` where nobody has the key. It goes through the people.
 pub fn me(alloc: Global, office: &Office, key: &Key) -> Result<Reply, Refusal>
     ensures { Tells (told office.now key.now) result }
 {

@@ -10,6 +10,8 @@ use room_types::rows::copy_optional;
 use room_types::{Listing, Move, OutOfMemory};
 use std::alloc::Global;
 
+/// The moves of this round, by identifier; none of a round that was cancelled. Refused with `NoSuchRound` unless the round
+/// is over.
 pub fn moves(alloc: Global, office: &Office, round: u16) -> Result<Reply, Refusal>
     ensures { Tells (told office.now round) result }
 {

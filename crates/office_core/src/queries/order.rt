@@ -11,6 +11,7 @@ use crate::round::people::{round_people, word_of};
 use room_types::{Listing, OutOfMemory, PersonId};
 use std::alloc::Global;
 
+/// The participants in the drawn order, with their words. Refused with `BadPhase` where there are no words.
 pub fn order(alloc: Global, office: &Office) -> Result<Reply, Refusal>
     ensures { Tells (told office.now) result }
 {

@@ -9,6 +9,7 @@ use room_types::rows::copy_optional;
 use room_types::{Listing, PersonRow};
 use std::alloc::Global;
 
+/// The people by identifier, without their keys.
 pub fn people(alloc: Global, office: &Office) -> Result<Reply, Refusal>
     ensures { Tells (told office.now) result }
 {

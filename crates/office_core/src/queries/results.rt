@@ -11,6 +11,7 @@ use room_types::rows::copy_optional;
 use room_types::{Listing, OutOfMemory};
 use std::alloc::Global;
 
+/// What each participant gets, by identifier. Refused with `BadPhase` where there are no results.
 pub fn results(alloc: Global, office: &Office) -> Result<Reply, Refusal>
     ensures { Tells (told office.now) result }
 {

@@ -13,6 +13,7 @@ use room_types::grammars::RoomCodes;
 use room_types::{Listing, OutOfMemory, PersonId, RoomRow, State, Table};
 use std::alloc::Global;
 
+/// The rooms by code, each with its state and tenant, in n log n steps.
 pub fn rooms(alloc: Global, office: &Office) -> Result<Reply, Refusal>
     ensures { Tells (told office.now) result }
 {

@@ -6,6 +6,7 @@ use crate::office::Office;
 use crate::refusal::Refusal;
 use crate::reply::Reply;
 
+/// The last round's number, the phase, how many people there are, and how many have withdrawn. It takes no memory.
 pub fn round(office: &Office) -> Result<Reply, Refusal>
     ensures { Tells (told office.now) result }
 {

@@ -1,6 +1,5 @@
 //! What another list would give a participant.
 ghost use Rattle.std.specs.Prelude.{◌≡◌, IfOk};
-ghost use Rattle.std.specs.List.{flat_map};
 ghost use Rattle.office_core.specs.Answers.{Tells};
 ghost use Rattle.office_core.specs.Checks.{Passes};
 ghost use Rattle.office_core.specs.Laws.{IsLawful};
@@ -15,6 +14,9 @@ use crate::round::what_if as room_by;
 use room_types::{Choices, PersonId};
 use std::alloc::Global;
 
+/// The room that a participant would get by this list, the order and all other lists being the same; by the recorded list
+/// it never ranks above the result. Refused in turn: `BadPhase` where there are no results; `UnknownPerson`; `NotInRound`;
+/// for the first room that is not known or is shut `UnknownRoom` or `RoomShut`.
 pub fn what_if(
     alloc: Global,
     office: &Office,

@@ -1,4 +1,4 @@
-// The line gives the rooms of the plain program.
+//! The line gives the rooms of the plain program.
 ghost use Rattle.std.specs.Prelude.{◌<◌};
 
 use super::{outcome_over, problem_of, rooms_of};

@@ -1,4 +1,4 @@
-// The faults of problems and lists.
+//! The faults of problems and lists.
 use super::{outcome_over, problem_of, rooms_of};
 use crate::fault::TradeFault;
 use crate::line::VecLine;
@@ -79,18 +79,21 @@ fn first_fault_of_a_list_is_answered(rt: HostRuntime) -> Result<(), Fail> {
 fn faults_are_told_in_words(rt: HostRuntime) -> Result<(), Fail> {
     let alloc = rt.alloc();
     let faults = [
-        (TradeFault::BadIndex, "a number is out of range"),
+        (
+            TradeFault::BadIndex,
+            "a home or a list is missing, or a number is out of range",
+        ),
         (TradeFault::HomeShared, "two people have the same home"),
         (TradeFault::ListRepeats, "a list has a room twice"),
         (TradeFault::OwnRoomListed, "a person lists their own home"),
-        (TradeFault::OutOfMemory, "out of memory"),
+        (TradeFault::OutOfMemory, "memory was refused"),
     ];
     for (fault, words) in faults {
         assert_eq!(rt; format!(in alloc; "{fault}")?.as_str(), words);
     }
     assert_eq!(rt;
         format!(in alloc; "{}", OutOfMemory)?.as_str(),
-        "out of memory"
+        "memory was refused"
     );
     Ok(())
 }

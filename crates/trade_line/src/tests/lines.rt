@@ -1,4 +1,4 @@
-// The calls of a line, through the bound.
+//! The calls of a line, through the bound.
 use crate::line::{Line, VecLine};
 use crate::out_of_memory::OutOfMemory;
 use std::alloc::Global;

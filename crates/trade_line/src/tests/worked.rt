@@ -1,4 +1,4 @@
-// Worked runs: the rooms, asks and looks of the line, and the rooms of the plain program.
+//! Worked runs: the rooms, asks and looks of the line, and the rooms of the plain program.
 use super::{outcome_over, problem_of, rooms_of};
 use crate::fault::TradeFault;
 use crate::line::VecLine;

@@ -1,8 +1,8 @@
-use Rattle.std.proofs.Common.{arith, ◌∙◌, inl, inr, ap}
+use Rattle.std.proofs.Common.{arith, ◌∙◌, inl, inr, ap, refl}
 use Rattle.std.proofs.lemmas.Result.{err_from_is_err_and}
 use Rattle.std.proofs.lemmas.Grind.{common_steps}
 use Rattle.room_types.specs.Watched.{counted}
-use Rattle.office_cli.proofs.StreamLemmas.{or_true, counted_one}
+use Rattle.office_cli.proofs.StreamLemmas.{or_true, or_false, counted_one}
 use Rattle.office_cli.proofs.SessionLemmas.{Listened-nil, Listened-more, Listened-kept, Stopped-halted, Stopped-cut}
 use Rattle.office_cli.proofs.rehearse.listen.Goals as goal
 
@@ -19,7 +19,8 @@ reads-preserved g c = record {
   heard = Listened-more _ _ _ _ _ _ _ c.reads.invariant.heard c.in-Ok.ensures.bytes.0 c.in_ok-take_piece-in-Ok.ensures.heard;
   bound = grind (arith, common_steps, c.in_ok-take_piece-in-Ok.ensures.bound, c.in-Ok.ensures.bound);
   short = c.in_ok-take_piece-in-Ok.ensures.still_short;
-  count = c.in-Ok.ensures.reads ∙ ap (λ n. counted n 1) c.reads.invariant.count ∙ counted_one c.reads.counter c.reads-test.true;
+  failed = c.in-Ok.ensures.failed ∙ or_false _ ∙ c.reads.invariant.failed;
+  count = c.in-Ok.ensures.reads ∙ ap (λ n. counted n 1) c.reads.invariant.count ∙ counted_one c.reads.counter (omega (arith, c.reads-test.true));
   lawful = c.in_ok-take_piece-in-Ok.ensures.lawful;
 }
 
@@ -32,5 +33,6 @@ reads-init g c = record {
   bound = omega (arith, c.requires.sent);
   short = c.requires.begun;
   count = c.requires.reads;
+  failed = refl;
   lawful = c.requires.lawful;
 }

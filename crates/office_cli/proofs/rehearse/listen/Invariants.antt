@@ -1,5 +1,5 @@
 use Rattle.std.proofs.Common.{◌≡◌, ◌*◌, ◌^◌, ◌≤◌, vec_len}
-use Rattle.room_types.specs.Watched.{watched_inner, watched_reads}
+use Rattle.room_types.specs.Watched.{watched_inner, watched_failed, watched_reads}
 use Rattle.office_core.specs.Laws.{IsLawful}
 use Rattle.office_cli.specs.Streams.{output_of}
 use Rattle.office_cli.specs.Sessions.{Listened, state}
@@ -15,5 +15,6 @@ invariant-reads g l =
       bound : l.told.sent ≤ l.counter * 2 ^ 76;
       short : vec_len l.begun ≤ 65536;
       count : watched_reads l.input ≡ l.counter;
+      failed : watched_failed l.input ≡ watched_failed l.fn.input;
       lawful : IsLawful l.office;
     }

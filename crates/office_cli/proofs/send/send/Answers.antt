@@ -4,11 +4,11 @@ use Rattle.std.proofs.Math.Seq.{take-add}
 use Rattle.std.proofs.lemmas.List.{length-drop, length-take}
 use Rattle.room_types.specs.Watched.{counted}
 use Rattle.office_cli.specs.Streams.{count_after}
-use Rattle.office_cli.proofs.StreamLemmas.{Puts-nil, Puts-none, count_after-counted, take_rest}
+use Rattle.office_cli.proofs.StreamLemmas.{Puts-nil, Puts-none, count_after-counted, take_rest, kept_by_write}
 use Rattle.office_cli.proofs.send.send.Goals as goal
 
 pub loop-sent-init : goal.loop-sent-init
-loop-sent-init g c = record { within = omega arith; written = Puts-nil _; flushes = refl }
+loop-sent-init g c = record { within = omega arith; written = Puts-nil _; flushes = refl; failed = refl }
 
 pub loop-sent-preserved : goal.loop-sent-preserved
 loop-sent-preserved g c =
@@ -29,6 +29,7 @@ loop-sent-preserved g c =
             ∙ count_after-counted _ (length (take sent text)) n some ∙ ap (count_after _) counts;
       };
       flushes = clauses.flushes ∙ c.loop-sent.invariant.flushes;
+      failed = clauses.failed ∙ kept_by_write _ _ n some ∙ c.loop-sent.invariant.failed;
     }
 
 pub returns-in-Ok-eq0-clause-front : goal.returns-in-Ok-eq0-clause-front
