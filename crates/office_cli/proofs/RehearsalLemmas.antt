@@ -16,7 +16,7 @@ use Rattle.office_cli.specs.Runs.{texts_of, greatest_status}
 use Rattle.office_cli.specs.Rehearsals.{WholeInput, PartOfInput, WholeLines, Rehearses}
 use Rattle.office_cli.specs.Sessions.{ended_from, begun_from, State, Heard, Halted, Finished, Unfinished, Listened, Stopped, Cut, OnlyWhereFailed}
 use Rattle.office_cli.proofs.LineLemmas.{ended_lines-is, last_part-is, ended_from-append}
-use Rattle.office_cli.proofs.RunLemmas.{Run-append, greatest_status-append, texts_of-append}
+use Rattle.office_cli.proofs.RunLemmas.{Run-append, greatest_status-append, texts_of-append, texts_front-append}
 use Rattle.office_cli.proofs.StreamLemmas.{Puts-trans}
 
 -- the state before a rehearsal
@@ -73,15 +73,17 @@ part_unfinished o o' out out' i i' t ending n h end f e =
       cut = inr (end, sym (append-nil (lines_of h.bytes)));
       run = rw lines (Run-append o t.office o' _ _ _ _ h.heard.run f.run);
       written = rw (texts, ← count, take-append-add (texts_of answers) (texts_of f.answers) f.sent) (Puts-trans out t.out out' _ _ h.heard.written f.written);
+      whole = omega (arith, texts_front-append answers f.answers, f.whole, count);
       within = omega (arith, ap length texts, length-append (texts_of answers) (texts_of f.answers), f.all, count);
     }
 
 pub Rehearses-unfinished : (o o' : Office) (out out' : Output) (i i' : Input) (t : State) (ending : Ending)
-    → Listened (start o out) t i.remaining i'.remaining → IsAtEnd i'.remaining → Unfinished t ending o' out' → OnlyWhereFailed ending out'.failed → Rehearses ending 3 o o' i i' out out'
-Rehearses-unfinished o o' out out' i i' t Ended h end f w = absurd f.suits
-Rehearses-unfinished o o' out out' i i' t ReadFault h end f w = let long = f.suits.1 in absurd (omega (arith, long))
-Rehearses-unfinished o o' out out' i i' t (WriteFault n) h end f w = (refl, w, part_unfinished o o' out out' i i' t (WriteFault n) n h end f f.suits)
-Rehearses-unfinished o o' out out' i i' t (NoMemory n) h end f w = (refl, part_unfinished o o' out out' i i' t (NoMemory n) n h end f f.suits)
+    → Listened (start o out) t i.remaining i'.remaining → IsAtEnd i'.remaining → Unfinished t ending o' out' → OnlyWhereFailed ending t.out.failed out'.failed
+    → i'.failed ≡ false → out.failed ≡ false → Rehearses ending 3 o o' i i' out out'
+Rehearses-unfinished o o' out out' i i' t Ended h end f w r s = absurd f.suits
+Rehearses-unfinished o o' out out' i i' t ReadFault h end f w r s = let long = f.suits.1 in absurd (omega (arith, long))
+Rehearses-unfinished o o' out out' i i' t (WriteFault n) h end f w r s = (refl, r, w, part_unfinished o o' out out' i i' t (WriteFault n) n h end f f.suits)
+Rehearses-unfinished o o' out out' i i' t (NoMemory n) h end f w r s = (refl, r, w ∙ h.heard.failed ∙ s, part_unfinished o o' out out' i i' t (NoMemory n) n h end f f.suits)
 
 part_halted : (o o' : Office) (out out' : Output) (i i' : Input) (ending : Ending) (n : ℕ) (bytes : List ℕ) → Consumes i.remaining i'.remaining bytes
     → (f : Halted (start o out) ending o' out' bytes) → n ≡ 0 + f.sent → PartOfInput o o' i i' out out' n
@@ -94,12 +96,13 @@ part_halted o o' out out' i i' ending n bytes r f e = record {
   cut = inl (ended_lines-is bytes ∙ ap (ended_from []) f.cut ∙ ended_from-append [] f.heard f.rest);
   run = f.run;
   written = let same : n ≡ f.sent = omega (arith, e) in rw same f.written;
+  whole = omega (arith, f.whole, e);
   within = omega (arith, f.all, e);
 }
 
 whole_halted : (o o' : Office) (out out' : Output) (i i' : Input) (bytes : List ℕ) → Consumes i.remaining i'.remaining bytes
-    → (f : Halted (start o out) ReadFault o' out' bytes) → WholeLines o o' i i' out out'
-whole_halted o o' out out' i i' bytes r f =
+    → (f : Halted (start o out) ReadFault o' out' bytes) → i'.failed ≡ false → WholeLines o o' i i' out out'
+whole_halted o o' out out' i i' bytes r f w =
     let all : take f.sent (texts_of f.answers) ≡ texts_of f.answers = take_all f.sent (texts_of f.answers) (omega (arith, f.all, f.suits.0)) in
     record {
       heard = f.heard;
@@ -108,7 +111,7 @@ whole_halted o o' out out' i i' bytes r f =
       read = subst (Consumes i.remaining i'.remaining) f.cut r;
       run = rw (ended_lines-is f.heard) f.run;
       written = rw all at f.written;
-      cause = inl (rw (last_part-is f.heard) f.suits.1);
+      cause = inl (rw (last_part-is f.heard) f.suits.1, w);
     }
 
 whole_cut : (o o' : Office) (out out' : Output) (i i' : Input) (bytes : List ℕ) → Consumes i.remaining i'.remaining bytes
@@ -123,8 +126,12 @@ whole_cut o o' out out' i i' bytes r f = record {
   cause = inr (refl, f.cause);
 }
 
-pub Rehearses-stopped : (o o' : Office) (out out' : Output) (i i' : Input) (ending : Ending) → Stopped (start o out) ending o' out' i i' → OnlyWhereFailed ending out'.failed → Rehearses ending 3 o o' i i' out out'
-Rehearses-stopped o o' out out' i i' Ended h w = elim h.why [ inl f ↦ absurd f.suits | inr f ↦ absurd (let e = f.0 in cc) ]
-Rehearses-stopped o o' out out' i i' ReadFault h w = (refl, elim h.why [ inl f ↦ whole_halted o o' out out' i i' h.bytes h.read f | inr f ↦ whole_cut o o' out out' i i' h.bytes h.read f.1 ])
-Rehearses-stopped o o' out out' i i' (WriteFault n) h w = elim h.why [ inl f ↦ (refl, w, part_halted o o' out out' i i' (WriteFault n) n h.bytes h.read f f.suits) | inr f ↦ absurd (let e = f.0 in cc) ]
-Rehearses-stopped o o' out out' i i' (NoMemory n) h w = elim h.why [ inl f ↦ (refl, part_halted o o' out out' i i' (NoMemory n) n h.bytes h.read f f.suits) | inr f ↦ absurd (let e = f.0 in cc) ]
+pub Rehearses-stopped : (o o' : Office) (out out' : Output) (i i' : Input) (ending : Ending) → Stopped (start o out) ending o' out' i i' → OnlyWhereFailed ending out.failed out'.failed
+    → i.failed ≡ false → out.failed ≡ false → Rehearses ending 3 o o' i i' out out'
+Rehearses-stopped o o' out out' i i' Ended h w r s = elim h.why [ inl f ↦ absurd f.0.suits | inr f ↦ absurd (let e = f.0 in cc) ]
+Rehearses-stopped o o' out out' i i' ReadFault h w r s =
+    (refl, w ∙ s, elim h.why [ inl f ↦ whole_halted o o' out out' i i' h.bytes h.read f.0 (f.1 ∙ r) | inr f ↦ whole_cut o o' out out' i i' h.bytes h.read f.1 ])
+Rehearses-stopped o o' out out' i i' (WriteFault n) h w r s =
+    elim h.why [ inl f ↦ (refl, f.1 ∙ r, w, part_halted o o' out out' i i' (WriteFault n) n h.bytes h.read f.0 f.0.suits) | inr f ↦ absurd (let e = f.0 in cc) ]
+Rehearses-stopped o o' out out' i i' (NoMemory n) h w r s =
+    elim h.why [ inl f ↦ (refl, f.1 ∙ r, w ∙ s, part_halted o o' out out' i i' (NoMemory n) n h.bytes h.read f.0 f.0.suits) | inr f ↦ absurd (let e = f.0 in cc) ]

@@ -1,9 +1,10 @@
 -- Runs one after the other.
-use Rattle.std.proofs.Common.{◌≡◌, ℕ, List, [], ◌∷◌, ◌++◌, max, ◌∙◌, ap, subst, arith}
+use Rattle.std.proofs.Common.{◌≡◌, ◌≤◌, ◌+◌, ℕ, List, [], ◌∷◌, ◌++◌, length, max, ◌∙◌, ap, subst, arith, length-append}
 use Rattle.std.proofs.lemmas.List.Concat.{flat_map-append}
 use Rattle.office_core.specs.declared.office.Office.{Office}
 use Rattle.office_cli.specs.declared.texts.Said.{Said}
 use Rattle.office_cli.specs.Texts.{text_of, status_of}
+use Rattle.office_cli.specs.Lines.{front}
 use Rattle.office_cli.specs.Runs.{Run, texts_of, greatest_status}
 
 pub Run-append : (o m n : Office) (xs ys : List (List ℕ)) (rs ss : List Said) → Run o xs rs m → Run m ys ss n → Run o (xs ++ ys) (rs ++ ss) n
@@ -18,3 +19,18 @@ greatest_status-append (r ∷ rs) ss = ap (max (status_of r)) (greatest_status-a
 
 pub texts_of-append : (rs ss : List Said) → texts_of (rs ++ ss) ≡ texts_of rs ++ texts_of ss
 texts_of-append rs ss = flat_map-append text_of rs ss
+
+-- all texts but the last are no longer than all
+pub texts_front-within : (rs : List Said) → length (texts_of (front rs)) ≤ length (texts_of rs)
+texts_front-within [] = omega arith
+texts_front-within (r ∷ []) = omega arith
+texts_front-within (r ∷ q ∷ rs) =
+    omega (arith, length-append (text_of r) (texts_of (front (q ∷ rs))), length-append (text_of r) (texts_of (q ∷ rs)), texts_front-within (q ∷ rs))
+
+-- all texts but the last of two lists
+pub texts_front-append : (rs ss : List Said) → length (texts_of (front (rs ++ ss))) ≤ length (texts_of rs) + length (texts_of (front ss))
+texts_front-append [] ss = omega arith
+texts_front-append (r ∷ []) [] = omega arith
+texts_front-append (r ∷ []) (s ∷ ss) = omega (arith, length-append (text_of r) (texts_of (front (s ∷ ss))), length-append (text_of r) [])
+texts_front-append (r ∷ q ∷ rs) ss =
+    omega (arith, length-append (text_of r) (texts_of (front (q ∷ rs ++ ss))), length-append (text_of r) (texts_of (q ∷ rs)), texts_front-append (q ∷ rs) ss)

@@ -7,17 +7,16 @@ use Rattle.std.proofs.KnownBytes.{Consumes-trans, Consumes-nil, Consumes-kept}
 use Rattle.std.proofs.lemmas.List.{take_all}
 use Rattle.std.proofs.lemmas.List.Folds.{list_all-append}
 use Rattle.std.proofs.Math.Seq.{take-append-add}
-use Rattle.room_types.specs.Watched.{counted}
 use Rattle.office_core.specs.declared.office.Office.{Office}
 use Rattle.office_cli.specs.declared.ending.Ending.{Ending}
-use Rattle.office_cli.specs.declared.ending.Ending.TheVariants.{ReadFault, WriteFault, NoMemory}
+use Rattle.office_cli.specs.declared.ending.Ending.TheVariants.{Ended, ReadFault, WriteFault, NoMemory}
 use Rattle.office_cli.specs.Lines.{is_short, line_limit, read_limit, unended}
 use Rattle.office_cli.specs.Streams.{Input, Output}
 use Rattle.office_cli.specs.Texts.{text_of}
 use Rattle.office_cli.specs.Runs.{texts_of, greatest_status}
-use Rattle.office_cli.specs.Sessions.{ended_from, begun_from, State, Heard, Suits, Halted, Answered, Broken, Finished, Unfinished, Listened, Stopped}
+use Rattle.office_cli.specs.Sessions.{ended_from, begun_from, State, Heard, Suits, Halted, Answered, Broken, Finished, Unfinished, Listened, Stopped, OnlyWhereFailed}
 use Rattle.office_cli.proofs.LineLemmas.{ended_from-append, begun_from-append}
-use Rattle.office_cli.proofs.RunLemmas.{Run-append, greatest_status-append, texts_of-append}
+use Rattle.office_cli.proofs.RunLemmas.{Run-append, greatest_status-append, texts_of-append, texts_front-within, texts_front-append}
 use Rattle.office_cli.proofs.StreamLemmas.{Puts-nil, Puts-trans, Puts-kept}
 
 both : (a b : Bool) → a ≡ true → b ≡ true → (a && b) ≡ true
@@ -57,6 +56,7 @@ Halted-more s e o out xs ys h = record {
   run = h.run;
   written = h.written;
   all = h.all;
+  whole = h.whole;
   suits = h.suits;
 }
 
@@ -81,6 +81,7 @@ Heard-Halted s t e o out xs ys p q =
       run = rw ended (Run-append s.office t.office o _ _ _ _ p.run q.run);
       written = rw (texts, take-append-add first (texts_of q.answers) q.sent) (Puts-trans s.out t.out out _ _ p.written q.written);
       all = omega (arith, q.all, ap length texts, length-append first (texts_of q.answers));
+      whole = omega (arith, texts_front-append p.answers q.answers, q.whole);
       suits = Suits-along e _ _ _ _ _ (omega (arith, p.sent)) (ap length begun) q.suits;
     }
 
@@ -123,6 +124,7 @@ newline_halted o o' out out' begun sent status b ending e h =
       run = (o', h.step, refl);
       written = rw text h.written;
       all = h.all ∙ ap length (sym text);
+      whole = omega arith;
       suits = h.suits;
     })
 
@@ -153,6 +155,7 @@ too_long s b e long = record {
   run = rw e refl;
   written = Puts-nil s.out;
   all = refl;
+  whole = omega arith;
   suits = (refl, rw e (omega (arith, length-append s.begun (b ∷ []))));
 }
 
@@ -168,6 +171,7 @@ no_room s b = record {
   run = refl;
   written = Puts-nil s.out;
   all = refl;
+  whole = omega arith;
   suits = omega arith;
 }
 
@@ -206,6 +210,7 @@ Unfinished-broken o o' out out' begun sent status ending some h =
       run = rw (one_unended begun some) (o', h.step, refl);
       written = rw text h.written;
       all = h.all ∙ ap length (sym text);
+      whole = omega arith;
       suits = h.suits;
     }
 
@@ -219,8 +224,16 @@ Finished-unflushed s o out out' sent status flushes h k t = record {
   run = h.run;
   written = rw (take_all (length (texts_of h.answers)) (texts_of h.answers) (omega arith)) (Puts-kept _ _ _ _ h.written k t);
   all = omega arith;
+  whole = texts_front-within h.answers;
   suits = h.sent_in_all;
 }
+
+-- what failed, from an earlier time on
+pub OnlyWhereFailed-since : (e : Ending) (a b c : Bool) → b ≡ a → OnlyWhereFailed e b c → OnlyWhereFailed e a c
+OnlyWhereFailed-since Ended a b c p q = q ∙ p
+OnlyWhereFailed-since ReadFault a b c p q = q ∙ p
+OnlyWhereFailed-since (WriteFault n) a b c p q = q
+OnlyWhereFailed-since (NoMemory n) a b c p q = q ∙ p
 
 -- ---- reading
 
@@ -242,11 +255,11 @@ Listened-kept s t u u' u'' h k = record { bytes = h.bytes; read = Consumes-kept 
 
 -- a halt within a piece
 pub Stopped-halted : (s t : State) (e : Ending) (o : Office) (out : Output) (u : Option (List ℕ)) (i i' : Input) (piece : List ℕ)
-    → Listened s t i.remaining u → Consumes u i'.remaining piece → Halted t e o out piece → Stopped s e o out i i'
-Stopped-halted s t e o out u i i' piece h c k = record {
+    → Listened s t i.remaining u → Consumes u i'.remaining piece → Halted t e o out piece → i'.failed ≡ i.failed → Stopped s e o out i i'
+Stopped-halted s t e o out u i i' piece h c k w = record {
   bytes = h.bytes ++ piece;
   read = Consumes-trans _ _ _ _ _ h.read c;
-  why = inl (Heard-Halted s t e o out _ _ h.heard k);
+  why = inl (Heard-Halted s t e o out _ _ h.heard k, w);
 }
 
 -- no more can be read

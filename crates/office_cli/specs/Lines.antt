@@ -11,7 +11,7 @@ abbrev pub parts_of : List ℕ → List (List ℕ)
 parts_of bytes = slice_split is_line_end bytes
 
 -- all but the last
-abbrev pub front : List (List ℕ) → List (List ℕ)
+abbrev pub front : {A : Type 0} → List A → List A
 front [] = []
 front (part ∷ []) = []
 front (part ∷ next ∷ more) = part ∷ front (next ∷ more)

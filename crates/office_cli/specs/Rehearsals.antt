@@ -7,7 +7,7 @@ use Rattle.office_core.specs.declared.office.Office.{Office}
 use Rattle.office_cli.specs.declared.texts.Said.{Said}
 use Rattle.office_cli.specs.declared.ending.Ending.{Ending}
 use Rattle.office_cli.specs.declared.ending.Ending.TheVariants.{Ended, ReadFault, WriteFault, NoMemory}
-use Rattle.office_cli.specs.Lines.{is_short, line_limit, read_limit, lines_of, ended_lines, last_part}
+use Rattle.office_cli.specs.Lines.{is_short, line_limit, read_limit, front, lines_of, ended_lines, last_part}
 use Rattle.office_cli.specs.Streams.{Input, Output, Puts}
 use Rattle.office_cli.specs.Runs.{Run, texts_of, greatest_status}
 
@@ -26,8 +26,8 @@ pub record WholeInput (old new : Office) (input input' : Input) (output output' 
   pub no_write_failed : output'.failed ≡ false
   pub greatest : status ≡ greatest_status answers
 
--- Some lines of the bytes read, from the first on, were answered, and the first `sent` bytes of their texts went out. A line
--- is ended by its line feed, or by the end of the input where that was reached.
+-- Some lines of the bytes read, from the first on, were answered, and the first `sent` bytes of their texts went out: all texts
+-- but the last went out whole. A line is ended by its line feed, or by the end of the input where that was reached.
 pub record PartOfInput (old new : Office) (input input' : Input) (output output' : Output) (sent : ℕ) : Type 0 where
   pub bytes : List ℕ
   pub lines : List (List ℕ)
@@ -37,10 +37,11 @@ pub record PartOfInput (old new : Office) (input input' : Input) (output output'
   pub cut : (ended_lines bytes ≡ lines ++ others) ⊎ (IsAtEnd input'.remaining × (lines_of bytes ≡ lines ++ others))
   pub run : Run old lines answers new
   pub written : Puts output output' (take sent (texts_of answers))
+  pub whole : length (texts_of (front answers)) ≤ sent
   pub within : sent ≤ length (texts_of answers)
 
 -- The lines that were ended before a fault were answered, and all their texts went out.
--- Then a line is too long, or all that was read was heard and a read failed or too many were needed.
+-- Then a line is too long, though no read failed, or all that was read was heard and a read failed or too many were needed.
 pub record WholeLines (old new : Office) (input input' : Input) (output output' : Output) : Type 0 where
   pub heard : List ℕ
   pub unheard : List ℕ
@@ -48,12 +49,17 @@ pub record WholeLines (old new : Office) (input input' : Input) (output output' 
   pub read : Consumes input.remaining input'.remaining (heard ++ unheard)
   pub run : Run old (ended_lines heard) answers new
   pub written : Puts output output' (texts_of answers)
-  pub cause : (line_limit < length (last_part heard)) ⊎ ((unheard ≡ []) × ((input'.failed ≡ true) ⊎ (read_limit ≤ input'.reads)))
+  pub cause :
+      ((line_limit < length (last_part heard)) × (input'.failed ≡ false))
+      ⊎ ((unheard ≡ []) × ((input'.failed ≡ true) ⊎ (read_limit ≤ input'.reads)))
 
--- What a rehearsal did, by its ending. A write fault comes only where the writer failed.
+-- What a rehearsal did, by its ending. The writer failed where the ending is a write fault, and on no other; a failed read is
+-- a read fault, and no other ending.
 abbrev pub Rehearses : Ending → ℕ → Office → Office → Input → Input → Output → Output → Type 0
 Rehearses Ended status old new input input' output output' = WholeInput old new input input' output output' status
-Rehearses ReadFault status old new input input' output output' = (status ≡ 3) × WholeLines old new input input' output output'
+Rehearses ReadFault status old new input input' output output' =
+    (status ≡ 3) × (output'.failed ≡ false) × WholeLines old new input input' output output'
 Rehearses (WriteFault sent) status old new input input' output output' =
-    (status ≡ 3) × (output'.failed ≡ true) × PartOfInput old new input input' output output' sent
-Rehearses (NoMemory sent) status old new input input' output output' = (status ≡ 3) × PartOfInput old new input input' output output' sent
+    (status ≡ 3) × (input'.failed ≡ false) × (output'.failed ≡ true) × PartOfInput old new input input' output output' sent
+Rehearses (NoMemory sent) status old new input input' output output' =
+    (status ≡ 3) × (input'.failed ≡ false) × (output'.failed ≡ false) × PartOfInput old new input input' output output' sent

@@ -1,5 +1,5 @@
 -- The lines of replies.
-use Rattle.std.specs.Prelude.{Bool, List, [], ◌∷◌, ◌++◌, Option, None, Some, codes, map, if◌then◌else◌}
+use Rattle.std.specs.Prelude.{Bool, List, [], ◌∷◌, ◌++◌, Option, None, Some, codes, if◌then◌else◌}
 use Rattle.std.specs.Fmt.{decimal}
 use Rattle.std.specs.List.{flat_map}
 use Rattle.room_types.specs.Phases.{phase_text}
@@ -8,7 +8,6 @@ use Rattle.office_lists.specs.MoveDay.{move_day_table}
 use Rattle.office_lists.specs.Tables.{or_none, people_table, results_table, rooms_table}
 use Rattle.office_core.specs.declared.reply.Reply.{Reply}
 use Rattle.office_core.specs.declared.reply.Reply.TheVariants as reply
-use Rattle.office_core.specs.declared.reply.ResultRow.{ResultRow}
 use Rattle.office_core.specs.declared.reply.Standing.{Standing}
 use Rattle.office_cli.specs.OutputLines.{line_of}
 use Rattle.office_cli.specs.OrderLines.{order_text}
@@ -40,10 +39,6 @@ standing_text standing =
     ++ line_of (codes "withdrawn " ∷ yes_or_no standing.withdrawn ∷ [])
     ++ line_of (codes "result " ∷ result_text standing ∷ [])
 
--- a person and the room that came out
-abbrev pub result_pair : ResultRow → Text × Option Text
-result_pair row = (row.person, row.room)
-
 abbrev pub reply_text : Reply → Text
 reply_text reply.Done = line_of (codes "ok" ∷ [])
 reply_text (reply.Shut displaced) = line_of (codes "shut" ∷ displaced_text displaced ∷ [])
@@ -61,7 +56,7 @@ reply_text (reply.People rows) = people_table rows
 reply_text (reply.Round number phase people withdrawn) =
     line_of (codes "round " ∷ decimal number ∷ codes " " ∷ phase_text phase ∷ codes " people " ∷ decimal people ∷ codes " withdrawn " ∷ decimal withdrawn ∷ [])
 reply_text (reply.Order rows) = order_text rows
-reply_text (reply.Results rows) = results_table (map result_pair rows)
+reply_text (reply.Results rows) = results_table rows
 reply_text (reply.Moves rows) = move_day_table rows
 reply_text (reply.Me standing) = standing_text standing
 reply_text (reply.WouldGet room) = line_of (codes "would get " ∷ or_none room ∷ [])

@@ -1,5 +1,5 @@
 -- What a rehearsal did with a part of its input: words of inner contracts and invariants.
-use Rattle.std.specs.Prelude.{◌≡◌, ⊤, ℕ, ◌+◌, ◌<◌, ◌≤◌, ◌⊎◌, Bool, true, max, List, [], ◌∷◌, ◌++◌, length, take, Option, if◌then◌else◌}
+use Rattle.std.specs.Prelude.{◌≡◌, ℕ, ◌+◌, ◌<◌, ◌≤◌, ◌⊎◌, Bool, true, max, List, [], ◌∷◌, ◌++◌, length, take, Option, if◌then◌else◌}
 use Rattle.std.specs.List.{list_all}
 use Rattle.std.specs.Io.KnownBytes.{Consumes}
 use Rattle.office_core.specs.declared.office.Office.{Office}
@@ -7,7 +7,7 @@ use Rattle.office_cli.specs.declared.texts.Said.{Said}
 use Rattle.office_cli.specs.declared.ending.Ending.{Ending}
 use Rattle.office_cli.specs.declared.ending.Ending.TheVariants.{Ended, ReadFault, WriteFault, NoMemory}
 use Rattle.office_cli.specs.declared.hearing.Told.{Told}
-use Rattle.office_cli.specs.Lines.{is_short, is_line_end, line_limit, read_limit, unended}
+use Rattle.office_cli.specs.Lines.{is_short, is_line_end, line_limit, read_limit, front, unended}
 use Rattle.office_cli.specs.Sentences.{sentence_of}
 use Rattle.office_cli.specs.Streams.{Input, Output, Puts}
 use Rattle.office_cli.specs.Texts.{text_of, status_of}
@@ -53,14 +53,15 @@ Suits ReadFault sent unsent len = (unsent ≡ 0) × (line_limit < len)
 Suits (WriteFault n) sent unsent len = n ≡ sent
 Suits (NoMemory n) sent unsent len = n ≡ sent
 
--- a write fault only where the writer failed
-abbrev pub OnlyWhereFailed : Ending → Bool → Type 0
-OnlyWhereFailed Ended failed = ⊤
-OnlyWhereFailed ReadFault failed = ⊤
-OnlyWhereFailed (WriteFault n) failed = failed ≡ true
-OnlyWhereFailed (NoMemory n) failed = ⊤
+-- a write fault where the writer failed, and any other ending where it did not
+abbrev pub OnlyWhereFailed : Ending → Bool → Bool → Type 0
+OnlyWhereFailed Ended failed failed' = failed' ≡ failed
+OnlyWhereFailed ReadFault failed failed' = failed' ≡ failed
+OnlyWhereFailed (WriteFault n) failed failed' = failed' ≡ true
+OnlyWhereFailed (NoMemory n) failed failed' = failed' ≡ failed
 
--- The rehearsal stopped within the bytes. The lines that the bytes up to there ended were answered, and a front of their texts went out.
+-- The rehearsal stopped within the bytes. The lines that the bytes up to there ended were answered, and a front of their texts
+-- went out, all but the last text whole.
 pub record Halted (before : State) (ending : Ending) (office : Office) (out : Output) (bytes : List ℕ) : Type 0 where
   pub heard : List ℕ
   pub rest : List ℕ
@@ -71,6 +72,7 @@ pub record Halted (before : State) (ending : Ending) (office : Office) (out : Ou
   pub run : Run before.office (ended_from before.begun heard) answers office
   pub written : Puts before.out out (take sent (texts_of answers))
   pub all : sent + unsent ≡ length (texts_of answers)
+  pub whole : length (texts_of (front answers)) ≤ sent
   pub suits : Suits ending (before.sent + sent) unsent (length (begun_from before.begun heard))
 
 -- One line was answered, and all of the text went out.
@@ -111,6 +113,7 @@ pub record Unfinished (before : State) (ending : Ending) (office : Office) (out 
   pub run : Run before.office (unended before.begun) answers office
   pub written : Puts before.out out (take sent (texts_of answers))
   pub all : sent + unsent ≡ length (texts_of answers)
+  pub whole : length (texts_of (front answers)) ≤ sent
   pub suits : Suits ending (before.sent + sent) unsent 0
 
 -- All that was read was heard.
@@ -127,8 +130,10 @@ pub record Cut (before : State) (office : Office) (out : Output) (bytes : List �
   pub out_is : out ≡ after.out
   pub cause : (input.failed ≡ true) ⊎ (read_limit ≤ input.reads)
 
--- why a rehearsal stopped
+-- why a rehearsal stopped: within what was read, without a failed read; or since no more could be read
 pub record Stopped (before : State) (ending : Ending) (office : Office) (out : Output) (input input' : Input) : Type 0 where
   pub bytes : List ℕ
   pub read : Consumes input.remaining input'.remaining bytes
-  pub why : Halted before ending office out bytes ⊎ ((ending ≡ ReadFault) × Cut before office out bytes input')
+  pub why :
+      (Halted before ending office out bytes × (input'.failed ≡ input.failed))
+      ⊎ ((ending ≡ ReadFault) × Cut before office out bytes input')

@@ -40,7 +40,7 @@ pub fn answer_line<W: Write>(
     ensures broken { IfErr result (λ ending. Broken
         (state office.old (output_of W.contents output.old) [] told.old) ending line.now
         office.new (output_of W.contents output.new)) }
-    ensures failed { IfErr result (λ ending. OnlyWhereFailed ending (watched_failed output.new)) }
+    ensures failed { IfErr result (λ ending. OnlyWhereFailed ending (watched_failed output.old) (watched_failed output.new)) }
     ensures bound { OnOk result (told.new.sent < told.old.sent + 2 ^ 64) }
     ensures lawful { IsLawful office.new }
 {
@@ -78,7 +78,7 @@ pub fn take_byte<W: Write>(
     ensures halted { IfErr result (λ ending. Halted
         (state office.old (output_of W.contents output.old) begun.old.items told.old) ending
         office.new (output_of W.contents output.new) (byte ∷ [])) }
-    ensures failed { IfErr result (λ ending. OnlyWhereFailed ending (watched_failed output.new)) }
+    ensures failed { IfErr result (λ ending. OnlyWhereFailed ending (watched_failed output.old) (watched_failed output.new)) }
     ensures bound { OnOk result (told.new.sent < told.old.sent + 2 ^ 64) }
     ensures still_short { OnOk result (vec_len begun.new ≤ 65536) }
     ensures lawful { IsLawful office.new }
@@ -115,7 +115,7 @@ pub fn take_piece<W: Write>(
     ensures halted { IfErr result (λ ending. Halted
         (state office.old (output_of W.contents output.old) begun.old.items told.old) ending
         office.new (output_of W.contents output.new) piece.now) }
-    ensures failed { IfErr result (λ ending. OnlyWhereFailed ending (watched_failed output.new)) }
+    ensures failed { IfErr result (λ ending. OnlyWhereFailed ending (watched_failed output.old) (watched_failed output.new)) }
     ensures bound { OnOk result (told.new.sent ≤ told.old.sent + length piece.now * 2 ^ 64) }
     ensures still_short { OnOk result (vec_len begun.new ≤ 65536) }
     ensures lawful { IsLawful office.new }

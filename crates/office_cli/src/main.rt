@@ -1,6 +1,8 @@
 //! The program `rooms`: lines of text are heard and answered, and the words of its command line are read.
 #![tactic(auto)]
 
+ghost use Rattle.std.specs.Prelude.{◌≡◌, IfOk, drop, map, string_bytes};
+
 pub mod carry_out;
 pub mod ending;
 pub mod handle;
@@ -23,7 +25,7 @@ pub mod words;
 use crate::carry_out::refuse;
 use crate::words::WordFault;
 use room_types::Watched;
-use std::alloc::AllocError;
+use std::alloc::{AllocError, Global};
 use std::process::ExitCode;
 use std::{env, io};
 
@@ -31,8 +33,8 @@ fn main(rt: HostRuntime) -> ExitCode {
     let mut input = Watched::new(rt.reader());
     let mut output = Watched::new(io::writer(&rt));
     let mut error = Watched::new(rt.stderr());
-    let status = match words_after_name(&rt) {
-        Ok(words) => match texts_of(&rt, &words) {
+    let status = match words_of_system(&rt) {
+        Ok(words) => match texts_after_name(rt.alloc(), &words) {
             Ok(texts) => crate::carry_out::carry_out(
                 &rt,
                 &texts,
@@ -47,11 +49,11 @@ fn main(rt: HostRuntime) -> ExitCode {
     ExitCode::from(status)
 }
 
-// The words after the program's name. Words that are not UTF-8 are not understood.
-fn words_after_name(rt: &HostRuntime) -> Result<Vec<String>, WordFault> {
+// The words that the system gives, the program's name first. Words that are not UTF-8 are not understood.
+fn words_of_system(rt: &HostRuntime) -> Result<Vec<String>, WordFault> {
     match env::args(rt) {
         Ok(words) => {
-            let words = words.skip(1).collect(rt.alloc())?;
+            let words = words.collect(rt.alloc())?;
             Ok(words)
         }
         Err(error) => match error.kind() {
@@ -61,8 +63,18 @@ fn words_after_name(rt: &HostRuntime) -> Result<Vec<String>, WordFault> {
     }
 }
 
-fn texts_of<'a>(rt: &HostRuntime, words: &'a [String]) -> Result<Vec<&'a str>, AllocError> {
-    words.iter().map(|word| word.as_str()).collect(rt.alloc())
+// The words after the program's name, as texts.
+fn texts_after_name<'a>(alloc: Global, words: &'a [String]) -> Result<Vec<&'a str>, AllocError>
+    ensures { IfOk result (λ texts. map (λ text. text.now) texts.items ≡ drop 1 (map string_bytes words.now)) }
+{
+    let mut texts = Vec::new(alloc);
+    let [_name, rest @ ..] = words else {
+        return Ok(texts);
+    };
+    for word in rest {
+        texts.push(word.as_str())?;
+    }
+    Ok(texts)
 }
 
 #[cfg(test)]

@@ -64,8 +64,10 @@ fn number(entries: &ArgMatches, id: &str, most: u32) -> Option<u32>
     }
 }
 
+// Want of memory where `clap` tells it, and else words that are not understood.
 fn fault_of(error: &Error) -> WordFault
-    ensures { result ≡ WordFault.NotUnderstood → kind_of error.now ≢ ErrorKind.OutOfMemory }
+    ensures misread { result ≡ WordFault.NotUnderstood → kind_of error.now ≢ ErrorKind.OutOfMemory }
+    ensures refused { result ≡ WordFault.OutOfMemory → kind_of error.now ≡ ErrorKind.OutOfMemory }
 {
     match error.kind() {
         ErrorKind::OutOfMemory => WordFault::OutOfMemory,

@@ -78,7 +78,7 @@ fn listen<R: Read, W: Write>(
         (state office.old (output_of W.contents output.old) begun.old.items told.old) ending
         office.new (output_of W.contents output.new)
         (input_of R.remaining input.old) (input_of R.remaining input.new)) }
-    ensures failed { IfErr result (λ ending. OnlyWhereFailed ending (watched_failed output.new)) }
+    ensures failed { IfErr result (λ ending. OnlyWhereFailed ending (watched_failed output.old) (watched_failed output.new)) }
     ensures kept { OnOk result (watched_failed input.new ≡ watched_failed input.old) }
     ensures few { watched_reads input.new ≤ read_limit }
     ensures bound { OnOk result (told.new.sent ≤ 2 ^ 100) }
@@ -112,7 +112,7 @@ fn answer_rest<W: Write>(
     ensures unfinished { IfErr result (λ ending. Unfinished
         (state office.old (output_of W.contents output.old) begun.now told.old) ending
         office.new (output_of W.contents output.new)) }
-    ensures failed { IfErr result (λ ending. OnlyWhereFailed ending (watched_failed output.new)) }
+    ensures failed { IfErr result (λ ending. OnlyWhereFailed ending (watched_failed output.old) (watched_failed output.new)) }
     ensures lawful { IsLawful office.new }
 {
     if begun.is_empty() {
@@ -138,7 +138,7 @@ fn finish<W: Write>(
     ensures unfinished { IfErr result (λ ending. Unfinished
         (state office.old (output_of W.contents output.old) begun.now told.old) ending
         office.new (output_of W.contents output.new)) }
-    ensures failed { IfErr result (λ ending. OnlyWhereFailed ending (watched_failed output.new)) }
+    ensures failed { IfErr result (λ ending. OnlyWhereFailed ending (watched_failed output.old) (watched_failed output.new)) }
     ensures lawful { IsLawful office.new }
 {
     answer_rest(alloc, office, output, begun, told)?;

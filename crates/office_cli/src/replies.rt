@@ -1,14 +1,12 @@
 //! The lines of replies.
 ghost use Rattle.std.specs.Prelude.{◌≡◌, ◌++◌, [], ◌∷◌, IfOk, OnOk, string_bytes};
-ghost use Rattle.office_lists.specs.Tables.{or_none};
 ghost use Rattle.office_cli.specs.OutputLines.{line_of};
 ghost use Rattle.office_cli.specs.Replies.{reply_text, result_text, spaced, standing_text, yes_or_no};
 
 use crate::order_lines::text_of_order;
 use crate::texts::line;
-use office_core::{Reply, ResultRow, Standing};
-use office_lists::{move_day_text, people_text, results_text, rooms_text};
-use room_types::rows::copy_optional;
+use office_core::{Reply, Standing};
+use office_lists::{move_day_text, or_none, people_text, results_text, rooms_text};
 use room_types::{OutOfMemory, PersonId, RoomCode};
 use std::alloc::{AllocError, Global};
 
@@ -39,7 +37,7 @@ pub fn text_of_reply(alloc: Global, reply: &Reply) -> Result<String, OutOfMemory
             "round {number} {phase} people {people} withdrawn {withdrawn}\n"
         )?),
         Reply::Order(rows) => text_of_order(alloc, rows.as_slice()),
-        Reply::Results(rows) => text_of_results(alloc, rows.as_slice()),
+        Reply::Results(rows) => results_text(alloc, rows.as_slice()),
         Reply::Moves(rows) => move_day_text(alloc, rows.as_slice()),
         Reply::Me(standing) => text_of_standing(alloc, standing),
         Reply::WouldGet(room) => text_of_room(alloc, room),
@@ -63,21 +61,11 @@ fn text_of_chosen(alloc: Global, rooms: &[RoomCode]) -> Result<String, OutOfMemo
     Ok(text)
 }
 
-fn text_of_results(alloc: Global, rows: &[ResultRow]) -> Result<String, OutOfMemory>
-    ensures { IfOk result (λ text. string_bytes text ≡ reply_text (Reply.Results rows.now)) }
-{
-    let mut pairs = Vec::with_capacity(alloc, rows.len())?;
-    for row in rows {
-        pairs.push((row.person.copy()?, copy_optional(&row.room)?))?;
-    }
-    results_text(alloc, &pairs)
-}
-
 fn text_of_room(alloc: Global, room: &Option<RoomCode>) -> Result<String, OutOfMemory>
     ensures { IfOk result (λ text. string_bytes text ≡ reply_text (Reply.WouldGet room.now)) }
 {
     let mut text = String::new(alloc);
-    push_line(&mut text, "would get ", room_or_none(room))?;
+    push_line(&mut text, "would get ", or_none(room))?;
     Ok(text)
 }
 
@@ -90,21 +78,12 @@ fn text_of_standing(alloc: Global, standing: &Standing) -> Result<String, OutOfM
     let mut text = String::new(alloc);
     push_line(&mut text, "person ", standing.person.as_str())?;
     push_line(&mut text, "name ", standing.name.as_str())?;
-    push_line(&mut text, "home ", room_or_none(&standing.home))?;
+    push_line(&mut text, "home ", or_none(&standing.home))?;
     writeln!(text, "round {round} {phase}")?;
     push_rooms(&mut text, "choices", standing.choices.as_slice())?;
     push_line(&mut text, "withdrawn ", yes_or_no(standing.withdrawn))?;
     push_line(&mut text, "result ", shown_result(standing))?;
     Ok(text)
-}
-
-fn room_or_none(room: &Option<RoomCode>) -> &str
-    ensures { result.now ≡ or_none room.now }
-{
-    match room {
-        Some(room) => room.as_str(),
-        None => "none",
-    }
 }
 
 fn yes_or_no(answer: bool) -> &'static str
@@ -118,7 +97,7 @@ fn shown_result(standing: &Standing) -> &str
     ensures { result.now ≡ result_text standing.now }
 {
     if standing.shown {
-        room_or_none(&standing.result)
+        or_none(&standing.result)
     } else {
         "hidden"
     }

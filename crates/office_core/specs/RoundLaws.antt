@@ -26,7 +26,7 @@ abbrev pub IsEfficientFor : Office → (Text → Option Text) → Type 0
 IsEfficientFor office gets =
     (gives : Text → Option Text) → IsRoundAssignment office gives
     → ((person : Text) → is_participant office person ≡ true
-        → round_rank office person (gives person) ≤ round_rank office person (gets person))
+    → round_rank office person (gives person) ≤ round_rank office person (gets person))
     → (person : Text) → is_participant office person ≡ true → gives person ≡ gets person
 
 -- of what top trading cycles give

@@ -33,7 +33,7 @@ pub use crate::office::{Assigned, Office};
 pub use crate::person::Person;
 pub use crate::query::Query;
 pub use crate::refusal::Refusal;
-pub use crate::reply::{OrderRow, Reply, ResultRow, Standing};
+pub use crate::reply::{OrderRow, Reply, Standing};
 
 #[cfg(test)]
 mod tests;

@@ -1,5 +1,5 @@
 //! What is read from an office.
-ghost use Rattle.std.specs.Prelude.{◌≡◌, IfOk};
+ghost use Rattle.std.specs.Prelude.{◌≡◌, IfOk, length};
 ghost use Rattle.std.specs.Option.{option_copied};
 ghost use Rattle.office_core.specs.Office.{tenant, owner, is_shut, lives_in, has_withdrawn, participants, is_over, is_under_way, is_shown};
 
@@ -67,6 +67,19 @@ impl Office {
         ensures { result ≡ is_under_way self.now round }
     {
         !is_idle(self.phase) && round == self.number
+    }
+
+    /// How many people have not withdrawn. It takes no memory.
+    pub fn participant_count(&self) -> usize
+        ensures { result ≡ length (participants self.now) }
+    {
+        let mut count = 0;
+        for (id, _) in self.people.iter() {
+            if !self.has_withdrawn(id) {
+                count += 1;
+            }
+        }
+        count
     }
 
     /// Who has not withdrawn, by identifier.

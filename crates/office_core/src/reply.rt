@@ -1,6 +1,6 @@
 //! What commands and queries are answered.
 use room_types::{
-    Choices, Listing, Move, Name, PersonId, PersonRow, Phase, RoomCode, RoomRow, Word,
+    Choices, Listing, Move, Name, PersonId, PersonRow, Phase, ResultRow, RoomCode, RoomRow, Word,
 };
 
 /// A participant, with the word that was drawn.
@@ -8,14 +8,6 @@ use room_types::{
 pub struct OrderRow {
     pub word: Word,
     pub person: PersonId,
-}
-
-/// What a participant gets.
-#[derive(Debug, Drop)]
-pub struct ResultRow {
-    pub person: PersonId,
-    /// The room, or none for no room.
-    pub room: Option<RoomCode>,
 }
 
 /// What a person sees.

@@ -4,6 +4,7 @@ use Rattle.std.specs.List.{flat_map}
 use Rattle.std.specs.Fmt.{char_count}
 use Rattle.room_types.specs.Texts.{Text}
 use Rattle.room_types.specs.Rows.{state_text}
+use Rattle.room_types.specs.declared.rows.ResultRow.{ResultRow}
 use Rattle.room_types.specs.declared.rows.RoomRow.{RoomRow}
 use Rattle.room_types.specs.declared.rows.PersonRow.{PersonRow}
 
@@ -21,6 +22,7 @@ line widths [] = codes "\n"
 abbrev pub table : {Row : Type 0} → List ℕ → List Text → (Row → List Text) → List Row → Text
 table widths headings cells rows = line widths headings ++ flat_map (λ row. line widths (cells row)) rows
 
+-- the text, or `none`
 abbrev pub or_none : Option Text → Text
 or_none text = unwrap_or text (codes "none")
 
@@ -34,6 +36,5 @@ people_table =
     table (12 ∷ 8 ∷ []) (codes "person" ∷ codes "home" ∷ codes "name" ∷ [])
     (λ row. row.person ∷ or_none row.home ∷ row.name ∷ [])
 
--- of people, each with the room that came out
-abbrev pub results_table : List (Text × Option Text) → Text
-results_table = table (12 ∷ []) (codes "person" ∷ codes "room" ∷ []) (λ row. row.0 ∷ or_none row.1 ∷ [])
+abbrev pub results_table : List ResultRow → Text
+results_table = table (12 ∷ []) (codes "person" ∷ codes "room" ∷ []) (λ row. row.person ∷ or_none row.room ∷ [])

@@ -9,4 +9,4 @@ mod tests;
 
 pub use crate::leaving::{Entry, MOVE_LIMIT, one_wave_each, waves};
 pub use crate::move_day::move_day_text;
-pub use crate::tables::{people_text, results_text, rooms_text};
+pub use crate::tables::{or_none, people_text, results_text, rooms_text};

@@ -3,7 +3,7 @@ ghost use Rattle.std.specs.Prelude.{◌≡◌, ◌++◌, [], ◌∷◌, IfOk, On
 ghost use Rattle.office_lists.specs.Tables.{line, or_none, rooms_table, people_table, results_table};
 
 use room_types::text::{Grammar, Text};
-use room_types::{OutOfMemory, PersonId, PersonRow, RoomCode, RoomRow};
+use room_types::{OutOfMemory, PersonRow, ResultRow, RoomRow};
 use std::alloc::{AllocError, Global};
 
 /// The table of these rooms, with a line for each in the order given.
@@ -40,17 +40,14 @@ pub fn people_text(alloc: Global, rows: &[PersonRow]) -> Result<String, OutOfMem
     Ok(text)
 }
 
-/// The table of these people and the rooms that came out for them, with a line for each in the order given.
-pub fn results_text(
-    alloc: Global,
-    rows: &[(PersonId, Option<RoomCode>)],
-) -> Result<String, OutOfMemory>
+/// The table of what these people get, with a line for each in the order given.
+pub fn results_text(alloc: Global, rows: &[ResultRow]) -> Result<String, OutOfMemory>
     ensures { IfOk result (λ text. string_bytes text ≡ results_table rows.now) }
 {
     let mut text = String::new(alloc);
     push_result(&mut text, "person", "room")?;
-    for (person, room) in rows {
-        push_result(&mut text, person.as_str(), or_none(room))?;
+    for row in rows {
+        push_result(&mut text, row.person.as_str(), or_none(&row.room))?;
     }
     Ok(text)
 }
@@ -76,8 +73,8 @@ fn push_result(text: &mut String, person: &str, room: &str) -> Result<(), AllocE
     writeln!(text, "{person:<12}  {room}")
 }
 
-// The text, or `none`.
-pub(crate) fn or_none<G: Grammar>(text: &Option<Text<G>>) -> &str
+/// The text, or `none`.
+pub fn or_none<G: Grammar>(text: &Option<Text<G>>) -> &str
     ensures { result.now ≡ or_none text.now }
 {
     match text {

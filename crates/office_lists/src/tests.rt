@@ -1,7 +1,7 @@
 ghost use Rattle.std.specs.Prelude.{◌≡◌, Some};
 
 use crate::{Entry, move_day_text, people_text, results_text, rooms_text, waves};
-use room_types::{Grammar, Move, PersonRow, RoomRow, State, Text, Wave};
+use room_types::{Grammar, Move, PersonRow, ResultRow, RoomRow, State, Text, Wave};
 use std::alloc::Global;
 use std::process::Abort;
 use std::test::Fail;
@@ -61,7 +61,10 @@ fn a_table_of_results(rt: HostRuntime) -> Result<(), Fail> {
         "person        room\n"
     );
     for (person, room) in [("N", Some("V")), ("T1", Some("W")), ("T2", None)] {
-        rows.push((text(&rt, alloc, person), optional(&rt, alloc, room)))?;
+        rows.push(ResultRow {
+            person: text(&rt, alloc, person),
+            room: optional(&rt, alloc, room),
+        })?;
     }
     let table = results_text(alloc, &rows)?;
     assert_eq!(rt;

@@ -21,7 +21,7 @@ pub use crate::kinds::ListKind;
 pub use crate::listing::Listing;
 pub use crate::moves::{Move, Wave};
 pub use crate::phase::Phase;
-pub use crate::rows::{PersonRow, RoomRow, State};
+pub use crate::rows::{PersonRow, ResultRow, RoomRow, State};
 pub use crate::table::{Copied, Table};
 pub use crate::text::{Grammar, Text};
 pub use crate::watched::Watched;

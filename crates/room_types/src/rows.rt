@@ -55,6 +55,14 @@ pub struct PersonRow {
     pub home: Option<RoomCode>,
 }
 
+/// What a participant of a round gets.
+#[derive(Debug, Drop)]
+pub struct ResultRow {
+    pub person: PersonId,
+    /// The room, or none for no room.
+    pub room: Option<RoomCode>,
+}
+
 /// A copy of a text, where there is one.
 pub fn copy_optional<G: Grammar>(text: &Option<Text<G>>) -> Result<Option<Text<G>>, AllocError>
     ensures { IfOk result (λ copy. copy ≡ text.now) }

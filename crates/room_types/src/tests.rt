@@ -76,53 +76,67 @@ fn keeps_tables(rt: HostRuntime) -> Result<(), TypeFault> {
     Ok(())
 }
 
-// A device that counts the calls of it, and fails at each.
+// A device that counts the calls of it and the bytes that they lend, and fails at each.
 #[derive(Drop)]
 struct Broken {
-    reads: u32,
-    writes: u32,
-    flushes: u32,
+    calls: u32,
+    lent: usize,
+}
+
+impl Broken {
+    fn fail(&mut self, lent: usize) -> Error {
+        self.calls = self.calls.saturating_add(1);
+        self.lent = self.lent.saturating_add(lent);
+        Error::from(ErrorKind::Other)
+    }
 }
 
 impl Read for Broken {
-    fn read(&mut self, _buf: &mut [u8]) -> io::Result<usize> {
-        self.reads = self.reads.saturating_add(1);
-        Err(Error::from(ErrorKind::Other))
+    fn read(&mut self, buf: &mut [u8]) -> io::Result<usize> {
+        Err(self.fail(buf.len()))
     }
 }
 
 impl Write for Broken {
-    fn write(&mut self, _buf: &[u8]) -> io::Result<usize> {
-        self.writes = self.writes.saturating_add(1);
-        Err(Error::from(ErrorKind::Other))
+    fn write(&mut self, buf: &[u8]) -> io::Result<usize> {
+        Err(self.fail(buf.len()))
     }
 
     fn flush(&mut self) -> io::Result<()> {
-        self.flushes = self.flushes.saturating_add(1);
-        Err(Error::from(ErrorKind::Other))
+        Err(self.fail(0))
     }
 }
 
 fn watched_broken() -> Watched<Broken> {
-    Watched::new(Broken {
-        reads: 0,
-        writes: 0,
-        flushes: 0,
-    })
+    Watched::new(Broken { calls: 0, lent: 0 })
 }
 
-// Each call of a watched device is one of the device, and its failure is answered and remembered.
+// The kind of the error, if there is one.
+fn kind<T: Drop>(answer: io::Result<T>) -> Option<ErrorKind> {
+    answer.err().map(|error| error.kind())
+}
+
+// Each call of a watched device, also after a failure, is one of the device, with all bytes, and has its answer.
 #[test]
 fn passes_calls_on(rt: HostRuntime) {
     let mut input = watched_broken();
-    assert!(rt; input.read(&mut [0u8; 1]).is_err() && input.failed() && input.reads() == 1);
-    assert_eq!(rt; input.into_inner().reads, 1);
     let mut output = watched_broken();
-    assert!(rt; output.write(b"a").is_err() && output.failed() && output.taken() == 0);
-    assert_eq!(rt; output.into_inner().writes, 1);
-    let mut output = watched_broken();
-    assert!(rt; output.flush().is_err() && output.failed() && output.flushes() == 1);
-    assert_eq!(rt; output.into_inner().flushes, 1);
+    let mut flushed = watched_broken();
+    for _ in 0..2 {
+        assert_eq!(rt; kind(input.read(&mut [0u8; 3])), Some(ErrorKind::Other));
+        assert_eq!(rt; kind(output.write(b"ab")), Some(ErrorKind::Other));
+        assert_eq!(rt; kind(flushed.flush()), Some(ErrorKind::Other));
+    }
+    assert!(rt; input.failed() && input.reads() == 2);
+    assert!(rt; output.failed() && output.taken() == 0);
+    assert!(rt; flushed.failed() && flushed.flushes() == 2);
+    let (input, output, flushed) = (
+        input.into_inner(),
+        output.into_inner(),
+        flushed.into_inner(),
+    );
+    assert!(rt; (input.calls, input.lent) == (2, 6) && (output.calls, output.lent) == (2, 4));
+    assert_eq!(rt; flushed.calls, 2);
 }
 
 #[test]

@@ -9,7 +9,7 @@ use Rattle.office_core.specs.declared.refusal.Refusal.{Refusal}
 use Rattle.office_core.specs.declared.refusal.Refusal.TheVariants.{BadPhase}
 use Rattle.office_core.specs.declared.reply.Reply.{Reply}
 use Rattle.office_core.specs.declared.reply.Reply.TheVariants as reply
-use Rattle.office_core.specs.declared.reply.ResultRow.{ResultRow}
+use Rattle.room_types.specs.declared.rows.ResultRow.{ResultRow}
 
 abbrev pub result_row : Text × Assigned → ResultRow
 result_row entry = record { person = entry.0; room = entry.1.room }

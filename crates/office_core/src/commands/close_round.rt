@@ -18,7 +18,7 @@ pub fn close_round(alloc: Global, office: &Office) -> Result<Decision, Refusal>
     if !is_open(office.phase) {
         return Err(Refusal::BadPhase(office.phase));
     }
-    let participants = office.participants(alloc)?.len();
+    let participants = office.participant_count();
     let change = Change::PutRound {
         number: office.number,
         phase: Phase::Closed,

@@ -18,7 +18,7 @@ pub fn publish(alloc: Global, office: &Office) -> Result<Decision, Refusal>
     if !has_run(office.phase) {
         return Err(Refusal::BadPhase(office.phase));
     }
-    let participants = office.participants(alloc)?.len();
+    let participants = office.participant_count();
     let change = Change::PutRound {
         number: office.number,
         phase: Phase::Published,

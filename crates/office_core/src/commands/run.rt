@@ -27,7 +27,7 @@ pub fn run(alloc: Global, office: &Office) -> Result<Decision, Refusal>
         return Err(Refusal::BadPhase(office.phase));
     }
     let results = round_results(alloc, office)?;
-    let participants = office.participants(alloc)?.len();
+    let participants = office.participant_count();
     let mut changes = results_put(alloc, &results)?;
     changes.push(Change::PutRound {
         number: office.number,

@@ -6,9 +6,9 @@ ghost use Rattle.office_core.specs.Queries.Results.{told, result_rows};
 use crate::office::Office;
 use crate::phases::has_results;
 use crate::refusal::Refusal;
-use crate::reply::{Reply, ResultRow};
+use crate::reply::Reply;
 use room_types::rows::copy_optional;
-use room_types::{Listing, OutOfMemory};
+use room_types::{Listing, OutOfMemory, ResultRow};
 use std::alloc::Global;
 
 /// What each participant gets, by identifier. Refused with `BadPhase` where there are no results.

@@ -25,4 +25,4 @@ returns c =
     let some : 0 < length words = some_words c.args.words.now (sym c.is_empty.ensures ∙ c.if-is_empty.false) in
     let kinds = c.in-Err.ensures.kinds (ap is_simple_and_free is ∙ usage_is_free) in
     let told = subst (λ (ks : Kinds). HasKind ks c.in-Err.error) (ap (λ (a : App). fault_of a words) is) kinds in
-    fault_told words c.in-Err.error c.fault_of.result some told c.fault_of.ensures
+    fault_told words c.in-Err.error c.fault_of.result some told c.fault_of.ensures.misread

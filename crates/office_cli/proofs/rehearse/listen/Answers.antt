@@ -3,16 +3,25 @@ use Rattle.std.proofs.lemmas.Result.{err_from_is_err_and}
 use Rattle.std.proofs.lemmas.Grind.{common_steps}
 use Rattle.room_types.specs.Watched.{counted}
 use Rattle.office_cli.proofs.StreamLemmas.{or_true, or_false, counted_one}
-use Rattle.office_cli.proofs.SessionLemmas.{Listened-nil, Listened-more, Listened-kept, Stopped-halted, Stopped-cut}
+use Rattle.office_cli.proofs.SessionLemmas.{Listened-nil, Listened-more, Listened-kept, Stopped-halted, Stopped-cut, OnlyWhereFailed-since}
 use Rattle.office_cli.proofs.rehearse.listen.Goals as goal
 
 pub returns-in_err-take_piece-in-Ok-clause-stopped : goal.returns-in_err-take_piece-in-Ok-clause-stopped
 returns-in_err-take_piece-in-Ok-clause-stopped g c =
     let p = err_from_is_err_and c.from_residual.result c.from_residual.ensures.1 in
-    rw (p.1, p.2) (Stopped-halted _ _ _ _ _ _ _ _ _ c.reads.invariant.heard c.in-Ok.ensures.bytes.0 c.in_err-take_piece-in-Ok.ensures.halted)
+    rw (p.1, p.2) (Stopped-halted _ _ _ _ _ _ _ _ _ c.reads.invariant.heard c.in-Ok.ensures.bytes.0 c.in_err-take_piece-in-Ok.ensures.halted
+    (c.in-Ok.ensures.failed ∙ or_false _ ∙ c.reads.invariant.failed))
+
+pub returns-in_err-take_piece-in-Ok-clause-failed : goal.returns-in_err-take_piece-in-Ok-clause-failed
+returns-in_err-take_piece-in-Ok-clause-failed g c =
+    let p = err_from_is_err_and c.from_residual.result c.from_residual.ensures.1 in
+    rw (p.1, p.2) (OnlyWhereFailed-since _ _ _ _ c.reads.invariant.heard.heard.failed c.in_err-take_piece-in-Ok.ensures.failed)
 
 pub returns-in-Err-clause-stopped : goal.returns-in-Err-clause-stopped
 returns-in-Err-clause-stopped g c = Stopped-cut _ _ _ _ (Listened-kept _ _ _ _ _ c.reads.invariant.heard c.in-Err.ensures.bytes) (inl (c.in-Err.ensures.failed ∙ or_true _))
+
+pub returns-in-Err-clause-failed : goal.returns-in-Err-clause-failed
+returns-in-Err-clause-failed g c = c.reads.invariant.heard.heard.failed
 
 pub reads-preserved : goal.reads-preserved
 reads-preserved g c = record {
@@ -26,6 +35,9 @@ reads-preserved g c = record {
 
 pub returns-clause-stopped : goal.returns-clause-stopped
 returns-clause-stopped g c = Stopped-cut _ _ _ _ c.reads.invariant.heard (inr (omega arith))
+
+pub returns-clause-failed : goal.returns-clause-failed
+returns-clause-failed g c = c.reads.invariant.heard.heard.failed
 
 pub reads-init : goal.reads-init
 reads-init g c = record {

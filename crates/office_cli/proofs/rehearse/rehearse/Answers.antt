@@ -15,8 +15,9 @@ returns-in-Ok-clause-rehearses g c =
     let heard = rw c.new-begun.ensures.items at c.in-Ok.ensures.heard in
     let unfinished = rw c.deref.ensures.value at c.in-Err-finish.ensures.unfinished in
     Rehearses-unfinished _ _ _ _ _ _ _ _ heard c.in-Ok.ensures.end unfinished c.in-Err-finish.ensures.failed
+    (c.in-Ok.ensures.kept ∙ c.requires.fresh_input.failed) c.requires.fresh_output.failed
 
 pub returns-clause-rehearses : goal.returns-clause-rehearses
 returns-clause-rehearses g c =
     let stopped = rw c.new-begun.ensures.items at c.in-Err.ensures.stopped in
-    Rehearses-stopped _ _ _ _ _ _ _ stopped c.in-Err.ensures.failed
+    Rehearses-stopped _ _ _ _ _ _ _ stopped c.in-Err.ensures.failed c.requires.fresh_input.failed c.requires.fresh_output.failed
