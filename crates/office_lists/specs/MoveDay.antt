@@ -28,6 +28,7 @@ abbrev pub ascending : {X : Type 0} → (X → X → Ordering) → List X → Li
 ascending cmp [] = []
 ascending cmp (item ∷ items) = placed cmp item (ascending cmp items)
 
+-- a wave as it is printed
 abbrev pub wave_text : Wave → Text
 wave_text (Nth number) = decimal number
 wave_text Swap = codes "swap"
@@ -38,5 +39,6 @@ moves_table =
     table (4 ∷ 12 ∷ 8 ∷ []) (codes "wave" ∷ codes "person" ∷ codes "from" ∷ codes "to" ∷ [])
     (λ row. wave_text row.wave ∷ row.person ∷ or_none row.from ∷ or_none row.to ∷ [])
 
+-- the list for the day of moving: a line for each move, in the order in which they take place
 abbrev pub move_day_table : List Move → Text
 move_day_table moves = moves_table (ascending move_cmp moves)

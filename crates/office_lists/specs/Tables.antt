@@ -26,15 +26,18 @@ table widths headings cells rows = line widths headings ++ flat_map (λ row. lin
 abbrev pub or_none : Option Text → Text
 or_none text = unwrap_or text (codes "none")
 
+-- a line for each room, with who lives there
 abbrev pub rooms_table : List RoomRow → Text
 rooms_table =
     table (8 ∷ 8 ∷ []) (codes "room" ∷ codes "state" ∷ codes "tenant" ∷ [])
     (λ row. row.room ∷ state_text row.state ∷ or_none row.tenant ∷ [])
 
+-- a line for each person, with where they live
 abbrev pub people_table : List PersonRow → Text
 people_table =
     table (12 ∷ 8 ∷ []) (codes "person" ∷ codes "home" ∷ codes "name" ∷ [])
     (λ row. row.person ∷ or_none row.home ∷ row.name ∷ [])
 
+-- a line for each participant, with what they get
 abbrev pub results_table : List ResultRow → Text
 results_table = table (12 ∷ []) (codes "person" ∷ codes "room" ∷ []) (λ row. row.person ∷ or_none row.room ∷ [])

@@ -1,15 +1,17 @@
 -- A line of people, as a list: the front first.
 use Rattle.std.specs.Prelude.{ℕ, Bool, true, Option, Some, None, List, [], ◌∷◌, ◌==◌, false, not, filter}
 
--- the front of a line, the others, and whether nobody is left
+-- the front of a line
 abbrev pub front_of : List ℕ → Option ℕ
 front_of [] = None
 front_of (x ∷ xs) = Some x
 
+-- the others
 abbrev pub tail_of : List ℕ → List ℕ
 tail_of [] = []
 tail_of (x ∷ xs) = xs
 
+-- whether nobody is left
 abbrev pub is_none_left : List ℕ → Bool
 is_none_left [] = true
 is_none_left (x ∷ xs) = false

@@ -31,10 +31,11 @@ is_room r (Some x) = x == r
 abbrev pub tenant : Market → ℕ → Option ℕ
 tenant m r = first_below m.people (λ p. is_room r (home m p))
 
--- whether p lives somewhere, and how many do
+-- whether p lives somewhere
 abbrev pub is_tenant : Market → ℕ → Bool
 is_tenant m p = is_some (home m p)
 
+-- how many people live somewhere
 abbrev pub tenant_count : Market → ℕ
 tenant_count m = count_below m.people (is_tenant m)
 
