@@ -1,0 +1,113 @@
+"""Runs the gate, and prints what each crate's proof, tests and wrong bodies cost.
+
+The prover's processes are looked at twice a second: a process names its crate, a check of tests has a flag of its own,
+and a wrong body is checked in a temporary folder. What a process used after the last look at it is not counted.
+"""
+
+import os
+import re
+import shlex
+import signal
+import subprocess
+import sys
+import time
+from collections import defaultdict
+from dataclasses import dataclass, field
+
+INTERVAL = 0.5
+TICKS = os.sysconf("SC_CLK_TCK")
+PARTS = ("proof", "tests", "edits")
+
+
+@dataclass
+class Cost:
+    """What one part of a crate's gate took, in seconds."""
+
+    began: float = 0.0
+    ended: float = 0.0
+    used: dict = field(default_factory=dict)
+
+    def note(self, now, process, used):
+        self.began = self.began or now
+        self.ended = now
+        self.used[process] = used
+
+
+def processes():
+    """All processes: number, that of the parent, processor time in seconds, words, working folder."""
+    for name in filter(str.isdigit, os.listdir("/proc")):
+        try:
+            with open(f"/proc/{name}/stat", encoding="utf-8") as it:
+                text = it.read()
+            with open(f"/proc/{name}/cmdline", "rb") as it:
+                words = it.read().decode(errors="replace").split("\0")
+            folder = os.readlink(f"/proc/{name}/cwd")
+        except OSError:
+            continue
+        rest = text[text.rindex(")") + 2 :].split()
+        # the process's own user and system time, and its start, since numbers come again
+        yield int(name), int(rest[1]), (int(rest[11]) + int(rest[12])) / TICKS, rest[19], words, folder
+
+
+def part_of(words, folder):
+    """The crate and the part that a check of the prover is of, if it is one."""
+    if not words or not words[0].endswith("/rattle") or "--crate-name" not in words:
+        return None
+    crate = words[words.index("--crate-name") + 1]
+    if os.path.basename(folder).startswith("rt-edit-"):
+        return crate, "edits"
+    return crate, "tests" if "--test" in words else "proof"
+
+
+def look(gate, costs, now):
+    """Adds what the gate's processes have used to the costs: a child's to those of the check that started it."""
+    seen = {number: rest for number, *rest in processes()}
+    for number, (_, used, start, _, _) in seen.items():
+        above, part = number, None
+        while above in seen and above != gate:
+            parent, _, _, words, folder = seen[above]
+            part, above = part or part_of(words, folder), parent
+        if part and above == gate:
+            costs[part].note(now, (number, start), used)
+
+
+def minutes(seconds):
+    return f"{seconds / 60:.1f}"
+
+
+def table(costs, elapsed):
+    yield "| Crate | Proof | Tests | Wrong bodies | Processor time |"
+    yield "|---|---|---|---|---|"
+    whole = 0.0
+    for crate in dict.fromkeys(crate for crate, _ in costs):
+        cells, used_by_crate = [], 0.0
+        for part in PARTS:
+            cost = costs.get((crate, part), Cost())
+            used = sum(cost.used.values())
+            used_by_crate += used
+            cells.append(f"{minutes(cost.ended - cost.began)} ({minutes(used)})" if cost.used else "")
+        whole += used_by_crate
+        yield f"| `{crate}` | {' | '.join(cells)} | {minutes(used_by_crate)} |"
+    yield f"| all | | | | {minutes(whole)}, in {minutes(elapsed)} by the clock |"
+
+
+def main(log, command):
+    costs, began = defaultdict(Cost), time.monotonic()
+    with open(log, "w", encoding="utf-8") as out:
+        gate = subprocess.Popen(shlex.split(command), stdout=out, stderr=subprocess.STDOUT, stdin=subprocess.DEVNULL)
+        try:
+            while gate.poll() is None:
+                look(gate.pid, costs, time.monotonic())
+                time.sleep(INTERVAL)
+        finally:
+            # an interrupted measurement ends the gate too, and what that has started ends with it
+            gate.terminate()
+    print("\n".join(table(costs, time.monotonic() - began)))
+    with open(log, encoding="utf-8", errors="replace") as it:
+        print(([line for line in it.read().splitlines() if re.search(r"\S", line)] or ["no output"])[-1])
+    return gate.returncode
+
+
+if __name__ == "__main__":
+    signal.signal(signal.SIGTERM, lambda *_: sys.exit(143))
+    sys.exit(main(sys.argv[1], " ".join(sys.argv[2:])))
