@@ -1,18 +1,10 @@
--- The entries that were read are at least those that are needed.
-use Rattle.std.proofs.Common.{◌≡◌, ℕ, zero, suc, ◌+◌, ◌<◌, ◌≤◌, Bool, true, false, cond, ◌==◌, List, [], ◌∷◌, ◌++◌, length, Option, Some, None, find, get_or, set, refl, sym, ap, ap₂, ◌∙◌, subst, inl, inr, arith, eq-eqb, ne_eqb, le_refl, get_or-set_other}
-use Rattle.std.proofs.lemmas.Bool.{cases_Bool, cases_eq, cond-true, cond-false, both_ways, or_parts}
-use Rattle.trade_line.specs.Below.{sum_below, or_else}
-use Rattle.trade_line.specs.Market.{Market, IsMarket, home, list_of}
-use Rattle.trade_line.specs.Member.{among, Once}
+-- Sums over people, and what an ask reads of a list.
+use Rattle.std.proofs.Common.{◌≡◌, ℕ, zero, suc, ◌+◌, ◌<◌, ◌≤◌, Bool, true, false, ◌==◌, List, [], ◌∷◌, length, Some, None, find, get_or, drop, refl, sym, ap, ◌∙◌, subst, inl, inr, arith, eq-eqb, le_refl}
+use Rattle.std.proofs.lemmas.Bool.{cases_Bool, cases_eq, or_left, or_right}
+use Rattle.trade_line.specs.Below.{sum_below}
+use Rattle.trade_line.specs.Member.{among}
 use Rattle.trade_line.specs.Rank.{place}
-use Rattle.trade_line.specs.Looks.{needed}
-use Rattle.trade_line.specs.TopTradingCycles.{Stage, wish}
-use Rattle.trade_line.specs.Inner.Queue.{last_of, WaitsBehind}
-use Rattle.trade_line.specs.Inner.Reads.{reads}
-use Rattle.trade_line.specs.Inner.Looks.{needed_behind, needed_chain, linked, linked_line}
-use Rattle.trade_line.proofs.Lines.{among_self, among_more, among-append}
-use Rattle.trade_line.proofs.Ranks.{find_among, rank_listed}
-use Rattle.trade_line.proofs.Search.{find_passes}
+use Rattle.trade_line.specs.Inner.Reads.{reads, skipped}
 
 -- sums
 pub sum_le : (n : ℕ) (f g : ℕ → ℕ) → ((y : ℕ) → y < n → g y ≤ f y) → sum_below n g ≤ sum_below n f
@@ -29,136 +21,117 @@ sum_none (suc n) f h =
     let last : f n ≡ 0 = h n (omega arith) in
     omega arith
 
--- one of the summands grows by k
-pub sum_more : (n : ℕ) (f g : ℕ → ℕ) (a k : ℕ) → a < n → g a ≤ f a + k → ((y : ℕ) → y < n → (y ≡ a → ⊥) → g y ≤ f y) → sum_below n g ≤ sum_below n f + k
-sum_more zero f g a k l at others = absurd (omega arith)
-sum_more (suc n) f g a k l at others =
+-- one of the summands is another
+pub sum_point : (n : ℕ) (f g : ℕ → ℕ) (a : ℕ) → a < n → ((y : ℕ) → y < n → (y ≡ a → ⊥) → g y ≡ f y)
+    → sum_below n g + f a ≡ sum_below n f + g a
+sum_point zero f g a l others = absurd (omega arith)
+sum_point (suc n) f g a l others =
     elim (cases_eq a n) [
       | inl e ↦
-          let ih : sum_below n g ≤ sum_below n f = sum_le n f g (λ y yl. others y (omega arith) (λ z. omega arith)) in
-          let last : g n ≤ f n + k = subst (λ z. g z ≤ f z + k) e at in
+          let ih : sum_below n g ≤ sum_below n f = sum_le n f g (λ y yl. let z : g y ≡ f y = others y (omega arith) (λ q. omega arith) in omega arith) in
+          let ih2 : sum_below n f ≤ sum_below n g = sum_le n g f (λ y yl. let z : g y ≡ f y = others y (omega arith) (λ q. omega arith) in omega arith) in
+          let at_f : f a ≡ f n = ap f e in
+          let at_g : g a ≡ g n = ap g e in
           omega arith
       | inr d ↦
-          let ih : sum_below n g ≤ sum_below n f + k = sum_more n f g a k (omega arith) at (λ y yl ne. others y (omega arith) ne) in
-          let last : g n ≤ f n = others n (omega arith) (λ z. d (sym z)) in
+          let ih : sum_below n g + f a ≡ sum_below n f + g a = sum_point n f g a (omega arith) (λ y yl ne. others y (omega arith) ne) in
+          let last : g n ≡ f n = others n (omega arith) (λ z. d (sym z)) in
           omega arith
     ]
 
-abbrev pub sum_of : (ℕ → ℕ) → List ℕ → ℕ
-sum_of k [] = 0
-sum_of k (x ∷ xs) = k x + sum_of k xs
-
--- some of the summands grow, each x of the list by k x
-pub sum_points : (n : ℕ) (xs : List ℕ) (f g k : ℕ → ℕ) → Once xs → ((y : ℕ) → among xs y ≡ true → y < n) → ((y : ℕ) → among xs y ≡ true → g y ≤ f y + k y) → ((y : ℕ) → y < n → among xs y ≡ false → g y ≤ f y) → sum_below n g ≤ sum_below n f + sum_of k xs
-sum_points n [] f g k once inside at others = let l : sum_below n g ≤ sum_below n f = sum_le n f g (λ y yl. others y yl refl) in omega arith
-sum_points n (x ∷ xs) f g k once inside at others =
-    let ih : sum_below n g ≤ sum_below n grown + sum_of k xs = sum_points n xs grown g k once.1 (λ y h. inside y (among_more x xs y h)) at_grown others_grown in
-    let more : sum_below n grown ≤ sum_below n f + k x = sum_more n f grown x (k x) (inside x (among_self x xs)) here (λ y l d. away y (λ e. d (sym e))) in
-    omega arith
-  where
-    grown : ℕ → ℕ
-    grown y = cond (x == y) (f y + k x) (f y)
-
-    here_is : (x == x) ≡ true → cond (x == x) (f x + k x) (f x) ≤ f x + k x
-    here_is e = rw e (le_refl (f x + k x))
-
-    here : cond (x == x) (f x + k x) (f x) ≤ f x + k x
-    here = here_is (eq-eqb x x refl)
-
-    away : (y : ℕ) → (x ≡ y → ⊥) → cond (x == y) (f y + k x) (f y) ≤ f y
-    away y d = rw (ne_eqb x y d) (le_refl (f y))
-
-    at_grown : (y : ℕ) → among xs y ≡ true → g y ≤ cond (x == y) (f y + k x) (f y) + k y
-    at_grown y h =
-        let d : x ≡ y → ⊥ = λ e. both_ways (among xs x) once.0 (subst (λ z. among xs z ≡ true) (sym e) h) in
-        rw (ne_eqb x y d) (at y (among_more x xs y h))
-
-    others_grown : (y : ℕ) → y < n → among xs y ≡ false → g y ≤ cond (x == y) (f y + k x) (f y)
-    others_grown y l h =
-        elim (cases_eq x y) [
-          | inl e ↦ rw (eq-eqb x y e) (subst (λ z. g y ≤ f y + k z) (sym e) (at y (subst (λ z. among (x ∷ xs) z ≡ true) e (among_self x xs))))
-          | inr d ↦ rw (ne_eqb x y d) (others y l (rw (ne_eqb x y d) h))
-        ]
-
-pub once_left : (xs ys : List ℕ) → Once (xs ++ ys) → Once xs
-once_left [] ys o = tt
-once_left (x ∷ xs) ys o = ((or_parts (among xs x) (among ys x) (sym (among-append xs ys x) ∙ o.0)).0, once_left xs ys o.1)
-
--- reads
-reads_none : (q : ℕ → Bool) (xs : List ℕ) → find q xs ≡ None → reads q xs ≡ length xs
-reads_none q [] h = refl
-reads_none q (x ∷ xs) h =
-    elim (cases_Bool (q x)) [
-      | inl y ↦ absurd (let z : Some x ≡ None = sym (rw y refl) ∙ h in cc)
-      | inr n ↦ rw n (ap suc (reads_none q xs (sym (rw n refl) ∙ h)))
+-- one of the summands grows by k, and none falls
+pub sum_gain : (n : ℕ) (f g : ℕ → ℕ) (a k : ℕ) → a < n → f a + k ≤ g a
+    → ((y : ℕ) → y < n → (y ≡ a → ⊥) → f y ≤ g y) → sum_below n f + k ≤ sum_below n g
+sum_gain zero f g a k l at others = absurd (omega arith)
+sum_gain (suc n) f g a k l at others =
+    elim (cases_eq a n) [
+      | inl e ↦
+          let ih : sum_below n f ≤ sum_below n g = sum_le n g f (λ y yl. others y (omega arith) (λ z. omega arith)) in
+          let last : f n + k ≤ g n = subst (λ z. f z + k ≤ g z) e at in
+          omega arith
+      | inr d ↦
+          let ih : sum_below n f + k ≤ sum_below n g = sum_gain n f g a k (omega arith) at (λ y yl ne. others y (omega arith) ne) in
+          let last : f n ≤ g n = others n (omega arith) (λ z. d (sym z)) in
+          omega arith
     ]
 
-reads_place : (q : ℕ → Bool) (xs : List ℕ) (x : ℕ) → find q xs ≡ Some x → suc (place x xs) ≤ reads q xs
-reads_place q [] x h = absurd (cc)
-reads_place q (y ∷ ys) x h =
+-- two summands are at most one more than a third
+pub sum_two : (n : ℕ) (f g h : ℕ → ℕ) → ((y : ℕ) → y < n → f y + g y ≤ suc (h y))
+    → sum_below n f + sum_below n g ≤ n + sum_below n h
+sum_two zero f g h each = le_refl 0
+sum_two (suc n) f g h each =
+    let ih : sum_below n f + sum_below n g ≤ n + sum_below n h = sum_two n f g h (λ y l. each y (omega arith)) in
+    let last : f n + g n ≤ suc (h n) = each n (omega arith) in
+    omega arith
+
+-- an ask reads a list up to the first entry that passes
+pub skipped_gone : (q : ℕ → Bool) (xs : List ℕ) (k : ℕ) → k < skipped q xs → q (get_or xs k 0) ≡ false
+skipped_gone q [] k l = absurd (omega arith)
+skipped_gone q (x ∷ xs) zero l =
+    elim (cases_Bool (q x)) [
+      | inl t ↦ let z : skipped q (x ∷ xs) ≡ 0 = rw t refl in absurd (omega arith)
+      | inr f ↦ f
+    ]
+skipped_gone q (x ∷ xs) (suc k) l =
+    elim (cases_Bool (q x)) [
+      | inl t ↦ let z : skipped q (x ∷ xs) ≡ 0 = rw t refl in absurd (omega arith)
+      | inr f ↦ let z : skipped q (x ∷ xs) ≡ suc (skipped q xs) = rw f refl in skipped_gone q xs k (omega arith)
+    ]
+
+pub skipped_most : (q : ℕ → Bool) (xs : List ℕ) → skipped q xs ≤ length xs
+skipped_most q [] = le_refl 0
+skipped_most q (x ∷ xs) =
+    elim (cases_Bool (q x)) [
+      | inl t ↦ rw t (omega arith)
+      | inr f ↦ rw f (let ih : skipped q xs ≤ length xs = skipped_most q xs in omega arith)
+    ]
+
+-- what was found: where it stands, and what it took
+pub found_at : (q : ℕ → Bool) (xs : List ℕ) (x : ℕ) → find q xs ≡ Some x
+    → (skipped q xs < length xs) × (get_or xs (skipped q xs) 0 ≡ x) × (reads q xs ≡ suc (skipped q xs))
+found_at q [] x e = absurd (cc)
+found_at q (y ∷ ys) x e =
     elim (cases_Bool (q y)) [
       | inl t ↦
-          let e : Some y ≡ Some x = sym (rw t refl) ∙ h in
-          let ey : y ≡ x = cc in
-          rw (eq-eqb y x ey, t) (le_refl 1)
+          let z : Some y ≡ Some x = sym (rw t refl) ∙ e in
+          let zz : y ≡ x = cc in
+          rw t (omega arith, zz, refl)
       | inr f ↦
-          let found : find q ys ≡ Some x = sym (rw f refl) ∙ h in
-          let d : y ≡ x → ⊥ = λ e. both_ways (q x) (subst (λ z. q z ≡ false) e f) (find_passes q ys x found) in
-          let ih : suc (place x ys) ≤ reads q ys = reads_place q ys x found in
-          rw (ne_eqb y x d, f) (omega arith)
+          let ih : (skipped q ys < length ys) × (get_or ys (skipped q ys) 0 ≡ x) × (reads q ys ≡ suc (skipped q ys)) = found_at q ys x (sym (rw f refl) ∙ e) in
+          rw f (omega (arith, ih.0), ih.1, ap suc ih.2)
     ]
 
-module _ (m : Market) where
-  -- an ask reads at least what its wish needs
-  pub need_read : IsMarket m → (s : Stage) (p : ℕ) → needed m p (wish m s p) ≤ reads s.rooms (list_of m p)
-  unfolding wish
-  need_read ok s p = by_found (find s.rooms (list_of m p)) refl
-    where
-      by_found : (o : Option ℕ) → find s.rooms (list_of m p) ≡ o → needed m p (or_else o (home m p)) ≤ reads s.rooms (list_of m p)
-      by_found None f = omega (arith, reads_none s.rooms (list_of m p) f)
-      by_found (Some x) f = omega (arith, reads_place s.rooms (list_of m p) x f, rank_listed m ok p x (find_among s.rooms (list_of m p) x f))
+-- where nothing was found the whole list was read
+pub none_at : (q : ℕ → Bool) (xs : List ℕ) → find q xs ≡ None
+    → (skipped q xs ≡ length xs) × (reads q xs ≡ length xs)
+none_at q [] e = (refl, refl)
+none_at q (y ∷ ys) e =
+    elim (cases_Bool (q y)) [
+      | inl t ↦ let z : Some y ≡ None = sym (rw t refl) ∙ e in absurd (cc)
+      | inr f ↦
+          let ih : (skipped q ys ≡ length ys) × (reads q ys ≡ length ys) = none_at q ys (sym (rw f refl) ∙ e) in
+          rw f (ap suc ih.0, ap suc ih.1)
+    ]
 
-  linked_fresh : (asked : List Bool) (a : ℕ) (ys : List ℕ) → ((p : ℕ) → among ys p ≡ true → get_or asked p false ≡ false) → linked m asked a ys ≡ 0
-  linked_fresh asked a [] h = refl
-  linked_fresh asked a (b ∷ r) h =
-      ap₂ (λ (x y : ℕ). x + y) (cond-false (get_or asked b false) (needed m b (home m a)) 0 (h b (among_self b r))) (linked_fresh asked b r (λ p i. h p (among_more b r p i)))
+-- where the first c entries don't pass, the search may begin behind them
+pub find_on : (q : ℕ → Bool) (xs : List ℕ) (c : ℕ) → ((k : ℕ) → k < c → q (get_or xs k 0) ≡ false)
+    → find q xs ≡ find q (drop c xs)
+find_on q xs zero h = refl
+find_on q [] (suc c) h = refl
+find_on q (x ∷ xs) (suc c) h =
+    let f : q x ≡ false = h 0 (omega arith) in
+    rw f (find_on q xs c (λ k l. h (suc k) (omega arith)))
 
-  linked_behind : (asked : List Bool) (a : ℕ) (xs ys : List ℕ) → ((p : ℕ) → among xs p ≡ true → get_or asked p false ≡ true) → ((p : ℕ) → among ys p ≡ true → get_or asked p false ≡ false) → linked m asked a (xs ++ ys) ≡ needed_behind m a xs
-  linked_behind asked a [] ys all none = linked_fresh asked a ys none
-  linked_behind asked a (b ∷ r) ys all none =
-      ap₂ (λ (x y : ℕ). x + y) (cond-true (get_or asked b false) (needed m b (home m a)) 0 (all b (among_self b r))) (linked_behind asked b r ys (λ p i. all p (among_more b r p i)) none)
+pub place_most : (xs : List ℕ) (i x : ℕ) → i < length xs → get_or xs i 0 ≡ x → place x xs ≤ i
+place_most [] i x l e = absurd (omega arith)
+place_most (y ∷ ys) zero x l e = rw (eq-eqb y x e) (le_refl 0)
+place_most (y ∷ ys) (suc i) x l e =
+    elim (cases_Bool (y == x)) [
+      | inl t ↦ rw t (omega arith)
+      | inr f ↦ let ih : place x ys ≤ i = place_most ys i x (omega arith) e in rw f (omega arith)
+    ]
 
-  -- of a line in two parts, of which the first has asked
-  pub linked_split : (asked : List Bool) (line waiting fresh : List ℕ) → line ≡ waiting ++ fresh → ((p : ℕ) → among waiting p ≡ true → get_or asked p false ≡ true) → ((p : ℕ) → among fresh p ≡ true → get_or asked p false ≡ false) → linked_line m asked line ≡ needed_chain m waiting
-  linked_split asked line waiting fresh e all none = ap (linked_line m asked) e ∙ by_waiting waiting all
-    where
-      by_fresh : (ys : List ℕ) → ((p : ℕ) → among ys p ≡ true → get_or asked p false ≡ false) → linked_line m asked ys ≡ 0
-      by_fresh [] h = refl
-      by_fresh (y ∷ ys) h = linked_fresh asked y ys (λ p i. h p (among_more y ys p i))
-
-      by_waiting : (ws : List ℕ) → ((p : ℕ) → among ws p ≡ true → get_or asked p false ≡ true) → linked_line m asked (ws ++ fresh) ≡ needed_chain m ws
-      by_waiting [] h = by_fresh fresh none
-      by_waiting (a ∷ r) h = linked_behind asked a r fresh (λ p i. h p (among_more a r p i)) none
-
-  linked_other : (asked : List Bool) (a b : ℕ) (xs : List ℕ) → among xs a ≡ false → linked m (set asked a true) b xs ≡ linked m asked b xs
-  linked_other asked a b [] h = refl
-  linked_other asked a b (x ∷ xs) h =
-      ap₂ (λ (q : Bool) (n : ℕ). cond q (needed m x (home m b)) 0 + n)
-      (get_or-set_other asked a x true false (λ e. both_ways (among (x ∷ xs) a) h (subst (λ z. among (x ∷ xs) z ≡ true) e (among_self x xs))))
-      (linked_other asked a x xs (or_parts (x == a) (among xs a) h).1)
-
-  pub linked_marked : (asked : List Bool) (a : ℕ) (line r : List ℕ) → line ≡ a ∷ r → among r a ≡ false → linked_line m (set asked a true) line ≡ linked_line m asked line
-  linked_marked asked a line r e h = ap (linked_line m (set asked a true)) e ∙ linked_other asked a a r h ∙ sym (ap (linked_line m asked) e)
-
-  pub needed_behind-append : (a : ℕ) (xs ys : List ℕ) → needed_behind m a (xs ++ ys) ≡ needed_behind m a xs + needed_behind m (last_of a xs) ys
-  needed_behind-append a [] ys = omega arith
-  needed_behind-append a (b ∷ r) ys = let ih : needed_behind m b (r ++ ys) ≡ needed_behind m b r + needed_behind m (last_of b r) ys = needed_behind-append b r ys in omega arith
-
-  pub chain_less : (a : ℕ) (xs : List ℕ) → needed_chain m xs ≤ needed_behind m a xs
-  chain_less a [] = le_refl 0
-  chain_less a (b ∷ r) = omega arith
-
-  -- those who wait wish for the homes before them
-  pub chain_sum : (s : Stage) (a : ℕ) (xs : List ℕ) → WaitsBehind m s a xs → sum_of (λ q. needed m q (wish m s q)) xs ≡ needed_behind m a xs
-  chain_sum s a [] ws = refl
-  chain_sum s a (b ∷ r) ws = ap₂ (λ (o : Option ℕ) (n : ℕ). needed m b o + n) (ws.0.2 ∙ sym ws.0.1) (chain_sum s b r ws.1)
+pub among_at : (xs : List ℕ) (i x : ℕ) → i < length xs → get_or xs i 0 ≡ x → among xs x ≡ true
+among_at [] i x l e = absurd (omega arith)
+among_at (y ∷ ys) zero x l e = or_left (y == x) (among ys x) (eq-eqb y x e)
+among_at (y ∷ ys) (suc i) x l e = or_right (y == x) (among ys x) (among_at ys i x (omega arith) e)

@@ -2,7 +2,7 @@
 use Rattle.std.proofs.Common.{◌≡◌, ℕ, suc, ◌+◌, ◌<◌, ◌≤◌, Bool, true, false, not, ◌&&◌, ◌||◌, ◌==◌, cond, List, length, replicate, Option, Some, None, get_or, set, refl, sym, ap, ◌∙◌, subst, inl, inr, arith, add-one, eq-eqb, length-set, get_or-set_same, get_or-set_other, lt-ltb, le-ltb, ltb}
 use Rattle.std.specs.Option.{unwrap_or}
 use Rattle.std.proofs.lemmas.Bool.{cases_Bool, cases_lt, cases_eq, both_ways, cond-true, cond-false, and_from, and_parts}
-use Rattle.std.proofs.lemmas.List.{get_or_past}
+use Rattle.std.proofs.lemmas.List.{get_or_past, get_or-replicate, length-replicate}
 use Rattle.std.proofs.lemmas.List.FromFn.{fill_by_all}
 use Rattle.trade_line.specs.Below.{first_below, some_below, times}
 use Rattle.trade_line.specs.Market.{Market, is_room, tenant}
@@ -16,7 +16,6 @@ use Rattle.trade_line.proofs.Search.{first_finds, first_passes, first_is_least, 
 use Rattle.trade_line.proofs.States.{read_same}
 use Rattle.trade_line.proofs.Steps.{IsKnown}
 use Rattle.trade_line.proofs.Unique.{same_stage}
-use Rattle.trade_line.proofs.Whole.{get_or-replicate, length-same}
 
 pub read_mark : (xs : List Bool) (i : ℕ) (r : Bool) → i < length xs → r ≡ get_or xs i r → get_or xs i false ≡ r
 read_mark xs i r l e = read_same xs i false r l ∙ sym e
@@ -170,17 +169,17 @@ module _ (m : Market) (s : Stage) (old : List (Option ℕ)) where
 marks : (n k : ℕ) → n ≡ k → (i : ℕ) → get_or (replicate n true) i false ≡ ltb i k
 marks n k e i =
     elim (cases_lt i k) [
-      | inl l ↦ get_or-replicate n true false i (omega arith) ∙ sym (lt-ltb i k l)
-      | inr ge ↦ get_or_past (replicate n true) i false (let z : length (replicate n true) ≡ n = length-same n true in omega arith) ∙ sym (le-ltb i k ge)
+      | inl l ↦ get_or-replicate n i true false (omega arith) ∙ sym (lt-ltb i k l)
+      | inr ge ↦ get_or_past (replicate n true) i false (let z : length (replicate n true) ≡ n = length-replicate n true in omega arith) ∙ sym (le-ltb i k ge)
     ]
 
 module _ (m : Market) where
   pub stepped_start : (n rooms : ℕ) → n ≡ m.people → rooms ≡ m.rooms → Stepped m (marked_stage (replicate n true) (replicate rooms true)) (replicate n None) m.people
   unfolding gets start
   stepped_start n rooms e f = record {
-    gone = λ p l h. absurd (both_ways (get_or (replicate n true) p false) h (get_or-replicate n true false p (omega arith)));
+    gone = λ p l h. absurd (both_ways (get_or (replicate n true) p false) h (get_or-replicate n p true false (omega arith)));
     there = λ p l h. ap (λ z. gets_within m m.people z p) (sym same);
-    nothing = λ p l h. get_or-replicate n None None p (omega arith);
+    nothing = λ p l h. get_or-replicate n p None None (omega arith);
   }
     where
       same : marked_stage (replicate n true) (replicate rooms true) ≡ start m

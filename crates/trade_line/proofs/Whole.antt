@@ -1,10 +1,10 @@
 -- A whole run: its start and its end.
 use Rattle.trade_line.proofs.Asked.{asked_none}
-use Rattle.std.proofs.Common.{◌≡◌, ℕ, zero, suc, ◌+◌, ◌<◌, ◌≤◌, true, false, not, ◌&&◌, ◌==◌, List, [], ◌∷◌, length, replicate, None, get_or, refl, sym, ap, ◌∙◌, subst, inl, inr, arith, ltb, ltb-true, lt-ltb, le-ltb, eqb-true, eq-eqb, cond}
+use Rattle.std.proofs.Common.{◌≡◌, ℕ, zero, suc, ◌+◌, ◌<◌, ◌≤◌, true, false, not, ◌&&◌, ◌==◌, List, [], ◌∷◌, length, replicate, None, get_or, refl, sym, ap, ◌∙◌, subst, inl, inr, arith, ltb, ltb-true, lt-ltb, le-ltb, eqb-true, eq-eqb}
 use Rattle.std.specs.List.{range_with_len}
 use Rattle.std.proofs.lemmas.List.FromFn.{length-range_with_len, fill_by_all}
-use Rattle.std.proofs.lemmas.List.{get_or_past}
-use Rattle.std.proofs.lemmas.Bool.{cond-true, cases_lt, or_cases, or_left, or_right, false_from_ne_true, both_ways, and_parts}
+use Rattle.std.proofs.lemmas.List.{get_or_past, get_or-replicate, length-replicate}
+use Rattle.std.proofs.lemmas.Bool.{cases_lt, or_cases, or_left, or_right, false_from_ne_true, both_ways, and_parts}
 use Rattle.trade_line.specs.Below.{count_below}
 use Rattle.trade_line.specs.Market.{Market, IsMarket, is_tenant, tenant_count}
 use Rattle.trade_line.specs.Inner.Fresh.{IsFresh}
@@ -17,17 +17,12 @@ use Rattle.trade_line.specs.Inner.State.{State, stage_at, given_to}
 use Rattle.trade_line.specs.Inner.Run.{Underway}
 use Rattle.trade_line.specs.Inner.Turn.{asked_in}
 use Rattle.trade_line.specs.Inner.Removal.Leads.{done}
-use Rattle.trade_line.specs.Below.{sum_below}
-use Rattle.trade_line.specs.Assignment.{given_in}
-use Rattle.trade_line.specs.Looks.{needed, all_needed}
-use Rattle.trade_line.specs.Inner.Looks.{linked_line, served_needed}
-use Rattle.trade_line.proofs.Looks.{sum_none, linked_split}
 use Rattle.trade_line.proofs.Search.{same_yes}
 use Rattle.trade_line.proofs.Count.{count_most, count_le}
 use Rattle.trade_line.proofs.Unique.{same_stage}
 use Rattle.trade_line.proofs.Steps.{leads_gets}
 
-range_has : (a n p : ℕ) → a ≤ p → p < a + n → among (range_with_len a n) p ≡ true
+pub range_has : (a n p : ℕ) → a ≤ p → p < a + n → among (range_with_len a n) p ≡ true
 range_has a zero p l h = absurd (omega arith)
 range_has a (suc n) p l h =
     elim (cases_lt a p) [
@@ -35,7 +30,7 @@ range_has a (suc n) p l h =
       | inr b ↦ or_left (a == p) (among (range_with_len (a + 1) n) p) (eq-eqb a p (omega arith))
     ]
 
-range_within : (a n p : ℕ) → among (range_with_len a n) p ≡ true → (a ≤ p) × (p < a + n)
+pub range_within : (a n p : ℕ) → among (range_with_len a n) p ≡ true → (a ≤ p) × (p < a + n)
 range_within a zero p h = absurd (both_ways false refl h)
 range_within a (suc n) p h =
     elim (or_cases (a == p) (among (range_with_len (a + 1) n) p) h) [
@@ -43,7 +38,7 @@ range_within a (suc n) p h =
       | inr i ↦ let r : (a + 1 ≤ p) × (p < (a + 1) + n) = range_within (a + 1) n p i in (omega (arith, r.0), omega (arith, r.1))
     ]
 
-range_once : (a n : ℕ) → Once (range_with_len a n)
+pub range_once : (a n : ℕ) → Once (range_with_len a n)
 range_once a zero = tt
 range_once a (suc n) =
     (false_from_ne_true (among (range_with_len (a + 1) n) a) (λ h. let r : (a + 1 ≤ a) × (a < (a + 1) + n) = range_within (a + 1) n a h in absurd (omega (arith, r.0))), range_once (a + 1) n)
@@ -56,19 +51,10 @@ range_ascends : (a n : ℕ) → Ascends (range_with_len a n)
 range_ascends a zero = tt
 range_ascends a (suc n) = range_ascends_from a (a + 1) n (omega arith)
 
-pub get_or-replicate : {A : Type 0} (n : ℕ) (x d : A) (i : ℕ) → i < n → get_or (replicate n x) i d ≡ x
-get_or-replicate zero x d i h = absurd (omega arith)
-get_or-replicate (suc n) x d zero h = refl
-get_or-replicate (suc n) x d (suc i) h = get_or-replicate n x d i (omega (arith, h))
-
 pub all_same : {A : Type 0} (n : ℕ) (x : A) (i : ℕ) → get_or (replicate n x) i x ≡ x
 all_same zero x i = refl
 all_same (suc n) x zero = refl
 all_same (suc n) x (suc i) = all_same n x i
-
-pub length-same : {A : Type 0} (n : ℕ) (x : A) → length (replicate n x) ≡ n
-length-same zero x = refl
-length-same (suc n) x = ap suc (length-same n x)
 
 module _ (m : Market) where
   start_stage : (s : State) → s.line ≡ range_with_len 0 m.people → s.remaining ≡ replicate m.rooms true → stage_at s ≡ start m
@@ -83,14 +69,14 @@ module _ (m : Market) where
       rooms : (r : ℕ) → get_or s.remaining r false ≡ ltb r m.rooms
       rooms r =
           elim (cases_lt r m.rooms) [
-            | inl l ↦ ap (λ z. get_or z r false) ve ∙ get_or-replicate m.rooms true false r l ∙ sym (lt-ltb r m.rooms l)
-            | inr l ↦ get_or_past s.remaining r false (let e : length s.remaining ≡ m.rooms = ap length ve ∙ length-same m.rooms true in omega arith) ∙ sym (le-ltb r m.rooms l)
+            | inl l ↦ ap (λ z. get_or z r false) ve ∙ get_or-replicate m.rooms r true false l ∙ sym (lt-ltb r m.rooms l)
+            | inr l ↦ get_or_past s.remaining r false (let e : length s.remaining ≡ m.rooms = ap length ve ∙ length-replicate m.rooms true in omega arith) ∙ sym (le-ltb r m.rooms l)
           ]
 
-  pub underway_start : IsMarket m → (s : State) → s.line ≡ range_with_len 0 m.people → IsFresh s.asked s.remaining s.given → length s.asked ≡ m.people → length s.remaining ≡ m.rooms → Underway m s 0 0
-  underway_start ok s le fresh ae ve = record {
+  pub underway_start : IsMarket m → (s : State) (c : List ℕ) → s.line ≡ range_with_len 0 m.people → IsFresh s.asked s.remaining s.given c → length s.asked ≡ m.people → length s.remaining ≡ m.rooms → Underway m s 0
+  underway_start ok s c le fresh ae ve = record {
     standing = record {
-      fits = record { market = ok; asked_len = ae; remaining_len = ve; given_len = fresh.none_given ∙ ae };
+      fits = record { market = ok; asked_len = ae; remaining_len = ve; given_len = fresh.given_len ∙ ae };
       queue = record {
         waiting = [];
         fresh = s.line;
@@ -115,17 +101,11 @@ module _ (m : Market) where
         let b : asked_in s.asked s.line ≡ 0 = asked_none s.asked s.line (λ p h. ap (λ z. get_or z p false) fresh.none_asked ∙ all_same (length s.asked) false p) in
         omega arith);
     tenants_few = count_most m.people (is_tenant m);
-    paid_by = (
-        let served : served_needed m s ≡ 0 =
-        sum_none m.people (λ p. cond (among s.line p) 0 (needed m p (given_to s p)))
-        (λ y l. cond-true {A = ℕ} (among s.line y) 0 (needed m y (given_to s y)) (subst (λ z. among z y ≡ true) (sym le) (range_has 0 m.people y (omega arith) (omega arith)))) in
-        let chain : linked_line m s.asked s.line ≡ 0 = linked_split m s.asked s.line [] s.line refl (λ p h. absurd (both_ways false refl h)) (λ p h. ap (λ z. get_or z p false) fresh.none_asked ∙ all_same (length s.asked) false p) in
-        omega arith);
   }
 
-  pub underway_end : (s : State) (asks looks : ℕ) → Underway m s asks looks → front_of s.line ≡ None → s.given ≡ ttc m
+  pub underway_end : (s : State) (asks : ℕ) → Underway m s asks → front_of s.line ≡ None → s.given ≡ ttc m
   unfolding ttc
-  underway_end s asks looks u e =
+  underway_end s asks u e =
       fill_by_all (gets m) s.given m.people None u.standing.fits.given_len (λ k l. leads_gets m (given_to s) (u.settles (given_to s) ended) k l)
     where
       empty : (l : List ℕ) → front_of l ≡ None → (p : ℕ) → among l p ≡ false
@@ -138,18 +118,9 @@ module _ (m : Market) where
         leads = done (λ p. empty s.line e p);
       }
 
-  pub underway_asks : (s : State) (asks looks : ℕ) → Underway m s asks looks → front_of s.line ≡ None → m.people ≤ asks
-  underway_asks s asks looks u e = by_line s.line refl e
+  pub underway_asks : (s : State) (asks : ℕ) → Underway m s asks → front_of s.line ≡ None → m.people ≤ asks
+  underway_asks s asks u e = by_line s.line refl e
     where
       by_line : (l : List ℕ) → s.line ≡ l → front_of l ≡ None → m.people ≤ asks
       by_line [] le f = let a : length s.line ≡ 0 = ap length le in omega (arith, u.at_least)
-      by_line (x ∷ xs) le f = absurd (cc)
-
-  pub underway_looks : (s : State) (asks looks : ℕ) → Underway m s asks looks → front_of s.line ≡ None → all_needed m (given_in s.given) ≤ looks
-  underway_looks s asks looks u e = by_line s.line refl e
-    where
-      by_line : (l : List ℕ) → s.line ≡ l → front_of l ≡ None → all_needed m (given_in s.given) ≤ looks
-      by_line [] le f =
-          let p : all_needed m (given_in s.given) + 0 ≤ looks = subst (λ z. sum_below m.people (λ p. cond (among z p) 0 (needed m p (given_to s p))) + linked_line m s.asked z ≤ looks) le u.paid_by in
-          omega arith
       by_line (x ∷ xs) le f = absurd (cc)

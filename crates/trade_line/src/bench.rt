@@ -15,14 +15,19 @@ pub struct Bench {
     asked: Vec<bool>,
     remaining: Vec<bool>,
     given: Vec<Option<usize>>,
+    cursors: Vec<usize>,
 }
 
 impl Model for Bench {
     ghost Value = { Size };
 
-    ghost view = { λ b. record { people = length b.asked.items; rooms = length b.remaining.items } };
+    ghost view = { λ b. record {
+      people = length b.asked.items;
+      rooms = length b.remaining.items;
+    } };
 
-    ghost invariant = { λ b. IsFresh b.asked.items b.remaining.items b.given.items };
+    ghost invariant = { λ b. IsFresh b.asked.items b.remaining.items b.given.items
+        b.cursors.items };
 }
 
 impl Bench {
@@ -36,19 +41,22 @@ impl Bench {
             asked: vec![in alloc; false; people]?,
             remaining: vec![in alloc; true; rooms]?,
             given: vec![in alloc; None; people]?,
+            cursors: vec![in alloc; 0; people]?,
         })
     }
 
-    // The same memory, as what a run knows before its first turn.
-    pub(crate) fn into_progress(self) -> Progress
-        ensures fresh { IsFresh result.asked.items result.remaining.items result.given.items }
-        ensures people { length result.asked.items ≡ self.people }
-        ensures rooms { length result.remaining.items ≡ self.rooms }
+    // The same memory, as what a run knows before its first turn, with each cursor at the start of its list.
+    pub(crate) fn into_progress(self) -> (Progress, Vec<usize>)
+        ensures fresh { IsFresh result.0.asked.items result.0.remaining.items result.0.given.items
+            result.1.items }
+        ensures people { length result.0.asked.items ≡ self.people }
+        ensures rooms { length result.0.remaining.items ≡ self.rooms }
     {
-        Progress {
+        let progress = Progress {
             asked: self.asked,
             remaining: self.remaining,
             given: self.given,
-        }
+        };
+        (progress, self.cursors)
     }
 }

@@ -1,5 +1,6 @@
 //! A problem as it is handed in: its faults are still to be looked for.
-ghost use Rattle.std.specs.Prelude.{◌≡◌, ◌≢◌, ◌<◌, ◌↔◌, ℕ, All, AllPairs, IsTrue, IfOk, IfErr, IfSome, OnOk, length, slice_index_or, ◌⊎◌};
+ghost use Rattle.std.specs.Prelude.{◌≡◌, ◌≢◌, ◌<◌, ◌↔◌, ◌⊎◌, ℕ, All, AllPairs, IsTrue, IfOk, IfErr};
+ghost use Rattle.std.specs.Prelude.{IfSome, OnOk, length, slice_index_or};
 ghost use Rattle.trade_line.specs.Market.{IsIndexed, HomesDiffer, ListsDiffer, OwnUnlisted};
 ghost use Rattle.trade_line.specs.Problem.{IsFirstFault};
 ghost use Rattle.trade_line.specs.Inner.Draft.{drafted};
@@ -47,7 +48,8 @@ pub(crate) fn is_distinct(list: &[usize], person: usize, last: &mut [usize]) -> 
     requires known { All (λ room. room < length last.old) list.now }
     requires unmarked { All (λ other. other ≢ person) last.old }
     ensures distinct { IsTrue result ↔ AllPairs ◌≢◌ list.now }
-    ensures last { (r : ℕ) → r < length last.old → (slice_index_or last.new r 0 ≡ slice_index_or last.old r 0) ⊎ (slice_index_or last.new r 0 ≡ person) }
+    ensures last { (r : ℕ) → r < length last.old
+        → (slice_index_or last.new r 0 ≡ slice_index_or last.old r 0) ⊎ (slice_index_or last.new r 0 ≡ person) }
 {
     for room in list {
         if last[*room] == person {

@@ -8,7 +8,8 @@ use crate::out_of_memory::OutOfMemory;
 use std::alloc::Global;
 use std::marker::Model;
 
-/// The people who wait for their turn, as a list without repeats, the front first. Only `whole` takes memory.
+/// The people who wait for their turn, as a list without repeats, the front first. Only `whole` takes memory. `run` is proved
+/// over every such line.
 pub trait Line: Drop {
     ghost people: { Self → List ℕ };
 
@@ -45,7 +46,8 @@ pub trait Line: Drop {
 }
 
 /// A line kept in one vector, the front first. `holds`, `bring_to_front`, `drop_front` and `drop_member` take time linear in
-/// its length.
+/// its length, so a run over it takes time quadratic in people: `LinkedLine` is the line to run over, and this one, plainer,
+/// stands beside it in tests.
 #[derive(Drop)]
 pub struct VecLine {
     order: Vec<usize>,

@@ -45,8 +45,8 @@ impl Outcome {
         self.asks
     }
 
-    /// How many list entries the asks read. An ask reads from the start of the list up to the room that it asks for, and each
-    /// reading counts.
+    /// How many list entries the asks read. An ask reads on from the entry that the person asked for last, that entry included,
+    /// up to the entry that it asks for, or else to the end of the list.
     pub fn looks(&self) -> u128
         ensures { result ≡ self.now.looks }
     {

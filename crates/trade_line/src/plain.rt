@@ -5,6 +5,7 @@ ghost use Rattle.trade_line.specs.Inner.Plain.{remains, AreMarks, Gives};
 
 use crate::out_of_memory::OutOfMemory;
 use crate::problem::Problem;
+use crate::reading::read_on;
 use std::alloc::Global;
 
 // Which people and which rooms remain.
@@ -20,7 +21,7 @@ fn wish(problem: &Problem, stage: &Remaining, person: usize) -> Option<usize>
     requires person { person < problem.now.people }
     ensures { result ≡ wish problem.now (remains stage.now) person }
 {
-    match problem.best_remaining(person, &stage.rooms).room {
+    match read_on(problem.list(person), 0, &stage.rooms).room {
         Some(room) => Some(room),
         None => problem.home_of(person),
     }
@@ -99,7 +100,8 @@ fn step(
     requires given { length given.old.items ≡ problem.now.people }
     ensures next { IfOk result (λ next. remains next ≡ step problem.now (remains stage.now)) }
     ensures marks { IfOk result (λ next. AreMarks problem.now next) }
-    ensures gives { IfOk result (λ _. Gives problem.now (remains stage.now) given.old.items given.new.items) }
+    ensures gives { IfOk result
+        (λ _. Gives problem.now (remains stage.now) given.old.items given.new.items) }
     ensures given { length given.new.items ≡ problem.now.people }
 {
     let mut next = Remaining {

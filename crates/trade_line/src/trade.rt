@@ -1,25 +1,27 @@
 //! You request my house, I get your turn.
 ghost use Rattle.std.specs.Prelude.{◌≡◌, ◌+◌, ◌≤◌, ◌<◌, ◌^◌, Some};
 ghost use Rattle.std.specs.List.{range_with_len};
-ghost use Rattle.trade_line.specs.Looks.{all_needed};
+ghost use Rattle.trade_line.specs.Looks.{all_needed, all_listed};
 ghost use Rattle.trade_line.specs.Size.{size_of};
-ghost use Rattle.trade_line.specs.Market.{list_of, tenant_count};
+ghost use Rattle.trade_line.specs.Market.{tenant_count};
 ghost use Rattle.trade_line.specs.TopTradingCycles.{wish, ttc};
 ghost use Rattle.trade_line.specs.Line.{front_of};
 ghost use Rattle.trade_line.specs.Assignment.{IsAssignment, IsIndividuallyRational, IsEfficient, given_in};
 ghost use Rattle.trade_line.specs.TradeApart.{HasNoBetterTradeApart};
-ghost use Rattle.trade_line.specs.Inner.Reads.{reads};
 ghost use Rattle.trade_line.specs.Inner.State.{state_of, stage_at};
 ghost use Rattle.trade_line.specs.Inner.Turn.{Standing, Asks, Onward};
 ghost use Rattle.trade_line.specs.Inner.Loop.{Ring, Closed};
+ghost use Rattle.trade_line.specs.Inner.Looks.{AreCursors, KeepsCursors, TurnReads};
 
 use crate::bench::Bench;
 use crate::line::Line;
 use crate::outcome::Outcome;
 use crate::problem::Problem;
 use crate::progress::Progress;
+use crate::reading::read_on;
 
-// The front of the line, up to the tenant, is a loop: each gets the home of the one before, and the first gets the room.
+// The front of the line, up to the tenant, is a loop and leaves: the first gets the room, which is the home of the last, and
+// each other one gets the home of the one before in the line.
 fn close_loop<L: Line>(
     problem: &Problem,
     tenant: usize,
@@ -28,7 +30,8 @@ fn close_loop<L: Line>(
     progress: &mut Progress,
 )
     requires { Ring problem.now tenant room (state_of (L.people line.old) progress.old) }
-    ensures { Closed problem.now tenant room (state_of (L.people line.old) progress.old) (state_of (L.people line.new) progress.new) }
+    ensures { Closed problem.now tenant room (state_of (L.people line.old) progress.old)
+        (state_of (L.people line.new) progress.new) }
 {
     let mut next = Some(room);
     while let Some(person) = line.front() {
@@ -50,8 +53,12 @@ fn serve<L: Line>(
     progress: &mut Progress,
 )
     requires asks { Asks problem.now person (state_of (L.people line.old) progress.old) }
-    requires wish { wish problem.now (stage_at (state_of (L.people line.old) progress.old)) person ≡ Some room }
-    ensures { Onward problem.now (state_of (L.people line.old) progress.old) (state_of (L.people line.new) progress.new) }
+    requires wish { wish problem.now (stage_at (state_of (L.people line.old) progress.old)) person
+        ≡ Some room }
+    ensures onward { Onward problem.now (state_of (L.people line.old) progress.old)
+        (state_of (L.people line.new) progress.new) }
+    ensures keeps { KeepsCursors problem.now person (Some room)
+        (state_of (L.people line.old) progress.old) (state_of (L.people line.new) progress.new) }
 {
     match problem.tenant_of(room) {
         Some(tenant) if line.holds(tenant) => {
@@ -69,16 +76,29 @@ fn serve<L: Line>(
     }
 }
 
-// One turn of the person at the front, and how many entries it reads.
-fn turn<L: Line>(problem: &Problem, person: usize, line: &mut L, progress: &mut Progress) -> usize
+// One turn of the person at the front, and how many entries it reads. The cursor moves to the entry that the person asks for,
+// or else to the end of the list.
+fn turn<L: Line>(
+    problem: &Problem,
+    person: usize,
+    line: &mut L,
+    progress: &mut Progress,
+    cursors: &mut Vec<usize>,
+) -> usize
     requires front { front_of (L.people line.old) ≡ Some person }
     requires standing { Standing problem.now (state_of (L.people line.old) progress.old) }
-    ensures onward { Onward problem.now (state_of (L.people line.old) progress.old) (state_of (L.people line.new) progress.new) }
-    ensures looks { result ≡ reads (stage_at (state_of (L.people line.old) progress.old)).rooms (list_of problem.now person) }
+    requires cursors { AreCursors problem.now (state_of (L.people line.old) progress.old)
+        cursors.old.items }
+    ensures onward { Onward problem.now (state_of (L.people line.old) progress.old)
+        (state_of (L.people line.new) progress.new) }
+    ensures reads { TurnReads problem.now
+        (state_of (L.people line.old) progress.old) cursors.old.items
+        (state_of (L.people line.new) progress.new) cursors.new.items result }
     ensures few { result < 2 ^ 63 }
 {
     progress.mark(person);
-    let found = problem.best_remaining(person, &progress.remaining);
+    let found = read_on(problem.list(person), cursors[person], &progress.remaining);
+    cursors[person] = found.place;
     match found.room {
         Some(room) => serve(problem, person, room, line, progress),
         None => {
@@ -89,12 +109,18 @@ fn turn<L: Line>(problem: &Problem, person: usize, line: &mut L, progress: &mut 
     found.looks
 }
 
-/// Carries out the exchange by "you request my house, I get your turn" (Abdulkadiroglu and Sönmez 1999). The person at the
-/// front of the line asks for the best remaining room on their list, or else takes the floor: the own home, or no room. Where
-/// the tenant of that room still waits, the tenant comes to the front first, or, having asked already, closes a loop in which
-/// each gets the home of the next. The rooms are those of top trading cycles. The line begins with all people in priority
-/// order, and the bench is made for as many people and rooms. It takes no memory. Over a `VecLine` it takes time quadratic in
-/// people, and reads a list from its start again at each ask.
+/// Carries out the exchange by "you request my house, I get your turn" (Abdulkadiroglu and Sönmez 1999). The rooms are those
+/// of top trading cycles.
+///
+/// The person at the front of the line asks for the best remaining room on their list, or else takes the floor: the own home,
+/// or no room. Where the tenant of that room still waits, the tenant comes to the front first, or, having asked already,
+/// closes a loop: the first in it gets the home of the last, and each other one the home of the one before in the line.
+///
+/// Each person has a cursor on their list, which never goes back: an ask reads on from there, passes the entries that are gone
+/// and stays at the entry that it asks for.
+///
+/// The line begins with all people in priority order, and the bench is made for as many people and rooms. A run takes no
+/// memory. Over a `LinkedLine` it takes time linear in its asks and looks, over a `VecLine` quadratic in people.
 pub fn run<L: Line>(problem: &Problem, line: L, bench: Bench) -> Outcome
     requires line { L.people line ≡ range_with_len 0 problem.now.people }
     requires bench { bench ≡ size_of problem.now }
@@ -106,15 +132,18 @@ pub fn run<L: Line>(problem: &Problem, line: L, bench: Bench) -> Outcome
     ensures asks_least { problem.now.people ≤ result.asks }
     ensures asks_most { result.asks ≤ problem.now.people + tenant_count problem.now }
     ensures looks_least { all_needed problem.now (given_in result.rooms) ≤ result.looks }
+    ensures looks_most { result.looks ≤ result.asks + all_listed problem.now }
 {
     // The contract of this call tells the proof that the problem is well formed.
     let _people = problem.people();
     let mut line = line;
-    let mut progress = bench.into_progress();
+    let (progress, cursors) = bench.into_progress();
+    let mut progress = progress;
+    let mut cursors = cursors;
     let mut asks: u128 = 0;
     let mut looks: u128 = 0;
     while let Some(person) = line.front() {
-        let read = turn(problem, person, &mut line, &mut progress);
+        let read = turn(problem, person, &mut line, &mut progress, &mut cursors);
         asks += 1;
         looks += read as u128;
     }

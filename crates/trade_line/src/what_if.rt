@@ -1,32 +1,37 @@
 //! What a person would get by another list.
-ghost use Rattle.std.specs.Prelude.{◌≡◌, ◌≤◌, IfOk, IfErr, OnOk};
-ghost use Rattle.trade_line.specs.OtherList.{with_list, IsListFor, IsFirstListFault};
+ghost use Rattle.std.specs.Prelude.{◌≡◌, ◌≤◌, Err, IfOk, IfErr, OnOk};
+ghost use Rattle.trade_line.specs.OtherList.{with_list, IsListIndexed, IsListFor, IsFirstListFault};
+ghost use Rattle.trade_line.specs.declared.fault.TradeFault.TheVariants.{OutOfMemory};
 ghost use Rattle.trade_line.specs.Rank.{rank};
 ghost use Rattle.trade_line.specs.TopTradingCycles.{gets};
 
 use crate::bench::Bench;
 use crate::fault::TradeFault;
-use crate::line::{Line, VecLine};
+use crate::line::Line;
+use crate::linked_line::LinkedLine;
 use crate::problem::Problem;
 use crate::trade::run;
 use std::alloc::Global;
 
 /// The room that the person gets where they hand in this list in place of their own and all others keep theirs; by their own
 /// list it never ranks above what they get by it. The person and the list are refused for the first of their faults, as
-/// `Problem::new` would refuse them.
+/// `Problem::new` would refuse them; before it has looked for `BadIndex` the call takes no memory.
 pub fn run_with_list(
     alloc: Global,
     problem: &Problem,
     person: usize,
     list: Vec<usize>,
 ) -> Result<Option<usize>, TradeFault>
-    ensures room { IfOk result (λ room. room ≡ gets (with_list problem.now person list.items) person) }
-    ensures no_gain { IfOk result (λ room. rank problem.now person (gets problem.now person) ≤ rank problem.now person room) }
+    ensures room { IfOk result
+        (λ room. room ≡ gets (with_list problem.now person list.items) person) }
+    ensures no_gain { IfOk result
+        (λ room. rank problem.now person (gets problem.now person) ≤ rank problem.now person room) }
     ensures accepted { OnOk result (IsListFor problem.now person list.items) }
     ensures first_fault { IfErr result (IsFirstListFault problem.now person list.items) }
+    ensures memory { result ≡ Err OutOfMemory → IsListIndexed problem.now person list.items }
 {
     let changed = problem.with_list(alloc, person, list)?;
-    let line = VecLine::whole(alloc, changed.people())?;
+    let line = LinkedLine::whole(alloc, changed.people())?;
     let bench = Bench::new(alloc, &changed)?;
     let outcome = run(&changed, line, bench);
     Ok(outcome.room_of(person))

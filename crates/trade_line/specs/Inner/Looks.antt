@@ -1,39 +1,68 @@
--- The entries that were read for those who were served and for those who wait.
-use Rattle.std.specs.Prelude.{ℕ, ◌+◌, Bool, cond, false, Option, Some, None, List, [], ◌∷◌, slice_index_or}
+-- How far each list was read, and how many entries the reading took.
+-- A list `c` of cursors has for each person the place on the own list at which they read on.
+use Rattle.std.specs.Prelude.{◌≡◌, ℕ, suc, ◌+◌, ◌<◌, ◌≤◌, Bool, true, false, cond, nat_lt, Option, List, [], ◌∷◌, length, slice_index_or}
 use Rattle.trade_line.specs.Below.{sum_below}
 use Rattle.trade_line.specs.Market.{Market, home, list_of}
 use Rattle.trade_line.specs.Member.{among}
-use Rattle.trade_line.specs.TopTradingCycles.{Stage}
 use Rattle.trade_line.specs.Looks.{needed}
-use Rattle.trade_line.specs.Inner.Reads.{reads}
-use Rattle.trade_line.specs.Inner.State.{State, given_to}
+use Rattle.trade_line.specs.Inner.State.{State, stage_at, given_to}
 
--- those behind a wait, each for the home of the one before
-abbrev pub needed_behind : Market → ℕ → List ℕ → ℕ
-needed_behind m a [] = 0
-needed_behind m a (b ∷ r) = needed m b (home m a) + needed_behind m b r
+-- the cursor of p
+abbrev pub cursor : List ℕ → ℕ → ℕ
+cursor c p = slice_index_or c p 0
 
-abbrev pub needed_chain : Market → List ℕ → ℕ
-needed_chain m [] = 0
-needed_chain m (a ∷ r) = needed_behind m a r
+-- p has read what p has to read to find x: the entries before the cursor and the one at it
+abbrev pub HasReadNeeded : Market → List ℕ → ℕ → Option ℕ → Type 0
+HasReadNeeded m c p x = needed m p x ≤ suc (cursor c p)
 
--- the same in a line, of which those count who have asked
-abbrev pub linked : Market → List Bool → ℕ → List ℕ → ℕ
-linked m asked a [] = 0
-linked m asked a (b ∷ r) = cond (slice_index_or asked b false) (needed m b (home m a)) 0 + linked m asked b r
+-- whoever behind a has asked has read up to the home of the one before
+abbrev pub HaveReadBehind : Market → List Bool → List ℕ → ℕ → List ℕ → Type 0
+HaveReadBehind m asked c a [] = Unit {0}
+HaveReadBehind m asked c a (b ∷ r) =
+    (slice_index_or asked b false ≡ true → HasReadNeeded m c b (home m a))
+    × HaveReadBehind m asked c b r
 
-abbrev pub linked_line : Market → List Bool → List ℕ → ℕ
-linked_line m asked [] = 0
-linked_line m asked (a ∷ r) = linked m asked a r
+-- the same of a whole line, of which the front waits for nobody
+abbrev pub HaveReadInLine : Market → List Bool → List ℕ → List ℕ → Type 0
+HaveReadInLine m asked c [] = Unit {0}
+HaveReadInLine m asked c (a ∷ r) = HaveReadBehind m asked c a r
 
--- what was needed for those who were served
-abbrev pub served_needed : Market → State → ℕ
-served_needed m s = sum_below m.people (λ p. cond (among s.line p) 0 (needed m p (given_to s p)))
+-- between two turns: the entries before each cursor are gone, and whoever waits for a room or was served has read up to it
+pub record AreCursors (m : Market) (s : State) (c : List ℕ) : Type 0 where
+  pub cursors_len : length c ≡ m.people
+  pub within : (p : ℕ) → p < m.people → cursor c p ≤ length (list_of m p)
+  pub gone : (p k : ℕ) → p < m.people → k < cursor c p
+      → (stage_at s).rooms (slice_index_or (list_of m p) k 0) ≡ false
+  pub waiting : HaveReadInLine m s.asked c s.line
+  pub served : (p : ℕ) → p < m.people → among s.line p ≡ false → HasReadNeeded m c p (given_to s p)
 
-abbrev pub paid : Market → State → ℕ
-paid m s = served_needed m s + linked_line m s.asked s.line
+-- how many entries lie before the cursors
+abbrev pub cursor_sum : Market → List ℕ → ℕ
+cursor_sum m c = sum_below m.people (cursor c)
 
--- what the front of the line reads when it asks
-abbrev pub front_reads : Market → Stage → Option ℕ → ℕ
-front_reads m s None = 0
-front_reads m s (Some a) = reads s.rooms (list_of m a)
+-- 1 for somebody who left the line with the cursor at the end of the list
+abbrev pub spent : Market → List ℕ → List ℕ → ℕ → ℕ
+spent m line c p = cond (among line p) 0 (cond (nat_lt (cursor c p) (length (list_of m p))) 0 1)
+
+-- how many have
+abbrev pub spent_sum : Market → List ℕ → List ℕ → ℕ
+spent_sum m line c = sum_below m.people (spent m line c)
+
+-- a turn of a for the room leads from s to t: nobody joins the line, and cursors stay right where a has read up to the room
+pub record KeepsCursors (m : Market) (a : ℕ) (room : Option ℕ) (s t : State) : Type 0 where
+  pub inside : (p : ℕ) → among t.line p ≡ true → among s.line p ≡ true
+  pub cursors : (c : List ℕ) → AreCursors m s c → HasReadNeeded m c a room → AreCursors m t c
+
+-- a turn that leads from s to t and moves the cursors from c to d reads `read` entries: those that a cursor passes, and the
+-- one at which it stays, if any
+pub record TurnReads (m : Market) (s : State) (c : List ℕ) (t : State) (d : List ℕ) (read : ℕ) : Type 0 where
+  pub cursors : AreCursors m t d
+  pub least : suc (cursor_sum m d) + spent_sum m s.line c
+      ≤ read + cursor_sum m c + spent_sum m t.line d
+  pub most : read + cursor_sum m c ≤ suc (cursor_sum m d)
+
+-- the turns so far took so many asks and looks
+pub record ReadSoFar (m : Market) (s : State) (c : List ℕ) (asks : ℕ) (looks : ℕ) : Type 0 where
+  pub cursors : AreCursors m s c
+  pub least : asks + cursor_sum m c ≤ looks + spent_sum m s.line c
+  pub most : looks ≤ asks + cursor_sum m c

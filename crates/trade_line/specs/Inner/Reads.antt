@@ -1,7 +1,16 @@
 -- How many entries of a list an ask reads.
-use Rattle.std.specs.Prelude.{ℕ, suc, Bool, cond, List, [], ◌∷◌}
+use Rattle.std.specs.Prelude.{ℕ, suc, Bool, false, cond, List, [], ◌∷◌, slice_index_or}
 
--- those up to the first that passes, and all where none does
+-- whether the room remains, by the marks of a run
+abbrev pub is_marked : List Bool → ℕ → Bool
+is_marked marks r = slice_index_or marks r false
+
+-- the entries up to the first that passes, and all where none does
 abbrev pub reads : (ℕ → Bool) → List ℕ → ℕ
 reads passes [] = 0
 reads passes (x ∷ xs) = cond (passes x) 1 (suc (reads passes xs))
+
+-- the entries before the first that passes, and all where none does
+abbrev pub skipped : (ℕ → Bool) → List ℕ → ℕ
+skipped passes [] = 0
+skipped passes (x ∷ xs) = cond (passes x) 0 (suc (skipped passes xs))

@@ -1,17 +1,17 @@
 use Rattle.std.proofs.Common.{◌≡◌, ◌+◌, None, true, replicate, length, sym, ◌∙◌, ap, subst, suc, arith, refl}
 use Rattle.trade_line.specs.Market.{Market}
 use Rattle.trade_line.specs.Inner.Plain.{remains, marked_stage, Stepped}
-use Rattle.trade_line.proofs.Whole.{length-same}
+use Rattle.std.proofs.lemmas.List.{length-replicate}
 use Rattle.trade_line.proofs.PlainSteps.{stepped_start, stepped_more, stepped_end}
 use Rattle.trade_line.proofs.plain.top_trading_cycles.Goals as goal
 
 pub loop-turn-init : goal.loop-turn-init
 loop-turn-init c =
     let m : Market = c.args.problem.now in
-    let people_len : length c.in_ok-stage.stage.people.items ≡ m.people = ap length c.in_ok-stage.ensures.people ∙ length-same m.people true in
-    let rooms_len : length c.in_ok-stage.stage.rooms.items ≡ m.rooms = ap length c.in_ok-stage.ensures.rooms ∙ length-same m.rooms true in record {
+    let people_len : length c.in_ok-stage.stage.people.items ≡ m.people = ap length c.in_ok-stage.ensures.people ∙ length-replicate m.people true in
+    let rooms_len : length c.in_ok-stage.stage.rooms.items ≡ m.rooms = ap length c.in_ok-stage.ensures.rooms ∙ length-replicate m.rooms true in record {
       marks = record { market = c.people-turn-end.ensures.market; people_len = people_len; rooms_len = rooms_len };
-      given_len = ap length c.in_ok-given.ensures ∙ length-same m.people None;
+      given_len = ap length c.in_ok-given.ensures ∙ length-replicate m.people None;
       stepped = λ k e.
           let all : k ≡ m.people = omega (arith, e) in
           subst (λ z. Stepped m (remains c.in_ok-stage.stage) c.in_ok-given.given.items z) (sym all)

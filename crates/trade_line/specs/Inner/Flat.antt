@@ -1,0 +1,21 @@
+-- Lists that stand one after the other in one vector.
+use Rattle.std.specs.List.{range_with_len}
+use Rattle.std.specs.Prelude.{◌≡◌, ℕ, suc, ◌+◌, ◌-◌, ◌<◌, ◌≤◌, List, [], length, map, take, drop, slice_index_or, pred}
+
+-- a list: the entries from its start up to the start of the next
+abbrev pub piece : List ℕ → List ℕ → ℕ → List ℕ
+piece entries starts p =
+    take (slice_index_or starts (p + 1) 0 - slice_index_or starts p 0) (drop (slice_index_or starts p 0) entries)
+
+-- all lists; there is one start more than there are lists
+abbrev pub pieces : List ℕ → List ℕ → List (List ℕ)
+pieces entries starts = map (piece entries starts) (range_with_len 0 (pred (length starts)))
+
+-- the entries are those of the lists, one list after the other; the last start is the end
+pub record AreFlat (entries : List ℕ) (starts : List ℕ) (lists : List (List ℕ)) : Type 0 where
+  pub starts_len : length starts ≡ suc (length lists)
+  pub ordered : (p : ℕ) → p < length lists
+      → slice_index_or starts p 0 ≤ slice_index_or starts (p + 1) 0
+  pub inside : (p : ℕ) → p < length lists → slice_index_or starts (p + 1) 0 ≤ length entries
+  pub lists_are : (p : ℕ) → p < length lists → piece entries starts p ≡ slice_index_or lists p []
+  pub end : slice_index_or starts (length lists) 0 ≡ length entries

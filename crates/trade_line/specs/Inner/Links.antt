@@ -1,0 +1,27 @@
+-- A line of people as a circular doubly linked list, linked by number. Its sentinel is the number after all people.
+use Rattle.std.specs.Prelude.{◌≡◌, ℕ, zero, suc, ◌<◌, ◌==◌, Bool, true, false, cond, List, [], ◌∷◌, length, slice_index_or}
+use Rattle.trade_line.specs.Member.{among, Once}
+
+-- from a along xs to z: `next` has the number behind each, and `previous` the one before it
+abbrev pub Links : List ℕ → List ℕ → ℕ → List ℕ → ℕ → Type 0
+Links next previous a [] z = (slice_index_or next a 0 ≡ z) × (slice_index_or previous z 0 ≡ a)
+Links next previous a (x ∷ xs) z =
+    (slice_index_or next a 0 ≡ x) × (slice_index_or previous x 0 ≡ a) × Links next previous x xs z
+
+-- at most k numbers along `next` from a, up to the sentinel
+abbrev pub along : List ℕ → ℕ → ℕ → ℕ → List ℕ
+along next end zero a = []
+along next end (suc k) a = cond (a == end) [] (a ∷ along next end k (slice_index_or next a 0))
+
+-- the people in line: those along `next`, once round from the sentinel
+abbrev pub linked_people : List ℕ → List Bool → List ℕ
+linked_people next waits = along next (length waits) (length waits) (slice_index_or next (length waits) 0)
+
+-- a ring of the people in line and the sentinel, and whether each person is in it
+pub record IsLinkedRing (next : List ℕ) (previous : List ℕ) (waits : List Bool) (xs : List ℕ) : Type 0 where
+  pub next_len : length next ≡ suc (length waits)
+  pub previous_len : length previous ≡ suc (length waits)
+  pub links : Links next previous (length waits) xs (length waits)
+  pub once : Once xs
+  pub known : (p : ℕ) → among xs p ≡ true → p < length waits
+  pub waits_are : (p : ℕ) → slice_index_or waits p false ≡ among xs p

@@ -1,0 +1,95 @@
+//! A line whose calls take constant time.
+ghost use Rattle.std.specs.Prelude.{◌≡◌, ℕ, List};
+ghost use Rattle.trade_line.specs.Inner.Links.{IsLinkedRing, linked_people};
+
+use crate::line::Line;
+use crate::out_of_memory::OutOfMemory;
+use std::alloc::Global;
+use std::marker::Model;
+
+/// A line kept as a doubly linked list: by number, two vectors have the person behind and the person before each. `whole`
+/// takes time and memory linear in its count, and all other calls take constant time and no memory.
+#[derive(Drop)]
+pub struct LinkedLine {
+    // The number after all people is a sentinel: it stands behind the last and before the first, so that the ends of the line
+    // are no special cases. These two vectors have one entry more than there are people, for it.
+    next: Vec<usize>,
+    previous: Vec<usize>,
+    waits: Vec<bool>,
+}
+
+impl Model for LinkedLine {
+    ghost Value = { List ℕ };
+
+    ghost view = { λ line. linked_people line.next.items line.waits.items };
+
+    ghost invariant = { λ line. IsLinkedRing line.next.items line.previous.items line.waits.items
+        (linked_people line.next.items line.waits.items) };
+}
+
+impl Line for LinkedLine {
+    ghost people = { λ line. line };
+
+    fn whole(alloc: Global, count: usize) -> Result<Self, OutOfMemory> {
+        // This comes first: where there is memory for it, `count + 1` is in range.
+        let waits = vec![in alloc; true; count]?;
+        let mut next = Vec::with_capacity(alloc, waits.len() + 1)?;
+        let mut previous = Vec::with_capacity(alloc, waits.len() + 1)?;
+        previous.push(count)?;
+        for person in 0..count {
+            next.push(person + 1)?;
+            previous.push(person)?;
+        }
+        next.push(0)?;
+        Ok(LinkedLine {
+            next,
+            previous,
+            waits,
+        })
+    }
+
+    fn front(&self) -> Option<usize> {
+        let end = self.waits.len();
+        let first = self.next[end];
+        if first == end { None } else { Some(first) }
+    }
+
+    fn holds(&self, person: usize) -> bool {
+        person < self.waits.len() && self.waits[person]
+    }
+
+    fn is_empty(&self) -> bool {
+        let end = self.waits.len();
+        self.next[end] == end
+    }
+
+    fn bring_to_front(&mut self, person: usize) {
+        let before = self.previous[person];
+        let behind = self.next[person];
+        self.next[before] = behind;
+        self.previous[behind] = before;
+        let end = self.waits.len();
+        let first = self.next[end];
+        self.next[person] = first;
+        self.previous[first] = person;
+        self.next[end] = person;
+        self.previous[person] = end;
+    }
+
+    fn drop_front(&mut self) {
+        let end = self.waits.len();
+        let first = self.next[end];
+        let second = self.next[first];
+        self.next[end] = second;
+        self.previous[second] = end;
+        self.waits[first] = false;
+    }
+
+    fn drop_member(&mut self, person: usize) {
+        let before = self.previous[person];
+        let behind = self.next[person];
+        self.next[before] = behind;
+        self.previous[behind] = before;
+        self.waits[person] = false;
+    }
+}

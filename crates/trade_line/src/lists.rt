@@ -1,0 +1,79 @@
+//! Lists of numbers, in one vector.
+ghost use Rattle.std.specs.Prelude.{◌≡◌, ℕ, ◌<◌, List, [], IfOk, length, map, slice_index_or, slice_set};
+ghost use Rattle.trade_line.specs.Inner.Flat.{AreFlat, pieces};
+
+use crate::out_of_memory::OutOfMemory;
+use std::alloc::Global;
+use std::marker::Model;
+
+// Lists, one after the other in one vector, so that there is no pointer to follow for each.
+#[derive(Drop)]
+pub(crate) struct Lists {
+    entries: Vec<usize>,
+    // Where each list begins, and then where the last ends.
+    starts: Vec<usize>,
+}
+
+impl Model for Lists {
+    ghost Value = { List (List ℕ) };
+
+    ghost view = { λ lists. pieces lists.entries.items lists.starts.items };
+
+    ghost invariant = { λ lists. AreFlat lists.entries.items lists.starts.items
+        (pieces lists.entries.items lists.starts.items) };
+}
+
+impl Lists {
+    // The same lists in memory of their own.
+    pub(crate) fn copied(alloc: Global, lists: &[Vec<usize>]) -> Result<Self, OutOfMemory>
+        ensures { IfOk result (λ copied. copied ≡ map (λ list. list.items) lists.now) }
+    {
+        let mut entries = Vec::new(alloc);
+        let mut starts = Vec::with_capacity(alloc, lists.len())?;
+        starts.push(0)?;
+        for list in lists {
+            entries.extend_from_slice(list)?;
+            starts.push(entries.len())?;
+        }
+        Ok(Lists { entries, starts })
+    }
+
+    // One of the lists.
+    pub(crate) fn list(&self, person: usize) -> &[usize]
+        requires { person < length self.now }
+        ensures { result.now ≡ slice_index_or self.now person [] }
+    {
+        &self.entries[self.starts[person]..self.starts[person + 1]]
+    }
+
+    // How many lists there are.
+    pub(crate) fn len(&self) -> usize
+        ensures { result ≡ length self.now }
+    {
+        self.starts.len() - 1
+    }
+
+    // The same lists but for one, in memory of their own.
+    pub(crate) fn with_list(
+        &self,
+        alloc: Global,
+        person: usize,
+        list: &[usize],
+    ) -> Result<Self, OutOfMemory>
+        ensures { IfOk result (λ changed. changed ≡ slice_set self.now person list.now) }
+    {
+        let mut entries = Vec::new(alloc);
+        let mut starts = Vec::with_capacity(alloc, self.starts.len())?;
+        starts.push(0)?;
+        for other in 0..self.len() {
+            let next = if other == person {
+                list
+            } else {
+                self.list(other)
+            };
+            entries.extend_from_slice(next)?;
+            starts.push(entries.len())?;
+        }
+        Ok(Lists { entries, starts })
+    }
+}
