@@ -1,4 +1,5 @@
--- What an assignment is, and when it is individually rational and Pareto efficient. It is a function from people to rooms or nothing.
+-- What an assignment is, and when it is individually rational and Pareto efficient. It is a
+-- function from people to rooms or nothing.
 use Rattle.std.specs.Prelude.{◌≡◌, ℕ, ◌<◌, ◌≤◌, Option, Some, None, List, slice_index_or}
 use Rattle.trade_line.specs.Market.{Market, floor}
 use Rattle.trade_line.specs.Rank.{rank}
@@ -18,4 +19,7 @@ IsIndividuallyRational m f = (p : ℕ) → p < m.people → rank m p (f p) ≤ r
 
 -- an assignment at which nobody is worse off is the same assignment
 abbrev pub IsEfficient : Market → (ℕ → Option ℕ) → Type 0
-IsEfficient m f = (a : ℕ → Option ℕ) → IsAssignment m a → ((p : ℕ) → p < m.people → rank m p (a p) ≤ rank m p (f p)) → (p : ℕ) → p < m.people → a p ≡ f p
+IsEfficient m f =
+    (a : ℕ → Option ℕ) → IsAssignment m a
+    → ((p : ℕ) → p < m.people → rank m p (a p) ≤ rank m p (f p))
+    → (p : ℕ) → p < m.people → a p ≡ f p

@@ -3,12 +3,15 @@ pub mod Market
 pub mod Problem
 pub mod Faults
 pub mod TopTradingCycles
+pub mod Cycles
 pub mod Member
 pub mod Rank
 pub mod Looks
 pub mod Assignment
 pub mod TradeApart
+pub mod Core
 pub mod OtherList
+pub mod Groups
 pub mod Line
 pub mod Size
 pub mod Outcome

@@ -1,5 +1,5 @@
--- The market in which one person hands in another list, and that nobody gains by it (strategyproofness: Roth 1982; Abdulkadiroglu and
--- Sönmez 1999).
+-- The market in which people hand in other lists, and that no one person gains by it
+-- (strategyproofness: Roth 1982; Abdulkadiroglu and Sönmez 1999).
 use Rattle.std.specs.Prelude.{◌≡◌, ◌≢◌, ℕ, ◌<◌, ◌≤◌, List, Some, All, AllPairs, slice_set}
 use Rattle.trade_line.specs.Market.{Market, IsMarket, home}
 use Rattle.trade_line.specs.Rank.{rank}
@@ -7,9 +7,14 @@ use Rattle.trade_line.specs.TopTradingCycles.{gets}
 use Rattle.trade_line.specs.declared.fault.TradeFault.{TradeFault}
 use Rattle.trade_line.specs.declared.fault.TradeFault.TheVariants.{BadIndex, HomeShared, ListRepeats, OwnRoomListed, OutOfMemory}
 
+-- the same people, rooms and homes, with other lists
+abbrev pub with_lists : Market → List (List ℕ) → Market
+with_lists m lists =
+    record { people = m.people; rooms = m.rooms; homes = m.homes; lists = lists }
+
 -- the market with another list of p
 abbrev pub with_list : Market → ℕ → List ℕ → Market
-with_list m p l = record { people = m.people; rooms = m.rooms; homes = m.homes; lists = slice_set m.lists p l }
+with_list m p l = with_lists m (slice_set m.lists p l)
 
 -- there is a person p, and the list has rooms of the market
 abbrev pub IsListIndexed : Market → ℕ → List ℕ → Type 0
@@ -23,14 +28,19 @@ LacksOwn m p l = (r : ℕ) → home m p ≡ Some r → All (λ x. x ≢ r) l
 abbrev pub IsListFor : Market → ℕ → List ℕ → Type 0
 IsListFor m p l = IsListIndexed m p l × AllPairs ◌≢◌ l × LacksOwn m p l
 
--- the fault is the first rule that the person or the list breaks; want of memory may come at any list
+-- the fault is the first rule that the person or the list breaks; want of memory may come at any
+-- list
 abbrev pub IsFirstListFault : Market → ℕ → List ℕ → TradeFault → Type 0
 IsFirstListFault m p l BadIndex = ¬ IsListIndexed m p l
 IsFirstListFault m p l HomeShared = ⊥
 IsFirstListFault m p l ListRepeats = IsListIndexed m p l × ¬ AllPairs ◌≢◌ l
-IsFirstListFault m p l OwnRoomListed = IsListIndexed m p l × AllPairs ◌≢◌ l × ¬ LacksOwn m p l
+IsFirstListFault m p l OwnRoomListed =
+    IsListIndexed m p l × AllPairs ◌≢◌ l × ¬ LacksOwn m p l
 IsFirstListFault m p l OutOfMemory = Unit {0}
 
--- nobody gets a room by another list that they rank, by their own list, above the one that they get by it
+-- nobody gets a room by another list that they rank, by their own list, above the one that they
+-- get by it
 abbrev pub IsListProof : Market → Type 0
-IsListProof m = (p : ℕ) (l : List ℕ) → p < m.people → IsMarket (with_list m p l) → rank m p (gets m p) ≤ rank m p (gets (with_list m p l) p)
+IsListProof m =
+    (p : ℕ) (l : List ℕ) → p < m.people → IsMarket (with_list m p l)
+    → rank m p (gets m p) ≤ rank m p (gets (with_list m p l) p)

@@ -1,4 +1,5 @@
--- Groups of tenants that could trade their own homes apart from all others (the strict core of Shapley and Scarf 1974, for groups of tenants).
+-- Groups of tenants that could trade their own homes apart from all others (the condition of the
+-- strict core, for groups of tenants: Shapley and Scarf 1974; Roth and Postlewaite 1977).
 use Rattle.std.specs.Prelude.{◌≡◌, ℕ, ◌<◌, ◌≤◌, Bool, true, Option, Some}
 use Rattle.trade_line.specs.Market.{Market, home}
 use Rattle.trade_line.specs.Rank.{rank}
@@ -13,4 +14,6 @@ pub record TradesApart (m : Market) (group : ℕ → Bool) (a : ℕ → Option �
 -- no such group does better: where none of it is worse off, all get the same
 abbrev pub HasNoBetterTradeApart : Market → (ℕ → Option ℕ) → Type 0
 HasNoBetterTradeApart m f =
-    (group : ℕ → Bool) (a : ℕ → Option ℕ) → TradesApart m group a → ((p : ℕ) → group p ≡ true → rank m p (a p) ≤ rank m p (f p)) → (p : ℕ) → group p ≡ true → a p ≡ f p
+    (group : ℕ → Bool) (a : ℕ → Option ℕ) → TradesApart m group a
+    → ((p : ℕ) → group p ≡ true → rank m p (a p) ≤ rank m p (f p))
+    → (p : ℕ) → group p ≡ true → a p ≡ f p

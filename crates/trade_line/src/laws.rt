@@ -1,9 +1,62 @@
-//! Laws of the definitions, for every market.
+//! Laws of the definitions, for every market. The contract is the law; the function does nothing.
+ghost use Rattle.std.specs.Prelude.{◌≡◌, ℕ, Bool, true, List, ◌∷◌};
+ghost use Rattle.trade_line.specs.Core.{HasNoVacantRoom, IsOnlyInStrictCore, IsStrictCoreByTradesApart, KeepsSelfContained};
+ghost use Rattle.trade_line.specs.Cycles.{AreCycles, IsLoop, IsStageOf, LeavesOtherCycles};
+ghost use Rattle.trade_line.specs.Groups.{IsGroupStrategyproof, IsNonbossy};
 ghost use Rattle.trade_line.specs.Market.{Market, IsMarket};
+ghost use Rattle.trade_line.specs.Member.{among};
 ghost use Rattle.trade_line.specs.OtherList.{IsListProof};
+ghost use Rattle.trade_line.specs.TopTradingCycles.{Stage, gets, on_cycle};
 
-/// By no other list does anybody get a room that their own list ranks above the one that they get by it, while all others keep
-/// theirs (Roth 1982; Abdulkadiroglu and Sönmez 1999). The contract is the law; the function does nothing.
+/// By no other list does anybody get a room that their own list ranks above the one that they get
+/// by it, while all others keep theirs (Roth 1982; Abdulkadiroglu and Sönmez 1999).
 pub fn own_list_is_best()
     ensures { (m : Market) → IsMarket m → IsListProof m }
+{}
+
+/// Whichever lists the people of a group hand in together, while all others keep theirs: somebody
+/// in the group gets what their own list ranks below what they get by the recorded lists, or
+/// everybody, in the group or not, gets the same (Bird 1984; Pápai 2000).
+pub fn no_group_gains()
+    ensures { (m : Market) → IsMarket m → IsGroupStrategyproof m }
+{}
+
+/// Whoever gets the same by another list leaves everybody with the same (Satterthwaite and
+/// Sonnenschein 1981; Pápai 2000).
+pub fn nobody_is_bossy()
+    ensures { (m : Market) → IsMarket m → IsNonbossy m }
+{}
+
+/// Where somebody lives in each room, what top trading cycles gives is the only assignment in the
+/// strict core: the only one at which no group of tenants could trade their own homes so that none
+/// of them loses and somebody of them gains (Roth and Postlewaite 1977).
+pub fn strict_core_is_one_assignment()
+    ensures { (m : Market) → IsMarket m → HasNoVacantRoom m → IsOnlyInStrictCore m (gets m) }
+{}
+
+/// Where tenants get one another's homes by top trading cycles, and rank no other room above what
+/// they get, each assignment in the strict core gives them the same, in any market.
+pub fn strict_core_keeps_self_contained_groups()
+    ensures { (m : Market) → IsMarket m → KeepsSelfContained m (gets m) }
+{}
+
+/// No group of tenants has a better trade apart exactly where the assignment is in the strict core
+/// (Roth and Postlewaite 1977).
+pub fn trades_apart_tell_the_strict_core()
+    ensures { (m : Market) → IsMarket m → IsStrictCoreByTradesApart m }
+{}
+
+/// People who leave a stage in whole cycles, with the rooms that they wish for, leave all its other
+/// cycles as they are. So cycles may be removed one at a time, in any order.
+pub fn other_cycles_stay()
+    ensures { (m : Market) (s : Stage) (group : ℕ → Bool) → IsStageOf m s → AreCycles m s group
+        → LeavesOtherCycles m s group }
+{}
+
+/// People who remain at a stage, each of whom wishes for the home of the next, and the last for the
+/// home of the first, are all on a cycle.
+pub fn loops_are_cycles()
+    ensures { (m : Market) → IsMarket m → (s : Stage) → IsStageOf m s
+        → (person : ℕ) (others : List ℕ) → IsLoop m s person others
+        → (p : ℕ) → among (person ∷ others) p ≡ true → on_cycle m s p ≡ true }
 {}

@@ -1,0 +1,107 @@
+-- Whole cycles leave the other cycles of their stage as they are, and people who wish for one another's homes in turn are on a cycle.
+use Rattle.std.proofs.Common.{◌≡◌, ℕ, zero, suc, ◌+◌, ◌<◌, Bool, true, false, not, ◌==◌, List, [], ◌∷◌, Some, refl, sym, ap, ◌∙◌, subst, inl, inr, arith, eqb-true, eq-eqb, le_refl}
+use Rattle.std.proofs.lemmas.Bool.{and_from, or_cases, or_left, or_right, both_ways}
+use Rattle.trade_line.specs.Below.{some_below, times}
+use Rattle.trade_line.specs.Cycles.{AreCycles, LeavesOtherCycles, WishesForHomeOf, WishOnTo, AllRemain, IsLoop}
+use Rattle.trade_line.specs.Inner.Removal.{Reach, IsTrade}
+use Rattle.trade_line.specs.Inner.Removal.Reach.{here, there}
+use Rattle.trade_line.specs.Market.{Market, IsMarket}
+use Rattle.trade_line.specs.Member.{among}
+use Rattle.trade_line.specs.TopTradingCycles.{Stage, successor, remaining_count, on_cycle, leave}
+use Rattle.trade_line.proofs.Chain.{reach_trans, home_holder}
+use Rattle.trade_line.proofs.Count.{pigeonhole, times_after, times_stays, times_sum}
+use Rattle.trade_line.proofs.Exchange.{minus, exchange, successor_at, successor_keeps, wish_keeps}
+use Rattle.trade_line.proofs.Search.{not_from, some_from}
+use Rattle.trade_line.proofs.Steps.{IsKnown, cycles_trade, leave_known, successor_remains}
+
+-- ---- how soon somebody comes back
+
+module _ (g : ℕ → ℕ) where
+  reach_times : {a b : ℕ} → Reach g a b → (k : ℕ) × (times k g a ≡ b)
+  reach_times here = (0, refl)
+  reach_times (there r) = let t = reach_times r in (suc t.0, t.1)
+
+  module _ (n p : ℕ) (back : times (suc n) g p ≡ p) where
+    all_back : (i : ℕ) → times (suc n) g (times i g p) ≡ times i g p
+    all_back i =
+        let swapped : i + suc n ≡ suc n + i = omega arith in
+        times_sum g i (suc n) p ∙ ap (λ k. times k g p) swapped ∙ sym (times_sum g (suc n) i p) ∙ ap (times i g) back
+
+    -- where two of the turns lead to the same, as many turns as lie between them come back
+    back_between : (i j : ℕ) → i < j → times i g p ≡ times j g p → (k : ℕ) × (k < j) × (times (suc k) g p ≡ p)
+    back_between i zero l e = absurd (omega (arith, l))
+    back_between zero (suc j) l e = (j, omega arith, sym e)
+    back_between (suc i) (suc j) l e =
+        let same : g (times i g p) ≡ g (times j g p) = sym (times_after g i p) ∙ e ∙ times_after g j p in
+        let r : (k : ℕ) × (k < j) × (times (suc k) g p ≡ p) =
+        back_between i j (omega (arith, l)) (sym (all_back i) ∙ ap (times n g) same ∙ all_back j) in
+        (r.0, omega (arith, r.1), r.2)
+
+module _ (m : Market) (s : Stage) (known : IsKnown m s) where
+  cycle_from : (p : ℕ) → s.people p ≡ true → Reach (successor m s) (successor m s p) p → on_cycle m s p ≡ true
+  unfolding on_cycle
+  cycle_from p h r =
+      let t : (k : ℕ) × (times k (successor m s) (successor m s p) ≡ p) = reach_times (successor m s) r in
+      let inside : (i : ℕ) → s.people (times i (successor m s) p) ≡ true = λ i. times_stays (successor m s) s.people (successor_remains m s known) i p h in
+      let two : (i : ℕ) × (j : ℕ) × (i < j) × (j < suc (remaining_count m s)) × (times i (successor m s) p ≡ times j (successor m s) p) =
+      pigeonhole (remaining_count m s) m.people s.people (λ i. times i (successor m s) p) (λ i l. (known (times i (successor m s) p) (inside i), inside i)) (le_refl (remaining_count m s)) in
+      let b : (k : ℕ) × (k < two.1) × (times (suc k) (successor m s) p ≡ p) = back_between (successor m s) t.0 p t.1 two.0 two.1 two.2 two.4 in
+      and_from (s.people p) (some_below (remaining_count m s) (λ k. times (suc k) (successor m s) p == p)) h
+      (some_from (remaining_count m s) (λ k. times (suc k) (successor m s) p == p) b.0 (omega (arith, b.1, two.3)) (eq-eqb (times (suc b.0) (successor m s) p) p b.2))
+
+-- ---- whole cycles
+
+cycles_leave : (m : Market) (s : Stage) → IsKnown m s → (group : ℕ → Bool) → AreCycles m s group → IsTrade m s group
+cycles_leave m s known group c =
+    let all : IsTrade m s (on_cycle m s) = cycles_trade m s known in
+    record {
+      known = λ p h. all.known p (c.each p h);
+      remain = λ p h. all.remain p (c.each p h);
+      closed = c.closed;
+      cycle = λ p h. all.cycle p (c.each p h);
+    }
+
+pub others_stay : (m : Market) (s : Stage) (group : ℕ → Bool) → IsKnown m s → AreCycles m s group → LeavesOtherCycles m s group
+others_stay m s group known c =
+    let gone : IsTrade m s group = cycles_leave m s known group c in
+    let all : IsTrade m s (on_cycle m s) = cycles_trade m s known in
+    record {
+      wishes = wish_keeps m s group (on_cycle m s) gone all;
+      pointing = successor_keeps m s group (on_cycle m s) gone all;
+      cycles = λ p o n.
+          let left : IsTrade m (leave m s group) (minus group (on_cycle m s)) = exchange m s group (on_cycle m s) gone all in
+          let is_left : minus group (on_cycle m s) p ≡ true = and_from (on_cycle m s p) (not (group p)) o (not_from (group p) n) in
+          cycle_from m (leave m s group) (leave_known m s group known) p (left.remain p is_left) (left.cycle p is_left);
+    }
+
+-- ---- loops
+
+module _ (m : Market) (ok : IsMarket m) (s : Stage) (known : IsKnown m s) where
+  points_to : (p q : ℕ) → s.people q ≡ true → WishesForHomeOf m s p q → successor m s p ≡ q
+  points_to p q h w = successor_at m s p (Some w.0) w.2 ∙ home_holder m ok s q w.0 (known q h) w.1 h
+
+  -- the first of a row reaches each of them, and each of them goes on to its end
+  along : (p : ℕ) (xs : List ℕ) (q : ℕ) → s.people q ≡ true → AllRemain s (p ∷ xs) → WishOnTo m s p xs q → (y : ℕ) → among (p ∷ xs) y ≡ true → Reach (successor m s) p y × Reach (successor m s) (successor m s y) q
+  along p [] q hq remain w y h =
+      elim (or_cases (p == y) false h) [
+        | inl e ↦ subst (λ z. Reach (successor m s) p z × Reach (successor m s) (successor m s z) q) (eqb-true p y e)
+            (here, subst (λ z. Reach (successor m s) z q) (sym (points_to p q hq w)) here)
+        | inr f ↦ absurd (both_ways false refl f)
+      ]
+  along p (x ∷ xs) q hq remain w y h =
+      let self : among (x ∷ xs) x ≡ true = or_left (x == x) (among xs x) (eq-eqb x x refl) in
+      let to : successor m s p ≡ x = points_to p x (remain x (or_right (p == x) (among (x ∷ xs) x) self)) w.0 in
+      let rest : (z : ℕ) → among (x ∷ xs) z ≡ true → Reach (successor m s) x z × Reach (successor m s) (successor m s z) q =
+      along x xs q hq (λ z hz. remain z (or_right (p == z) (among (x ∷ xs) z) hz)) w.1 in
+      elim (or_cases (p == y) (among (x ∷ xs) y) h) [
+        | inl e ↦ subst (λ z. Reach (successor m s) p z × Reach (successor m s) (successor m s z) q) (eqb-true p y e)
+            (here, subst (λ z. Reach (successor m s) z q) (sym to) (there (rest x self).1))
+        | inr f ↦ (there (subst (λ z. Reach (successor m s) z y) (sym to) (rest y f).0), (rest y f).1)
+      ]
+
+pub loop_cycle : (m : Market) → IsMarket m → (s : Stage) → IsKnown m s → (person : ℕ) (others : List ℕ) → IsLoop m s person others → (p : ℕ) → among (person ∷ others) p ≡ true → on_cycle m s p ≡ true
+loop_cycle m ok s known person others loop p h =
+    let self : among (person ∷ others) person ≡ true = or_left (person == person) (among others person) (eq-eqb person person refl) in
+    let both : Reach (successor m s) person p × Reach (successor m s) (successor m s p) person =
+    along m ok s known person others person (loop.remain person self) loop.remain loop.wishes p h in
+    cycle_from m s known p (loop.remain p h) (reach_trans (successor m s) both.1 both.0)

@@ -1,0 +1,5 @@
+use Rattle.trade_line.proofs.Cycles.{others_stay}
+use Rattle.trade_line.proofs.laws.other_cycles_stay.Goals as goal
+
+pub returns : goal.returns
+returns c = others_stay

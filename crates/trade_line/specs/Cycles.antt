@@ -1,0 +1,47 @@
+-- Cycles of a stage: what stays of them while others leave, and when people who wish for one
+-- another's homes are one.
+use Rattle.std.specs.Prelude.{◌≡◌, ℕ, ◌<◌, Bool, true, false, List, [], ◌∷◌, Some}
+use Rattle.trade_line.specs.Market.{Market, home}
+use Rattle.trade_line.specs.Member.{among}
+use Rattle.trade_line.specs.TopTradingCycles.{Stage, wish, successor, on_cycle, leave}
+
+-- whoever remains is a person of the market
+abbrev pub IsStageOf : Market → Stage → Type 0
+IsStageOf m s = (p : ℕ) → s.people p ≡ true → p < m.people
+
+-- a group made of whole cycles of the stage
+pub record AreCycles (m : Market) (s : Stage) (group : ℕ → Bool) : Type 0 where
+  pub each : (p : ℕ) → group p ≡ true → on_cycle m s p ≡ true
+  pub closed : (p : ℕ) → group p ≡ true → group (successor m s p) ≡ true
+
+-- when the group leaves with the rooms that it wishes for, everybody else who is on a cycle has the
+-- same wish, points to the same person, and is on a cycle still
+pub record LeavesOtherCycles (m : Market) (s : Stage) (group : ℕ → Bool) : Type 0 where
+  pub wishes :
+      (p : ℕ) → on_cycle m s p ≡ true → group p ≡ false
+      → wish m (leave m s group) p ≡ wish m s p
+  pub pointing :
+      (p : ℕ) → on_cycle m s p ≡ true → group p ≡ false
+      → successor m (leave m s group) p ≡ successor m s p
+  pub cycles :
+      (p : ℕ) → on_cycle m s p ≡ true → group p ≡ false
+      → on_cycle m (leave m s group) p ≡ true
+
+-- p wishes for the home of q
+abbrev pub WishesForHomeOf : Market → Stage → ℕ → ℕ → Type 0
+WishesForHomeOf m s p q = (h : ℕ) × (home m q ≡ Some h) × (wish m s p ≡ Some h)
+
+-- p wishes for the home of the first of the others, each of them for that of the next, and the last
+-- for that of q; with no others, p for that of q
+abbrev pub WishOnTo : Market → Stage → ℕ → List ℕ → ℕ → Type 0
+WishOnTo m s p [] q = WishesForHomeOf m s p q
+WishOnTo m s p (x ∷ xs) q = WishesForHomeOf m s p x × WishOnTo m s x xs q
+
+-- all of them remain
+abbrev pub AllRemain : Stage → List ℕ → Type 0
+AllRemain s people = (p : ℕ) → among people p ≡ true → s.people p ≡ true
+
+-- people who remain, each of whom wishes for the home of the next, and the last for that of the first
+pub record IsLoop (m : Market) (s : Stage) (p : ℕ) (others : List ℕ) : Type 0 where
+  pub remain : AllRemain s (p ∷ others)
+  pub wishes : WishOnTo m s p others p

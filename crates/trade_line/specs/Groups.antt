@@ -1,0 +1,35 @@
+-- People who hand in other lists together, and people who change what others get while they get
+-- the same (strategyproofness for groups: Bird 1984; nonbossy: Satterthwaite and Sonnenschein
+-- 1981; both: Pápai 2000).
+use Rattle.std.specs.Prelude.{◌≡◌, ℕ, ◌<◌, ◌≤◌, Bool, true, false, List}
+use Rattle.trade_line.specs.Market.{Market, IsMarket, list_of}
+use Rattle.trade_line.specs.Rank.{rank}
+use Rattle.trade_line.specs.TopTradingCycles.{gets}
+use Rattle.trade_line.specs.OtherList.{with_lists, with_list}
+
+-- everybody outside the group keeps their list
+abbrev pub OthersKeep : Market → (ℕ → Bool) → List (List ℕ) → Type 0
+OthersKeep m group lists =
+    (q : ℕ) → q < m.people → group q ≡ false → list_of (with_lists m lists) q ≡ list_of m q
+
+-- none in the group loses: by their own recorded list, nobody in it ranks what they get by the
+-- other lists below what they get by the recorded ones
+abbrev pub NoneLoses : Market → (ℕ → Bool) → List (List ℕ) → Type 0
+NoneLoses m group lists =
+    (q : ℕ) → q < m.people → group q ≡ true
+    → rank m q (gets (with_lists m lists) q) ≤ rank m q (gets m q)
+
+-- where a group hands in other lists and none in it loses, everybody, in the group or not, gets
+-- the same: so nobody in it gains without a loss to another in it
+abbrev pub IsGroupStrategyproof : Market → Type 0
+IsGroupStrategyproof m =
+    (group : ℕ → Bool) (lists : List (List ℕ)) → IsMarket (with_lists m lists)
+    → OthersKeep m group lists → NoneLoses m group lists
+    → (p : ℕ) → p < m.people → gets (with_lists m lists) p ≡ gets m p
+
+-- whoever gets the same by another list leaves everybody with the same
+abbrev pub IsNonbossy : Market → Type 0
+IsNonbossy m =
+    (p : ℕ) (l : List ℕ) → p < m.people → IsMarket (with_list m p l)
+    → gets (with_list m p l) p ≡ gets m p
+    → (q : ℕ) → q < m.people → gets (with_list m p l) q ≡ gets m q
