@@ -1,5 +1,6 @@
 -- What a generator's stream gives to a draw.
 use Rattle.std.specs.Prelude.{ℕ, zero, suc, List, [], ◌∷◌}
+use Rattle.std.specs.Fn.{iterate}
 use Rattle.rand_core.specs.Stream.{Stream, next_u64}
 
 -- the next answers to `next_u64`
@@ -9,5 +10,4 @@ next_words (suc count) stream = (next_u64 stream).0 ∷ next_words count (next_u
 
 -- the stream that is left after as many calls of `next_u64`
 abbrev pub stream_after : ℕ → Stream → Stream
-stream_after zero stream = stream
-stream_after (suc count) stream = stream_after count (next_u64 stream).1
+stream_after = iterate (λ stream. (next_u64 stream).1)

@@ -1,19 +1,23 @@
 //! The order in which the participants of a round choose.
-ghost use Rattle.std.specs.Prelude.{◌≡◌, List, IfOk, map};
+ghost use Rattle.std.specs.Prelude.{◌≡◌, ◌<◌, List, IfOk, OnErr, length, map};
 ghost use Rattle.std.specs.List.Sorted.{IsPermutation, IsSorted};
-ghost use Rattle.draw_order.specs.Draw.{Lot, PeopleDiffer, IsDrawnOrder, HasOneDrawnOrder, drawn_order};
-ghost use Rattle.draw_order.specs.Pairs.{lot_of, pair_cmp};
+ghost use Rattle.std.specs.Ordering.{on};
+ghost use Rattle.draw_order.specs.Draw.{Lot, IsDrawnOrder, HasOneDrawnOrder, drawn_order, lot_cmp};
+ghost use Rattle.draw_order.specs.Pairs.{lot_of};
 
 use room_types::{OutOfMemory, PersonId, Word};
 use std::alloc::Global;
 
 /// The identifiers of these participants, each with the word that was drawn for it: ascending by word, and by
-/// identifier where words are equal. It takes n log n comparisons.
+/// identifier where words are equal. It takes n log n comparisons, and for no lots no memory.
 pub fn order(alloc: Global, lots: &[(PersonId, Word)]) -> Result<Vec<PersonId>, OutOfMemory>
-    requires { PeopleDiffer lots.now }
     ensures drawn { IfOk result (λ people. IsDrawnOrder lots.now people.items) }
     ensures computed { IfOk result (λ people. people.items ≡ drawn_order lots.now) }
+    ensures memory { OnErr result (0 < length lots.now) }
 {
+    if lots.is_empty() {
+        return Ok(Vec::new(alloc));
+    }
     let mut ascending = words_first(alloc, lots)?;
     sort_pairs(&mut ascending);
     identifiers(alloc, &ascending)
@@ -33,7 +37,7 @@ fn words_first(
 // Ascending by word, and by identifier where words are equal.
 fn sort_pairs(pairs: &mut Vec<(Word, &PersonId)>)
     ensures moved { IsPermutation pairs.old.items pairs.new.items }
-    ensures ascending { IsSorted pair_cmp pairs.new.items }
+    ensures ascending { IsSorted (on lot_of lot_cmp) pairs.new.items }
 {
     pairs.sort_unstable();
 }
@@ -49,8 +53,7 @@ fn identifiers(alloc: Global, lots: &[(Word, &PersonId)]) -> Result<Vec<PersonId
     Ok(people)
 }
 
-/// The law that lots of different people have one drawn order, the one that `drawn_order` of `specs/` computes.
-/// It does nothing.
+/// The law that lots have one drawn order, the one that `drawn_order` of `specs/` computes. It does nothing.
 pub fn one_drawn_order()
-    ensures { (lots : List Lot) → PeopleDiffer lots → HasOneDrawnOrder lots }
+    ensures { (lots : List Lot) → HasOneDrawnOrder lots }
 {}

@@ -1,4 +1,4 @@
-ghost use Rattle.std.specs.Prelude.{◌≡◌, ℕ, ◌+◌, ◌%◌, ◌^◌};
+ghost use Rattle.std.specs.Prelude.{ℕ, ◌+◌, ◌%◌, ◌^◌};
 ghost use Rattle.rand_core.specs.Steps.{stream_of, steps_u32};
 
 use crate::{order, words_from};
@@ -83,9 +83,7 @@ fn equal_words_by_identifier(rt: HostRuntime) -> Result<(), Fail> {
     Ok(())
 }
 
-fn person(rt: &impl Abort, alloc: Global, text: &str) -> PersonId
-    ensures { result ≡ text.now }
-{
+fn person(rt: &impl Abort, alloc: Global, text: &str) -> PersonId {
     match PersonId::read(alloc, text) {
         Ok(person) => person,
         Err(_) => panic!(rt; "{text} is no identifier"),

@@ -1,5 +1,5 @@
 //! Words from a generator of random numbers.
-ghost use Rattle.std.specs.Prelude.{◌≡◌, IfOk, OnOk, OnErr};
+ghost use Rattle.std.specs.Prelude.{◌≡◌, IfOk, OnOk, OnErr, ◌<◌};
 ghost use Rattle.rand_core.specs.Stream.{next_u64};
 ghost use Rattle.draw_order.specs.Words.{next_words, stream_after};
 
@@ -8,15 +8,17 @@ use room_types::{OutOfMemory, Word};
 use std::alloc::Global;
 
 /// The next `count` answers of the generator's `next_u64`, in order. The generator is left after them, or, where
-/// memory is refused, where it was.
+/// memory is refused, where it was. No words take no memory.
 pub fn words_from<R: Rng>(
     alloc: Global,
     generator: &mut R,
     count: usize,
 ) -> Result<Vec<Word>, OutOfMemory>
     ensures words { IfOk result (λ words. words.items ≡ next_words count (R.stream generator.old)) }
-    ensures after { OnOk result (R.stream generator.new ≡ stream_after count (R.stream generator.old)) }
+    ensures after { OnOk result
+        (R.stream generator.new ≡ stream_after count (R.stream generator.old)) }
     ensures unchanged { OnErr result (R.stream generator.new ≡ R.stream generator.old) }
+    ensures memory { OnErr result (0 < count) }
 {
     // The memory is taken first, so that no word is drawn in vain.
     let mut words = Vec::with_capacity(alloc, count)?;

@@ -8,4 +8,3 @@ pub mod RoundLemmas
 pub mod RunLemmas
 pub mod SentenceLemmas
 pub mod SessionLemmas
-pub mod StreamLemmas

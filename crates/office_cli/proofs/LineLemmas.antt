@@ -2,7 +2,7 @@
 use Rattle.std.proofs.Common.{◌≡◌, ℕ, Bool, true, false, cond, eqb, List, [], ◌∷◌, ◌++◌, refl, sym, ap, ◌∙◌, append_assoc, append-nil}
 use Rattle.std.specs.List.{onto_first}
 use Rattle.office_cli.specs.Lines.{parts_of, front, last, ended_lines, last_part}
-use Rattle.office_cli.specs.Sessions.{ended_from, begun_from}
+use Rattle.office_cli.specs.Sessions.{ended_from, partial_from}
 
 -- what has begun stands before the first part
 prefixed : List ℕ → List (List ℕ) → List (List ℕ)
@@ -31,21 +31,21 @@ prefixed-nil [] = refl
 prefixed-nil (b ∷ bs) = prefixed-nil-cond (eqb b 10) b (parts_of bs)
 
 split_step : (t : Bool) (p : List ℕ) (b : ℕ) (bs : List ℕ)
-    → parts_of bs ≡ ended_from [] bs ++ begun_from [] bs ∷ []
-    → prefixed (p ++ b ∷ []) (parts_of bs) ≡ ended_from (p ++ b ∷ []) bs ++ begun_from (p ++ b ∷ []) bs ∷ []
+    → parts_of bs ≡ ended_from [] bs ++ partial_from [] bs ∷ []
+    → prefixed (p ++ b ∷ []) (parts_of bs) ≡ ended_from (p ++ b ∷ []) bs ++ partial_from (p ++ b ∷ []) bs ∷ []
     → prefixed p (cond t ([] ∷ parts_of bs) (onto_first b (parts_of bs)))
-    ≡ cond t (p ∷ ended_from [] bs) (ended_from (p ++ b ∷ []) bs) ++ cond t (begun_from [] bs) (begun_from (p ++ b ∷ []) bs) ∷ []
+    ≡ cond t (p ∷ ended_from [] bs) (ended_from (p ++ b ∷ []) bs) ++ cond t (partial_from [] bs) (partial_from (p ++ b ∷ []) bs) ∷ []
 unfolding prefixed
 split_step true p b bs here longer = ap (λ l. l ∷ parts_of bs) (append-nil p) ∙ ap (λ l. p ∷ l) here
 split_step false p b bs here longer = prefixed-onto_first p b (parts_of bs) ∙ longer
 
-prefixed_parts : (p bs : List ℕ) → prefixed p (parts_of bs) ≡ ended_from p bs ++ begun_from p bs ∷ []
+prefixed_parts : (p bs : List ℕ) → prefixed p (parts_of bs) ≡ ended_from p bs ++ partial_from p bs ∷ []
 unfolding prefixed
 prefixed_parts p [] = ap (λ l. l ∷ []) (append-nil p)
 prefixed_parts p (b ∷ bs) = split_step (eqb b 10) p b bs (sym (prefixed-nil bs) ∙ prefixed_parts [] bs) (prefixed_parts (p ++ b ∷ []) bs)
 
 -- the parts are the lines that are ended, and what has begun
-pub parts_of-is : (bs : List ℕ) → parts_of bs ≡ ended_from [] bs ++ begun_from [] bs ∷ []
+pub parts_of-is : (bs : List ℕ) → parts_of bs ≡ ended_from [] bs ++ partial_from [] bs ∷ []
 parts_of-is bs = sym (prefixed-nil bs) ∙ prefixed_parts [] bs
 
 front-push : (xs : List (List ℕ)) (y : List ℕ) → front (xs ++ y ∷ []) ≡ xs
@@ -60,30 +60,30 @@ last-push (x ∷ z ∷ xs) y = last-push (z ∷ xs) y
 
 -- the ended lines are those that end from nothing on
 pub ended_lines-is : (bs : List ℕ) → ended_lines bs ≡ ended_from [] bs
-ended_lines-is bs = ap front (parts_of-is bs) ∙ front-push (ended_from [] bs) (begun_from [] bs)
+ended_lines-is bs = ap front (parts_of-is bs) ∙ front-push (ended_from [] bs) (partial_from [] bs)
 
-pub last_part-is : (bs : List ℕ) → last_part bs ≡ begun_from [] bs
-last_part-is bs = ap last (parts_of-is bs) ∙ last-push (ended_from [] bs) (begun_from [] bs)
+pub last_part-is : (bs : List ℕ) → last_part bs ≡ partial_from [] bs
+last_part-is bs = ap last (parts_of-is bs) ∙ last-push (ended_from [] bs) (partial_from [] bs)
 
 begun-cond : (t : Bool) (p : List ℕ) (b : ℕ) (xs ys : List ℕ)
-    → begun_from [] (xs ++ ys) ≡ begun_from (begun_from [] xs) ys
-    → begun_from (p ++ b ∷ []) (xs ++ ys) ≡ begun_from (begun_from (p ++ b ∷ []) xs) ys
-    → cond t (begun_from [] (xs ++ ys)) (begun_from (p ++ b ∷ []) (xs ++ ys)) ≡ begun_from (cond t (begun_from [] xs) (begun_from (p ++ b ∷ []) xs)) ys
+    → partial_from [] (xs ++ ys) ≡ partial_from (partial_from [] xs) ys
+    → partial_from (p ++ b ∷ []) (xs ++ ys) ≡ partial_from (partial_from (p ++ b ∷ []) xs) ys
+    → cond t (partial_from [] (xs ++ ys)) (partial_from (p ++ b ∷ []) (xs ++ ys)) ≡ partial_from (cond t (partial_from [] xs) (partial_from (p ++ b ∷ []) xs)) ys
 begun-cond true p b xs ys here longer = here
 begun-cond false p b xs ys here longer = longer
 
-pub begun_from-append : (p xs ys : List ℕ) → begun_from p (xs ++ ys) ≡ begun_from (begun_from p xs) ys
-begun_from-append p [] ys = refl
-begun_from-append p (b ∷ xs) ys = begun-cond (eqb b 10) p b xs ys (begun_from-append [] xs ys) (begun_from-append (p ++ b ∷ []) xs ys)
+pub partial_from-append : (p xs ys : List ℕ) → partial_from p (xs ++ ys) ≡ partial_from (partial_from p xs) ys
+partial_from-append p [] ys = refl
+partial_from-append p (b ∷ xs) ys = begun-cond (eqb b 10) p b xs ys (partial_from-append [] xs ys) (partial_from-append (p ++ b ∷ []) xs ys)
 
 ended-cond : (t : Bool) (p : List ℕ) (b : ℕ) (xs ys : List ℕ)
-    → ended_from [] (xs ++ ys) ≡ ended_from [] xs ++ ended_from (begun_from [] xs) ys
-    → ended_from (p ++ b ∷ []) (xs ++ ys) ≡ ended_from (p ++ b ∷ []) xs ++ ended_from (begun_from (p ++ b ∷ []) xs) ys
+    → ended_from [] (xs ++ ys) ≡ ended_from [] xs ++ ended_from (partial_from [] xs) ys
+    → ended_from (p ++ b ∷ []) (xs ++ ys) ≡ ended_from (p ++ b ∷ []) xs ++ ended_from (partial_from (p ++ b ∷ []) xs) ys
     → cond t (p ∷ ended_from [] (xs ++ ys)) (ended_from (p ++ b ∷ []) (xs ++ ys))
-    ≡ cond t (p ∷ ended_from [] xs) (ended_from (p ++ b ∷ []) xs) ++ ended_from (cond t (begun_from [] xs) (begun_from (p ++ b ∷ []) xs)) ys
+    ≡ cond t (p ∷ ended_from [] xs) (ended_from (p ++ b ∷ []) xs) ++ ended_from (cond t (partial_from [] xs) (partial_from (p ++ b ∷ []) xs)) ys
 ended-cond true p b xs ys here longer = ap (λ l. p ∷ l) here
 ended-cond false p b xs ys here longer = longer
 
-pub ended_from-append : (p xs ys : List ℕ) → ended_from p (xs ++ ys) ≡ ended_from p xs ++ ended_from (begun_from p xs) ys
+pub ended_from-append : (p xs ys : List ℕ) → ended_from p (xs ++ ys) ≡ ended_from p xs ++ ended_from (partial_from p xs) ys
 ended_from-append p [] ys = refl
 ended_from-append p (b ∷ xs) ys = ended-cond (eqb b 10) p b xs ys (ended_from-append [] xs ys) (ended_from-append (p ++ b ∷ []) xs ys)

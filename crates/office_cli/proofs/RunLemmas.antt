@@ -1,17 +1,35 @@
 -- Runs one after the other.
-use Rattle.std.proofs.Common.{◌≡◌, ◌≤◌, ◌+◌, ℕ, List, [], ◌∷◌, ◌++◌, length, max, ◌∙◌, ap, subst, arith, length-append}
+use Rattle.std.proofs.Common.{◌≡◌, ◌≤◌, ◌+◌, ℕ, Bool, true, false, inr, refl, List, [], ◌∷◌, ◌++◌, length, max, ◌∙◌, ap, subst, arith, length-append}
 use Rattle.std.proofs.lemmas.List.Concat.{flat_map-append}
-use Rattle.office_core.specs.declared.office.Office.{Office}
-use Rattle.office_cli.specs.declared.texts.Said.{Said}
+use Rattle.office_store.specs.declared.requests.Answer.{Answer}
+use Rattle.office_store.specs.declared.requests.Request.{Request}
+use Rattle.office_cli.specs.declared.said.Said.{Said}
 use Rattle.office_cli.specs.Texts.{text_of, status_of}
 use Rattle.office_cli.specs.Lines.{front}
-use Rattle.office_cli.specs.Runs.{Run, texts_of, greatest_status}
+use Rattle.office_cli.specs.Sentences.{begins_request, is_silent, sentence_of}
+use Rattle.office_cli.specs.declared.sentences.Sentence.{Sentence}
+use Rattle.office_cli.specs.declared.sentences.Sentence.TheVariants.{Silent, Asks, Unclear}
+use Rattle.office_cli.specs.declared.said.Said.TheVariants.{Answered}
+use Rattle.office_store.specs.declared.requests.Answer.TheVariants.{Unavailable}
+use Rattle.office_cli.specs.Runs.{Answers, Run, Step, texts_of, greatest_status}
 
-pub Run-append : (o m n : Office) (xs ys : List (List ℕ)) (rs ss : List Said) → Run o xs rs m → Run m ys ss n → Run o (xs ++ ys) (rs ++ ss) n
-Run-append o m n [] ys [] ss p q = subst (λ z. Run z ys ss n) p q
-Run-append o m n (x ∷ xs) ys (r ∷ rs) ss p q = (p.0, p.1, Run-append p.0 m n xs ys rs ss p.2 q)
-Run-append o m n [] ys (r ∷ rs) ss p q = absurd p
-Run-append o m n (x ∷ xs) ys [] ss p q = absurd p
+module _ {H : Type 0} (handles : H → Request → Answer → H → Type 0) where
+  answers_unavailable : (o : H) (sentence : Sentence) (begins : Bool) → is_silent sentence ≡ false → begins ≡ true
+      → Answers handles o sentence begins (Answered Unavailable) o
+  answers_unavailable o Silent begins h e = absurd (cc)
+  answers_unavailable o (Asks request) begins h e = inr (refl, refl)
+  answers_unavailable o Unclear begins h e = (inr (e, refl), refl)
+
+  -- no memory for the words of a line
+  pub Step-unavailable : (o : H) (line : List ℕ) → is_silent (sentence_of line) ≡ false → begins_request line ≡ true
+      → Step handles o line (Answered Unavailable) o
+  Step-unavailable o line h e = answers_unavailable o (sentence_of line) (begins_request line) h e
+
+  pub Run-append : (o m n : H) (xs ys : List (List ℕ)) (rs ss : List Said) → Run handles o xs rs m → Run handles m ys ss n → Run handles o (xs ++ ys) (rs ++ ss) n
+  Run-append o m n [] ys [] ss p q = subst (λ z. Run handles z ys ss n) p q
+  Run-append o m n (x ∷ xs) ys (r ∷ rs) ss p q = (p.0, p.1, Run-append p.0 m n xs ys rs ss p.2 q)
+  Run-append o m n [] ys (r ∷ rs) ss p q = absurd p
+  Run-append o m n (x ∷ xs) ys [] ss p q = absurd p
 
 pub greatest_status-append : (rs ss : List Said) → greatest_status (rs ++ ss) ≡ max (greatest_status rs) (greatest_status ss)
 greatest_status-append [] ss = omega arith

@@ -1,23 +1,26 @@
 -- What the program does with the words after its name.
-use Rattle.std.specs.Prelude.{◌≡◌, ℕ, ◌⊎◌, true, [], ◌∷◌, Option, Some, None, take, codes}
+use Rattle.std.specs.Prelude.{◌≡◌, ℕ, ◌<◌, ◌⊎◌, true, false, List, [], ◌∷◌, Option, Some, None, length, take, codes}
 use Rattle.room_types.specs.Watched.{counted}
 use Rattle.office_core.specs.Office.{empty_office}
 use Rattle.office_core.specs.declared.office.Office.{Office}
+use Rattle.office_store.specs.Requests.{Handles}
 use Rattle.office_cli.specs.declared.ending.Ending.{Ending}
 use Rattle.office_cli.specs.declared.usage.Program.{Program}
 use Rattle.office_cli.specs.declared.usage.Program.TheVariants.{Rehearse, Words}
-use Rattle.office_cli.specs.declared.words.WordFault.{WordFault}
-use Rattle.office_cli.specs.declared.words.WordFault.TheVariants.{NotUnderstood, OutOfMemory}
+use Rattle.office_cli.specs.declared.word_fault.WordFault.{WordFault}
+use Rattle.office_cli.specs.declared.word_fault.WordFault.TheVariants.{NotUnderstood, OutOfMemory}
+use Rattle.office_cli.specs.Programs.{program_of}
 use Rattle.office_cli.specs.Rehearsals.{Rehearses}
-use Rattle.office_cli.specs.Streams.{Input, Output, Puts}
+use Rattle.room_types.specs.Streams.{Input, Output, Puts}
 use Rattle.office_cli.specs.OutputLines.{line_of}
 use Rattle.office_cli.specs.WordLines.{words_text}
 use Rattle.room_types.specs.Texts.{Text}
 
--- The text went out and was flushed with no failure, and the exit status is the wanted one. Or the writer failed, and it is 3.
+-- The text went out with no failure, one flush followed, and the exit status is the wanted one. Or the writer failed, and it is 3.
 abbrev pub Says : Text → ℕ → ℕ → Output → Output → Type 0
 Says text wanted status out out' =
-    ((status ≡ wanted) × Puts out out' text × (out'.flushes ≡ counted out.flushes 1) × (out'.failed ≡ out.failed))
+    ((status ≡ wanted) × Puts out out' text × (out'.flushes ≡ counted out.flushes 1) × (out'.pending ≡ false)
+    × (out'.failed ≡ out.failed))
     ⊎ ((status ≡ 3) × (out'.failed ≡ true) × (sent : ℕ) × Puts out out' (take sent text))
 
 -- Words that are no line are told on standard error with status 2, and want of memory on standard output with status 3.
@@ -27,7 +30,7 @@ Refuses OutOfMemory status out out' error error' = Says (line_of (codes "unavail
 
 -- an empty office hears standard input and answers on standard output
 abbrev pub RehearsesAnew : ℕ → Input → Input → Output → Output → Type 0
-RehearsesAnew status input input' out out' = (ending : Ending) × (office : Office) × Rehearses ending status empty_office office input input' out out'
+RehearsesAnew status input input' out out' = (ending : Ending) × (office : Office) × Rehearses Handles ending status empty_office office input input' out out'
 
 -- the line is done, or the words are refused that are none
 abbrev pub DoesLine : Option Program → ℕ → Input → Input → Output → Output → Output → Output → Type 0
@@ -35,8 +38,8 @@ DoesLine (Some Rehearse) status input input' out out' error error' = RehearsesAn
 DoesLine (Some (Words seed count)) status input input' out out' error error' = Says (words_text seed count) 0 status out out' × (error' ≡ error) × (input' ≡ input)
 DoesLine None status input input' out out' error error' = Refuses NotUnderstood status out out' error error' × (input' ≡ input)
 
--- What the words ask for is done, or memory is wanting to read them.
-abbrev pub CarriesOut : Option Program → ℕ → Input → Input → Output → Output → Output → Output → Type 0
-CarriesOut line status input input' out out' error error' =
-    DoesLine line status input input' out out' error error'
-    ⊎ (Refuses OutOfMemory status out out' error error' × (input' ≡ input))
+-- What the words ask for is done. Or memory is wanting to read them; no words take none.
+abbrev pub CarriesOut : List Text → ℕ → Input → Input → Output → Output → Output → Output → Type 0
+CarriesOut words status input input' out out' error error' =
+    DoesLine (program_of words) status input input' out out' error error'
+    ⊎ ((0 < length words) × Refuses OutOfMemory status out out' error error' × (input' ≡ input))

@@ -10,10 +10,10 @@ pub mod Runs
 pub mod Seeds
 pub mod Sentences
 pub mod Sessions
-pub mod Streams
 pub mod Texts
 pub mod Understanding
 pub mod Usage
 pub mod Values
+pub mod Verbs
 pub mod WordLines
 pub mod Words

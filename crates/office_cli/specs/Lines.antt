@@ -1,6 +1,7 @@
 -- The lines of the input.
 use Rattle.std.specs.Prelude.{ℕ, Bool, List, [], ◌∷◌, ◌++◌, length, ◌==◌, nat_le}
 use Rattle.std.specs.List.{slice_split}
+use Rattle.office_cli.specs.declared.limits.TheConstants.{LINE_LIMIT, READ_LIMIT}
 
 -- a line feed
 abbrev pub is_line_end : ℕ → Bool
@@ -41,7 +42,7 @@ lines_of bytes = ended_lines bytes ++ unended (last_part bytes)
 
 -- the longest line that is heard, without its line feed
 abbrev pub line_limit : ℕ
-line_limit = 65536
+line_limit = LINE_LIMIT
 
 -- the line is heard
 abbrev pub is_short : List ℕ → Bool
@@ -49,4 +50,4 @@ is_short line = nat_le (length line) line_limit
 
 -- how often the input is read at most
 abbrev pub read_limit : ℕ
-read_limit = 1048576
+read_limit = READ_LIMIT

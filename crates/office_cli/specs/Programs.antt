@@ -10,7 +10,8 @@ use Rattle.office_cli.specs.Seeds.{seed_of}
 use Rattle.office_cli.specs.Usage.{usage}
 use Rattle.room_types.specs.Texts.{Text}
 
--- the number that a text is in decimal, where it lies in the bounds
+-- The number that a text is in decimal, where it lies in the bounds. The text of a number is as `clap` reads it: an integer
+-- with a sign, whose minus is dropped where the bounds begin at 0 (`-0` is 0).
 abbrev pub number_between : ℕ → ℕ → Text → Option ℕ
 number_between low high text = if is_unsigned_in low high text then Some (digits_value 10 (without_leading_plus text)) else None
 

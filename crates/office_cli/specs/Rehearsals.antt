@@ -1,65 +1,73 @@
--- What a rehearsal does, on each of its endings.
+-- What a rehearsal does, on each of its endings. What is said of bytes, endings and devices holds whoever handles the requests;
+-- what was handled is told by the relation `handles`.
 use Rattle.std.specs.Prelude.{◌≡◌, ℕ, ◌<◌, ◌≤◌, ◌⊎◌, true, false, List, [], ◌++◌, length, take}
 use Rattle.std.specs.List.{list_all}
 use Rattle.std.specs.Io.KnownBytes.{Consumes, IsAtEnd}
 use Rattle.room_types.specs.Watched.{counted}
-use Rattle.office_core.specs.declared.office.Office.{Office}
-use Rattle.office_cli.specs.declared.texts.Said.{Said}
+use Rattle.office_store.specs.declared.requests.Answer.{Answer}
+use Rattle.office_store.specs.declared.requests.Request.{Request}
+use Rattle.office_cli.specs.declared.said.Said.{Said}
 use Rattle.office_cli.specs.declared.ending.Ending.{Ending}
 use Rattle.office_cli.specs.declared.ending.Ending.TheVariants.{Ended, ReadFault, WriteFault, NoMemory}
 use Rattle.office_cli.specs.Lines.{is_short, line_limit, read_limit, front, lines_of, ended_lines, last_part}
-use Rattle.office_cli.specs.Streams.{Input, Output, Puts}
+use Rattle.room_types.specs.Streams.{Input, Output, Puts}
 use Rattle.office_cli.specs.Runs.{Run, texts_of, greatest_status}
 
--- The whole input was heard, and no read, write or flush failed: each of its lines was answered in turn, all texts went out,
--- and one flush followed.
-pub record WholeInput (old new : Office) (input input' : Input) (output output' : Output) (status : ℕ) : Type 0 where
-  pub bytes : List ℕ
-  pub answers : List Said
-  pub read : Consumes input.remaining input'.remaining bytes
-  pub end : IsAtEnd input'.remaining
-  pub short : list_all is_short (lines_of bytes) ≡ true
-  pub run : Run old (lines_of bytes) answers new
-  pub written : Puts output output' (texts_of answers)
-  pub flushed : output'.flushes ≡ counted output.flushes 1
-  pub no_read_failed : input'.failed ≡ false
-  pub no_write_failed : output'.failed ≡ false
-  pub greatest : status ≡ greatest_status answers
+module _ {H : Type 0} (handles : H → Request → Answer → H → Type 0) where
+  -- The whole input was heard, and no read, write or flush failed: each of its lines was answered in turn, all texts went out,
+  -- and one flush followed, so no byte of them waits for one.
+  pub record WholeInput (old new : H) (input input' : Input) (output output' : Output) (status : ℕ) : Type 0 where
+    pub bytes : List ℕ
+    pub answers : List Said
+    pub read : Consumes input.remaining input'.remaining bytes
+    pub end : IsAtEnd input'.remaining
+    pub short : list_all is_short (lines_of bytes) ≡ true
+    pub run : Run handles old (lines_of bytes) answers new
+    pub written : Puts output output' (texts_of answers)
+    pub flushed : output'.flushes ≡ counted output.flushes 1
+    pub none_pending : output'.pending ≡ false
+    pub no_read_failed : input'.failed ≡ false
+    pub no_write_failed : output'.failed ≡ false
+    pub greatest : status ≡ greatest_status answers
 
--- Some lines of the bytes read, from the first on, were answered, and the first `sent` bytes of their texts went out: all texts
--- but the last went out whole. A line is ended by its line feed, or by the end of the input where that was reached.
-pub record PartOfInput (old new : Office) (input input' : Input) (output output' : Output) (sent : ℕ) : Type 0 where
-  pub bytes : List ℕ
-  pub lines : List (List ℕ)
-  pub others : List (List ℕ)
-  pub answers : List Said
-  pub read : Consumes input.remaining input'.remaining bytes
-  pub cut : (ended_lines bytes ≡ lines ++ others) ⊎ (IsAtEnd input'.remaining × (lines_of bytes ≡ lines ++ others))
-  pub run : Run old lines answers new
-  pub written : Puts output output' (take sent (texts_of answers))
-  pub whole : length (texts_of (front answers)) ≤ sent
-  pub within : sent ≤ length (texts_of answers)
+  -- Some lines of the bytes read, from the first on, were answered, and the first `sent` bytes of their texts went out: all texts
+  -- but the last went out whole. No line that was answered is too long. A line is ended by its line feed, or by the end of the
+  -- input where that was reached.
+  pub record PartOfInput (old new : H) (input input' : Input) (output output' : Output) (sent : ℕ) : Type 0 where
+    pub bytes : List ℕ
+    pub lines : List (List ℕ)
+    pub others : List (List ℕ)
+    pub answers : List Said
+    pub read : Consumes input.remaining input'.remaining bytes
+    pub cut : (ended_lines bytes ≡ lines ++ others) ⊎ (IsAtEnd input'.remaining × (lines_of bytes ≡ lines ++ others))
+    pub short : list_all is_short lines ≡ true
+    pub run : Run handles old lines answers new
+    pub written : Puts output output' (take sent (texts_of answers))
+    pub whole : length (texts_of (front answers)) ≤ sent
+    pub within : sent ≤ length (texts_of answers)
 
--- The lines that were ended before a fault were answered, and all their texts went out.
--- Then a line is too long, though no read failed, or all that was read was heard and a read failed or too many were needed.
-pub record WholeLines (old new : Office) (input input' : Input) (output output' : Output) : Type 0 where
-  pub heard : List ℕ
-  pub unheard : List ℕ
-  pub answers : List Said
-  pub read : Consumes input.remaining input'.remaining (heard ++ unheard)
-  pub run : Run old (ended_lines heard) answers new
-  pub written : Puts output output' (texts_of answers)
-  pub cause :
-      ((line_limit < length (last_part heard)) × (input'.failed ≡ false))
-      ⊎ ((unheard ≡ []) × ((input'.failed ≡ true) ⊎ (read_limit ≤ input'.reads)))
+  -- The lines that were ended before a fault were answered, none of them too long, and all their texts went out. Then a line is
+  -- too long, though no read failed, or all that was read was heard, and a read failed or too many were made that each gave a byte.
+  pub record WholeLines (old new : H) (input input' : Input) (output output' : Output) : Type 0 where
+    pub heard : List ℕ
+    pub unheard : List ℕ
+    pub answers : List Said
+    pub read : Consumes input.remaining input'.remaining (heard ++ unheard)
+    pub short : list_all is_short (ended_lines heard) ≡ true
+    pub run : Run handles old (ended_lines heard) answers new
+    pub written : Puts output output' (texts_of answers)
+    pub cause :
+        ((line_limit < length (last_part heard)) × (input'.failed ≡ false))
+        ⊎ ((unheard ≡ []) × ((input'.failed ≡ true)
+        ⊎ ((read_limit ≤ input'.reads) × (read_limit ≤ length heard))))
 
--- What a rehearsal did, by its ending. The writer failed where the ending is a write fault, and on no other; a failed read is
--- a read fault, and no other ending.
-abbrev pub Rehearses : Ending → ℕ → Office → Office → Input → Input → Output → Output → Type 0
-Rehearses Ended status old new input input' output output' = WholeInput old new input input' output output' status
-Rehearses ReadFault status old new input input' output output' =
-    (status ≡ 3) × (output'.failed ≡ false) × WholeLines old new input input' output output'
-Rehearses (WriteFault sent) status old new input input' output output' =
-    (status ≡ 3) × (input'.failed ≡ false) × (output'.failed ≡ true) × PartOfInput old new input input' output output' sent
-Rehearses (NoMemory sent) status old new input input' output output' =
-    (status ≡ 3) × (input'.failed ≡ false) × (output'.failed ≡ false) × PartOfInput old new input input' output output' sent
+  -- What a rehearsal did, by its ending. The writer failed where the ending is a write fault, and on no other; a failed read is
+  -- a read fault, and no other ending.
+  abbrev pub Rehearses : Ending → ℕ → H → H → Input → Input → Output → Output → Type 0
+  Rehearses Ended status old new input input' output output' = WholeInput old new input input' output output' status
+  Rehearses ReadFault status old new input input' output output' =
+      (status ≡ 3) × (output'.failed ≡ false) × WholeLines old new input input' output output'
+  Rehearses (WriteFault sent) status old new input input' output output' =
+      (status ≡ 3) × (input'.failed ≡ false) × (output'.failed ≡ true) × PartOfInput old new input input' output output' sent
+  Rehearses (NoMemory sent) status old new input input' output output' =
+      (status ≡ 3) × (input'.failed ≡ false) × (output'.failed ≡ false) × PartOfInput old new input input' output output' sent

@@ -4,8 +4,8 @@ use Rattle.std.specs.List.{slice_split, list_all}
 use Rattle.std.specs.Str.{is_utf8}
 use Rattle.std.specs.Str.Lines.{strip_carriage_return}
 use Rattle.room_types.specs.Texts.{Text}
-use Rattle.office_cli.specs.Words.{request_of}
-use Rattle.office_cli.specs.declared.requests.Request.{Request}
+use Rattle.office_cli.specs.Words.{names_request, request_of}
+use Rattle.office_store.specs.declared.requests.Request.{Request}
 use Rattle.office_cli.specs.declared.sentences.Sentence.{Sentence}
 use Rattle.office_cli.specs.declared.sentences.Sentence.TheVariants.{Silent, Asks, Unclear}
 
@@ -43,6 +43,12 @@ sentence_of_text text = if is_blank text then Silent else if is_utf8 text then s
 -- what a line says; one carriage return at its end is dropped
 unfoldable pub sentence_of : List ℕ → Sentence
 sentence_of line = if is_comment line then Silent else sentence_of_text (strip_carriage_return line)
+
+-- the line is text, and its first word is that of a request
+unfoldable pub begins_request : List ℕ → Bool
+begins_request line =
+    let text = strip_carriage_return line in
+    is_utf8 text && names_request (words_of text)
 
 -- nothing is answered
 abbrev pub is_silent : Sentence → Bool

@@ -1,9 +1,10 @@
 -- What is printed for a line, and the statuses of lines.
-use Rattle.std.specs.Prelude.{ℕ, [], ◌∷◌, codes}
+use Rattle.std.specs.Prelude.{ℕ, ⊤, [], ◌∷◌, codes}
 use Rattle.room_types.specs.Texts.{Text}
-use Rattle.office_cli.specs.declared.requests.Answer.TheVariants.{Reply, Refused, Unavailable}
-use Rattle.office_cli.specs.declared.texts.Said.{Said}
-use Rattle.office_cli.specs.declared.texts.Said.TheVariants.{Nothing, Answered, NotUnderstood}
+use Rattle.office_store.specs.Requests.{AnswerAscends}
+use Rattle.office_store.specs.declared.requests.Answer.TheVariants.{Reply, Refused, Unavailable}
+use Rattle.office_cli.specs.declared.said.Said.{Said}
+use Rattle.office_cli.specs.declared.said.Said.TheVariants.{Nothing, Answered, NotUnderstood}
 use Rattle.office_cli.specs.RefusalTexts.{refusal_text}
 use Rattle.office_cli.specs.OutputLines.{line_of}
 use Rattle.office_cli.specs.Replies.{reply_text}
@@ -15,6 +16,18 @@ text_of (Answered (Reply reply)) = reply_text reply
 text_of (Answered (Refused refusal)) = refusal_text refusal
 text_of (Answered Unavailable) = line_of (codes "unavailable" ∷ [])
 text_of NotUnderstood = line_of (codes "not understood" ∷ [])
+
+-- the rows of the reply that is said, if there is one, ascend
+abbrev pub SaidAscends : Said → Type 0
+SaidAscends Nothing = ⊤
+SaidAscends (Answered answer) = AnswerAscends answer
+SaidAscends NotUnderstood = ⊤
+
+-- it is not nothing
+abbrev pub SaysSomething : Said → Type 0
+SaysSomething Nothing = ⊥
+SaysSomething (Answered answer) = ⊤
+SaysSomething NotUnderstood = ⊤
 
 -- how the line went: accepted, refused, not understood, or unavailable
 abbrev pub status_of : Said → ℕ

@@ -1,9 +1,10 @@
 -- How words are read.
 use Rattle.std.specs.Prelude.{◌≡◌, ⊤, Option, Some, None, Result, Ok, Err}
-use Rattle.office_cli.specs.declared.words.WordFault.{WordFault}
-use Rattle.office_cli.specs.declared.words.WordFault.TheVariants.{NotUnderstood, OutOfMemory}
+use Rattle.office_cli.specs.declared.word_fault.WordFault.{WordFault}
+use Rattle.office_cli.specs.declared.word_fault.WordFault.TheVariants.{NotUnderstood, OutOfMemory}
 
--- What was read is seen as what the words mean. They were not understood where they mean nothing, and memory may be wanting at any words.
+-- What was read is seen as what the words mean. They were not understood where they mean nothing. At which words memory may
+-- be wanting is said by each function's own clause.
 abbrev pub UnderstandsAs : {X Y : Type 0} → (X → Y) → Option Y → Result X WordFault → Type 0
 UnderstandsAs view meaning (Ok x) = meaning ≡ Some (view x)
 UnderstandsAs view meaning (Err NotUnderstood) = meaning ≡ None

@@ -1,14 +1,16 @@
 -- The request that the words of a line are.
-use Rattle.std.specs.Prelude.{List, [], ◌∷◌, Option, Some, None, codes, if◌then◌else◌, option_and_then, option_map}
-use Rattle.std.specs.Str.{bytes_eq}
+use Rattle.std.specs.Prelude.{Bool, false, List, [], ◌∷◌, Option, Some, None, is_some, option_and_then, option_map}
 use Rattle.room_types.specs.Grammars.{is_key, is_name, is_person_id, is_room_code}
 use Rattle.room_types.specs.Texts.{Text}
 use Rattle.room_types.specs.Words.{word_of}
 use Rattle.office_core.specs.declared.command.Command.TheVariants.{AddPerson, AddRoom, Cancel, CloseRound, Draw, Leave, OpenRound, Publish, Remove, Reopen, Run, SetChoices, SetHome, Settle, Shut, Withdraw}
 use Rattle.office_core.specs.declared.query.Query.TheVariants.{Me, Moves, Order, People, Results, Rooms, Round, WhatIf}
+use Rattle.office_cli.specs.Verbs.{verb_of}
+use Rattle.office_cli.specs.declared.verbs.Verb.{Verb}
+use Rattle.office_cli.specs.declared.verbs.Verb.TheVariants as verb
 use Rattle.office_cli.specs.Values.{all_of, choices_in, in_grammar, joined, only, round_number}
-use Rattle.office_cli.specs.declared.requests.Request.{Request}
-use Rattle.office_cli.specs.declared.requests.Request.TheVariants.{Office, Ask}
+use Rattle.office_store.specs.declared.requests.Request.{Request}
+use Rattle.office_store.specs.declared.requests.Request.TheVariants.{Office, Ask}
 
 -- `room CODE`
 abbrev pub add_room : List Text → Option Request
@@ -75,36 +77,39 @@ abbrev pub alone : Request → List Text → Option Request
 alone request [] = Some request
 alone request (word ∷ rest) = None
 
--- the request of the words after this first one
-abbrev pub request_after : Text → List Text → Option Request
-request_after verb rest =
-    if bytes_eq verb (codes "room") then add_room rest
-    else if bytes_eq verb (codes "person") then add_person rest
-    else if bytes_eq verb (codes "home") then set_home rest
-    else if bytes_eq verb (codes "leave") then leave rest
-    else if bytes_eq verb (codes "remove") then remove rest
-    else if bytes_eq verb (codes "shut") then shut rest
-    else if bytes_eq verb (codes "reopen") then reopen rest
-    else if bytes_eq verb (codes "open") then alone (Office OpenRound) rest
-    else if bytes_eq verb (codes "close") then alone (Office CloseRound) rest
-    else if bytes_eq verb (codes "run") then alone (Office Run) rest
-    else if bytes_eq verb (codes "publish") then alone (Office Publish) rest
-    else if bytes_eq verb (codes "settle") then alone (Office Settle) rest
-    else if bytes_eq verb (codes "cancel") then alone (Office Cancel) rest
-    else if bytes_eq verb (codes "choose") then set_choices rest
-    else if bytes_eq verb (codes "withdraw") then withdraw rest
-    else if bytes_eq verb (codes "draw") then draw rest
-    else if bytes_eq verb (codes "rooms") then alone (Ask Rooms) rest
-    else if bytes_eq verb (codes "people") then alone (Ask People) rest
-    else if bytes_eq verb (codes "round") then alone (Ask Round) rest
-    else if bytes_eq verb (codes "order") then alone (Ask Order) rest
-    else if bytes_eq verb (codes "results") then alone (Ask Results) rest
-    else if bytes_eq verb (codes "moves") then ask_moves rest
-    else if bytes_eq verb (codes "me") then ask_me rest
-    else if bytes_eq verb (codes "whatif") then ask_what_if rest
-    else None
+-- the request of the words after a first one
+abbrev pub request_after : Verb → List Text → Option Request
+request_after verb.Room rest = add_room rest
+request_after verb.Person rest = add_person rest
+request_after verb.Home rest = set_home rest
+request_after verb.Leave rest = leave rest
+request_after verb.Remove rest = remove rest
+request_after verb.Shut rest = shut rest
+request_after verb.Reopen rest = reopen rest
+request_after verb.Open rest = alone (Office OpenRound) rest
+request_after verb.Close rest = alone (Office CloseRound) rest
+request_after verb.Run rest = alone (Office Run) rest
+request_after verb.Publish rest = alone (Office Publish) rest
+request_after verb.Settle rest = alone (Office Settle) rest
+request_after verb.Cancel rest = alone (Office Cancel) rest
+request_after verb.Choose rest = set_choices rest
+request_after verb.Withdraw rest = withdraw rest
+request_after verb.Draw rest = draw rest
+request_after verb.Rooms rest = alone (Ask Rooms) rest
+request_after verb.People rest = alone (Ask People) rest
+request_after verb.Round rest = alone (Ask Round) rest
+request_after verb.Order rest = alone (Ask Order) rest
+request_after verb.Results rest = alone (Ask Results) rest
+request_after verb.Moves rest = ask_moves rest
+request_after verb.Me rest = ask_me rest
+request_after verb.WhatIf rest = ask_what_if rest
 
 -- the request, if the words are one
 abbrev pub request_of : List Text → Option Request
 request_of [] = None
-request_of (verb ∷ rest) = request_after verb rest
+request_of (first ∷ rest) = option_and_then (λ verb. request_after verb rest) (verb_of first)
+
+-- the first word is that of a request
+abbrev pub names_request : List Text → Bool
+names_request [] = false
+names_request (first ∷ rest) = is_some (verb_of first)

@@ -1,19 +1,18 @@
 //! What the words after the program's name ask for, done over standard input, output and error.
 ghost use Rattle.std.specs.Prelude.{map};
 ghost use Rattle.room_types.specs.Watched.{IsFresh};
-ghost use Rattle.office_cli.specs.Streams.{input_of, output_of};
-ghost use Rattle.office_cli.specs.Programs.{program_of};
+ghost use Rattle.room_types.specs.Streams.{input_of, output_of};
 ghost use Rattle.office_cli.specs.Doing.{CarriesOut, RehearsesAnew, Refuses, Says};
 
 use crate::program::program;
 use crate::rehearse::rehearse;
-use crate::send::send;
 use crate::texts::{ACCEPTED, NOT_UNDERSTOOD, UNAVAILABLE};
 use crate::usage::Program;
+use crate::word_fault::WordFault;
 use crate::word_lines::words_text;
-use crate::words::WordFault;
 use office_core::Office;
 use room_types::Watched;
+use room_types::send::send;
 use std::alloc::Global;
 use std::io::{Read, Write};
 
@@ -28,7 +27,7 @@ pub fn carry_out<'a, R: Read, W: Write, E: Write>(
     requires fresh_input { IsFresh input.old }
     requires fresh_output { IsFresh output.old }
     requires fresh_error { IsFresh error.old }
-    ensures { CarriesOut (program_of (map (λ word. word.now) words.entry.now)) result
+    ensures { CarriesOut (map (λ word. word.now) words.entry.now) result
         (input_of R.remaining input.old) (input_of R.remaining input.new)
         (output_of W.contents output.old) (output_of W.contents output.new)
         (output_of E.contents error.old) (output_of E.contents error.new) }
@@ -77,7 +76,8 @@ pub fn refuse<W: Write, E: Write>(
 
 // Writes the text and flushes. The exit status is this one, unless the device fails.
 fn say<W: Write>(output: &mut Watched<W>, text: &str, status: u8) -> u8
-    ensures { Says text.now status result (output_of W.contents output.old) (output_of W.contents output.new) }
+    ensures { Says text.now status result (output_of W.contents output.old)
+        (output_of W.contents output.new) }
 {
     match send(output, text.as_bytes()) {
         Ok(()) => match output.flush() {

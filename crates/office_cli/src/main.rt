@@ -5,25 +5,28 @@ ghost use Rattle.std.specs.Prelude.{◌≡◌, IfOk, drop, map, string_bytes};
 
 pub mod carry_out;
 pub mod ending;
-pub mod handle;
 pub mod hearing;
+pub mod limits;
 pub mod order_lines;
+pub mod output_lines;
 pub mod program;
 pub mod refusals;
 pub mod rehearse;
 pub mod replies;
-pub mod requests;
+pub mod said;
 pub mod seeds;
-pub mod send;
 pub mod sentences;
+pub mod session;
 pub mod texts;
 pub mod usage;
 pub mod values;
+pub mod verbs;
+pub mod word_fault;
 pub mod word_lines;
 pub mod words;
 
 use crate::carry_out::refuse;
-use crate::words::WordFault;
+use crate::word_fault::WordFault;
 use room_types::Watched;
 use std::alloc::{AllocError, Global};
 use std::process::ExitCode;
@@ -65,7 +68,8 @@ fn words_of_system(rt: &HostRuntime) -> Result<Vec<String>, WordFault> {
 
 // The words after the program's name, as texts.
 fn texts_after_name<'a>(alloc: Global, words: &'a [String]) -> Result<Vec<&'a str>, AllocError>
-    ensures { IfOk result (λ texts. map (λ text. text.now) texts.items ≡ drop 1 (map string_bytes words.now)) }
+    ensures { IfOk result
+        (λ texts. map (λ text. text.now) texts.items ≡ drop 1 (map string_bytes words.now)) }
 {
     let mut texts = Vec::new(alloc);
     let [_name, rest @ ..] = words else {

@@ -23,7 +23,8 @@ pub fn text_of_order(alloc: Global, rows: &[OrderRow]) -> Result<String, OutOfMe
 }
 
 fn push_row(alloc: Global, text: &mut String, place: u64, row: &OrderRow) -> Result<(), AllocError>
-    ensures { OnOk result (string_bytes text.new ≡ string_bytes text.old ++ order_line place row.now) }
+    ensures { OnOk result
+        (string_bytes text.new ≡ string_bytes text.old ++ order_line place row.now) }
 {
     let number = place.to_string(alloc)?;
     let word = row.word;
@@ -35,7 +36,8 @@ fn push_row(alloc: Global, text: &mut String, place: u64, row: &OrderRow) -> Res
 
 // Adds a text, right in its width.
 fn push_right(text: &mut String, cell: &str, width: usize) -> Result<(), AllocError>
-    ensures { OnOk result (string_bytes text.new ≡ string_bytes text.old ++ right_in width cell.now) }
+    ensures { OnOk result
+        (string_bytes text.new ≡ string_bytes text.old ++ right_in width cell.now) }
 {
     let mut spaces = width.saturating_sub(cell.len());
     while spaces > 0 {

@@ -1,19 +1,22 @@
 //! The words after the program's name.
-ghost use Rattle.std.specs.Prelude.{◌≡◌, ◌≢◌, map, option_map};
+ghost use Rattle.std.specs.Prelude.{◌≡◌, ◌≢◌, ◌<◌, IfErr, length, map, option_map};
 ghost use Rattle.clap.specs.Words.{first_of, found_of, kind_of, rows_of};
 ghost use Rattle.office_cli.specs.Programs.{entered_line, number_of, program_of, words_line};
 ghost use Rattle.office_cli.specs.Understanding.{Understands};
 
 use crate::seeds::seed_of;
 use crate::usage::{Program, WORDS_LIMIT, rooms_command};
-use crate::words::WordFault;
+use crate::word_fault::WordFault;
 use clap::error::ErrorKind;
 use clap::{ArgMatches, Error};
 use std::alloc::Global;
 
-/// The line of the program that these words are. No words are the line `rehearse`. `NotUnderstood` is answered exactly where they are none.
+/// The line of the program that these words are. No words are the line `rehearse`, and take no memory. `NotUnderstood` is
+/// answered exactly where the words are no line.
 pub fn program<'a>(alloc: Global, words: &'a [&'a str]) -> Result<Program, WordFault>
-    ensures { Understands (program_of (map (λ word. word.now) words.entry.now)) result }
+    ensures understands { Understands (program_of (map (λ word. word.now) words.entry.now)) result }
+    ensures some { IfErr result
+        (λ fault. fault ≡ WordFault.OutOfMemory → 0 < length words.entry.now) }
 {
     if words.is_empty() {
         return Ok(Program::Rehearse);
@@ -21,7 +24,7 @@ pub fn program<'a>(alloc: Global, words: &'a [&'a str]) -> Result<Program, WordF
     let command = rooms_command(alloc)?;
     match command.try_get_matches_from(words) {
         Ok(matches) => match matches.subcommand() {
-            Some((name, entries)) => line(name, entries),
+            Some((name, entries)) => entered_line(name, entries),
             None => Err(WordFault::NotUnderstood),
         },
         Err(error) => Err(fault_of(&error)),
@@ -29,17 +32,17 @@ pub fn program<'a>(alloc: Global, words: &'a [&'a str]) -> Result<Program, WordF
 }
 
 // The line of this subcommand with its entries.
-fn line<'a>(name: &str, entries: &ArgMatches<'a>) -> Result<Program, WordFault>
+fn entered_line<'a>(name: &str, entries: &ArgMatches<'a>) -> Result<Program, WordFault>
     ensures { Understands (entered_line (name.now, rows_of (found_of entries.now))) result }
 {
     match name {
         "rehearse" => Ok(Program::Rehearse),
-        "words" => printing_words(entries).ok_or(WordFault::NotUnderstood),
+        "words" => words_line(entries).ok_or(WordFault::NotUnderstood),
         _ => Err(WordFault::NotUnderstood),
     }
 }
 
-fn printing_words<'a>(entries: &ArgMatches<'a>) -> Option<Program>
+fn words_line<'a>(entries: &ArgMatches<'a>) -> Option<Program>
     ensures { result ≡ words_line (rows_of (found_of entries.now)) }
 {
     let seed = seed_of(text(entries, "seed")?)?;
@@ -49,7 +52,8 @@ fn printing_words<'a>(entries: &ArgMatches<'a>) -> Option<Program>
 
 // The text that the argument was given.
 fn text<'a>(entries: &ArgMatches<'a>, id: &str) -> Option<&'a str>
-    ensures { option_map (λ given. given.now) result ≡ first_of id.now (rows_of (found_of entries.now)) }
+    ensures { option_map (λ given. given.now) result ≡ first_of id.now
+        (rows_of (found_of entries.now)) }
 {
     entries.get_str(id)
 }

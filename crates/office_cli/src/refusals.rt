@@ -20,7 +20,8 @@ pub fn text_of_refusal(alloc: Global, refusal: &Refusal) -> Result<String, OutOf
 
 // Adds the values that the refusal has, after a space.
 fn push_values(text: &mut String, refusal: &Refusal) -> Result<(), AllocError>
-    ensures { OnOk result (string_bytes text.new ≡ string_bytes text.old ++ refusal_values refusal.now) }
+    ensures { OnOk result
+        (string_bytes text.new ≡ string_bytes text.old ++ refusal_values refusal.now) }
 {
     match refusal {
         Refusal::BadPhase(phase) => write!(text, " {phase}"),

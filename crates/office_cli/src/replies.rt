@@ -1,17 +1,19 @@
 //! The lines of replies.
 ghost use Rattle.std.specs.Prelude.{◌≡◌, ◌++◌, [], ◌∷◌, IfOk, OnOk, string_bytes};
+ghost use Rattle.office_core.specs.Replies.{RowsAscend};
 ghost use Rattle.office_cli.specs.OutputLines.{line_of};
 ghost use Rattle.office_cli.specs.Replies.{reply_text, result_text, spaced, standing_text, yes_or_no};
 
 use crate::order_lines::text_of_order;
-use crate::texts::line;
+use crate::output_lines::line;
 use office_core::{Reply, Standing};
 use office_lists::{move_day_text, or_none, people_text, results_text, rooms_text};
 use room_types::{OutOfMemory, PersonId, RoomCode};
 use std::alloc::{AllocError, Global};
 
-/// The lines of a reply.
+/// The lines of a reply, whose rows ascend, as `answer` and `decide` give them.
 pub fn text_of_reply(alloc: Global, reply: &Reply) -> Result<String, OutOfMemory>
+    requires ascending { RowsAscend reply.now }
     ensures { IfOk result (λ text. string_bytes text ≡ reply_text reply.now) }
 {
     match reply {
@@ -105,7 +107,8 @@ fn shown_result(standing: &Standing) -> &str
 
 // Adds a line of a heading and a value.
 fn push_line(text: &mut String, heading: &str, value: &str) -> Result<(), AllocError>
-    ensures { OnOk result (string_bytes text.new ≡ string_bytes text.old ++ line_of (heading.now ∷ value.now ∷ [])) }
+    ensures { OnOk result
+        (string_bytes text.new ≡ string_bytes text.old ++ line_of (heading.now ∷ value.now ∷ [])) }
 {
     text.push_str(heading)?;
     text.push_str(value)?;
@@ -114,7 +117,9 @@ fn push_line(text: &mut String, heading: &str, value: &str) -> Result<(), AllocE
 
 // Adds a line of a heading and room codes, each after a space.
 fn push_rooms(text: &mut String, heading: &str, rooms: &[RoomCode]) -> Result<(), AllocError>
-    ensures { OnOk result (string_bytes text.new ≡ string_bytes text.old ++ line_of (heading.now ∷ spaced rooms.now ∷ [])) }
+    ensures { OnOk result
+        (string_bytes text.new
+        ≡ string_bytes text.old ++ line_of (heading.now ∷ spaced rooms.now ∷ [])) }
 {
     text.push_str(heading)?;
     for room in rooms {

@@ -4,6 +4,7 @@ mod draw;
 mod example;
 mod failing;
 mod lines;
+mod refusals;
 mod register;
 mod rounds;
 mod scripts;

@@ -1,23 +1,14 @@
 //! What is said of lines, and the statuses of lines.
-ghost use Rattle.std.specs.Prelude.{◌≡◌, IfOk, string_bytes};
-ghost use Rattle.office_cli.specs.Texts.{text_of as text-of, status_of as status-of};
+ghost use Rattle.std.specs.Prelude.{◌≡◌, IfOk, OnErr, string_bytes};
+ghost use Rattle.office_cli.specs.Texts.{text_of as text-of, status_of as status-of, SaidAscends, SaysSomething};
 
+use crate::output_lines::line;
 use crate::refusals::text_of_refusal;
 use crate::replies::text_of_reply;
-use crate::requests::Answer;
+use crate::said::Said;
+use office_store::Answer;
 use room_types::OutOfMemory;
 use std::alloc::Global;
-
-/// What is said of a line.
-#[derive(Drop)]
-pub enum Said {
-    /// Nothing, of a comment or a line without words.
-    Nothing,
-    /// The answer to a request.
-    Answered(Answer),
-    /// That the line is not understood.
-    NotUnderstood,
-}
 
 /// The status of a reply.
 pub const ACCEPTED: u8 = 0;
@@ -31,9 +22,12 @@ pub const NOT_UNDERSTOOD: u8 = 2;
 /// The status where memory or a device failed.
 pub const UNAVAILABLE: u8 = 3;
 
-/// The lines that are printed.
+/// The lines that are printed, where the rows of a reply ascend, as handlers give them. Where nothing is said, no memory is
+/// taken.
 pub fn text_of(alloc: Global, said: &Said) -> Result<String, OutOfMemory>
-    ensures { IfOk result (λ text. string_bytes text ≡ text-of said.now) }
+    requires ascending { SaidAscends said.now }
+    ensures text { IfOk result (λ text. string_bytes text ≡ text-of said.now) }
+    ensures memory { OnErr result (SaysSomething said.now) }
 {
     match said {
         Said::Nothing => Ok(String::new(alloc)),
@@ -54,12 +48,4 @@ pub fn status_of(said: &Said) -> u8
         Said::Answered(Answer::Unavailable) => UNAVAILABLE,
         Said::NotUnderstood => NOT_UNDERSTOOD,
     }
-}
-
-/// A line of its own.
-pub fn line(alloc: Global, text: &str) -> Result<String, OutOfMemory>
-    ensures { IfOk result (λ line. string_bytes line ≡ text.now) }
-{
-    let line = String::from_str(alloc, text)?;
-    Ok(line)
 }

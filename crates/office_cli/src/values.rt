@@ -8,7 +8,7 @@ ghost use Rattle.room_types.specs.Words.{word_of};
 ghost use Rattle.office_cli.specs.Values.{all_of, choices_in, codes_of, in_grammar, is_round_number, joined, only, round_number};
 ghost use Rattle.room_types.specs.Grammars.{is_name};
 
-use crate::words::WordFault;
+use crate::word_fault::WordFault;
 use room_types::{Choices, Grammar, Listing, Name, RoomCode, Text, TypeFault, Word};
 use std::alloc::Global;
 
@@ -57,7 +57,8 @@ pub fn choices_of(alloc: Global, words: &[&str]) -> Result<Choices, WordFault>
 }
 
 fn all_codes(alloc: Global, words: &[&str]) -> Result<Vec<RoomCode>, WordFault>
-    ensures { UnderstandsAs (λ codes. codes.items) (codes_of (map (λ word. word.now) words.now)) result }
+    ensures { UnderstandsAs (λ codes. codes.items) (codes_of (map (λ word. word.now) words.now))
+        result }
 {
     let mut codes = Vec::new(alloc);
     for word in words {

@@ -1,79 +1,64 @@
 //! The request that the words of a line are.
-ghost use Rattle.std.specs.Prelude.{◌≡◌, map};
+ghost use Rattle.std.specs.Prelude.{◌≡◌, IfErr, map, true};
 ghost use Rattle.office_cli.specs.Understanding.{Understands};
-ghost use Rattle.office_cli.specs.Words.{add_person, add_room, alone as alone_of, ask_me, ask_moves, ask_what_if, draw, leave, remove, reopen, request_of, set_choices, set_home, shut, withdraw};
+ghost use Rattle.office_cli.specs.Words.{add_person, add_room, alone, ask_me, ask_moves, ask_what_if, draw, leave, names_request, remove, reopen, request_after, request_of, set_choices, set_home, shut, withdraw};
 
-use crate::requests::Request;
 use crate::values::{choices_of, drawn_words, name_of, only_value, round_of, value_of};
+use crate::verbs::{Verb, verb_of};
+use crate::word_fault::WordFault;
 use office_core::{Command, Query};
-use std::alloc::{AllocError, AllocFailed, Global};
+use office_store::Request;
+use std::alloc::Global;
 
-/// Why words are not what they should be.
-#[derive(Clone, Copy, Debug, PartialEq, Eq, Drop)]
-pub enum WordFault {
-    /// The words have no meaning.
-    NotUnderstood,
-    /// Memory was refused.
-    OutOfMemory,
-}
-
-impl From<AllocError> for WordFault {
-    ghost use Rattle.office_cli.specs.declared.words.WordFault.TheVariants.{OutOfMemory};
-
-    ghost from_gives = { λ _ fault. fault ≡ OutOfMemory };
-
-    fn from(_error: AllocError) -> WordFault {
-        WordFault::OutOfMemory
-    }
-}
-
-impl<T: Drop> From<AllocFailed<T>> for WordFault {
-    ghost use Rattle.office_cli.specs.declared.words.WordFault.TheVariants.{OutOfMemory};
-
-    ghost from_gives = { λ _ fault. fault ≡ OutOfMemory };
-
-    fn from(_error: AllocFailed<T>) -> WordFault {
-        WordFault::OutOfMemory
-    }
-}
-
-/// The request that the words of a line are. `NotUnderstood` is answered exactly where they are none.
+/// The request that the words of a line are. `NotUnderstood` is answered exactly where they are none, and memory is wanting
+/// only where the first word is that of a request.
 pub fn words_to_command(alloc: Global, words: &[&str]) -> Result<Request, WordFault>
-    ensures { Understands (request_of (map (λ word. word.now) words.now)) result }
+    ensures understands { Understands (request_of (map (λ word. word.now) words.now)) result }
+    ensures named { IfErr result (λ fault. fault ≡ WordFault.OutOfMemory
+        → names_request (map (λ word. word.now) words.now) ≡ true) }
 {
-    let [verb, rest @ ..] = words else {
+    let [first, rest @ ..] = words else {
         return Err(WordFault::NotUnderstood);
     };
-    match *verb {
-        "room" => adding_room(alloc, rest),
-        "person" => adding_person(alloc, rest),
-        "home" => giving_home(alloc, rest),
-        "leave" => leaving(alloc, rest),
-        "remove" => removing(alloc, rest),
-        "shut" => shutting(alloc, rest),
-        "reopen" => reopening(alloc, rest),
-        "open" => alone(rest, Request::Office(Command::OpenRound)),
-        "close" => alone(rest, Request::Office(Command::CloseRound)),
-        "run" => alone(rest, Request::Office(Command::Run)),
-        "publish" => alone(rest, Request::Office(Command::Publish)),
-        "settle" => alone(rest, Request::Office(Command::Settle)),
-        "cancel" => alone(rest, Request::Office(Command::Cancel)),
-        "choose" => choosing(alloc, rest),
-        "withdraw" => withdrawing(alloc, rest),
-        "draw" => drawing(alloc, rest),
-        "rooms" => alone(rest, Request::Ask(Query::Rooms)),
-        "people" => alone(rest, Request::Ask(Query::People)),
-        "round" => alone(rest, Request::Ask(Query::Round)),
-        "order" => alone(rest, Request::Ask(Query::Order)),
-        "results" => alone(rest, Request::Ask(Query::Results)),
-        "moves" => asking_moves(rest),
-        "me" => asking_me(alloc, rest),
-        "whatif" => asking_what_if(alloc, rest),
-        _ => Err(WordFault::NotUnderstood),
+    match verb_of(first) {
+        Some(verb) => request_after(alloc, verb, rest),
+        None => Err(WordFault::NotUnderstood),
     }
 }
 
-fn adding_room(alloc: Global, words: &[&str]) -> Result<Request, WordFault>
+// The request of the words after a first word.
+fn request_after(alloc: Global, verb: Verb, rest: &[&str]) -> Result<Request, WordFault>
+    ensures { Understands (request_after verb (map (λ word. word.now) rest.now)) result }
+{
+    match verb {
+        Verb::Room => add_room(alloc, rest),
+        Verb::Person => add_person(alloc, rest),
+        Verb::Home => set_home(alloc, rest),
+        Verb::Leave => leave(alloc, rest),
+        Verb::Remove => remove(alloc, rest),
+        Verb::Shut => shut(alloc, rest),
+        Verb::Reopen => reopen(alloc, rest),
+        Verb::Open => alone(rest, Request::Office(Command::OpenRound)),
+        Verb::Close => alone(rest, Request::Office(Command::CloseRound)),
+        Verb::Run => alone(rest, Request::Office(Command::Run)),
+        Verb::Publish => alone(rest, Request::Office(Command::Publish)),
+        Verb::Settle => alone(rest, Request::Office(Command::Settle)),
+        Verb::Cancel => alone(rest, Request::Office(Command::Cancel)),
+        Verb::Choose => set_choices(alloc, rest),
+        Verb::Withdraw => withdraw(alloc, rest),
+        Verb::Draw => draw(alloc, rest),
+        Verb::Rooms => alone(rest, Request::Ask(Query::Rooms)),
+        Verb::People => alone(rest, Request::Ask(Query::People)),
+        Verb::Round => alone(rest, Request::Ask(Query::Round)),
+        Verb::Order => alone(rest, Request::Ask(Query::Order)),
+        Verb::Results => alone(rest, Request::Ask(Query::Results)),
+        Verb::Moves => ask_moves(rest),
+        Verb::Me => ask_me(alloc, rest),
+        Verb::WhatIf => ask_what_if(alloc, rest),
+    }
+}
+
+fn add_room(alloc: Global, words: &[&str]) -> Result<Request, WordFault>
     ensures { Understands (add_room (map (λ word. word.now) words.now)) result }
 {
     let room = only_value(alloc, words)?;
@@ -81,7 +66,7 @@ fn adding_room(alloc: Global, words: &[&str]) -> Result<Request, WordFault>
 }
 
 // The rest of the words, joined by one space, is the name.
-fn adding_person(alloc: Global, words: &[&str]) -> Result<Request, WordFault>
+fn add_person(alloc: Global, words: &[&str]) -> Result<Request, WordFault>
     ensures { Understands (add_person (map (λ word. word.now) words.now)) result }
 {
     match words {
@@ -100,7 +85,7 @@ fn adding_person(alloc: Global, words: &[&str]) -> Result<Request, WordFault>
     }
 }
 
-fn giving_home(alloc: Global, words: &[&str]) -> Result<Request, WordFault>
+fn set_home(alloc: Global, words: &[&str]) -> Result<Request, WordFault>
     ensures { Understands (set_home (map (λ word. word.now) words.now)) result }
 {
     match words {
@@ -113,35 +98,35 @@ fn giving_home(alloc: Global, words: &[&str]) -> Result<Request, WordFault>
     }
 }
 
-fn leaving(alloc: Global, words: &[&str]) -> Result<Request, WordFault>
+fn leave(alloc: Global, words: &[&str]) -> Result<Request, WordFault>
     ensures { Understands (leave (map (λ word. word.now) words.now)) result }
 {
     let person = only_value(alloc, words)?;
     Ok(Request::Office(Command::Leave { person }))
 }
 
-fn removing(alloc: Global, words: &[&str]) -> Result<Request, WordFault>
+fn remove(alloc: Global, words: &[&str]) -> Result<Request, WordFault>
     ensures { Understands (remove (map (λ word. word.now) words.now)) result }
 {
     let person = only_value(alloc, words)?;
     Ok(Request::Office(Command::Remove { person }))
 }
 
-fn shutting(alloc: Global, words: &[&str]) -> Result<Request, WordFault>
+fn shut(alloc: Global, words: &[&str]) -> Result<Request, WordFault>
     ensures { Understands (shut (map (λ word. word.now) words.now)) result }
 {
     let room = only_value(alloc, words)?;
     Ok(Request::Office(Command::Shut { room }))
 }
 
-fn reopening(alloc: Global, words: &[&str]) -> Result<Request, WordFault>
+fn reopen(alloc: Global, words: &[&str]) -> Result<Request, WordFault>
     ensures { Understands (reopen (map (λ word. word.now) words.now)) result }
 {
     let room = only_value(alloc, words)?;
     Ok(Request::Office(Command::Reopen { room }))
 }
 
-fn choosing(alloc: Global, words: &[&str]) -> Result<Request, WordFault>
+fn set_choices(alloc: Global, words: &[&str]) -> Result<Request, WordFault>
     ensures { Understands (set_choices (map (λ word. word.now) words.now)) result }
 {
     match words {
@@ -154,21 +139,21 @@ fn choosing(alloc: Global, words: &[&str]) -> Result<Request, WordFault>
     }
 }
 
-fn withdrawing(alloc: Global, words: &[&str]) -> Result<Request, WordFault>
+fn withdraw(alloc: Global, words: &[&str]) -> Result<Request, WordFault>
     ensures { Understands (withdraw (map (λ word. word.now) words.now)) result }
 {
     let person = only_value(alloc, words)?;
     Ok(Request::Office(Command::Withdraw { person }))
 }
 
-fn drawing(alloc: Global, words: &[&str]) -> Result<Request, WordFault>
+fn draw(alloc: Global, words: &[&str]) -> Result<Request, WordFault>
     ensures { Understands (draw (map (λ word. word.now) words.now)) result }
 {
     let words = drawn_words(alloc, words)?;
     Ok(Request::Office(Command::Draw { words }))
 }
 
-fn asking_moves(words: &[&str]) -> Result<Request, WordFault>
+fn ask_moves(words: &[&str]) -> Result<Request, WordFault>
     ensures { Understands (ask_moves (map (λ word. word.now) words.now)) result }
 {
     match words {
@@ -180,14 +165,14 @@ fn asking_moves(words: &[&str]) -> Result<Request, WordFault>
     }
 }
 
-fn asking_me(alloc: Global, words: &[&str]) -> Result<Request, WordFault>
+fn ask_me(alloc: Global, words: &[&str]) -> Result<Request, WordFault>
     ensures { Understands (ask_me (map (λ word. word.now) words.now)) result }
 {
     let key = only_value(alloc, words)?;
     Ok(Request::Ask(Query::Me(key)))
 }
 
-fn asking_what_if(alloc: Global, words: &[&str]) -> Result<Request, WordFault>
+fn ask_what_if(alloc: Global, words: &[&str]) -> Result<Request, WordFault>
     ensures { Understands (ask_what_if (map (λ word. word.now) words.now)) result }
 {
     match words {
@@ -202,7 +187,7 @@ fn asking_what_if(alloc: Global, words: &[&str]) -> Result<Request, WordFault>
 
 // The request of a word after which none may stand.
 fn alone(words: &[&str], request: Request) -> Result<Request, WordFault>
-    ensures { Understands (alone_of request (map (λ word. word.now) words.now)) result }
+    ensures { Understands (alone request (map (λ word. word.now) words.now)) result }
 {
     if words.is_empty() {
         Ok(request)

@@ -1,15 +1,19 @@
 -- The office as finite maps, and what is read from it.
-use Rattle.std.specs.Prelude.{ℕ, Bool, false, ◌&&◌, List, [], ◌∷◌, Option, None, Some, if◌then◌else◌, nat_eq, nat_le, eqb, not, map as map_list}
+pub mod Invariants
+pub mod Limits
+pub mod Moves
+pub mod Phases
+use Rattle.std.specs.Prelude.{ℕ, Bool, false, ◌&&◌, List, [], ◌∷◌, Option, None, Some}
+use Rattle.std.specs.Prelude.{if◌then◌else◌, nat_le, eqb, not, map as map_list}
 use Rattle.std.specs.Option.{is_some, unwrap_or, option_and_then}
-use Rattle.std.specs.Cmp.Lexicographic.{pointwise}
 use Rattle.std.specs.List.{filter}
 use Rattle.std.specs.FinMap as map
-use Rattle.room_types.specs.Texts.{Text, TextMap}
+use Rattle.room_types.specs.Texts.{Text, TextMap, text_eq}
 use Rattle.room_types.specs.declared.phase.Phase.TheVariants.{Idle}
-use Rattle.office_core.specs.Phases.{is_idle, is_published}
+use Rattle.office_core.specs.Office.Phases.{is_idle, is_published}
 use Rattle.office_core.specs.declared.office.Assigned.{Assigned}
 use Rattle.office_core.specs.declared.office.Office.{Office}
-use Rattle.office_core.specs.declared.person.Person.{Person}
+use Rattle.office_core.specs.declared.office.person.Person.{Person}
 
 -- nobody, no rooms, before the first round
 abbrev pub empty_office : Office
@@ -24,9 +28,6 @@ empty_office = record {
   number = 0;
   phase = Idle;
 }
-
-abbrev pub text_eq : Text → Text → Bool
-text_eq a b = pointwise nat_eq a b
 
 abbrev pub knows_room : Office → Text → Bool
 knows_room office room = map.contains_key office.rooms room
@@ -79,7 +80,7 @@ is_taken office room = is_some (tenant office room)
 abbrev pub key_in_use : Office → Text → Bool
 key_in_use office key = is_some (owner office key)
 
--- whether a person has left the round
+-- whether a person has withdrawn from the round
 abbrev pub has_withdrawn : Office → Text → Bool
 has_withdrawn office person = map.contains_key office.withdrawn person
 

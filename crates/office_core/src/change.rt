@@ -1,4 +1,6 @@
 //! The changes that commands are made of.
+pub mod apply;
+
 use room_types::{Choices, Key, Move, Name, PersonId, Phase, RoomCode, Word};
 
 /// One change of an office.
@@ -25,7 +27,7 @@ pub enum Change {
         person: PersonId,
         home: Option<RoomCode>,
     },
-    /// A person has left the round.
+    /// A person has withdrawn from the round.
     PutWithdrawn {
         person: PersonId,
     },

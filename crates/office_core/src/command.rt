@@ -1,4 +1,23 @@
 //! What the office is asked to do.
+pub mod add_person;
+pub mod add_room;
+pub mod cancel;
+pub mod close_round;
+pub mod decide;
+pub mod decision;
+pub mod draw;
+pub mod leave;
+pub mod open_round;
+pub mod publish;
+pub mod remove;
+pub mod reopen;
+pub mod run;
+pub mod set_choices;
+pub mod set_home;
+pub mod settle;
+pub mod shut;
+pub mod withdraw;
+
 use room_types::{Choices, Key, Listing, Name, PersonId, RoomCode, Word};
 
 /// A command of the office, or of a resident.
@@ -55,9 +74,9 @@ pub enum Command {
     },
     /// Trades the rooms by the drawn order and the lists.
     Run,
-    /// Shows everybody the result.
+    /// Shows each participant the result.
     Publish,
-    /// Moves everybody to the room of the result, and ends the round.
+    /// Moves each participant whose home changes to the room of the result, and ends the round.
     Settle,
     /// Gives the round up.
     Cancel,

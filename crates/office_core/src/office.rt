@@ -1,10 +1,16 @@
 //! What the office keeps.
 ghost use Rattle.std.specs.Prelude.{◌≡◌, IfOk};
-ghost use Rattle.office_core.specs.Laws.{IsLawful};
+ghost use Rattle.office_core.specs.Office.Invariants.{IsLawful};
 ghost use Rattle.office_core.specs.Office.{empty_office};
 
-use crate::moves::{RoundMoves, Rounds};
-use crate::person::Person;
+pub mod limits;
+pub mod look;
+pub mod moves;
+pub mod person;
+pub mod phases;
+
+use crate::office::moves::{RoundMoves, Rounds};
+use crate::office::person::Person;
 use room_types::grammars::{PersonIds, RoomCodes};
 use room_types::rows::copy_optional;
 use room_types::{Choices, Copied, OutOfMemory, Phase, RoomCode, Table, Word};
@@ -39,7 +45,7 @@ pub struct Office {
     pub people: Table<PersonIds, Person>,
     /// The rooms that a person listed, the best first. Nobody has an empty list here.
     pub choices: Table<PersonIds, Choices>,
-    /// Who has left the round.
+    /// Who has withdrawn from the round.
     pub withdrawn: Table<PersonIds, ()>,
     /// The word that each participant drew.
     pub words: Table<PersonIds, Word>,

@@ -1,4 +1,14 @@
 //! What the office is asked.
+pub mod answer;
+pub mod me;
+pub mod moves;
+pub mod order;
+pub mod people;
+pub mod results;
+pub mod rooms;
+pub mod round;
+pub mod what_if;
+
 use room_types::{Choices, Key, PersonId};
 
 /// A question of the office, or of a resident.

@@ -1,6 +1,8 @@
 //! Why a command or a query is refused.
 ghost use Rattle.std.specs.Prelude.{◌≡◌, ◌⊎◌};
-ghost use Rattle.office_core.specs.Refusals.{number_of, name_of};
+ghost use Rattle.office_core.specs.Refusal.{number_of, name_of};
+
+pub mod rooms;
 
 use room_types::{OutOfMemory, Phase, RoomCode};
 use std::alloc::{AllocError, AllocFailed};
@@ -28,13 +30,13 @@ pub enum Refusal {
     HasHome,
     /// The person has no home.
     NoHome,
-    /// The person has left the round.
+    /// The person has withdrawn from the round.
     Withdrawn,
     /// There are `want` participants, and `got` words.
     WrongWordCount { want: usize, got: usize },
     /// There are as many rooms, people or rounds as there may be.
     LimitReached,
-    /// The person has left the round, and so has no place in the order.
+    /// The person has withdrawn from the round, and so has no place in the order.
     NotInRound,
     /// No round of this number is over: it is 0, has not begun, or is still under way.
     NoSuchRound,
@@ -45,7 +47,7 @@ pub enum Refusal {
 }
 
 impl Refusal {
-    /// The refusal's number, as it is printed.
+    /// The refusal's number. It is printed, but for that of `OutOfMemory`.
     pub fn number(&self) -> u8
         ensures { result ≡ number_of self.now }
     {
@@ -70,7 +72,7 @@ impl Refusal {
         }
     }
 
-    /// The refusal's name, as it is printed.
+    /// The refusal's name. It is printed, but for that of `OutOfMemory`.
     pub fn name(&self) -> &'static str
         ensures { result.now ≡ name_of self.now }
     {

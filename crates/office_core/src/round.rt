@@ -7,6 +7,7 @@ pub(crate) mod people;
 mod problem;
 mod results;
 mod rooms;
+pub(crate) mod settlement;
 
 pub use crate::round::other_list::what_if;
 pub use crate::round::results::round_results;

@@ -1,13 +1,15 @@
 //! Each public call with ample memory: a round from its commands to its moves.
 ghost use Rattle.std.specs.Prelude.{IfOk};
-ghost use Rattle.office_core.specs.Laws.{IsLawful};
+ghost use Rattle.office_core.specs.Office.Invariants.{IsLawful};
 
-use crate::answering::answer;
-use crate::applying::apply_all;
+use crate::change::Change;
+use crate::change::apply::{apply, office_after};
 use crate::command::Command;
-use crate::deciding::decide;
+use crate::command::add_person::add_person;
+use crate::command::decide::decide;
 use crate::office::Office;
 use crate::query::Query;
+use crate::query::answer::answer;
 use crate::refusal::Refusal;
 use crate::reply::Reply;
 use room_types::{Choices, Key, Listing, Name, PersonId, Phase, RoomCode, State, Wave, Word};
@@ -132,9 +134,7 @@ fn carry_out(alloc: Global, office: &mut Office, command: &Command) -> Result<Re
     ensures { IsLawful office.new }
 {
     let decision = decide(alloc, office, command)?;
-    let mut next = office.copy()?;
-    apply_all(&mut next, &decision.changes)?;
-    *office = next;
+    *office = office_after(office, &decision.changes)?;
     Ok(decision.reply)
 }
 
@@ -300,5 +300,47 @@ fn tells_what_another_list_would_give(rt: HostRuntime) -> Result<(), Fail> {
         panic!(rt; "no room")
     };
     assert!(rt; is_room(&room, "V"));
+    Ok(())
+}
+
+#[test]
+fn refuses_a_home(rt: HostRuntime) -> Result<(), Fail> {
+    let alloc = rt.alloc();
+    let mut office = furnished(alloc)?;
+    let shut = about(alloc, "shut", "V")?;
+    carry_out_all(alloc, &mut office, &[shut])?;
+    for (home, number) in [("X", 3), ("V", 7), ("H1", 8)] {
+        let newcomer = person(alloc, "P", "key000000000000p", Some(home))?;
+        let refused = match decide(alloc, &office, &newcomer) {
+            Ok(_) => 0,
+            Err(refusal) => refusal.number(),
+        };
+        assert_eq!(rt; refused, number, "{home}");
+    }
+    Ok(())
+}
+
+#[test]
+fn refuses_one_person_too_many(rt: HostRuntime) -> Result<(), Fail> {
+    let alloc = rt.alloc();
+    let mut office = Office::empty(alloc);
+    let name = Name::read(alloc, "Pat")?;
+    for n in 0..2000 {
+        let id = format!(in alloc; "P{n}")?;
+        let key = format!(in alloc; "key000000000{n:04}")?;
+        let put = Change::PutPerson {
+            person: PersonId::read(alloc, &id)?,
+            name: name.copy()?,
+            key: Key::read(alloc, &key)?,
+            home: None,
+        };
+        apply(&mut office, &put)?;
+    }
+    let person = PersonId::read(alloc, "Q")?;
+    let key = Key::read(alloc, "key000000000000q")?;
+    match add_person(alloc, &office, &person, &name, &key, &None) {
+        Ok(_) => assert!(rt; false),
+        Err(refusal) => assert_eq!(rt; refusal.number(), 13),
+    }
     Ok(())
 }

@@ -7,9 +7,9 @@ use Rattle.std.proofs.lemmas.List.{get_or-set_same, get_or-set_other, length-set
 use Rattle.std.proofs.Math.ListN.{get_or-eq_default}
 use Rattle.room_types.specs.declared.moves.Wave.{Wave}
 use Rattle.room_types.specs.declared.moves.Wave.TheVariants.{Swap, Nth}
-use Rattle.office_lists.specs.Waves.{next, followed, HasNumber, IsWave, wave_of}
+use Rattle.office_lists.specs.Waves.{next, own_number, followed, HasNumber, IsWave, wave_of}
 use Rattle.office_lists.specs.Followers.{AreApart, AreFollowers, IsNumbered, NumbersChain}
-use Rattle.office_lists.proofs.Following.{followed-beyond, number-first, number-later, number-back, one_wave, some_wave}
+use Rattle.office_lists.proofs.Following.{followed-beyond, number-end, number-none, number-later, number-back, one_wave, some_wave}
 
 pub next-within : (ls : List (Option ℕ)) (i j : ℕ) → next ls i ≡ Some j → i < length ls
 next-within ls i j e =
@@ -19,14 +19,14 @@ next-within ls i j e =
     ]
 
 -- the chain that ends at `end` is numbered up to so many moves
-pub record IsNumberedTo (fs : List (Option ℕ)) (end count : ℕ) (old new : List Wave) : Type 0 where
+pub record IsNumberedTo (fs : List (Option ℕ)) (end first count : ℕ) (old new : List Wave) : Type 0 where
   pub as_many : length new ≡ length old
   pub reached : (c i : ℕ) → c < count → followed fs c end ≡ Some i → IsNumbered new i
-  pub right : (i number : ℕ) → get_or new i Swap ≡ Nth number → (get_or old i Swap ≡ Nth number) ⊎ ((c : ℕ) × (number ≡ suc c) × (followed fs c end ≡ Some i))
+  pub right : (i number : ℕ) → get_or new i Swap ≡ Nth number → (get_or old i Swap ≡ Nth number) ⊎ ((c : ℕ) × (number ≡ c + first) × (followed fs c end ≡ Some i))
   pub kept : (i number : ℕ) → get_or old i Swap ≡ Nth number → IsNumbered new i
 
-pub none_numbered : (fs : List (Option ℕ)) (end : ℕ) (waves : List Wave) → IsNumberedTo fs end 0 waves waves
-none_numbered fs end waves = record {
+pub none_numbered : (fs : List (Option ℕ)) (end first : ℕ) (waves : List Wave) → IsNumberedTo fs end first 0 waves waves
+none_numbered fs end first waves = record {
   as_many = refl;
   reached = λ c i low e. absurd (omega arith);
   right = λ i number e. inl e;
@@ -45,13 +45,13 @@ after_write ws here i number in' =
       | false ↦ λ e. let other = eqb-false i here e in inr (other, get_or-set_other ws here i (Nth number) Swap other)
     ] refl
 
-pub one_numbered : (fs : List (Option ℕ)) (end count here : ℕ) (old new : List Wave) → IsNumberedTo fs end count old new
-    → followed fs count end ≡ Some here → here < length new → IsNumberedTo fs end (count + 1) old (set new here (Nth (count + 1)))
-one_numbered fs end count here old new so at in' = record {
-  as_many = length-set new here (Nth (count + 1)) ∙ so.as_many;
+pub one_numbered : (fs : List (Option ℕ)) (end first count here : ℕ) (old new : List Wave) → IsNumberedTo fs end first count old new
+    → followed fs count end ≡ Some here → here < length new → IsNumberedTo fs end first (count + 1) old (set new here (Nth (count + first)))
+one_numbered fs end first count here old new so at in' = record {
+  as_many = length-set new here (Nth (count + first)) ∙ so.as_many;
   reached = λ c i low e.
-      elim (after_write new here i (count + 1) in') [
-        | inl now ↦ (count + 1, now.1)
+      elim (after_write new here i (count + first) in') [
+        | inl now ↦ (count + first, now.1)
         | inr before ↦
             elim (cases_lt c count) [
               | inl less ↦ let was = so.reached c i less e in (was.0, before.1 ∙ was.1)
@@ -61,20 +61,20 @@ one_numbered fs end count here old new so at in' = record {
             ]
       ];
   right = λ i number e.
-      elim (after_write new here i (count + 1) in') [
-        | inl now ↦ let same : count + 1 ≡ number = same_number (count + 1) number (sym now.1 ∙ e) in inr (count, omega arith, at ∙ ap (λ k. Some k) (sym now.0))
+      elim (after_write new here i (count + first) in') [
+        | inl now ↦ let same : count + first ≡ number = same_number (count + first) number (sym now.1 ∙ e) in inr (count, sym same, at ∙ ap (λ k. Some k) (sym now.0))
         | inr before ↦ so.right i number (sym before.1 ∙ e)
       ];
   kept = λ i number e.
-      elim (after_write new here i (count + 1) in') [
-        | inl now ↦ (count + 1, now.1)
+      elim (after_write new here i (count + first) in') [
+        | inl now ↦ (count + first, now.1)
         | inr before ↦ let was = so.kept i number e in (was.0, before.1 ∙ was.1)
       ];
 }
 
 -- at the end of the chain all its moves are numbered
-pub all_numbered : (fs : List (Option ℕ)) (end count : ℕ) (old new : List Wave) → IsNumberedTo fs end count old new → followed fs count end ≡ None → NumbersChain fs end old new
-all_numbered fs end count old new so at = record {
+pub all_numbered : (fs : List (Option ℕ)) (end first count : ℕ) (old new : List Wave) → IsNumberedTo fs end first count old new → followed fs count end ≡ None → NumbersChain fs end first old new
+all_numbered fs end first count old new so at = record {
   reached = λ c i e.
       elim (cases_lt c count) [
         | inl less ↦ so.reached c i less e
@@ -85,27 +85,31 @@ all_numbered fs end count old new so at = record {
 }
 
 -- the chains of the ends below `count` are numbered
-pub record AreNumberedTo (ls fs : List (Option ℕ)) (count : ℕ) (waves : List Wave) : Type 0 where
+pub record AreNumberedTo (ends : List ℕ) (ls fs : List (Option ℕ)) (count : ℕ) (waves : List Wave) : Type 0 where
   pub as_many : length waves ≡ length ls
-  pub right : (i number : ℕ) → get_or waves i Swap ≡ Nth number → HasNumber ls number i
+  pub right : (i number : ℕ) → get_or waves i Swap ≡ Nth number → HasNumber ends ls number i
   pub done : (end c i : ℕ) → end < count → next ls end ≡ None → followed fs c end ≡ Some i → IsNumbered waves i
 
-pub fewer_done : (ls fs : List (Option ℕ)) (few count : ℕ) (waves : List Wave) → few ≤ count → AreNumberedTo ls fs count waves → AreNumberedTo ls fs few waves
-fewer_done ls fs few count waves low so = record {
+pub fewer_done : (ends : List ℕ) (ls fs : List (Option ℕ)) (few count : ℕ) (waves : List Wave) → few ≤ count → AreNumberedTo ends ls fs count waves → AreNumberedTo ends ls fs few waves
+fewer_done ends ls fs few count waves low so = record {
   as_many = so.as_many;
   right = so.right;
   done = λ end c i less. so.done end c i (omega arith);
 }
 
-module _ (ls fs : List (Option ℕ)) (linked : AreFollowers ls fs) where
+module _ (ends : List ℕ) (ls fs : List (Option ℕ)) (linked : AreFollowers ls fs) where
   -- a place behind the end of a chain has the next number
-  pub number-along : (c end i : ℕ) → next ls end ≡ None → followed fs c end ≡ Some i → HasNumber ls (suc c) i
-  number-along zero end i none e = subst (HasNumber ls 1) (same_Some end i e) (number-first ls end none)
+  pub number-along : (c end i : ℕ) → next ls end ≡ None → followed fs c end ≡ Some i → HasNumber ends ls (c + own_number ends end) i
+  number-along zero end i none e =
+      let is : own_number ends end ≡ 0 + own_number ends end = omega arith in
+      subst (HasNumber ends ls (0 + own_number ends end)) (same_Some end i e) (number-end ends ls (0 + own_number ends end) end none (sym is))
   number-along (suc c) end i none e =
-      elim (followed fs c end) as (λ o. followed fs c end ≡ o → option_and_then (next fs) o ≡ Some i → HasNumber ls (suc (suc c)) i) [
+      let is : suc (c + own_number ends end) ≡ suc c + own_number ends end = omega arith in
+      subst (λ n. HasNumber ends ls n i) is
+      (elim (followed fs c end) as (λ o. followed fs c end ≡ o → option_and_then (next fs) o ≡ Some i → HasNumber ends ls (suc (c + own_number ends end)) i) [
         | None ↦ λ f g. cc
-        | Some j ↦ λ f g. number-later ls (suc c) i j (linked.after i j g) (number-along c end j none f)
-      ] refl e
+        | Some j ↦ λ f g. number-later ends ls (c + own_number ends end) i j (linked.after i j g) (number-along c end j none f)
+      ] refl e)
 
   pub within-along : (c end i : ℕ) → end < length ls → followed fs c end ≡ Some i → i < length ls
   within-along zero end i in' e = subst (λ k. k < length ls) (same_Some end i e) in'
@@ -116,17 +120,21 @@ module _ (ls fs : List (Option ℕ)) (linked : AreFollowers ls fs) where
       ] refl e
 
   -- what has a number stands behind the end of a chain
-  pub end_of : (n i : ℕ) → i < length ls → AreApart ls → HasNumber ls n i → (end : ℕ) × (c : ℕ) × (end < length ls) × (next ls end ≡ None) × (followed fs c end ≡ Some i)
-  end_of zero i in' apart h = absurd h
+  pub end_of : (n i : ℕ) → i < length ls → AreApart ls → HasNumber ends ls n i → (end : ℕ) × (c : ℕ) × (end < length ls) × (next ls end ≡ None) × (followed fs c end ≡ Some i)
+  end_of zero i in' apart h =
+      elim (next ls i) as (λ o. next ls i ≡ o → (end : ℕ) × (c : ℕ) × (end < length ls) × (next ls end ≡ None) × (followed fs c end ≡ Some i)) [
+        | None ↦ λ e. (i, 0, in', e, refl)
+        | Some j ↦ λ e. absurd (number-none ends ls i j e h)
+      ] refl
   end_of (suc n) i in' apart h =
       elim (next ls i) as (λ o. next ls i ≡ o → (end : ℕ) × (c : ℕ) × (end < length ls) × (next ls end ≡ None) × (followed fs c end ≡ Some i)) [
         | None ↦ λ e. (i, 0, in', e, refl)
         | Some j ↦ λ e.
-            let rest = end_of n j (apart.within i j e) apart (number-back ls n i j e h) in
+            let rest = end_of n j (apart.within i j e) apart (number-back ends ls n i j e h) in
             (rest.0, suc rest.1, rest.2, rest.3, ap (option_and_then (next fs)) rest.4 ∙ linked.before i j e)
       ] refl
 
-  pub none_done : (waves : List Wave) → length waves ≡ length ls → ((i : ℕ) → get_or waves i Swap ≡ Swap) → AreNumberedTo ls fs 0 waves
+  pub none_done : (waves : List Wave) → length waves ≡ length ls → ((i : ℕ) → get_or waves i Swap ≡ Swap) → AreNumberedTo ends ls fs 0 waves
   none_done waves as_many swaps = record {
     as_many = as_many;
     right = λ i number e. cc (sym (swaps i) ∙ e);
@@ -134,13 +142,13 @@ module _ (ls fs : List (Option ℕ)) (linked : AreFollowers ls fs) where
   }
 
   -- one more entry, the end of a chain that is numbered
-  pub end_done : (count : ℕ) (old new : List Wave) → AreNumberedTo ls fs count old → next ls count ≡ None → length new ≡ length old → NumbersChain fs count old new → AreNumberedTo ls fs (count + 1) new
+  pub end_done : (count : ℕ) (old new : List Wave) → AreNumberedTo ends ls fs count old → next ls count ≡ None → length new ≡ length old → NumbersChain fs count (own_number ends count) old new → AreNumberedTo ends ls fs (count + 1) new
   end_done count old new so none same chain = record {
     as_many = same ∙ so.as_many;
     right = λ i number e.
         elim (chain.right i number e) [
           | inl was ↦ so.right i number was
-          | inr now ↦ subst (λ n. HasNumber ls n i) (sym now.1) (number-along now.0 count i none now.2)
+          | inr now ↦ subst (λ n. HasNumber ends ls n i) (sym now.1) (number-along now.0 count i none now.2)
         ];
     done = λ end c i low last at.
         elim (cases_lt end count) [
@@ -150,7 +158,7 @@ module _ (ls fs : List (Option ℕ)) (linked : AreFollowers ls fs) where
   }
 
   -- one more entry that is not the end of a chain
-  pub other_done : (count : ℕ) (waves : List Wave) → AreNumberedTo ls fs count waves → (j : ℕ) → next ls count ≡ Some j → AreNumberedTo ls fs (count + 1) waves
+  pub other_done : (count : ℕ) (waves : List Wave) → AreNumberedTo ends ls fs count waves → (j : ℕ) → next ls count ≡ Some j → AreNumberedTo ends ls fs (count + 1) waves
   other_done count waves so j some = record {
     as_many = so.as_many;
     right = so.right;
@@ -161,15 +169,15 @@ module _ (ls fs : List (Option ℕ)) (linked : AreFollowers ls fs) where
         ];
   }
 
-  module _ (apart : AreApart ls) (waves : List Wave) (so : AreNumberedTo ls fs (length ls) waves) where
-    pub wave_at : (i : ℕ) → i < length ls → get_or waves i Swap ≡ wave_of ls i
+  module _ (apart : AreApart ls) (low : (i : ℕ) → own_number ends i ≤ 1) (waves : List Wave) (so : AreNumberedTo ends ls fs (length ls) waves) where
+    pub wave_at : (i : ℕ) → i < length ls → get_or waves i Swap ≡ wave_of ends ls i
     wave_at i in' =
-        elim (get_or waves i Swap) as (λ w. get_or waves i Swap ≡ w → w ≡ wave_of ls i) [
-          | Nth n ↦ λ e. one_wave ls i (Nth n) (wave_of ls i) (so.right i n e) (some_wave ls apart i in')
-          | Swap ↦ λ e. elim (wave_of ls i) as (λ v. wave_of ls i ≡ v → Swap ≡ v) [
+        elim (get_or waves i Swap) as (λ w. get_or waves i Swap ≡ w → w ≡ wave_of ends ls i) [
+          | Nth n ↦ λ e. one_wave ends ls i (Nth n) (wave_of ends ls i) (so.right i n e) (some_wave ends ls apart low i in')
+          | Swap ↦ λ e. elim (wave_of ends ls i) as (λ v. wave_of ends ls i ≡ v → Swap ≡ v) [
             | Swap ↦ λ f. refl
             | Nth m ↦ λ f.
-                let last = end_of m i in' apart (subst (IsWave ls i) f (some_wave ls apart i in')) in
+                let last = end_of m i in' apart (subst (IsWave ends ls i) f (some_wave ends ls apart low i in')) in
                 let there = so.done last.0 last.1 i last.2 last.3 last.4 in
                 cc (sym e ∙ there.1)
           ] refl

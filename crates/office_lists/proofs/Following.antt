@@ -11,7 +11,7 @@ use Rattle.std.proofs.lemmas.Map.Keys.{IsDistinct-from_apart}
 use Rattle.std.proofs.lemmas.Map.Steps.{length-le_from_distinct_below}
 use Rattle.room_types.specs.declared.moves.Wave.{Wave}
 use Rattle.room_types.specs.declared.moves.Wave.TheVariants.{Swap, Nth}
-use Rattle.office_lists.specs.Waves.{next, followed, Returns, HasNumber, IsWave, chain_length, wave_of}
+use Rattle.office_lists.specs.Waves.{next, own_number, followed, Returns, HasNumber, IsWave, chain_number, wave_of}
 use Rattle.office_lists.specs.Followers.{AreApart}
 
 any_below : (q n : ℕ) (xs : List ℕ) → AllByRecursion (λ x. x < n) xs → list_any (eqb q) xs ≡ true → q < n
@@ -53,70 +53,93 @@ module _ (ls : List (Option ℕ)) where
         | inr more ↦ let same : c ≡ k = omega arith in subst (λ m. followed ls (suc m) i ≡ None) same e
       ]
 
-  pub number-first : (i : ℕ) → next ls i ≡ None → HasNumber ls 1 i
-  number-first i e = subst (λ o. MatchOption o (◌≡◌ {A = ℕ} 0 0) (HasNumber ls 0)) (sym e) refl
+module _ (ends : List ℕ) (ls : List (Option ℕ)) where
+  -- the entry at the end of its chain has the number of an end, and no other
+  pub number-end : (n i : ℕ) → next ls i ≡ None → n ≡ own_number ends i → HasNumber ends ls n i
+  number-end zero i e is = subst (λ o. MatchOption o (0 ≡ own_number ends i) (λ j. ⊥)) (sym e) is
+  number-end (suc n) i e is = subst (λ o. MatchOption o (suc n ≡ own_number ends i) (HasNumber ends ls n)) (sym e) is
 
-  pub number-later : (n i j : ℕ) → next ls i ≡ Some j → HasNumber ls n j → HasNumber ls (suc n) i
-  number-later n i j e h = subst (λ o. MatchOption o (n ≡ 0) (HasNumber ls n)) (sym e) h
+  number-only : (n i : ℕ) → next ls i ≡ None → HasNumber ends ls n i → n ≡ own_number ends i
+  number-only zero i e h = subst (λ o. MatchOption o (0 ≡ own_number ends i) (λ j. ⊥)) e h
+  number-only (suc n) i e h = subst (λ o. MatchOption o (suc n ≡ own_number ends i) (HasNumber ends ls n)) e h
 
-  pub number-back : (n i j : ℕ) → next ls i ≡ Some j → HasNumber ls (suc n) i → HasNumber ls n j
-  number-back n i j e h = subst (λ o. MatchOption o (n ≡ 0) (HasNumber ls n)) e h
+  pub number-later : (n i j : ℕ) → next ls i ≡ Some j → HasNumber ends ls n j → HasNumber ends ls (suc n) i
+  number-later n i j e h = subst (λ o. MatchOption o (suc n ≡ own_number ends i) (HasNumber ends ls n)) (sym e) h
 
-  number-only : (n i : ℕ) → next ls i ≡ None → HasNumber ls (suc n) i → n ≡ 0
-  number-only n i e h = subst (λ o. MatchOption o (n ≡ 0) (HasNumber ls n)) e h
+  pub number-back : (n i j : ℕ) → next ls i ≡ Some j → HasNumber ends ls (suc n) i → HasNumber ends ls n j
+  number-back n i j e h = subst (λ o. MatchOption o (suc n ≡ own_number ends i) (HasNumber ends ls n)) e h
 
-  one_number : (m n i : ℕ) → HasNumber ls m i → HasNumber ls n i → m ≡ n
-  one_number zero n i h g = absurd h
-  one_number (suc m) zero i h g = absurd g
+  -- the number 0 is that of an end
+  pub number-none : (i j : ℕ) → next ls i ≡ Some j → HasNumber ends ls 0 i → ⊥
+  number-none i j e h = subst (λ o. MatchOption o (0 ≡ own_number ends i) (λ j. ⊥)) e h
+
+  at_end : (m n i : ℕ) → next ls i ≡ None → HasNumber ends ls m i → HasNumber ends ls n i → m ≡ n
+  at_end m n i e h g = number-only m i e h ∙ sym (number-only n i e g)
+
+  one_number : (m n i : ℕ) → HasNumber ends ls m i → HasNumber ends ls n i → m ≡ n
+  one_number zero n i h g =
+      elim (next ls i) as (λ o. next ls i ≡ o → zero ≡ n) [
+        | None ↦ λ e. at_end zero n i e h g
+        | Some j ↦ λ e. absurd (number-none i j e h)
+      ] refl
+  one_number (suc m) zero i h g =
+      elim (next ls i) as (λ o. next ls i ≡ o → suc m ≡ zero) [
+        | None ↦ λ e. at_end (suc m) zero i e h g
+        | Some j ↦ λ e. absurd (number-none i j e g)
+      ] refl
   one_number (suc m) (suc n) i h g =
       elim (next ls i) as (λ o. next ls i ≡ o → suc m ≡ suc n) [
-        | None ↦ λ e. ap suc (number-only m i e h ∙ sym (number-only n i e g))
+        | None ↦ λ e. at_end (suc m) (suc n) i e h g
         | Some j ↦ λ e. ap suc (one_number m n j (number-back m i j e h) (number-back n i j e g))
       ] refl
 
   -- what is numbered does not return
-  no_return : (n c i : ℕ) → HasNumber ls n i → followed ls (suc c) i ≡ Some i → ⊥
-  no_return zero c i h r = h
+  no_return : (n c i : ℕ) → HasNumber ends ls n i → followed ls (suc c) i ≡ Some i → ⊥
+  no_return zero c i h r =
+      elim (next ls i) as (λ o. next ls i ≡ o → ⊥) [
+        | None ↦ λ e. cc (sym (followed-end ls c i e) ∙ r)
+        | Some j ↦ λ e. number-none i j e h
+      ] refl
   no_return (suc n) c i h r =
       elim (next ls i) as (λ o. next ls i ≡ o → ⊥) [
-        | None ↦ λ e. cc (sym (followed-end c i e) ∙ r)
+        | None ↦ λ e. cc (sym (followed-end ls c i e) ∙ r)
         | Some j ↦ λ e.
-            no_return n c j (number-back n i j e h) (ap (option_and_then (next ls)) (sym (followed-next c i j e) ∙ r) ∙ e)
+            no_return n c j (number-back n i j e h) (ap (option_and_then (next ls)) (sym (followed-next ls c i j e) ∙ r) ∙ e)
       ] refl
 
   -- an entry has at most one wave
-  pub one_wave : (i : ℕ) (v w : Wave) → IsWave ls i v → IsWave ls i w → v ≡ w
+  pub one_wave : (i : ℕ) (v w : Wave) → IsWave ends ls i v → IsWave ends ls i w → v ≡ w
   one_wave i Swap Swap p q = refl
   one_wave i Swap (Nth n) p q = absurd (no_return n p.0 i q p.1)
   one_wave i (Nth m) Swap p q = absurd (no_return m q.0 i p q.1)
   one_wave i (Nth m) (Nth n) p q = ap (λ number. Nth number) (one_number m n i p q)
 
-  number-from_length : (k n i : ℕ) → chain_length ls k i ≡ Some n → HasNumber ls n i
+  number-from_length : (k n i : ℕ) → chain_number ends ls k i ≡ Some n → HasNumber ends ls n i
   number-from_length zero n i e = cc
   number-from_length (suc k) n i e =
-      elim (next ls i) as (λ o. next ls i ≡ o → option_map_or (λ j. option_map (λ number. suc number) (chain_length ls k j)) o (Some 1) ≡ Some n → HasNumber ls n i) [
-        | None ↦ λ none f. subst (λ number. HasNumber ls number i) (same_Some 1 n f) (number-first i none)
-        | Some j ↦ λ some f. elim (chain_length ls k j) as (λ o. chain_length ls k j ≡ o → option_map (λ number. suc number) o ≡ Some n → HasNumber ls n i) [
+      elim (next ls i) as (λ o. next ls i ≡ o → option_map_or (λ j. option_map (λ number. suc number) (chain_number ends ls k j)) o (Some (own_number ends i)) ≡ Some n → HasNumber ends ls n i) [
+        | None ↦ λ none f. number-end n i none (sym (same_Some (own_number ends i) n f))
+        | Some j ↦ λ some f. elim (chain_number ends ls k j) as (λ o. chain_number ends ls k j ≡ o → option_map (λ number. suc number) o ≡ Some n → HasNumber ends ls n i) [
           | None ↦ λ g h. cc
-          | Some m ↦ λ g h. subst (λ number. HasNumber ls number i) (same_Some (suc m) n h) (number-later m i j some (number-from_length k m j g))
+          | Some m ↦ λ g h. subst (λ number. HasNumber ends ls number i) (same_Some (suc m) n h) (number-later m i j some (number-from_length k m j g))
         ] refl f
       ] refl e
 
-  module _ (apart : AreApart ls) where
+  module _ (apart : AreApart ls) (low : (i : ℕ) → own_number ends i ≤ 1) where
     -- along a chain the numbers fall
-    number-after : (c n i : ℕ) → i < length ls → c < n → HasNumber ls n i → (x : ℕ) × (m : ℕ) × (followed ls c i ≡ Some x) × (x < length ls) × HasNumber ls m x × (m + c ≡ n)
-    number-after zero n i in' low h = (i, n, refl, in', h, omega arith)
-    number-after (suc c) zero i in' low h = absurd (omega arith)
-    number-after (suc c) (suc n) i in' low h =
-        elim (next ls i) as (λ o. next ls i ≡ o → (x : ℕ) × (m : ℕ) × (followed ls (suc c) i ≡ Some x) × (x < length ls) × HasNumber ls m x × (m + suc c ≡ suc n)) [
-          | None ↦ λ e. let none = number-only n i e h in absurd (omega arith)
+    number-after : (c n i : ℕ) → i < length ls → c < n → HasNumber ends ls n i → (x : ℕ) × (m : ℕ) × (followed ls c i ≡ Some x) × (x < length ls) × HasNumber ends ls m x × (m + c ≡ n)
+    number-after zero n i in' below h = (i, n, refl, in', h, omega arith)
+    number-after (suc c) zero i in' below h = absurd (omega arith)
+    number-after (suc c) (suc n) i in' below h =
+        elim (next ls i) as (λ o. next ls i ≡ o → (x : ℕ) × (m : ℕ) × (followed ls (suc c) i ≡ Some x) × (x < length ls) × HasNumber ends ls m x × (m + suc c ≡ suc n)) [
+          | None ↦ λ e. let is = number-only (suc n) i e h in absurd (omega (arith, low i))
           | Some j ↦ λ e.
               let rest = number-after c n j (apart.within i j e) (omega arith) (number-back n i j e h) in
-              (rest.0, rest.1, followed-next c i j e ∙ rest.2, rest.3, rest.4, omega (arith, rest.5))
+              (rest.0, rest.1, followed-next ls c i j e ∙ rest.2, rest.3, rest.4, omega (arith, rest.5))
         ] refl
 
     -- a chain is not longer than there are entries
-    pub number-le : (n i : ℕ) → i < length ls → HasNumber ls n i → n ≤ length ls
+    pub number-le : (n i : ℕ) → i < length ls → HasNumber ends ls n i → n ≤ length ls
     number-le n i in' h =
         few_apart (λ c. unwrap_or (followed ls c i) 0) n (length ls)
         (λ k low. let at = number-after k n i in' low h in subst (λ x. x < length ls) (sym (ap (λ o. unwrap_or o 0) at.2)) at.3)
@@ -124,7 +147,7 @@ module _ (ls : List (Option ℕ)) where
         let first = number-after a n i in' (omega arith) h in
         let second = number-after b n i in' low h in
         let one : first.0 ≡ second.0 = sym (ap (λ o. unwrap_or o 0) first.2) ∙ same ∙ ap (λ o. unwrap_or o 0) second.2 in
-        let number : first.1 ≡ second.1 = one_number first.1 second.1 second.0 (subst (HasNumber ls first.1) one first.4) second.4 in
+        let number : first.1 ≡ second.1 = one_number first.1 second.1 second.0 (subst (HasNumber ends ls first.1) one first.4) second.4 in
         absurd (omega (arith, first.5, second.5)))
 
     -- two places that meet have gone round
@@ -143,17 +166,17 @@ module _ (ls : List (Option ℕ)) where
         ] refl p
 
     -- where no end comes, each place is an entry
-    goes_on : (c k i : ℕ) → i < length ls → c ≤ k → chain_length ls k i ≡ None → (x : ℕ) × (followed ls c i ≡ Some x) × (x < length ls)
+    goes_on : (c k i : ℕ) → i < length ls → c ≤ k → chain_number ends ls k i ≡ None → (x : ℕ) × (followed ls c i ≡ Some x) × (x < length ls)
     goes_on zero k i in' low e = (i, refl, in')
     goes_on (suc c) zero i in' low e = absurd (omega arith)
     goes_on (suc c) (suc k) i in' low e =
-        elim (next ls i) as (λ o. next ls i ≡ o → option_map_or (λ j. option_map (λ number. suc number) (chain_length ls k j)) o (Some 1) ≡ None → (x : ℕ) × (followed ls (suc c) i ≡ Some x) × (x < length ls)) [
+        elim (next ls i) as (λ o. next ls i ≡ o → option_map_or (λ j. option_map (λ number. suc number) (chain_number ends ls k j)) o (Some (own_number ends i)) ≡ None → (x : ℕ) × (followed ls (suc c) i ≡ Some x) × (x < length ls)) [
           | None ↦ λ none f. cc
           | Some j ↦ λ some f.
-              let endless : chain_length ls k j ≡ None =
-              elim (chain_length ls k j) as (λ o. option_map (λ number. suc number) o ≡ None → o ≡ None) [ None ↦ λ g. refl | Some m ↦ λ g. cc ] f in
+              let endless : chain_number ends ls k j ≡ None =
+              elim (chain_number ends ls k j) as (λ o. option_map (λ number. suc number) o ≡ None → o ≡ None) [ None ↦ λ g. refl | Some m ↦ λ g. cc ] f in
               let rest = goes_on c k j (apart.within i j some) (omega arith) endless in
-              (rest.0, followed-next c i j some ∙ rest.1, rest.2)
+              (rest.0, followed-next ls c i j some ∙ rest.1, rest.2)
         ] refl e
 
     -- it returns within so many steps, or does not
@@ -179,7 +202,7 @@ module _ (ls : List (Option ℕ)) where
         ]
 
     -- where no end comes within as many steps as there are entries, following returns
-    returns : (i : ℕ) → i < length ls → chain_length ls (length ls) i ≡ None → Returns ls i
+    returns : (i : ℕ) → i < length ls → chain_number ends ls (length ls) i ≡ None → Returns ls i
     returns i in' endless =
         elim (return_cases (suc (length ls)) i) [
           | inl comes ↦ comes
@@ -196,9 +219,9 @@ module _ (ls : List (Option ℕ)) where
         ]
 
     -- each entry has the wave that is computed
-    pub some_wave : (i : ℕ) → i < length ls → IsWave ls i (wave_of ls i)
+    pub some_wave : (i : ℕ) → i < length ls → IsWave ends ls i (wave_of ends ls i)
     some_wave i in' =
-        elim (chain_length ls (length ls) i) as (λ o. chain_length ls (length ls) i ≡ o → IsWave ls i (option_map_or (λ number. Nth number) o Swap)) [
+        elim (chain_number ends ls (length ls) i) as (λ o. chain_number ends ls (length ls) i ≡ o → IsWave ends ls i (option_map_or (λ number. Nth number) o Swap)) [
           | None ↦ λ e. returns i in' e
           | Some n ↦ λ e. number-from_length (length ls) n i e
         ] refl

@@ -1,17 +1,16 @@
 -- The leavers of rooms, and those of entries whose new rooms differ.
-use Rattle.std.proofs.Common.{◌≡◌, ℕ, ◌+◌, ◌<◌, Bool, true, false, cond, List, [], ◌∷◌, ◌++◌, length, take, get_or, Option, None, Some, refl, sym, ap, ◌∙◌, subst, inl, inr, arith, ltb, not, ne_eqb, eq-eqb}
+use Rattle.std.proofs.Common.{◌≡◌, ℕ, zero, suc, ◌+◌, ◌≤◌, ◌<◌, Bool, true, false, cond, List, [], ◌∷◌, ◌++◌, length, take, get_or, Option, None, Some, refl, sym, ap, ◌∙◌, subst, inl, inr, arith, ltb, not, ne_eqb, eq-eqb}
 use Rattle.std.specs.Prelude.{option_and_then}
-use Rattle.std.specs.Option.{is_some, option_map_or}
+use Rattle.std.specs.Option.{is_some, option_map_or, option_or}
 use Rattle.std.specs.List.{position, position_or_len}
-use Rattle.std.specs.Str.{bytes_eq}
 use Rattle.std.proofs.lemmas.Bool.{cases_lt, false≢true, lt-ltb, le-ltb}
 use Rattle.std.proofs.lemmas.List.{get_or-map, length-map, take_more, length-take-le, length_push}
 use Rattle.std.proofs.lemmas.List.Folds.{position_or_len_push}
 use Rattle.std.proofs.lemmas.List.Sums.{prefix_len-le-length}
 use Rattle.std.proofs.lemmas.List.Quantifiers.{position-Some}
 use Rattle.std.proofs.lemmas.Slice.Eq.{bytes_eq-Decides}
-use Rattle.room_types.specs.Texts.{Text}
-use Rattle.office_lists.specs.Waves.{Mover, NewRoomsDiffer, leaver, leavers, next, wave_of, waves_of, IsWave, AreWaves, HaveOneWaveEach}
+use Rattle.room_types.specs.Texts.{Text, text_eq}
+use Rattle.office_lists.specs.Waves.{Mover, NewRoomsDiffer, leaver, leavers, end_numbers, own_number, next, wave_of, waves_of, IsWave, AreWaves, HaveOneWaveEach}
 use Rattle.room_types.specs.declared.moves.Wave.{Wave}
 use Rattle.room_types.specs.declared.moves.Wave.TheVariants.{Swap}
 use Rattle.std.proofs.lemmas.List.FromFn.{fill_by_all}
@@ -19,15 +18,10 @@ use Rattle.office_lists.specs.Followers.{AreApart, AreFollowers}
 use Rattle.office_lists.proofs.Following.{one_wave, some_wave}
 use Rattle.office_lists.proofs.Chains.{next-within, AreNumberedTo, wave_at}
 
--- the first of the two that is there
-abbrev first_of : Option ℕ → Option ℕ → Option ℕ
-first_of None y = y
-first_of (Some x) y = Some x
-
 position_at : {X : Type 0} (p : X → Bool) (xs : List X) (k n : ℕ) → position_or_len p xs ≡ k → length xs ≡ n → position p xs ≡ cond (ltb k n) (Some k) None
 position_at p xs k n at many = λ i. cond (ltb (at i) (many i)) (Some (at i)) None
 
-position-push : {X : Type 0} (p : X → Bool) (xs : List X) (y : X) → position p (xs ++ y ∷ []) ≡ first_of (position p xs) (cond (p y) (Some (length xs)) None)
+position-push : {X : Type 0} (p : X → Bool) (xs : List X) (y : X) → position p (xs ++ y ∷ []) ≡ option_or (position p xs) (cond (p y) (Some (length xs)) None)
 position-push p xs y =
     let n = position_or_len p xs in
     let many = length xs in
@@ -37,7 +31,7 @@ position-push p xs y =
           let far : position_or_len p (xs ++ y ∷ []) ≡ n = position_or_len_push p xs y ∙ ap (λ b. cond b (many + cond (p y) 0 1) n) (ne_eqb n many (λ e. omega arith)) in
           let new : position p (xs ++ y ∷ []) ≡ Some n = position_at p (xs ++ y ∷ []) n (many + 1) far longer ∙ ap (λ b. cond b (Some n) None) (lt-ltb n (many + 1) (omega arith)) in
           let old : position p xs ≡ Some n = ap (λ b. cond b (Some n) None) (lt-ltb n many less) in
-          new ∙ ap (λ o. first_of o (cond (p y) (Some many) None)) (sym old)
+          new ∙ ap (λ o. option_or o (cond (p y) (Some many) None)) (sym old)
       | inr more ↦
           let all : n ≡ many = omega (arith, prefix_len-le-length (λ x. not (p x)) xs) in
           let old : position p xs ≡ None = ap (λ b. cond b (Some n) None) (le-ltb n many more) in
@@ -50,30 +44,30 @@ position-push p xs y =
                 ap (λ k. cond (ltb k (many + 1)) (Some k) None) same ∙ ap (λ b. cond b (Some many) None) (lt-ltb many (many + 1) (omega arith))
             | false ↦ ap (λ b. cond b (Some (many + 1)) None) (le-ltb (many + 1) (many + 1) (omega arith))
           ] in
-          new ∙ ap (λ o. first_of o (cond (p y) (Some many) None)) (sym old)
+          new ∙ ap (λ o. option_or o (cond (p y) (Some many) None)) (sym old)
     ]
 
 -- whether an entry's old room is this one
 abbrev has_left : Text → Mover → Bool
-has_left room entry = option_map_or (λ old. bytes_eq old room) entry.1 false
+has_left room entry = option_map_or (λ old. text_eq old room) entry.1 false
 
 leaver-more : (entries : List Mover) (i : ℕ) (entry : Mover) (room : Text) → i < length entries → entry ≡ get_or entries i entry
-    → leaver (take (i + 1) entries) room ≡ first_of (leaver (take i entries) room) (cond (has_left room entry) (Some i) None)
+    → leaver (take (i + 1) entries) room ≡ option_or (leaver (take i entries) room) (cond (has_left room entry) (Some i) None)
 leaver-more entries i entry room in' is =
     let many : length (take i entries) ≡ i = length-take-le i entries (omega arith) in
     ap (λ es. leaver es room) (take_more entries i entry in' ∙ ap (λ e. take i entries ++ e ∷ []) (sym is))
     ∙ position-push (has_left room) (take i entries) entry
-    ∙ ap (λ n. first_of (leaver (take i entries) room) (cond (has_left room entry) (Some n) None)) many
+    ∙ ap (λ n. option_or (leaver (take i entries) room) (cond (has_left room entry) (Some n) None)) many
 
-first_kept : (x : Option ℕ) → first_of x None ≡ x
+first_kept : (x : Option ℕ) → option_or x None ≡ x
 first_kept None = refl
 first_kept (Some x) = refl
 
-first_there : (x y : Option ℕ) → is_some x ≡ true → first_of x y ≡ x
+first_there : (x y : Option ℕ) → is_some x ≡ true → option_or x y ≡ x
 first_there None y e = cc
 first_there (Some x) y e = refl
 
-first_missing : (x y : Option ℕ) → is_some x ≡ false → first_of x y ≡ y
+first_missing : (x y : Option ℕ) → is_some x ≡ false → option_or x y ≡ y
 first_missing None y e = refl
 first_missing (Some x) y e = cc
 
@@ -82,25 +76,25 @@ module _ (entries : List Mover) (i : ℕ) (entry : Mover) (in' : i < length entr
   pub without_old_room : entry.1 ≡ None → leaver (take (i + 1) entries) room ≡ leaver (take i entries) room
   without_old_room none =
       leaver-more entries i entry room in' is
-      ∙ ap (λ old. first_of (leaver (take i entries) room) (cond (option_map_or (λ old. bytes_eq old room) old false) (Some i) None)) none
+      ∙ ap (λ old. option_or (leaver (take i entries) room) (cond (option_map_or (λ old. text_eq old room) old false) (Some i) None)) none
       ∙ first_kept (leaver (take i entries) room)
 
   module _ (old : Text) (has : entry.1 ≡ Some old) where
-    more : leaver (take (i + 1) entries) room ≡ first_of (leaver (take i entries) room) (cond (bytes_eq old room) (Some i) None)
-    more = leaver-more entries i entry room in' is ∙ ap (λ o. first_of (leaver (take i entries) room) (cond (option_map_or (λ old. bytes_eq old room) o false) (Some i) None)) has
+    more : leaver (take (i + 1) entries) room ≡ option_or (leaver (take i entries) room) (cond (text_eq old room) (Some i) None)
+    more = leaver-more entries i entry room in' is ∙ ap (λ o. option_or (leaver (take i entries) room) (cond (option_map_or (λ old. text_eq old room) o false) (Some i) None)) has
 
     -- a later entry with an old room that has a leaver changes nothing
     pub known_old_room : is_some (leaver (take i entries) old) ≡ true → leaver (take (i + 1) entries) room ≡ leaver (take i entries) room
     known_old_room known =
-        more ∙ elim (bytes_eq old room) as (λ b. bytes_eq old room ≡ b → first_of (leaver (take i entries) room) (cond b (Some i) None) ≡ leaver (take i entries) room) [
+        more ∙ elim (text_eq old room) as (λ b. text_eq old room ≡ b → option_or (leaver (take i entries) room) (cond b (Some i) None) ≡ leaver (take i entries) room) [
           | true ↦ λ e. first_there (leaver (take i entries) room) (Some i) (subst (λ r. is_some (leaver (take i entries) r) ≡ true) ((bytes_eq-Decides old room).0 e) known)
           | false ↦ λ e. first_kept (leaver (take i entries) room)
         ] refl
 
     -- and the first one is that room's leaver
-    pub new_old_room : is_some (leaver (take i entries) old) ≡ false → leaver (take (i + 1) entries) room ≡ cond (bytes_eq old room) (Some i) (leaver (take i entries) room)
+    pub new_old_room : is_some (leaver (take i entries) old) ≡ false → leaver (take (i + 1) entries) room ≡ cond (text_eq old room) (Some i) (leaver (take i entries) room)
     new_old_room new =
-        more ∙ elim (bytes_eq old room) as (λ b. bytes_eq old room ≡ b → first_of (leaver (take i entries) room) (cond b (Some i) None) ≡ cond b (Some i) (leaver (take i entries) room)) [
+        more ∙ elim (text_eq old room) as (λ b. text_eq old room ≡ b → option_or (leaver (take i entries) room) (cond b (Some i) None) ≡ cond b (Some i) (leaver (take i entries) room)) [
           | true ↦ λ e. first_missing (leaver (take i entries) room) (Some i) (subst (λ r. is_some (leaver (take i entries) r) ≡ false) ((bytes_eq-Decides old room).0 e) new)
           | false ↦ λ e. first_kept (leaver (take i entries) room)
         ] refl
@@ -116,10 +110,19 @@ record HasLeaver (entries : List Mover) (i k : ℕ) : Type 0 where
 -- the room is that which the leaver leaves
 same_room : (one other : Text) (entry : Mover) → has_left one entry ≡ true → has_left other entry ≡ true → one ≡ other
 same_room one other entry p q =
-    elim entry.1 as (λ o. option_map_or (λ old. bytes_eq old one) o false ≡ true → option_map_or (λ old. bytes_eq old other) o false ≡ true → one ≡ other) [
+    elim entry.1 as (λ o. option_map_or (λ old. text_eq old one) o false ≡ true → option_map_or (λ old. text_eq old other) o false ≡ true → one ≡ other) [
       | None ↦ λ e f. absurd (false≢true e)
       | Some old ↦ λ e f. sym ((bytes_eq-Decides old one).0 e) ∙ (bytes_eq-Decides old other).0 f
     ] p q
+
+-- the first number of each chain is 1
+pub all_one : (entries : List Mover) (i : ℕ) → own_number (end_numbers entries) i ≡ 1
+all_one [] i = refl
+all_one (entry ∷ entries) zero = refl
+all_one (entry ∷ entries) (suc i) = all_one entries i
+
+pub first_at_most_one : (entries : List Mover) (i : ℕ) → own_number (end_numbers entries) i ≤ 1
+first_at_most_one entries i = omega (arith, all_one entries i)
 
 module _ (entries : List Mover) where
   has_leaver : (i k : ℕ) → next (leavers entries) i ≡ Some k → HasLeaver entries i k
@@ -153,25 +156,26 @@ module _ (entries : List Mover) where
   pub length-leavers : length (leavers entries) ≡ length entries
   length-leavers = length-map entries (λ entry. option_and_then (leaver entries) entry.2)
 
-  pub one_wave_each : NewRoomsDiffer entries → HaveOneWaveEach entries
-  one_wave_each differ = record {
-    some = λ i in'. some_wave (leavers entries) (leavers-apart differ) i (omega (arith, length-leavers));
-    one = λ i wave in' is. one_wave (leavers entries) i wave (wave_of (leavers entries) i) is (some_wave (leavers entries) (leavers-apart differ) i (omega (arith, length-leavers)));
-  }
+  module _ (differ : NewRoomsDiffer entries) where
+    has_wave : (i : ℕ) → i < length entries → IsWave (end_numbers entries) (leavers entries) i (wave_of (end_numbers entries) (leavers entries) i)
+    has_wave i in' = some_wave (end_numbers entries) (leavers entries) (leavers-apart differ) (first_at_most_one entries) i (omega (arith, length-leavers))
 
-  -- when the chains of all ends are numbered, each entry has its wave
-  pub each_wave : NewRoomsDiffer entries → (fs : List (Option ℕ)) (waves : List Wave) → AreFollowers (leavers entries) fs → AreNumberedTo (leavers entries) fs (length (leavers entries)) waves
-      → (i : ℕ) → i < length entries → get_or waves i Swap ≡ wave_of (leavers entries) i
-  each_wave differ fs waves linked so i in' = wave_at (leavers entries) fs linked (leavers-apart differ) waves so i (omega (arith, length-leavers))
+    pub one_wave_each : HaveOneWaveEach entries
+    one_wave_each = record {
+      some = has_wave;
+      one = λ i wave in' is. one_wave (end_numbers entries) (leavers entries) i wave (wave_of (end_numbers entries) (leavers entries) i) is (has_wave i in');
+    }
 
-  pub are_waves : NewRoomsDiffer entries → (fs : List (Option ℕ)) (waves : List Wave) → AreFollowers (leavers entries) fs → AreNumberedTo (leavers entries) fs (length (leavers entries)) waves
-      → AreWaves entries waves
-  are_waves differ fs waves linked so = record {
-    as_many = so.as_many ∙ length-leavers;
-    each = λ i in'. subst (IsWave (leavers entries) i) (sym (each_wave differ fs waves linked so i in')) ((one_wave_each differ).some i in');
-  }
+    module _ (fs : List (Option ℕ)) (waves : List Wave) (linked : AreFollowers (leavers entries) fs) (so : AreNumberedTo (end_numbers entries) (leavers entries) fs (length (leavers entries)) waves) where
+      -- when the chains of all ends are numbered, each entry has its wave
+      each_wave : (i : ℕ) → i < length entries → get_or waves i Swap ≡ wave_of (end_numbers entries) (leavers entries) i
+      each_wave i in' = wave_at (end_numbers entries) (leavers entries) fs linked (leavers-apart differ) (first_at_most_one entries) waves so i (omega (arith, length-leavers))
 
-  pub are_computed : NewRoomsDiffer entries → (fs : List (Option ℕ)) (waves : List Wave) → AreFollowers (leavers entries) fs → AreNumberedTo (leavers entries) fs (length (leavers entries)) waves
-      → waves ≡ waves_of entries
-  are_computed differ fs waves linked so =
-      fill_by_all (wave_of (leavers entries)) waves (length entries) Swap (so.as_many ∙ length-leavers) (each_wave differ fs waves linked so)
+      pub are_waves : AreWaves entries waves
+      are_waves = record {
+        as_many = so.as_many ∙ length-leavers;
+        each = λ i in'. subst (IsWave (end_numbers entries) (leavers entries) i) (sym (each_wave i in')) (has_wave i in');
+      }
+
+      pub are_computed : waves ≡ waves_of entries
+      are_computed = fill_by_all (wave_of (end_numbers entries) (leavers entries)) waves (length entries) Swap (so.as_many ∙ length-leavers) each_wave

@@ -2,4 +2,4 @@ pub mod Cells
 pub mod Chains
 pub mod Following
 pub mod Leavers
-pub mod StableSorts
+pub mod MoveDays

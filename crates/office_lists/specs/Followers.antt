@@ -1,5 +1,5 @@
 -- The leavers seen from the other end.
-use Rattle.std.specs.Prelude.{◌≡◌, ℕ, suc, ◌<◌, List, length, slice_index_or, Option, Some, ◌⊎◌}
+use Rattle.std.specs.Prelude.{◌≡◌, ℕ, ◌+◌, ◌<◌, List, length, slice_index_or, Option, Some, ◌⊎◌}
 use Rattle.room_types.specs.declared.moves.Wave.{Wave}
 use Rattle.room_types.specs.declared.moves.Wave.TheVariants.{Swap, Nth}
 use Rattle.office_lists.specs.Waves.{next, followed}
@@ -19,9 +19,10 @@ pub record AreFollowers (leavers followers : List (Option ℕ)) : Type 0 where
 abbrev pub IsNumbered : List Wave → ℕ → Type 0
 IsNumbered waves i = (number : ℕ) × (slice_index_or waves i Swap ≡ Nth number)
 
--- the chain that ends at entry `end` has its numbers, from 1 on, and all else is as before
-pub record NumbersChain (followers : List (Option ℕ)) (end : ℕ) (old new : List Wave) : Type 0 where
+-- the chain that ends at entry `end` has its numbers, from `first` on, and all else is as before
+pub record NumbersChain (followers : List (Option ℕ)) (end first : ℕ) (old new : List Wave) : Type 0 where
   pub reached : (count i : ℕ) → followed followers count end ≡ Some i → IsNumbered new i
   pub right : (i number : ℕ) → slice_index_or new i Swap ≡ Nth number
-      → (slice_index_or old i Swap ≡ Nth number) ⊎ ((count : ℕ) × (number ≡ suc count) × (followed followers count end ≡ Some i))
+      → (slice_index_or old i Swap ≡ Nth number)
+      ⊎ ((count : ℕ) × (number ≡ count + first) × (followed followers count end ≡ Some i))
   pub kept : (i number : ℕ) → slice_index_or old i Swap ≡ Nth number → IsNumbered new i

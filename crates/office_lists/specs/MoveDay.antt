@@ -1,32 +1,32 @@
 -- The list for the day of moving.
-use Rattle.std.specs.Prelude.{ℕ, ◌^◌, List, [], ◌∷◌, codes, if◌then◌else◌}
+use Rattle.std.specs.Prelude.{◌≡◌, ℕ, Bool, true, false, List, [], ◌∷◌, codes}
 use Rattle.std.specs.declared.cmp.Ordering.{Ordering}
-use Rattle.std.specs.Ordering.{nat_cmp, ordering_then, is_gt}
+use Rattle.std.specs.Ordering.{bool_cmp, nat_cmp, on, then_cmp}
 use Rattle.std.specs.Fmt.{decimal}
+use Rattle.room_types.specs.Ascending.{IsArrangement, ascending}
 use Rattle.room_types.specs.Texts.{Text, text_cmp}
 use Rattle.room_types.specs.declared.moves.Wave.{Wave}
 use Rattle.room_types.specs.declared.moves.Wave.TheVariants.{Swap, Nth}
 use Rattle.room_types.specs.declared.moves.Move.{Move}
 use Rattle.office_lists.specs.Tables.{table, or_none}
 
--- when a wave has its turn: the numbered ones, which are below 2 ^ 16, in their order, and then the swaps
-abbrev pub turn : Wave → ℕ
-turn (Nth number) = number
-turn Swap = 2 ^ 16
+-- whether it is a swap
+abbrev pub is_swap : Wave → Bool
+is_swap Swap = true
+is_swap (Nth number) = false
 
--- by turn, and by identifier in one turn
+-- the number of a wave that has one
+abbrev pub number_of : Wave → ℕ
+number_of Swap = 0
+number_of (Nth number) = number
+
+-- by whether it is a swap, the swaps last, and then by number
+abbrev pub wave_cmp : Wave → Wave → Ordering
+wave_cmp = then_cmp (on is_swap bool_cmp) (on number_of nat_cmp)
+
+-- by wave, and by identifier in one wave
 abbrev pub move_cmp : Move → Move → Ordering
-move_cmp a b = ordering_then (nat_cmp (turn a.wave) (turn b.wave)) (text_cmp a.person b.person)
-
--- the item among items that ascend, after those that are below it
-abbrev pub placed : {X : Type 0} → (X → X → Ordering) → X → List X → List X
-placed cmp item [] = item ∷ []
-placed cmp item (first ∷ rest) = if is_gt (cmp item first) then first ∷ placed cmp item rest else item ∷ first ∷ rest
-
--- the items in ascending order; those that tie stand as they stood
-abbrev pub ascending : {X : Type 0} → (X → X → Ordering) → List X → List X
-ascending cmp [] = []
-ascending cmp (item ∷ items) = placed cmp item (ascending cmp items)
+move_cmp = then_cmp (on (λ move. move.wave) wave_cmp) (on (λ move. move.person) text_cmp)
 
 -- a wave as it is printed
 abbrev pub wave_text : Wave → Text
@@ -39,6 +39,17 @@ moves_table =
     table (4 ∷ 12 ∷ 8 ∷ []) (codes "wave" ∷ codes "person" ∷ codes "from" ∷ codes "to" ∷ [])
     (λ row. wave_text row.wave ∷ row.person ∷ or_none row.from ∷ or_none row.to ∷ [])
 
--- the list for the day of moving: a line for each move, in the order in which they take place
+-- the list for the day of moving: a line for each move, ascending by wave and, in one wave, by identifier
+pub record IsMoveDayList (moves : List Move) (text : Text) : Type 0 where
+  pub rows : List Move
+  pub in_order : IsArrangement move_cmp moves rows
+  pub lines : text ≡ moves_table rows
+
+-- the list for the day of moving, as it is computed
 abbrev pub move_day_table : List Move → Text
 move_day_table moves = moves_table (ascending move_cmp moves)
+
+-- moves have one such list, and it is the one that is computed
+pub record HaveOneMoveDayList (moves : List Move) : Type 0 where
+  pub some : IsMoveDayList moves (move_day_table moves)
+  pub one : (text : Text) → IsMoveDayList moves text → text ≡ move_day_table moves

@@ -1,9 +1,7 @@
 //! Waves: who has to move before whom.
 ghost use Rattle.std.specs.Prelude.{◌≡◌, ◌<◌, ◌≤◌, ℕ, List, Some, length, IfOk};
 ghost use Rattle.std.specs.BTreeMap.{get_by};
-ghost use Rattle.std.specs.Cmp.Lexicographic.{slice_cmp};
-ghost use Rattle.std.specs.Ordering.{nat_cmp};
-ghost use Rattle.room_types.specs.Texts.{Text};
+ghost use Rattle.room_types.specs.Texts.{Text, text_cmp};
 ghost use Rattle.office_lists.specs.Waves.{Mover, NewRoomsDiffer, AreWaves, HaveOneWaveEach, leaver, leavers as leavers_of, followed, waves_of};
 ghost use Rattle.office_lists.specs.Followers.{AreApart, AreFollowers, NumbersChain};
 
@@ -14,11 +12,15 @@ use std::collections::BTreeMap;
 /// How many people may move in one round.
 pub const MOVE_LIMIT: usize = 2_000;
 
+// The number of an entry at the end of its chain.
+const END_NUMBER: u16 = 1;
+
 /// A person who moves, the old room and the new room.
 pub type Entry = (PersonId, Option<RoomCode>, Option<RoomCode>);
 
 /// The wave of each entry, in order: 1 where nobody leaves the new room, a swap where the movers pass their rooms
-/// round in a circle, and else the wave after that of the new room's leaver. It takes n log n comparisons.
+/// round in a circle, and else the wave after that of the new room's leaver. The leaver of a room is the first entry
+/// whose old room it is. It takes n log n comparisons.
 pub fn waves(alloc: Global, entries: &[Entry]) -> Result<Vec<Wave>, OutOfMemory>
     requires few { length entries.now ≤ MOVE_LIMIT }
     requires new_rooms_differ { NewRoomsDiffer entries.now }
@@ -30,7 +32,7 @@ pub fn waves(alloc: Global, entries: &[Entry]) -> Result<Vec<Wave>, OutOfMemory>
     let mut waves = vec![in alloc; Wave::Swap; entries.len()]?;
     for (end, leaver) in leavers.iter().enumerate() {
         if leaver.is_none() {
-            number_chain(&mut waves, &followers, end);
+            number_chain(&mut waves, &followers, end, END_NUMBER);
         }
     }
     Ok(waves)
@@ -55,7 +57,7 @@ fn leavers(alloc: Global, entries: &[Entry]) -> Result<Vec<Option<usize>>, OutOf
 // For each old room, the first entry that leaves it.
 fn leavers_by_room(alloc: Global, entries: &[Entry]) -> Result<BTreeMap<&str, usize>, AllocError>
     ensures { IfOk result (λ by_room. (room : Text)
-        → get_by (λ key. slice_cmp nat_cmp room key.now) by_room ≡ leaver entries.now room) }
+        → get_by (λ key. text_cmp room key.now) by_room ≡ leaver entries.now room) }
 {
     let mut by_room = BTreeMap::new(alloc);
     for (i, entry) in entries.iter().enumerate() {
@@ -82,18 +84,21 @@ fn followers(alloc: Global, leavers: &[Option<usize>]) -> Result<Vec<Option<usiz
     Ok(followers)
 }
 
-// Numbers the moves of a chain, from the one at its end.
-fn number_chain(waves: &mut [Wave], followers: &[Option<usize>], end: usize)
-    requires within { (count i : ℕ) → followed followers.now count end ≡ Some i → i < length waves.old }
+// Numbers the moves of a chain, from the first number on, which is that of its end.
+fn number_chain(waves: &mut [Wave], followers: &[Option<usize>], end: usize, first: u16)
+    requires within { (count i : ℕ) → followed followers.now count end ≡ Some i
+        → i < length waves.old }
     requires as_many { length followers.now ≡ length waves.old }
-    requires short { (count i : ℕ) → followed followers.now count end ≡ Some i → count < MOVE_LIMIT }
-    ensures { NumbersChain followers.now end waves.old waves.new }
+    requires short { (count i : ℕ) → followed followers.now count end ≡ Some i
+        → count < MOVE_LIMIT }
+    requires low { first ≤ 1 }
+    ensures { NumbersChain followers.now end first waves.old waves.new }
 {
-    let mut number = 0u16;
+    let mut count = 0u16;
     let mut at = Some(end);
     while let Some(here) = at {
-        number += 1;
-        waves[here] = Wave::Nth(number);
+        waves[here] = Wave::Nth(count + first);
+        count += 1;
         at = followers[here];
     }
 }

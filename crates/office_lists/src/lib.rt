@@ -8,5 +8,5 @@ pub mod tables;
 mod tests;
 
 pub use crate::leaving::{Entry, MOVE_LIMIT, one_wave_each, waves};
-pub use crate::move_day::move_day_text;
+pub use crate::move_day::{move_day_text, one_move_day_list};
 pub use crate::tables::{or_none, people_text, results_text, rooms_text};

@@ -1,20 +1,20 @@
 //! The list for the day of moving.
-ghost use Rattle.std.specs.Prelude.{◌≡◌, ◌++◌, [], ◌∷◌, IfOk, OnOk, string_bytes, map};
+ghost use Rattle.std.specs.Prelude.{◌≡◌, ◌++◌, [], ◌∷◌, List, IfOk, OnOk, string_bytes, map};
+ghost use Rattle.room_types.specs.Ascending.{ascending};
+ghost use Rattle.room_types.specs.declared.moves.Move.{Move};
 ghost use Rattle.office_lists.specs.Tables.{line};
-ghost use Rattle.office_lists.specs.MoveDay.{turn, move_cmp, ascending, wave_text, move_day_table};
+ghost use Rattle.office_lists.specs.MoveDay.{is_swap, number_of, move_cmp, wave_text, move_day_table, IsMoveDayList, HaveOneMoveDayList};
 
 use crate::tables::or_none;
-use room_types::{Move, OutOfMemory, Wave};
+use room_types::{Move, OutOfMemory, PersonId, Wave};
 use std::alloc::{AllocError, Global};
 use std::cmp::Ordering;
-
-/// The turn of the swaps: after the numbered waves.
-const SWAP_TURN: u32 = 1 << 16;
 
 /// The list of these moves: the numbered waves ascending, then the swaps, each by identifier. It takes n log n
 /// comparisons.
 pub fn move_day_text(alloc: Global, moves: &[Move]) -> Result<String, OutOfMemory>
-    ensures { IfOk result (λ text. string_bytes text ≡ move_day_table moves.now) }
+    ensures listed { IfOk result (λ text. IsMoveDayList moves.now (string_bytes text)) }
+    ensures computed { IfOk result (λ text. string_bytes text ≡ move_day_table moves.now) }
 {
     let rows = in_order(alloc, moves)?;
     let mut text = String::new(alloc);
@@ -32,7 +32,7 @@ pub fn move_day_text(alloc: Global, moves: &[Move]) -> Result<String, OutOfMemor
     Ok(text)
 }
 
-// The moves by turn, and by identifier in one turn.
+// The moves by wave, the swaps last, and by identifier in one wave.
 fn in_order(alloc: Global, moves: &[Move]) -> Result<Vec<&Move>, OutOfMemory>
     ensures { IfOk result (λ rows. map (λ row. row.now) rows.items ≡ ascending move_cmp moves.now) }
 {
@@ -44,16 +44,18 @@ fn in_order(alloc: Global, moves: &[Move]) -> Result<Vec<&Move>, OutOfMemory>
 fn compare(a: &Move, b: &Move) -> Ordering
     ensures { result ≡ move_cmp a.now b.now }
 {
-    let by_turn = turn(a.wave).cmp(&turn(b.wave));
-    by_turn.then(a.person.cmp(&b.person))
+    turn(a).cmp(&turn(b))
 }
 
-fn turn(wave: Wave) -> u32
-    ensures { result ≡ turn wave }
+// Whether it is a swap, the number of a wave that has one, and who moves.
+fn turn(row: &Move) -> (bool, u16, &PersonId)
+    ensures swap { result.0 ≡ is_swap row.now.wave }
+    ensures number { result.1 ≡ number_of row.now.wave }
+    ensures person { result.2.now ≡ row.now.person }
 {
-    match wave {
-        Wave::Nth(number) => u32::from(number),
-        Wave::Swap => SWAP_TURN,
+    match row.wave {
+        Wave::Nth(number) => (false, number, &row.person),
+        Wave::Swap => (true, 0, &row.person),
     }
 }
 
@@ -73,8 +75,14 @@ fn push_move(
     from: &str,
     to: &str,
 ) -> Result<(), AllocError>
-    ensures { OnOk result (string_bytes text.new
-        ≡ string_bytes text.old ++ line (4 ∷ 12 ∷ 8 ∷ []) (wave.now ∷ person.now ∷ from.now ∷ to.now ∷ [])) }
+    ensures { OnOk result (string_bytes text.new ≡ string_bytes text.old
+        ++ line (4 ∷ 12 ∷ 8 ∷ []) (wave.now ∷ person.now ∷ from.now ∷ to.now ∷ [])) }
 {
     writeln!(text, "{wave:<4}  {person:<12}  {from:<8}  {to}")
 }
+
+/// The law that moves have one list for the day of moving, the one that `move_day_table` of `specs/` computes. It
+/// does nothing.
+pub fn one_move_day_list()
+    ensures { (moves : List Move) → HaveOneMoveDayList moves }
+{}

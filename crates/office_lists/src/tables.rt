@@ -1,13 +1,15 @@
 //! Tables of text, as they are printed.
 ghost use Rattle.std.specs.Prelude.{◌≡◌, ◌++◌, [], ◌∷◌, IfOk, OnOk, string_bytes};
+ghost use Rattle.room_types.specs.Ascending.{AscendsBy};
 ghost use Rattle.office_lists.specs.Tables.{line, or_none, rooms_table, people_table, results_table};
 
 use room_types::text::{Grammar, Text};
 use room_types::{OutOfMemory, PersonRow, ResultRow, RoomRow};
 use std::alloc::{AllocError, Global};
 
-/// The table of these rooms, with a line for each in the order given.
+/// The table of these rooms, which ascend by code, with a line for each.
 pub fn rooms_text(alloc: Global, rows: &[RoomRow]) -> Result<String, OutOfMemory>
+    requires ascending { AscendsBy (λ row. row.room) rows.now }
     ensures { IfOk result (λ text. string_bytes text ≡ rooms_table rows.now) }
 {
     let mut text = String::new(alloc);
@@ -23,8 +25,9 @@ pub fn rooms_text(alloc: Global, rows: &[RoomRow]) -> Result<String, OutOfMemory
     Ok(text)
 }
 
-/// The table of these people, with a line for each in the order given.
+/// The table of these people, who ascend by identifier, with a line for each.
 pub fn people_text(alloc: Global, rows: &[PersonRow]) -> Result<String, OutOfMemory>
+    requires ascending { AscendsBy (λ row. row.person) rows.now }
     ensures { IfOk result (λ text. string_bytes text ≡ people_table rows.now) }
 {
     let mut text = String::new(alloc);
@@ -40,8 +43,9 @@ pub fn people_text(alloc: Global, rows: &[PersonRow]) -> Result<String, OutOfMem
     Ok(text)
 }
 
-/// The table of what these people get, with a line for each in the order given.
+/// The table of what these people get, who ascend by identifier, with a line for each.
 pub fn results_text(alloc: Global, rows: &[ResultRow]) -> Result<String, OutOfMemory>
+    requires ascending { AscendsBy (λ row. row.person) rows.now }
     ensures { IfOk result (λ text. string_bytes text ≡ results_table rows.now) }
 {
     let mut text = String::new(alloc);

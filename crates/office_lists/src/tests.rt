@@ -9,22 +9,17 @@ use std::test::Fail;
 #[test]
 fn a_table_of_rooms(rt: HostRuntime) -> Result<(), Fail> {
     let alloc = rt.alloc();
-    let mut rows = Vec::new(alloc);
-    assert_eq!(rt;
-        rooms_text(alloc, &rows)?.as_str(),
-        "room      state     tenant\n"
-    );
-    for (room, state, tenant) in [
-        ("ABCDEFGH", State::Occupied, Some("ABCDEFGH1234")),
-        ("H1", State::Free, None),
-        ("V-2", State::Shut, None),
-    ] {
-        rows.push(RoomRow {
-            room: text(&rt, alloc, room),
-            state,
-            tenant: optional(&rt, alloc, tenant),
-        })?;
-    }
+    let rows = vec![in alloc;
+        room_row(
+            &rt,
+            alloc,
+            "ABCDEFGH",
+            State::Occupied,
+            Some("ABCDEFGH1234")
+        ),
+        room_row(&rt, alloc, "H1", State::Free, None),
+        room_row(&rt, alloc, "V-2", State::Shut, None),
+    ]?;
     let table = rooms_text(alloc, &rows)?;
     assert_eq!(rt;
         table.as_str(),
@@ -36,14 +31,10 @@ fn a_table_of_rooms(rt: HostRuntime) -> Result<(), Fail> {
 #[test]
 fn a_table_of_people(rt: HostRuntime) -> Result<(), Fail> {
     let alloc = rt.alloc();
-    let mut rows = Vec::new(alloc);
-    for (person, home, name) in [("T1", Some("H1"), "Tim Tan"), ("T2", None, "Tom Tao")] {
-        rows.push(PersonRow {
-            person: text(&rt, alloc, person),
-            name: text(&rt, alloc, name),
-            home: optional(&rt, alloc, home),
-        })?;
-    }
+    let rows = vec![in alloc;
+        person_row(&rt, alloc, "T1", Some("H1"), "Tim Tan"),
+        person_row(&rt, alloc, "T2", None, "Tom Tao"),
+    ]?;
     let table = people_text(alloc, &rows)?;
     assert_eq!(rt;
         table.as_str(),
@@ -55,22 +46,26 @@ fn a_table_of_people(rt: HostRuntime) -> Result<(), Fail> {
 #[test]
 fn a_table_of_results(rt: HostRuntime) -> Result<(), Fail> {
     let alloc = rt.alloc();
-    let mut rows = Vec::new(alloc);
-    assert_eq!(rt;
-        results_text(alloc, &rows)?.as_str(),
-        "person        room\n"
-    );
-    for (person, room) in [("N", Some("V")), ("T1", Some("W")), ("T2", None)] {
-        rows.push(ResultRow {
-            person: text(&rt, alloc, person),
-            room: optional(&rt, alloc, room),
-        })?;
-    }
+    let rows = vec![in alloc;
+        result_row(&rt, alloc, "N", Some("V")),
+        result_row(&rt, alloc, "T1", Some("W")),
+        result_row(&rt, alloc, "T2", None),
+    ]?;
     let table = results_text(alloc, &rows)?;
     assert_eq!(rt;
         table.as_str(),
         "person        room\nN             V\nT1            W\nT2            none\n"
     );
+    Ok(())
+}
+
+#[test]
+fn tables_of_nobody(rt: HostRuntime) -> Result<(), Fail> {
+    let alloc = rt.alloc();
+    let rooms = rooms_text(alloc, &[])?;
+    assert_eq!(rt; rooms.as_str(), "room      state     tenant\n");
+    let results = results_text(alloc, &[])?;
+    assert_eq!(rt; results.as_str(), "person        room\n");
     Ok(())
 }
 
@@ -147,6 +142,47 @@ fn entry(rt: &impl Abort, alloc: Global, person: &str, from: Option<&str>, to: &
         optional(rt, alloc, from),
         Some(text(rt, alloc, to)),
     )
+}
+
+fn room_row(
+    rt: &impl Abort,
+    alloc: Global,
+    room: &str,
+    state: State,
+    tenant: Option<&str>,
+) -> RoomRow
+    ensures { result.room ≡ room.now }
+{
+    RoomRow {
+        room: text(rt, alloc, room),
+        state,
+        tenant: optional(rt, alloc, tenant),
+    }
+}
+
+fn person_row(
+    rt: &impl Abort,
+    alloc: Global,
+    person: &str,
+    home: Option<&str>,
+    name: &str,
+) -> PersonRow
+    ensures { result.person ≡ person.now }
+{
+    PersonRow {
+        person: text(rt, alloc, person),
+        name: text(rt, alloc, name),
+        home: optional(rt, alloc, home),
+    }
+}
+
+fn result_row(rt: &impl Abort, alloc: Global, person: &str, room: Option<&str>) -> ResultRow
+    ensures { result.person ≡ person.now }
+{
+    ResultRow {
+        person: text(rt, alloc, person),
+        room: optional(rt, alloc, room),
+    }
 }
 
 fn text<G: Grammar>(rt: &impl Abort, alloc: Global, text: &str) -> Text<G>

@@ -1,3 +1,4 @@
+pub mod Ascending
 pub mod Choices
 pub mod Faults
 pub mod Grammars
@@ -5,6 +6,7 @@ pub mod Kinds
 pub mod Phases
 pub mod Repeats
 pub mod Rows
+pub mod Streams
 pub mod TextMaps
 pub mod Texts
 pub mod Watched

@@ -1,12 +1,14 @@
--- What a watched reader or writer is seen as.
-use Rattle.std.specs.Prelude.{◌≡◌, ℕ, ◌+◌, ◌-◌, ◌^◌, min, Bool, true, false, Result, Ok, Err, List, length, nat_lt, ◌&&◌, ◌==◌}
+-- What a watched reader or writer is seen as: it counts its reads, its flushes and the bytes it took, and remembers a
+-- failure that it answered. That it passes each call on is not said here, and is tested.
+use Rattle.std.specs.Prelude.{◌≡◌, ℕ, ◌+◌, ◌-◌, ◌^◌, min, Bool, true, false}
+use Rattle.std.specs.Prelude.{Result, Ok, Err, List, length, nat_lt, ◌&&◌, ◌==◌}
 use Rattle.room_types.specs.declared.watched.Watched.{Watched}
 
 -- the reader or writer inside
 abbrev pub watched_inner : {T : Type 0} → Watched T → T
 watched_inner w = w.inner
 
--- whether a call of it failed
+-- whether it answered a failure
 abbrev pub watched_failed : {T : Type 0} → Watched T → Bool
 watched_failed w = w.failed
 
@@ -21,6 +23,10 @@ watched_taken w = w.taken
 -- how often it was flushed, up to the greatest number that fits
 abbrev pub watched_flushes : {T : Type 0} → Watched T → ℕ
 watched_flushes w = w.flushes
+
+-- whether it took bytes since the last flush that succeeded
+abbrev pub watched_pending : {T : Type 0} → Watched T → Bool
+watched_pending w = w.pending
 
 -- a count after n more
 abbrev pub counted : ℕ → ℕ → ℕ
@@ -40,6 +46,11 @@ is_failed_write buf (Err e) = true
 abbrev pub taken_after : {E : Type 0} → ℕ → Result ℕ E → ℕ
 taken_after taken (Ok n) = counted taken n
 taken_after taken (Err e) = taken
+
+-- the write took at least one byte
+abbrev pub has_taken : {E : Type 0} → Result ℕ E → Bool
+has_taken (Ok n) = nat_lt 0 n
+has_taken (Err e) = false
 
 -- neither failed nor read
 pub record IsFresh {T : Type 0} (w : Watched T) : Type 0 where

@@ -1,8 +1,8 @@
 //! Lists of rooms, the best first.
-ghost use Rattle.std.specs.Prelude.{◌≡◌, None, Some, ◌⊎◌, MatchResult, IfOk, []};
+ghost use Rattle.std.specs.Prelude.{◌≡◌, None, Some, ◌⊎◌, MatchResult, IfOk, OnErr, [], ◌<◌, length};
 ghost use Rattle.std.specs.Option.{option_copied};
 ghost use Rattle.room_types.specs.Repeats.{first_repeated};
-ghost use Rattle.room_types.specs.Choices.{choices_fault, IsChoices};
+ghost use Rattle.room_types.specs.Choices.{choices_fault, IsChoices, RepeatsRoom};
 
 use crate::fault::{OutOfMemory, TypeFault};
 use crate::grammars::RoomCode;
@@ -32,10 +32,13 @@ impl Model for Choices {
 
 impl Choices {
     /// The list of these rooms: `TooManyChoices` where there are more than `CHOICE_LIMIT`, and else
-    /// `RoomRepeated` with the first code that also stands before its place.
+    /// `RoomRepeated` with the first code that also stands before its place. Memory is taken for a copy of that
+    /// code alone.
     pub fn read(codes: Vec<RoomCode>) -> Result<Choices, TypeFault>
-        ensures { MatchResult result (λ value. (value ≡ codes.items) × (choices_fault codes.items ≡ None))
-            (λ fault. (fault ≡ TypeFault.OutOfMemory) ⊎ (choices_fault codes.items ≡ Some fault)) }
+        ensures { MatchResult result
+            (λ value. (value ≡ codes.items) × (choices_fault codes.items ≡ None))
+            (λ fault. ((fault ≡ TypeFault.OutOfMemory) × RepeatsRoom codes.items)
+            ⊎ (choices_fault codes.items ≡ Some fault)) }
     {
         if codes.len() > CHOICE_LIMIT {
             return Err(TypeFault::TooManyChoices);
@@ -49,12 +52,13 @@ impl Choices {
         Ok(Choices { codes })
     }
 
-    /// An equal list.
+    /// An equal list. The empty one takes no memory.
     pub fn copy(&self) -> Result<Self, OutOfMemory>
-        ensures { IfOk result (λ copy. copy ≡ self.now) }
+        ensures copy { IfOk result (λ copy. copy ≡ self.now) }
+        ensures memory { OnErr result (0 < length self.now) }
     {
-        let copy = self.clone()?;
-        Ok(copy)
+        let copy = copied(*self.codes.allocator(), self.codes.as_slice())?;
+        Ok(Choices { codes: copy })
     }
 
     /// The rooms, the best first.
@@ -91,9 +95,10 @@ fn first_repeated(codes: &[RoomCode]) -> Option<&RoomCode>
     None
 }
 
-// A copy of each code, in order.
+// A copy of each code, in order. No codes take no memory.
 fn copied(alloc: Global, codes: &[RoomCode]) -> Result<Vec<RoomCode>, AllocError>
-    ensures { IfOk result (λ copies. copies.items ≡ codes.now) }
+    ensures copies { IfOk result (λ copies. copies.items ≡ codes.now) }
+    ensures memory { OnErr result (0 < length codes.now) }
 {
     let mut copies = Vec::with_capacity(alloc, codes.len())?;
     for code in codes {

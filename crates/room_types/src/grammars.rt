@@ -4,7 +4,9 @@ ghost use Rattle.std.specs.List.{list_all, list_any};
 ghost use Rattle.std.specs.Char.{is_control};
 ghost use Rattle.std.specs.Str.{chars};
 ghost use Rattle.std.specs.Int.{is_in_range};
-ghost use Rattle.room_types.specs.Grammars.{is_room_code, is_person_id, is_key, is_label, is_name, is_code_byte, is_id_byte, is_key_byte, is_label_byte, starts_plainly, is_spaced};
+ghost use Rattle.room_types.specs.Grammars.{is_room_code, is_person_id, is_key, is_label, is_name};
+ghost use Rattle.room_types.specs.Grammars.{is_code_byte, is_id_byte, is_key_byte, is_label_byte};
+ghost use Rattle.room_types.specs.Grammars.{starts_plainly, is_spaced};
 
 use crate::text::{Grammar, Text};
 

@@ -1,14 +1,17 @@
-//! The small types of a college's room exchange: texts, words, lists of rooms, maps, and watched streams.
+//! The small types of a college's room exchange: texts, words, lists of rooms, maps, and streams that are watched.
 #![tactic(auto)]
 
 pub mod choices;
 pub mod fault;
 pub mod grammars;
 pub mod kinds;
+pub mod laws;
 pub mod listing;
 pub mod moves;
 pub mod phase;
 pub mod rows;
+pub mod send;
+pub mod stream;
 pub mod table;
 pub mod text;
 pub mod watched;
@@ -18,10 +21,12 @@ pub use crate::choices::{CHOICE_LIMIT, Choices};
 pub use crate::fault::{OutOfMemory, TypeFault};
 pub use crate::grammars::{Key, Label, Name, PersonId, RoomCode};
 pub use crate::kinds::ListKind;
+pub use crate::laws::one_arrangement;
 pub use crate::listing::Listing;
 pub use crate::moves::{Move, Wave};
 pub use crate::phase::Phase;
 pub use crate::rows::{PersonRow, ResultRow, RoomRow, State};
+pub use crate::stream::Stream;
 pub use crate::table::{Copied, Table};
 pub use crate::text::{Grammar, Text};
 pub use crate::watched::Watched;

@@ -12,7 +12,8 @@ use std::alloc::AllocError;
 pub enum Wave {
     /// The movers pass their rooms round in a circle, so that none can be the first.
     Swap,
-    /// The first wave moves into rooms that nobody leaves, and each further one into rooms that the wave before has left.
+    /// The first wave moves into rooms that nobody leaves, and each further one into rooms that the wave before has
+    /// left.
     Nth(u16),
 }
 

@@ -17,7 +17,7 @@ pub enum Phase {
     Drawn,
     /// The results are there, and only the office sees them.
     Ran,
-    /// Everybody sees their result.
+    /// Each participant sees their result.
     Published,
 }
 

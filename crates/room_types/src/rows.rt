@@ -1,5 +1,5 @@
 //! The rows of replies and tables.
-ghost use Rattle.std.specs.Prelude.{◌≡◌, IfOk, Some};
+ghost use Rattle.std.specs.Prelude.{◌≡◌, IfOk, IsSome, OnErr, Some};
 ghost use Rattle.room_types.specs.Rows.{state_text};
 
 use crate::grammars::{Name, PersonId, RoomCode};
@@ -7,7 +7,7 @@ use crate::text::{Grammar, Text};
 use std::alloc::AllocError;
 use std::fmt;
 
-/// Whether somebody may move into a room.
+/// Whether a room has a tenant, and whether it is in use.
 #[derive(Clone, Copy, Debug, PartialEq, Eq, Drop)]
 pub enum State {
     /// Nobody lives there.
@@ -39,7 +39,7 @@ impl fmt::Display for State {
     }
 }
 
-/// A room, whether it can be moved into, and who lives there.
+/// A room, whether it is in use, and who lives there.
 #[derive(Debug, Drop)]
 pub struct RoomRow {
     pub room: RoomCode,
@@ -63,9 +63,10 @@ pub struct ResultRow {
     pub room: Option<RoomCode>,
 }
 
-/// A copy of a text, where there is one.
+/// A copy of a text, where there is one. None takes no memory.
 pub fn copy_optional<G: Grammar>(text: &Option<Text<G>>) -> Result<Option<Text<G>>, AllocError>
-    ensures { IfOk result (λ copy. copy ≡ text.now) }
+    ensures copy { IfOk result (λ copy. copy ≡ text.now) }
+    ensures memory { OnErr result (IsSome text.now) }
 {
     match text {
         Some(text) => Ok(Some(text.clone()?)),

@@ -1,8 +1,9 @@
 //! Maps from texts of one grammar.
-ghost use Rattle.std.specs.Prelude.{◌≡◌, OnOk, OnErr, IfOk, List, ℕ, ◌<◌, ◌^◌};
+ghost use Rattle.std.specs.Prelude.{◌≡◌, None, OnOk, OnErr, IfOk, List, ℕ, ◌<◌, ◌^◌};
 ghost use Rattle.std.specs.Option.{option_copied};
 ghost use Rattle.std.specs.FinMap as map;
 ghost use Rattle.std.specs.Map.Iter.{ShowsInOrder, deref_pair};
+ghost use Rattle.room_types.specs.Ascending.{AscendsBy};
 
 use crate::fault::OutOfMemory;
 use crate::text::{Grammar, Text};
@@ -81,6 +82,7 @@ impl<G: Grammar, V> Table<G, V> {
     pub fn iter(&self) -> Iter<'_, Text<G>, V>
         ensures rest { result ≡ map.entries self.now }
         ensures runs { ShowsInOrder (deref_pair {K = List ℕ} {X = V}) }
+        ensures ascending { AscendsBy (λ entry. entry.0) (map.entries self.now) }
         ensures fits { map.len self.now < 2 ^ 63 }
     {
         self.tree.iter()
@@ -88,10 +90,12 @@ impl<G: Grammar, V> Table<G, V> {
 }
 
 impl<G: Grammar, V: Drop> Table<G, V> {
-    /// Gives the key this value in place of any other. Where memory is refused the map is as before.
+    /// Gives the key this value in place of any other. Memory is taken for a new key alone; where it is refused the
+    /// map is as before.
     pub fn insert(&mut self, key: Text<G>, value: V) -> Result<(), OutOfMemory>
         ensures ok { OnOk result (self.new ≡ map.insert self.old key value) }
         ensures err { OnErr result (self.new ≡ self.old) }
+        ensures absent { OnErr result (map.get self.old key ≡ None) }
     {
         self.tree.insert(key, value)?;
         Ok(())

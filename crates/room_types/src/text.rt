@@ -1,8 +1,8 @@
 //! Texts of one grammar each.
-ghost use Rattle.std.specs.Prelude.{◌≡◌, List, ℕ, Bool, true, false, IfOk, IfErr, ◌⊎◌, refl, nat_eq, Some};
-ghost use Rattle.std.specs.Ordering.{nat_cmp};
-ghost use Rattle.std.specs.Cmp.Lexicographic.{slice_cmp, pointwise, nat_list_cmp_total, nat_list_eq_equiv, texts_po, texts_ties};
+ghost use Rattle.std.specs.Prelude.{◌≡◌, List, ℕ, Bool, true, false, IfOk, IfErr, ◌⊎◌, refl, Some};
+ghost use Rattle.std.specs.Cmp.Lexicographic.{nat_list_cmp_total, nat_list_eq_equiv, texts_po, texts_ties};
 ghost use Rattle.std.specs.Cmp.{partial_equiv_from_equiv};
+ghost use Rattle.room_types.specs.Texts.{text_eq, text_cmp};
 
 use crate::fault::{OutOfMemory, TypeFault};
 use std::alloc::{AllocError, Global};
@@ -38,11 +38,14 @@ impl<G: Grammar> Model for Text<G> {
 }
 
 impl<G: Grammar> Text<G> {
-    /// The value that this text spells: `BadValue` exactly where the text is not in the grammar.
+    /// The value that this text spells, and `BadValue` where the text is not in the grammar. Memory is taken for
+    /// a text of the grammar alone.
     pub fn read(alloc: Global, text: &str) -> Result<Self, TypeFault>
         ensures value { IfOk result (λ value. value ≡ text.now) }
         ensures in_grammar { IfOk result (λ _. G.is_text text.now ≡ true) }
-        ensures fault { IfErr result (λ fault. (fault ≡ TypeFault.OutOfMemory) ⊎ ((fault ≡ TypeFault.BadValue) × (G.is_text text.now ≡ false))) }
+        ensures fault { IfErr result (λ fault.
+            ((fault ≡ TypeFault.OutOfMemory) × (G.is_text text.now ≡ true))
+            ⊎ ((fault ≡ TypeFault.BadValue) × (G.is_text text.now ≡ false))) }
     {
         if !G::is_text(text) {
             return Err(TypeFault::BadValue);
@@ -101,7 +104,7 @@ impl<G: Grammar> fmt::Display for Text<G> {
 }
 
 impl<G: Grammar> PartialEq for Text<G> {
-    ghost eq = { pointwise nat_eq };
+    ghost eq = { text_eq };
 
     ghost laws = { partial_equiv_from_equiv nat_list_eq_equiv };
 
@@ -115,7 +118,7 @@ impl<G: Grammar> Eq for Text<G> {
 }
 
 impl<G: Grammar> PartialOrd for Text<G> {
-    ghost partial_cmp = { λ x y. Some (slice_cmp nat_cmp x y) };
+    ghost partial_cmp = { λ x y. Some (text_cmp x y) };
 
     ghost laws = { texts_po };
 
@@ -125,7 +128,7 @@ impl<G: Grammar> PartialOrd for Text<G> {
 }
 
 impl<G: Grammar> Ord for Text<G> {
-    ghost cmp = { slice_cmp nat_cmp };
+    ghost cmp = { text_cmp };
 
     ghost total = { nat_list_cmp_total };
 

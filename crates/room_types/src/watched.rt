@@ -1,13 +1,18 @@
-//! A reader or writer that remembers whether a call of it failed, how often it was read, and what it took.
-ghost use Rattle.std.specs.Prelude.{◌≡◌, ◌||◌, false};
+//! A reader or writer that counts its reads, its flushes and the bytes that it took, and remembers a failure that it
+//! answered, and whether bytes wait for a flush.
+ghost use Rattle.std.specs.Prelude.{◌≡◌, ◌&&◌, ◌||◌, false};
 ghost use Rattle.std.specs.Io.{ReadsAtMost, WritesAtMost};
 ghost use Rattle.std.specs.Io.KnownBytes.{Keeps, ReadConsumes, WriteAppends};
-ghost use Rattle.room_types.specs.Watched.{watched_inner, watched_failed, watched_reads, watched_taken, watched_flushes, counted, is_failure, is_failed_write, taken_after};
+ghost use Rattle.room_types.specs.Watched.{watched_inner, watched_failed, watched_reads, watched_taken};
+ghost use Rattle.room_types.specs.Watched.{watched_flushes, watched_pending};
+ghost use Rattle.room_types.specs.Watched.{counted, has_taken, is_failure, is_failed_write, taken_after};
+
+mod streams;
 
 use std::io::{Read, Result, Write};
 
-/// A reader or writer, with whether a call of it failed, how often it was read and flushed, and how many bytes it took.
-/// It passes every call on, and takes no memory.
+/// A reader or writer, with whether it answered a failure, how often it was read and flushed, how many bytes it took,
+/// and whether it took any since a flush last succeeded. It passes each call on once, and takes no memory.
 #[derive(Drop)]
 pub struct Watched<T> {
     inner: T,
@@ -15,6 +20,7 @@ pub struct Watched<T> {
     reads: u64,
     taken: u64,
     flushes: u64,
+    pending: bool,
 }
 
 impl<T> Watched<T> {
@@ -25,6 +31,7 @@ impl<T> Watched<T> {
         ensures reads { watched_reads result ≡ 0 }
         ensures taken { watched_taken result ≡ 0 }
         ensures flushes { watched_flushes result ≡ 0 }
+        ensures pending { watched_pending result ≡ false }
     {
         Watched {
             inner,
@@ -32,10 +39,11 @@ impl<T> Watched<T> {
             reads: 0,
             taken: 0,
             flushes: 0,
+            pending: false,
         }
     }
 
-    /// Whether a call failed, or a write took none of at least one byte.
+    /// Whether a call was answered by a failure, or a write took none of at least one byte.
     pub fn failed(&self) -> bool
         ensures { result ≡ watched_failed self.now }
     {
@@ -63,6 +71,13 @@ impl<T> Watched<T> {
         self.flushes
     }
 
+    /// Whether bytes were taken since the last flush that succeeded, or since the start where none did.
+    pub fn pending(&self) -> bool
+        ensures { result ≡ watched_pending self.now }
+    {
+        self.pending
+    }
+
     /// The reader or writer inside.
     pub fn into_inner(self) -> T
         ensures { result ≡ watched_inner self }
@@ -76,11 +91,13 @@ impl<T: Read> Read for Watched<T> {
 
     fn read(&mut self, buf: &mut [u8]) -> Result<usize>
         ensures bound { ReadsAtMost result buf.new }
-        ensures bytes { ReadConsumes (T.remaining (watched_inner self.old)) (T.remaining (watched_inner self.new)) result buf.new }
+        ensures bytes { ReadConsumes (T.remaining (watched_inner self.old))
+            (T.remaining (watched_inner self.new)) result buf.new }
         ensures failed { watched_failed self.new ≡ watched_failed self.old || is_failure result }
         ensures reads { watched_reads self.new ≡ counted (watched_reads self.old) 1 }
         ensures taken { watched_taken self.new ≡ watched_taken self.old }
         ensures flushes { watched_flushes self.new ≡ watched_flushes self.old }
+        ensures pending { watched_pending self.new ≡ watched_pending self.old }
     {
         self.reads = self.reads.saturating_add(1);
         let result = self.inner.read(buf);
@@ -96,17 +113,23 @@ impl<T: Write> Write for Watched<T> {
 
     fn write(&mut self, buf: &[u8]) -> Result<usize>
         ensures bound { WritesAtMost result buf.now }
-        ensures bytes { WriteAppends (T.contents (watched_inner self.old)) (T.contents (watched_inner self.new)) result buf.now }
-        ensures failed { watched_failed self.new ≡ watched_failed self.old || is_failed_write buf.now result }
+        ensures bytes { WriteAppends (T.contents (watched_inner self.old))
+            (T.contents (watched_inner self.new)) result buf.now }
+        ensures failed { watched_failed self.new
+            ≡ watched_failed self.old || is_failed_write buf.now result }
         ensures reads { watched_reads self.new ≡ watched_reads self.old }
         ensures taken { watched_taken self.new ≡ taken_after (watched_taken self.old) result }
         ensures flushes { watched_flushes self.new ≡ watched_flushes self.old }
+        ensures pending { watched_pending self.new ≡ has_taken result || watched_pending self.old }
     {
         let result = self.inner.write(buf);
         match result {
             Ok(n) => {
                 if n == 0 && !buf.is_empty() {
                     self.failed = true;
+                }
+                if n > 0 {
+                    self.pending = true;
                 }
                 self.taken = self.taken.saturating_add(n as u64);
                 Ok(n)
@@ -119,17 +142,24 @@ impl<T: Write> Write for Watched<T> {
     }
 
     fn flush(&mut self) -> Result<()>
-        ensures bytes { Keeps (T.contents (watched_inner self.old)) (T.contents (watched_inner self.new)) }
+        ensures bytes { Keeps (T.contents (watched_inner self.old))
+            (T.contents (watched_inner self.new)) }
         ensures failed { watched_failed self.new ≡ watched_failed self.old || is_failure result }
         ensures reads { watched_reads self.new ≡ watched_reads self.old }
         ensures taken { watched_taken self.new ≡ watched_taken self.old }
         ensures flushes { watched_flushes self.new ≡ counted (watched_flushes self.old) 1 }
+        ensures pending { watched_pending self.new ≡ is_failure result && watched_pending self.old }
     {
         self.flushes = self.flushes.saturating_add(1);
-        let result = self.inner.flush();
-        if result.is_err() {
-            self.failed = true;
+        match self.inner.flush() {
+            Ok(()) => {
+                self.pending = false;
+                Ok(())
+            }
+            Err(e) => {
+                self.failed = true;
+                Err(e)
+            }
         }
-        result
     }
 }

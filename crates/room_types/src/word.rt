@@ -34,7 +34,8 @@ impl Word {
         Word { value }
     }
 
-    /// The word of exactly `WORD_DIGITS` hexadecimal digits of either case, and `BadValue` for any other text. It takes no memory.
+    /// The word of exactly `WORD_DIGITS` hexadecimal digits of either case, and `BadValue` for any other text. It takes
+    /// no memory.
     pub fn read(text: &str) -> Result<Word, TypeFault>
         ensures { MatchResult result (λ word. word_of text.now ≡ Some word)
             (λ fault. (fault ≡ TypeFault.BadValue) × (word_of text.now ≡ None)) }

@@ -1,11 +1,13 @@
 -- The cursors, turn by turn.
-use Rattle.std.proofs.Common.{◌≡◌, ℕ, zero, suc, ◌+◌, ◌-◌, ◌<◌, ◌≤◌, Bool, true, false, cond, not, ◌==◌, List, [], ◌∷◌, ◌++◌, length, Option, Some, None, find, get_or, set, drop, refl, sym, ap, ap₂, ◌∙◌, subst, inl, inr, arith, eqb-true, eq-eqb, le_refl, ltb, lt-ltb, le-ltb, get_or-set_same, get_or-set_other, length-set}
+use Rattle.std.proofs.Common.{◌≡◌, ℕ, suc, ◌+◌, ◌-◌, ◌<◌, ◌≤◌, Bool, true, false, cond, not, ◌==◌, List, [], ◌∷◌, ◌++◌, length, Option, Some, None, find, get_or, set, drop, refl, sym, ap, ap₂, ◌∙◌, subst, inl, inr, arith, eqb-true, eq-eqb, ne_eqb, ltb, lt-ltb, le-ltb, get_or-set_same, get_or-set_other, length-set}
+use mathlib.Core.Path.{fun_ext}
 use Rattle.std.specs.List.{range_with_len}
 use Rattle.std.proofs.lemmas.List.{get_or-drop, get_or_past, length-drop, set_past}
-use Rattle.std.proofs.lemmas.Bool.{cases_Bool, cases_eq, cases_lt, both_ways, or_cases, or_parts, and_parts, false_from_ne_true, cond-true}
+use Rattle.std.proofs.lemmas.Bool.{cases_Bool, cases_eq, cases_lt, both_ways, or_cases, or_left, or_right, or_parts, and_parts, false_from_ne_true, cond-true}
+use Rattle.trade_line.specs.Below.{sum_below}
 use Rattle.trade_line.specs.Market.{Market, IsMarket, home, list_of, tenant}
 use Rattle.trade_line.specs.Member.{among, Once}
-use Rattle.trade_line.specs.Rank.{place}
+use Rattle.trade_line.specs.Rank.{rank}
 use Rattle.trade_line.specs.Looks.{needed, all_needed, all_listed}
 use Rattle.trade_line.specs.Line.{front_of, tail_of, without}
 use Rattle.trade_line.specs.Assignment.{given_in}
@@ -13,13 +15,13 @@ use Rattle.trade_line.specs.TopTradingCycles.{Stage, wish, leave}
 use Rattle.trade_line.specs.Inner.Queue.{close, WaitsBehind}
 use Rattle.trade_line.specs.Inner.State.{State, stage_at, has_asked, given_to}
 use Rattle.trade_line.specs.Inner.Turn.{Standing, Asks}
-use Rattle.trade_line.specs.Inner.Loop.{Ring, Closed}
+use Rattle.trade_line.specs.Inner.Loop.{Closed}
 use Rattle.trade_line.specs.Inner.Reads.{reads, skipped}
-use Rattle.trade_line.specs.Inner.Looks.{cursor, HasReadNeeded, HaveReadBehind, HaveReadInLine, AreCursors, cursor_sum, spent, spent_sum, KeepsCursors, TurnReads, ReadSoFar}
-use Rattle.trade_line.proofs.Looks.{sum_le, sum_none, sum_point, sum_gain, sum_two, skipped_gone, skipped_most, found_at, none_at, find_on, place_most, among_at}
+use Rattle.trade_line.specs.Inner.Looks.{cursor, StandsAt, StaysAt, StayBehind, StayInLine, AreCursors, cursor_sum, spent, spent_sum, KeepsCursors, TurnReads, ReadSoFar}
+use Rattle.trade_line.proofs.Looks.{sum_le, sum_none, sum_point, sum_two, skipped_gone, skipped_most, found_at, none_at, find_on, place_is, among_at}
 use Rattle.trade_line.proofs.Lines.{among_self, among_more, among-append, among_left, among_right, among-without, without-append, waits_front}
 use Rattle.trade_line.proofs.Loops.{ring_line}
-use Rattle.trade_line.proofs.Ranks.{rank_listed}
+use Rattle.trade_line.proofs.Ranks.{rank_listed, rank_home}
 use Rattle.trade_line.proofs.Search.{not_yes, clash}
 use Rattle.trade_line.proofs.Turns.{granted, marked, brought, tenant_home}
 use Rattle.trade_line.proofs.States.{same_state, read_same}
@@ -46,62 +48,56 @@ module _ (m : Market) where
   unfolding leave
   leave_gone s k r h = rw h refl
 
-  -- a room at or before the cursor was read
-  pub read_at : IsMarket m → (c : List ℕ) (p i x : ℕ) → i < length (list_of m p)
-      → get_or (list_of m p) i 0 ≡ x → i ≤ cursor c p → HasReadNeeded m c p (Some x)
-  read_at ok c p i x l e le =
-      let most : place x (list_of m p) ≤ i = place_most (list_of m p) i x l e in
-      omega (arith, rank_listed m ok p x (among_at (list_of m p) i x l e))
-
-  -- whoever read the own list to its end has read enough for anything
-  pub read_whole : (c : List ℕ) (p : ℕ) (o : Option ℕ) → length (list_of m p) ≤ cursor c p
-      → HasReadNeeded m c p o
-  read_whole c p o l = omega arith
+  -- whoever's cursor is at an entry stays at its room
+  pub stays_at : IsMarket m → (c : List ℕ) (p i x : ℕ) → p < m.people → i < length (list_of m p)
+      → get_or (list_of m p) i 0 ≡ x → cursor c p ≡ i → StaysAt m c p (Some x)
+  stays_at ok c p i x known l e at =
+      (omega arith, rank_listed m ok p x (among_at (list_of m p) i x l e) ∙ place_is (list_of m p) i x (ok.lists_differ p known) l e ∙ sym at)
 
   -- other marks and cursors that tell the same of those behind
   behind_same : (asked asked' : List Bool) (c c' : List ℕ) (b : ℕ) (xs : List ℕ)
       → ((p : ℕ) → among xs p ≡ true → get_or asked' p false ≡ true → get_or asked p false ≡ true)
-      → ((p : ℕ) → among xs p ≡ true → cursor c' p ≡ cursor c p) → HaveReadBehind m asked c b xs
-      → HaveReadBehind m asked' c' b xs
+      → ((p : ℕ) → among xs p ≡ true → cursor c' p ≡ cursor c p) → StayBehind m asked c b xs
+      → StayBehind m asked' c' b xs
   behind_same asked asked' c c' b [] ha hc w = tt
   behind_same asked asked' c c' b (x ∷ xs) ha hc w = (
-    λ h. subst (λ z. needed m x (home m b) ≤ suc z) (sym (hc x (among_self x xs))) (w.0 (ha x (among_self x xs) h)),
+    λ h. subst (λ z. (z < length (list_of m x)) × (rank m x (home m b) ≡ z)) (sym (hc x (among_self x xs))) (w.0 (ha x (among_self x xs) h)),
     behind_same asked asked' c c' x xs (λ p i. ha p (among_more x xs p i)) (λ p i. hc p (among_more x xs p i)) w.1,
   )
 
   behind_fresh : (asked : List Bool) (c : List ℕ) (b : ℕ) (xs : List ℕ)
-      → ((p : ℕ) → among xs p ≡ true → get_or asked p false ≡ false) → HaveReadBehind m asked c b xs
+      → ((p : ℕ) → among xs p ≡ true → get_or asked p false ≡ false) → StayBehind m asked c b xs
   behind_fresh asked c b [] h = tt
   behind_fresh asked c b (x ∷ xs) h = (λ y. clash (get_or asked x false) y (h x (among_self x xs)), behind_fresh asked c x xs (λ p i. h p (among_more x xs p i)))
 
   behind_front : (asked : List Bool) (c : List ℕ) (b : ℕ) (xs ys : List ℕ)
-      → HaveReadBehind m asked c b (xs ++ ys) → HaveReadBehind m asked c b xs
+      → StayBehind m asked c b (xs ++ ys) → StayBehind m asked c b xs
   behind_front asked c b [] ys w = tt
   behind_front asked c b (x ∷ xs) ys w = (w.0, behind_front asked c x xs ys w.1)
 
-  behind_join : (asked : List Bool) (c : List ℕ) (b : ℕ) (xs ys : List ℕ) → HaveReadBehind m asked c b xs
-      → ((p : ℕ) → among ys p ≡ true → get_or asked p false ≡ false) → HaveReadBehind m asked c b (xs ++ ys)
+  behind_join : (asked : List Bool) (c : List ℕ) (b : ℕ) (xs ys : List ℕ) → StayBehind m asked c b xs
+      → ((p : ℕ) → among ys p ≡ true → get_or asked p false ≡ false) → StayBehind m asked c b (xs ++ ys)
   behind_join asked c b [] ys w h = behind_fresh asked c b ys h
   behind_join asked c b (x ∷ xs) ys w h = (w.0, behind_join asked c x xs ys w.1 h)
 
-  behind_tail : (asked : List Bool) (c : List ℕ) (b : ℕ) (xs : List ℕ) → HaveReadBehind m asked c b xs
-      → HaveReadInLine m asked c xs
+  behind_tail : (asked : List Bool) (c : List ℕ) (b : ℕ) (xs : List ℕ) → StayBehind m asked c b xs
+      → StayInLine m asked c xs
   behind_tail asked c b [] w = tt
   behind_tail asked c b (x ∷ xs) w = w.1
 
   behind_back : (asked : List Bool) (c : List ℕ) (b : ℕ) (xs ys : List ℕ)
-      → HaveReadBehind m asked c b (xs ++ ys) → HaveReadInLine m asked c ys
+      → StayBehind m asked c b (xs ++ ys) → StayInLine m asked c ys
   behind_back asked c b [] ys w = behind_tail asked c b ys w
   behind_back asked c b (x ∷ xs) ys w = behind_back asked c x xs ys w.1
 
   -- those who wait have read up to their wishes
   behind_wish : (s : Stage) (asked : List Bool) (c : List ℕ) (b : ℕ) (xs : List ℕ) → WaitsBehind m s b xs
-      → HaveReadBehind m asked c b xs → ((p : ℕ) → among xs p ≡ true → get_or asked p false ≡ true) → (p : ℕ)
-      → among xs p ≡ true → HasReadNeeded m c p (wish m s p)
+      → StayBehind m asked c b xs → ((p : ℕ) → among xs p ≡ true → get_or asked p false ≡ true) → (p : ℕ)
+      → among xs p ≡ true → StaysAt m c p (wish m s p)
   behind_wish s asked c b [] ws w all p h = absurd (both_ways false refl h)
   behind_wish s asked c b (x ∷ xs) ws w all p h =
       elim (or_cases (x == p) (among xs p) h) [
-        | inl e ↦ subst (λ z. HasReadNeeded m c z (wish m s z)) (eqb-true x p e) (subst (HasReadNeeded m c x) (ws.0.1 ∙ sym ws.0.2) (w.0 (all x (among_self x xs))))
+        | inl e ↦ subst (λ z. StaysAt m c z (wish m s z)) (eqb-true x p e) (subst (StaysAt m c x) (ws.0.1 ∙ sym ws.0.2) (w.0 (all x (among_self x xs))))
         | inr i ↦ behind_wish s asked c x xs ws.1 w.1 (λ q j. all q (among_more x xs q j)) p i
       ]
 
@@ -131,28 +127,28 @@ module _ (m : Market) where
               | inl y ↦ subst (λ z. (stage_at s).rooms (get_or (list_of m z) k 0) ≡ false) (sym y) (past k (let z : cursor (set c a v) p ≡ cursor (set c a v) a = ap (cursor (set c a v)) y in omega arith))
               | inr n ↦ tr.gone p k l (let z : cursor (set c a v) p ≡ cursor c p = away p n in omega arith)
             ];
-            waiting = subst (HaveReadInLine m (set s.asked a true) (set c a v)) (sym is)
+            waiting = subst (StayInLine m (set s.asked a true) (set c a v)) (sym is)
                 (behind_same s.asked (set s.asked a true) c (set c a v) a t
                 (λ p i h. sym (get_or-set_other s.asked a p true false (λ y. both_ways (among t a) absent (subst (λ z. among t z ≡ true) y i))) ∙ h)
                 (λ p i. away p (λ y. both_ways (among t a) absent (subst (λ z. among t z ≡ true) y i)))
-                (subst (HaveReadInLine m s.asked c) is tr.waiting));
-            served = λ p l h. subst (λ z. needed m p (given_to s p) ≤ suc z)
+                (subst (StayInLine m s.asked c) is tr.waiting));
+            served = λ p l h. subst (λ z. rank m p (given_to s p) ≡ z)
                 (sym (away p (λ y. both_ways (among s.line p) h (subst (λ z. among s.line z ≡ true) (sym y) (subst (λ z. among z a ≡ true) (sym is) (among_self a t))))))
                 (tr.served p l h);
           }
 
   -- the front leaves
   pub granted_cursors : (s : State) (a : ℕ) (o : Option ℕ) (c : List ℕ) → Asks m a s → AreCursors m s c
-      → HasReadNeeded m c a o → AreCursors m (granted s a o) c
+      → StandsAt m c a o → AreCursors m (granted s a o) c
   granted_cursors s a o c ask tr enough = record {
     cursors_len = tr.cursors_len;
     within = tr.within;
     gone = λ p k l lk. close_gone s.remaining o (get_or (list_of m p) k 0) (tr.gone p k l lk);
-    waiting = subst (λ z. HaveReadInLine m s.asked c (tail_of z)) (sym ask.split) (behind_tail s.asked c a (ask.behind ++ ask.fresh) (subst (HaveReadInLine m s.asked c) ask.split tr.waiting));
+    waiting = subst (λ z. StayInLine m s.asked c (tail_of z)) (sym ask.split) (behind_tail s.asked c a (ask.behind ++ ask.fresh) (subst (StayInLine m s.asked c) ask.split tr.waiting));
     served = λ p l h. elim (cases_eq p a) [
-      | inl e ↦ subst (λ z. HasReadNeeded m c z (given_to (granted s a o) z)) (sym e)
-          (subst (HasReadNeeded m c a) (sym (get_or-set_same s.given a o None (let k : a < m.people = subst (λ z. z < m.people) e l in omega (arith, ask.fits.given_len)))) enough)
-      | inr n ↦ subst (HasReadNeeded m c p) (sym (get_or-set_other s.given a p o None n)) (tr.served p l (left p n h))
+      | inl e ↦ subst (λ z. StandsAt m c z (given_to (granted s a o) z)) (sym e)
+          (subst (StandsAt m c a) (sym (get_or-set_same s.given a o None (let k : a < m.people = subst (λ z. z < m.people) e l in omega (arith, ask.fits.given_len)))) enough)
+      | inr n ↦ subst (StandsAt m c p) (sym (get_or-set_other s.given a p o None n)) (tr.served p l (left p n h))
     ];
   }
     where
@@ -164,17 +160,17 @@ module _ (m : Market) where
 
   -- the tenant comes to the front
   pub brought_cursors : (s : State) (a room t : ℕ) (c : List ℕ) → Asks m a s → tenant m room ≡ Some t
-      → among s.line t ≡ true → has_asked s t ≡ false → AreCursors m s c → HasReadNeeded m c a (Some room)
+      → among s.line t ≡ true → has_asked s t ≡ false → AreCursors m s c → StaysAt m c a (Some room)
       → AreCursors m (brought s t) c
   brought_cursors s a room t c ask e i new tr enough = record {
     cursors_len = tr.cursors_len;
     within = tr.within;
     gone = tr.gone;
-    waiting = subst (HaveReadBehind m (set s.asked t true) c t) (sym rest) (
-      λ h. subst (HasReadNeeded m c a) (sym (tenant_home m room t e).1) enough,
+    waiting = subst (StayBehind m (set s.asked t true) c t) (sym rest) (
+      λ h. subst (StaysAt m c a) (sym (tenant_home m room t e).1) enough,
       behind_join (set s.asked t true) c a ask.behind (without t ask.fresh)
           (behind_same s.asked (set s.asked t true) c c a ask.behind (λ p j h. ask.waiting_asked p (among_more a ask.behind p j)) (λ p j. refl)
-          (behind_front s.asked c a ask.behind ask.fresh (subst (HaveReadInLine m s.asked c) ask.split tr.waiting))) fresh,
+          (behind_front s.asked c a ask.behind ask.fresh (subst (StayInLine m s.asked c) ask.split tr.waiting))) fresh,
     );
     served = λ p l h. tr.served p l (left p h);
   }
@@ -193,42 +189,47 @@ module _ (m : Market) where
           both_ways (among (without t s.line) p) b.1 (among-without t s.line p ∙ rw (y, b.0) refl))
 
   -- a loop leaves
-  pub closed_cursors : (t room : ℕ) (s u : State) (c : List ℕ) (cl : Closed m t room s u) → AreCursors m s c
-      → HasReadNeeded m c cl.ring.person (Some room) → AreCursors m u c
-  closed_cursors t room s u c cl tr enough = record {
-    cursors_len = tr.cursors_len;
-    within = tr.within;
-    gone = λ p k l lk. ap (λ (z : Stage). z.rooms (get_or (list_of m p) k 0)) cl.stage ∙ leave_gone (stage_at s) (among ring) (get_or (list_of m p) k 0) (tr.gone p k l lk);
-    waiting = subst (λ z. HaveReadInLine m z c u.line) (sym cl.asked_kept) (behind_back s.asked c r.person r.others u.line behind);
-    served = λ p l h. elim (cases_Bool (among ring p)) [
-      | inl y ↦ subst (HasReadNeeded m c p) (sym (cl.given_ring p y)) (in_ring p y)
-      | inr n ↦ subst (HasReadNeeded m c p) (sym (cl.given_kept p n)) (tr.served p l (subst (λ z. among z p ≡ false) (sym line) (among-append ring u.line p ∙ rw (n, h) refl)))
-    ];
-  }
-    where
-      r : Ring m t room s
-      r = cl.ring
+  module _ (t room : ℕ) (s u : State) (c : List ℕ) (cl : Closed m t room s u) (tr : AreCursors m s c) (enough : StaysAt m c cl.ring.person (Some room)) where
+    abbrev ring : List ℕ
+    ring = cl.ring.person ∷ cl.ring.others
 
-      ring : List ℕ
-      ring = r.person ∷ r.others
+    line_is : s.line ≡ ring ++ u.line
+    line_is = ring_line m t room s cl.ring ∙ ap (λ z. ring ++ z) (sym cl.line_is)
 
-      line : s.line ≡ ring ++ u.line
-      line = ring_line m t room s r ∙ ap (λ z. ring ++ z) (sym cl.line_is)
+    behind : StayBehind m s.asked c cl.ring.person (cl.ring.others ++ u.line)
+    behind = subst (StayInLine m s.asked c) line_is tr.waiting
 
-      behind : HaveReadBehind m s.asked c r.person (r.others ++ u.line)
-      behind = subst (HaveReadInLine m s.asked c) line tr.waiting
+    -- all of it stay at their wishes
+    in_ring : (p : ℕ) → among ring p ≡ true → StaysAt m c p (wish m (stage_at s) p)
+    in_ring p y = elim (or_cases (cl.ring.person == p) (among cl.ring.others p) y) [
+      | inl e ↦ subst (λ z. StaysAt m c z (wish m (stage_at s) z)) (eqb-true cl.ring.person p e) (subst (StaysAt m c cl.ring.person) (sym cl.ring.first_wish) enough)
+      | inr i ↦ behind_wish (stage_at s) s.asked c cl.ring.person cl.ring.others waits (behind_front s.asked c cl.ring.person cl.ring.others u.line behind) all p i
+    ]
+      where
+        waits : WaitsBehind m (stage_at s) cl.ring.person cl.ring.others
+        waits = waits_front m (stage_at s) cl.ring.person cl.ring.others cl.ring.after (subst (λ z. WaitsBehind m (stage_at s) cl.ring.person z) cl.ring.behind_split cl.ring.asks.waits)
 
-      waits : WaitsBehind m (stage_at s) r.person r.others
-      waits = waits_front m (stage_at s) r.person r.others r.after (subst (λ z. WaitsBehind m (stage_at s) r.person z) r.behind_split r.asks.waits)
+        all : (p : ℕ) → among cl.ring.others p ≡ true → get_or s.asked p false ≡ true
+        all p h = cl.ring.asks.waiting_asked p (among_more cl.ring.person cl.ring.asks.behind p (subst (λ z. among z p ≡ true) (sym cl.ring.behind_split) (among_left cl.ring.others cl.ring.after p h)))
 
-      all : (p : ℕ) → among r.others p ≡ true → get_or s.asked p false ≡ true
-      all p h = r.asks.waiting_asked p (among_more r.person r.asks.behind p (subst (λ z. among z p ≡ true) (sym r.behind_split) (among_left r.others r.after p h)))
+    pub closed_cursors : AreCursors m u c
+    closed_cursors = record {
+      cursors_len = tr.cursors_len;
+      within = tr.within;
+      gone = λ p k l lk. ap (λ (z : Stage). z.rooms (get_or (list_of m p) k 0)) cl.stage ∙ leave_gone (stage_at s) (among ring) (get_or (list_of m p) k 0) (tr.gone p k l lk);
+      waiting = subst (λ z. StayInLine m z c u.line) (sym cl.asked_kept) (behind_back s.asked c cl.ring.person cl.ring.others u.line behind);
+      served = λ p l h. elim (cases_Bool (among ring p)) [
+        | inl y ↦ subst (StandsAt m c p) (sym (cl.given_ring p y)) (in_ring p y).1
+        | inr n ↦ subst (StandsAt m c p) (sym (cl.given_kept p n)) (tr.served p l (subst (λ z. among z p ≡ false) (sym line_is) (among-append ring u.line p ∙ rw (n, h) refl)))
+      ];
+    }
 
-      in_ring : (p : ℕ) → among ring p ≡ true → HasReadNeeded m c p (wish m (stage_at s) p)
-      in_ring p y = elim (or_cases (r.person == p) (among r.others p) y) [
-        | inl e ↦ subst (λ z. HasReadNeeded m c z (wish m (stage_at s) z)) (eqb-true r.person p e) (subst (HasReadNeeded m c r.person) (sym r.first_wish) enough)
-        | inr i ↦ behind_wish (stage_at s) s.asked c r.person r.others waits (behind_front s.asked c r.person r.others u.line behind) all p i
-      ]
+    pub closed_left : (p : ℕ) → among s.line p ≡ true → among u.line p ≡ false → cursor c p < length (list_of m p)
+    closed_left p h out =
+        elim (or_cases (among ring p) (among u.line p) (sym (among-append ring u.line p) ∙ subst (λ z. among z p ≡ true) line_is h)) [
+          | inl y ↦ (in_ring p y).0
+          | inr y ↦ absurd (both_ways (among u.line p) out y)
+        ]
 
   -- the turns, for states that are told part by part
   pub marked_cursors : (s v : State) (a place : ℕ) (c d : List ℕ) → Standing m s → front_of s.line ≡ Some a
@@ -263,35 +264,59 @@ module _ (m : Market) where
             ∙ skipped_gone q (drop (cursor c a) (list_of m a)) (k - cursor c a) (omega arith)
       ]
 
-  pub granted_keeps : (a : ℕ) (o : Option ℕ) (s v : State) → Asks m a s → v.line ≡ tail_of s.line
+  pub front_in : (a : ℕ) (s : State) → Asks m a s → among s.line a ≡ true
+  front_in a s ask = subst (λ z. among z a ≡ true) (sym ask.split) (among_self a (ask.behind ++ ask.fresh))
+
+  pub granted_tells : (a : ℕ) (o : Option ℕ) (s v : State) → Asks m a s → v.line ≡ tail_of s.line
       → v.asked ≡ s.asked → v.remaining ≡ close s.remaining o → v.given ≡ set s.given a o
-      → KeepsCursors m a o s v
-  granted_keeps a o s v ask x y z u = record {
-    inside = λ p h. by_line s.line p (subst (λ w. among w p ≡ true) x h);
-    cursors = λ c tr enough. subst (λ q. AreCursors m q c) (sym (same_state v (granted s a o) x y z u)) (granted_cursors s a o c ask tr enough);
+      → (c : List ℕ) → AreCursors m s c → StandsAt m c a o → AreCursors m v c
+  granted_tells a o s v ask x y z u c tr enough =
+      subst (λ q. AreCursors m q c) (sym (same_state v (granted s a o) x y z u)) (granted_cursors s a o c ask tr enough)
+
+  -- nobody but the front leaves
+  pub others_wait : (a : ℕ) (s v : State) → Asks m a s → v.line ≡ tail_of s.line → (p : ℕ) → (p ≡ a → ⊥)
+      → among v.line p ≡ among s.line p
+  others_wait a s v ask x p n =
+      let ne : (a == p) ≡ false = ne_eqb a p (λ y. n (sym y)) in
+      ap (λ z. among z p) (x ∙ ap tail_of ask.split) ∙ sym (ap (λ z. among z p) ask.split ∙ rw ne refl)
+
+  pub granted_keeps : (a room : ℕ) (s v : State) → Asks m a s → v.line ≡ tail_of s.line
+      → v.asked ≡ s.asked → v.remaining ≡ close s.remaining (Some room) → v.given ≡ set s.given a (Some room)
+      → KeepsCursors m a room s v
+  granted_keeps a room s v ask x y z u = record {
+    inside = λ p h. elim (cases_eq p a) [
+      | inl e ↦ subst (λ w. among s.line w ≡ true) (sym e) (front_in a s ask)
+      | inr n ↦ sym (others_wait a s v ask x p n) ∙ h
+    ];
+    cursors = λ c tr enough. granted_tells a (Some room) s v ask x y z u c tr enough.1;
+    left = λ c tr enough p h out. elim (cases_eq p a) [
+      | inl e ↦ subst (λ w. cursor c w < length (list_of m w)) (sym e) enough.0
+      | inr n ↦ absurd (both_ways (among v.line p) out (others_wait a s v ask x p n ∙ h))
+    ];
   }
-    where
-      by_line : (l : List ℕ) (p : ℕ) → among (tail_of l) p ≡ true → among l p ≡ true
-      by_line [] p h = h
-      by_line (b ∷ r) p h = among_more b r p h
 
   pub brought_keeps : (a room t : ℕ) (s v : State) → Asks m a s → tenant m room ≡ Some t
       → among s.line t ≡ true → get_or s.asked t false ≡ false → v.line ≡ t ∷ without t s.line
       → v.asked ≡ set s.asked t true → v.remaining ≡ s.remaining → v.given ≡ s.given
-      → KeepsCursors m a (Some room) s v
+      → KeepsCursors m a room s v
   brought_keeps a room t s v ask e i new x y z u = record {
     inside = λ p h. elim (or_cases (t == p) (among (without t s.line) p) (subst (λ w. among w p ≡ true) x h)) [
       | inl b ↦ subst (λ w. among s.line w ≡ true) (eqb-true t p b) i
       | inr b ↦ (and_parts (among s.line p) (not (t == p)) (sym (among-without t s.line p) ∙ b)).0
     ];
     cursors = λ c tr enough. subst (λ q. AreCursors m q c) (sym (same_state v (brought s t) x y z u)) (brought_cursors s a room t c ask e i new tr enough);
+    left = λ c tr enough p h out. absurd (both_ways (among v.line p) out (subst (λ w. among w p ≡ true) (sym x) (elim (cases_Bool (t == p)) [
+      | inl b ↦ or_left (t == p) (among (without t s.line) p) b
+      | inr b ↦ or_right (t == p) (among (without t s.line) p) (among-without t s.line p ∙ rw (h, b) refl)
+    ])));
   }
 
   pub closed_keeps : (a t room : ℕ) (s u : State) → Asks m a s → Closed m t room s u
-      → KeepsCursors m a (Some room) s u
+      → KeepsCursors m a room s u
   closed_keeps a t room s u ask cl = record {
     inside = λ p h. subst (λ w. among w p ≡ true) (sym line) (among_right (cl.ring.person ∷ cl.ring.others) u.line p h);
-    cursors = λ c tr enough. closed_cursors t room s u c cl tr (subst (λ w. HasReadNeeded m c w (Some room)) same enough);
+    cursors = λ c tr enough. closed_cursors t room s u c cl tr (subst (λ w. StaysAt m c w (Some room)) same enough);
+    left = λ c tr enough. closed_left t room s u c cl tr (subst (λ w. StaysAt m c w (Some room)) same enough);
   }
     where
       line : s.line ≡ (cl.ring.person ∷ cl.ring.others) ++ u.line
@@ -299,9 +324,6 @@ module _ (m : Market) where
 
       same : a ≡ cl.ring.person
       same = let z : Some a ≡ Some cl.ring.person = sym (ap front_of ask.split) ∙ ap front_of cl.ring.asks.split in cc
-
-  pub front_in : (a : ℕ) (s : State) → Asks m a s → among s.line a ≡ true
-  front_in a s ask = subst (λ z. among z a ≡ true) (sym ask.split) (among_self a (ask.behind ++ ask.fresh))
 
   pub tail_gone : (a : ℕ) (s v : State) → Asks m a s → v.line ≡ tail_of s.line → among v.line a ≡ false
   tail_gone a s v ask x = subst (λ z. among z a ≡ false) (sym (x ∙ ap tail_of ask.split)) (subst Once ask.split ask.once).0
@@ -314,56 +336,60 @@ module _ (m : Market) where
       let sum : cursor_sum m d + cursor c a ≡ cursor_sum m c + cursor d a = sum_point m.people (cursor c) (cursor d) a l (λ y yl ne. ap (λ z. get_or z y 0) e ∙ get_or-set_other c a y place 0 ne) in
       omega arith
 
-  moved_on : (a place n : ℕ) (c d : List ℕ) → a < m.people → length c ≡ m.people → d ≡ set c a place
-      → place ≡ cursor c a + n → (p : ℕ) → cursor c p ≤ cursor d p
-  moved_on a place n c d l len e pe p =
-      elim (cases_eq p a) [
-        | inl y ↦
-            let same : cursor d a ≡ place = ap (λ z. get_or z a 0) e ∙ get_or-set_same c a place 0 (omega arith) in
-            subst (λ z. cursor c z ≤ cursor d z) (sym y) (omega arith)
-        | inr ne ↦ let same : cursor d p ≡ cursor c p = ap (λ z. get_or z p 0) e ∙ get_or-set_other c a p place 0 ne in omega arith
-      ]
+  moved_not : (a place : ℕ) (c d : List ℕ) → d ≡ set c a place → (p : ℕ) → (p ≡ a → ⊥)
+      → cursor d p ≡ cursor c p
+  moved_not a place c d e p ne = ap (λ z. get_or z p 0) e ∙ get_or-set_other c a p place 0 ne
 
-  bit_more : (x y n : ℕ) → x ≤ y → cond {A = ℕ} (ltb x n) 0 1 ≤ cond {A = ℕ} (ltb y n) 0 1
-  bit_more x y n l =
-      elim (cases_lt x n) [
-        | inl b ↦ rw (lt-ltb x n b) (omega arith)
-        | inr b ↦ let b2 : n ≤ y = omega arith in rw (le-ltb x n b, le-ltb y n b2) (le_refl 1)
-      ]
+  spent_waits : (line c : List ℕ) (p : ℕ) → among line p ≡ true → spent m line c p ≡ 0
+  spent_waits line c p y = cond-true {A = ℕ} (among line p) 0 (cond (ltb (cursor c p) (length (list_of m p))) 0 1) y
 
-  spent_more : (line line' c d : List ℕ) → ((p : ℕ) → among line' p ≡ true → among line p ≡ true)
-      → ((p : ℕ) → cursor c p ≤ cursor d p) → (p : ℕ) → spent m line c p ≤ spent m line' d p
-  spent_more line line' c d inside on p =
-      elim (cases_Bool (among line p)) [
-        | inl y ↦ let z : spent m line c p ≡ 0 = cond-true {A = ℕ} (among line p) 0 (cond (ltb (cursor c p) (length (list_of m p))) 0 1) y in omega arith
-        | inr n ↦
-            let out : among line' p ≡ false = false_from_ne_true (among line' p) (λ y. both_ways (among line p) n (inside p y)) in
-            rw (n, out) (bit_more (cursor c p) (cursor d p) (length (list_of m p)) (on p))
-      ]
+  spent_not : (line c : List ℕ) (p : ℕ) → among line p ≡ false → cursor c p < length (list_of m p)
+      → spent m line c p ≡ 0
+  spent_not line c p n l = ap₂ (λ (b b2 : Bool). cond {A = ℕ} b 0 (cond b2 0 1)) n (lt-ltb (cursor c p) (length (list_of m p)) l)
+
+  spent_whole : (line c : List ℕ) (p : ℕ) → among line p ≡ false → length (list_of m p) ≤ cursor c p
+      → spent m line c p ≡ 1
+  spent_whole line c p n l = ap₂ (λ (b b2 : Bool). cond {A = ℕ} b 0 (cond b2 0 1)) n (le-ltb (cursor c p) (length (list_of m p)) l)
+
+  spent_same : (line line' c d : List ℕ) (p : ℕ) → among line' p ≡ among line p → cursor d p ≡ cursor c p
+      → spent m line' d p ≡ spent m line c p
+  spent_same line line' c d p e f = ap₂ (λ (b : Bool) (k : ℕ). cond {A = ℕ} b 0 (cond (ltb k (length (list_of m p))) 0 1)) e f
 
   pub turn_found : (s t : State) (a place n read : ℕ) (c d : List ℕ) → a < m.people → AreCursors m s c
-      → d ≡ set c a place → place ≡ cursor c a + n → read ≡ suc n
-      → ((p : ℕ) → among t.line p ≡ true → among s.line p ≡ true) → AreCursors m t d
-      → TurnReads m s c t d read
-  turn_found s t a place n read c d l tr e pe re inside td =
+      → d ≡ set c a place → place ≡ cursor c a + n → read ≡ suc n → among s.line a ≡ true
+      → ((p : ℕ) → among t.line p ≡ true → among s.line p ≡ true)
+      → ((p : ℕ) → among s.line p ≡ true → among t.line p ≡ false → cursor d p < length (list_of m p))
+      → AreCursors m t d → TurnReads m s c t d read
+  turn_found s t a place n read c d l tr e pe re there inside left td =
       let sum : cursor_sum m d ≡ cursor_sum m c + n = moved_sum a place n c d l tr.cursors_len e pe in
-      let more : spent_sum m s.line c ≤ spent_sum m t.line d = sum_le m.people (spent m t.line d) (spent m s.line c) (λ p pl. spent_more s.line t.line c d inside (moved_on a place n c d l tr.cursors_len e pe) p) in
-      record { cursors = td; least = omega arith; most = omega arith }
+      let same : spent_sum m t.line d ≡ spent_sum m s.line c = ap (sum_below m.people) (fun_ext each) in
+      record { cursors = td; reads = omega arith }
+    where
+      each : (p : ℕ) → spent m t.line d p ≡ spent m s.line c p
+      each p =
+          elim (cases_Bool (among s.line p)) [
+            | inl y ↦ elim (cases_Bool (among t.line p)) [
+              | inl y2 ↦ spent_waits t.line d p y2 ∙ sym (spent_waits s.line c p y)
+              | inr n2 ↦ spent_not t.line d p n2 (left p y n2) ∙ sym (spent_waits s.line c p y)
+            ]
+            | inr out ↦ spent_same s.line t.line c d p
+                (false_from_ne_true (among t.line p) (λ y. both_ways (among s.line p) out (inside p y)) ∙ sym out)
+                (moved_not a place c d e p (λ pa. both_ways (among s.line p) out (subst (λ z. among s.line z ≡ true) (sym pa) there)))
+          ]
 
   pub turn_found_none : (s t : State) (a place n read : ℕ) (c d : List ℕ) → a < m.people → AreCursors m s c
       → d ≡ set c a place → place ≡ cursor c a + n → read ≡ n → place ≡ length (list_of m a)
       → among s.line a ≡ true → among t.line a ≡ false
-      → ((p : ℕ) → among t.line p ≡ true → among s.line p ≡ true) → AreCursors m t d
+      → ((p : ℕ) → (p ≡ a → ⊥) → among t.line p ≡ among s.line p) → AreCursors m t d
       → TurnReads m s c t d read
-  turn_found_none s t a place n read c d l tr e pe re end there gone inside td =
+  turn_found_none s t a place n read c d l tr e pe re end there gone others td =
       let sum : cursor_sum m d ≡ cursor_sum m c + n = moved_sum a place n c d l tr.cursors_len e pe in
       let same : cursor d a ≡ place = ap (λ z. get_or z a 0) e ∙ get_or-set_same c a place 0 (omega (arith, tr.cursors_len)) in
-      let before : spent m s.line c a ≡ 0 = cond-true {A = ℕ} (among s.line a) 0 (cond (ltb (cursor c a) (length (list_of m a))) 0 1) there in
-      let at_end : length (list_of m a) ≤ cursor d a = omega arith in
-      let after : spent m t.line d a ≡ 1 = ap₂ (λ (b b2 : Bool). cond {A = ℕ} b 0 (cond b2 0 1)) gone (le-ltb (cursor d a) (length (list_of m a)) at_end) in
-      let more : spent_sum m s.line c + 1 ≤ spent_sum m t.line d =
-      sum_gain m.people (spent m s.line c) (spent m t.line d) a 1 l (omega arith) (λ p pl ne. spent_more s.line t.line c d inside (moved_on a place n c d l tr.cursors_len e pe) p) in
-      record { cursors = td; least = omega arith; most = omega arith }
+      let before : spent m s.line c a ≡ 0 = spent_waits s.line c a there in
+      let after : spent m t.line d a ≡ 1 = spent_whole t.line d a gone (omega arith) in
+      let more : spent_sum m t.line d + spent m s.line c a ≡ spent_sum m s.line c + spent m t.line d a =
+      sum_point m.people (spent m s.line c) (spent m t.line d) a l (λ p pl ne. spent_same s.line t.line c d p (others p ne) (moved_not a place c d e p ne)) in
+      record { cursors = td; reads = omega arith }
 
   -- a whole run
   pub read_start : (s : State) (c : List ℕ) → s.line ≡ range_with_len 0 m.people
@@ -377,46 +403,41 @@ module _ (m : Market) where
       waiting = by_line s.line;
       served = λ p l h. absurd (both_ways (among s.line p) h (subst (λ z. among z p ≡ true) (sym le) (range_has 0 m.people p (omega arith) (omega arith))));
     };
-    least = (let z : cursor_sum m c ≡ 0 = sum_none m.people (cursor c) (λ y l. zeros y) in omega arith);
-    most = omega arith;
+    reads =
+        let none_read : cursor_sum m c ≡ 0 = sum_none m.people (cursor c) (λ y l. zeros y) in
+        let none_left : spent_sum m s.line c ≡ 0 = sum_none m.people (spent m s.line c) (λ y l. spent_waits s.line c y (subst (λ z. among z y ≡ true) (sym le) (range_has 0 m.people y (omega arith) (omega arith)))) in
+        omega arith;
   }
     where
-      by_line : (l : List ℕ) → HaveReadInLine m s.asked c l
+      by_line : (l : List ℕ) → StayInLine m s.asked c l
       by_line [] = tt
       by_line (x ∷ xs) = behind_fresh s.asked c x xs (λ p i. none p)
 
   pub read_more : (s t : State) (c d : List ℕ) (asks looks read : ℕ) → ReadSoFar m s c asks looks
       → TurnReads m s c t d read → ReadSoFar m t d (asks + 1) (looks + read)
-  read_more s t c d asks looks read r k = record { cursors = k.cursors; least = omega (arith, r.least, k.least); most = omega (arith, r.most, k.most) }
+  read_more s t c d asks looks read r k = record { cursors = k.cursors; reads = omega (arith, r.reads, k.reads) }
 
-  pub read_least : (s : State) (c : List ℕ) (asks looks : ℕ) → ReadSoFar m s c asks looks
-      → front_of s.line ≡ None → m.people ≤ asks → all_needed m (given_in s.given) ≤ looks
-  read_least s c asks looks r e l =
-      let two : all_needed m (given_in s.given) + spent_sum m s.line c ≤ m.people + cursor_sum m c =
+  pub read_all : (s : State) (c : List ℕ) (asks looks : ℕ) → ReadSoFar m s c asks looks
+      → front_of s.line ≡ None → looks + m.people ≡ asks + all_needed m (given_in s.given)
+  read_all s c asks looks r e =
+      let two : all_needed m (given_in s.given) + spent_sum m s.line c ≡ m.people + cursor_sum m c =
       sum_two m.people (λ p. needed m p (given_to s p)) (spent m s.line c) (cursor c) each in
-      omega (arith, r.least)
+      omega (arith, r.reads)
     where
       empty : (l : List ℕ) → front_of l ≡ None → (p : ℕ) → among l p ≡ false
       empty [] e p = refl
       empty (x ∷ xs) e p = absurd (cc)
 
-      each : (p : ℕ) → p < m.people → needed m p (given_to s p) + spent m s.line c p ≤ suc (cursor c p)
+      each : (p : ℕ) → p < m.people → needed m p (given_to s p) + spent m s.line c p ≡ suc (cursor c p)
       each p l =
-          let enough : needed m p (given_to s p) ≤ suc (cursor c p) = r.cursors.served p l (empty s.line e p) in
+          let stands : rank m p (given_to s p) ≡ cursor c p = r.cursors.served p l (empty s.line e p) in
           elim (cases_lt (cursor c p) (length (list_of m p))) [
-            | inl b ↦
-                let z : spent m s.line c p ≡ 0 = ap₂ (λ (b b2 : Bool). cond {A = ℕ} b 0 (cond b2 0 1)) (empty s.line e p) (lt-ltb (cursor c p) (length (list_of m p)) b) in
-                omega arith
-            | inr b ↦
-                let z : spent m s.line c p ≡ 1 = ap₂ (λ (b b2 : Bool). cond {A = ℕ} b 0 (cond b2 0 1)) (empty s.line e p) (le-ltb (cursor c p) (length (list_of m p)) b) in
-                omega arith
+            | inl b ↦ let z : spent m s.line c p ≡ 0 = spent_not s.line c p (empty s.line e p) b in omega arith
+            | inr b ↦ let z : spent m s.line c p ≡ 1 = spent_whole s.line c p (empty s.line e p) b in omega (arith, r.cursors.within p l)
           ]
 
-  pub read_most : (s : State) (c : List ℕ) (asks looks : ℕ) → ReadSoFar m s c asks looks
-      → looks ≤ asks + all_listed m
-  read_most s c asks looks r =
-      let all : cursor_sum m c ≤ all_listed m = sum_le m.people (λ p. length (list_of m p)) (cursor c) r.cursors.within in
-      omega (arith, r.most)
+  pub needed_listed : (f : ℕ → Option ℕ) → all_needed m f ≤ all_listed m
+  needed_listed f = sum_le m.people (λ p. length (list_of m p)) (λ p. needed m p (f p)) (λ p l. omega arith)
 
   -- what an ask finds, and what it costs
   pub record AskFinds (v : State) (a : ℕ) (c : List ℕ) (place : ℕ) (read : ℕ) (o : Option ℕ) : Type 0 where
@@ -424,9 +445,9 @@ module _ (m : Market) where
     pub place_is : place ≡ cursor c a + passed
     pub cursors : AreCursors m v (set c a place)
     pub found : find (stage_at v).rooms (list_of m a) ≡ o
-    pub some : (x : ℕ) → o ≡ Some x → HasReadNeeded m (set c a place) a (Some x) × (read ≡ suc passed)
+    pub some : (x : ℕ) → o ≡ Some x → StaysAt m (set c a place) a (Some x) × (read ≡ suc passed)
     pub none : o ≡ None → (place ≡ length (list_of m a)) × (read ≡ passed)
-    pub ends : o ≡ None → (x : Option ℕ) → HasReadNeeded m (set c a place) a x
+    pub ends : o ≡ None → StandsAt m (set c a place) a (home m a)
 
   pub ask_finds : (s v : State) (a : ℕ) (c : List ℕ) (remaining : List Bool) (list : List ℕ) (from place read : ℕ) (o : Option ℕ)
       → Standing m s → front_of s.line ≡ Some a → v.line ≡ s.line → v.asked ≡ set s.asked a true
@@ -434,20 +455,20 @@ module _ (m : Market) where
       → a < m.people → remaining ≡ v.remaining → list ≡ list_of m a → from ≡ get_or c a from → o ≡ find (λ r. get_or remaining r false) (drop from list) → place ≡ from + skipped (λ r. get_or remaining r false) (drop from list) → read ≡ reads (λ r. get_or remaining r false) (drop from list) → AskFinds v a c place read o
   ask_finds s v a c remaining list from place read o st e x y z u tr known re le fe oe pe de = record {
     passed = n;
-    place_is = place_is;
+    place_is = passes;
     cursors = cursors;
     found = find_on q xs at past ∙ sym oe2;
     some = λ w ow. (
         let f : (n < length rest) × (get_or rest n 0 ≡ w) × (reads q rest ≡ suc n) = found_at q rest w (sym oe2 ∙ ow) in (
-          read_at st.fits.market (set c a place) a place w (omega (arith, f.0, place_is, len)) (ap (λ k. get_or xs k 0) place_is ∙ sym (get_or-drop at xs n 0) ∙ f.1) (omega (arith, moved)),
+          stays_at st.fits.market (set c a place) a place w known (omega (arith, f.0, passes, len)) (ap (λ k. get_or xs k 0) passes ∙ sym (get_or-drop at xs n 0) ∙ f.1) moved,
           de2 ∙ f.2,
         ));
     none = λ on. (
         let f : (n ≡ length rest) × (reads q rest ≡ length rest) = none_at q rest (sym oe2 ∙ on) in
-        (omega (arith, f.0, place_is, len), de2 ∙ f.1 ∙ sym f.0));
-    ends = λ on w. (
+        (omega (arith, f.0, passes, len), de2 ∙ f.1 ∙ sym f.0));
+    ends = λ on. (
         let f : (n ≡ length rest) × (reads q rest ≡ length rest) = none_at q rest (sym oe2 ∙ on) in
-        read_whole (set c a place) a w (omega (arith, f.0, place_is, len, moved)));
+        omega (arith, rank_home m st.fits.market a known, f.0, passes, len, moved));
   }
     where
       q : ℕ → Bool
@@ -478,8 +499,8 @@ module _ (m : Market) where
       de2 : read ≡ reads (stage_at v).rooms (drop (cursor c a) (list_of m a))
       de2 = de ∙ same reads
 
-      place_is : place ≡ cursor c a + skipped (stage_at v).rooms (drop (cursor c a) (list_of m a))
-      place_is = pe ∙ ap₂ (λ (j k : ℕ). j + k) from_is (same skipped)
+      passes : place ≡ cursor c a + skipped (stage_at v).rooms (drop (cursor c a) (list_of m a))
+      passes = pe ∙ ap₂ (λ (j k : ℕ). j + k) from_is (same skipped)
 
       len : length (drop (cursor c a) (list_of m a)) + cursor c a ≡ length (list_of m a)
       len = omega (arith, length-drop (cursor c a) (list_of m a), tr.within a known)
@@ -494,4 +515,4 @@ module _ (m : Market) where
       past k l = ap (λ b. get_or b (get_or (list_of m a) k 0) false) z ∙ tr.gone a k known l
 
       cursors : AreCursors m v (set c a place)
-      cursors = marked_cursors s v a place c (set c a place) st e x y z u tr refl place_is (omega (arith, place_is, len, most))
+      cursors = marked_cursors s v a place c (set c a place) st e x y z u tr refl passes (omega (arith, passes, len, most))

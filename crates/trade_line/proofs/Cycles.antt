@@ -1,13 +1,13 @@
--- Whole cycles leave the other cycles of their stage as they are, and people who wish for one another's homes in turn are on a cycle.
-use Rattle.std.proofs.Common.{◌≡◌, ℕ, zero, suc, ◌+◌, ◌<◌, Bool, true, false, not, ◌==◌, List, [], ◌∷◌, Some, refl, sym, ap, ◌∙◌, subst, inl, inr, arith, eqb-true, eq-eqb, le_refl}
-use Rattle.std.proofs.lemmas.Bool.{and_from, or_cases, or_left, or_right, both_ways}
+-- Whole cycles leave the other cycles of their stage as they are, and people who wait for one another's homes are on a cycle.
+use Rattle.std.proofs.Common.{◌≡◌, ℕ, zero, suc, ◌+◌, ◌<◌, Bool, true, false, not, ◌==◌, List, [], ◌∷◌, Option, Some, None, refl, sym, ap, ◌∙◌, subst, inl, inr, arith, eqb-true, eq-eqb, le_refl}
+use Rattle.std.proofs.lemmas.Bool.{and_from, cond-false, or_cases, or_left, or_right, both_ways}
 use Rattle.trade_line.specs.Below.{some_below, times}
-use Rattle.trade_line.specs.Cycles.{AreCycles, LeavesOtherCycles, WishesForHomeOf, WishOnTo, AllRemain, IsLoop}
+use Rattle.trade_line.specs.Cycles.{AreCycles, LeavesOtherCycles, WishesForHomeOf, WishOnTo, AllRemain, IsLoop, IsChain}
 use Rattle.trade_line.specs.Inner.Removal.{Reach, IsTrade}
 use Rattle.trade_line.specs.Inner.Removal.Reach.{here, there}
-use Rattle.trade_line.specs.Market.{Market, IsMarket}
+use Rattle.trade_line.specs.Market.{Market, IsMarket, tenant}
 use Rattle.trade_line.specs.Member.{among}
-use Rattle.trade_line.specs.TopTradingCycles.{Stage, successor, remaining_count, on_cycle, leave}
+use Rattle.trade_line.specs.TopTradingCycles.{Stage, first, tenant_or_first, holder, successor, remaining_count, on_cycle, leave}
 use Rattle.trade_line.proofs.Chain.{reach_trans, home_holder}
 use Rattle.trade_line.proofs.Count.{pigeonhole, times_after, times_stays, times_sum}
 use Rattle.trade_line.proofs.Exchange.{minus, exchange, successor_at, successor_keeps, wish_keeps}
@@ -38,7 +38,7 @@ module _ (g : ℕ → ℕ) where
         (r.0, omega (arith, r.1), r.2)
 
 module _ (m : Market) (s : Stage) (known : IsKnown m s) where
-  cycle_from : (p : ℕ) → s.people p ≡ true → Reach (successor m s) (successor m s p) p → on_cycle m s p ≡ true
+  pub cycle_from : (p : ℕ) → s.people p ≡ true → Reach (successor m s) (successor m s p) p → on_cycle m s p ≡ true
   unfolding on_cycle
   cycle_from p h r =
       let t : (k : ℕ) × (times k (successor m s) (successor m s p) ≡ p) = reach_times (successor m s) r in
@@ -51,7 +51,7 @@ module _ (m : Market) (s : Stage) (known : IsKnown m s) where
 
 -- ---- whole cycles
 
-cycles_leave : (m : Market) (s : Stage) → IsKnown m s → (group : ℕ → Bool) → AreCycles m s group → IsTrade m s group
+pub cycles_leave : (m : Market) (s : Stage) → IsKnown m s → (group : ℕ → Bool) → AreCycles m s group → IsTrade m s group
 cycles_leave m s known group c =
     let all : IsTrade m s (on_cycle m s) = cycles_trade m s known in
     record {
@@ -74,34 +74,52 @@ others_stay m s group known c =
           cycle_from m (leave m s group) (leave_known m s group known) p (left.remain p is_left) (left.cycle p is_left);
     }
 
--- ---- loops
+-- ---- loops and chains
 
 module _ (m : Market) (ok : IsMarket m) (s : Stage) (known : IsKnown m s) where
   points_to : (p q : ℕ) → s.people q ≡ true → WishesForHomeOf m s p q → successor m s p ≡ q
   points_to p q h w = successor_at m s p (Some w.0) w.2 ∙ home_holder m ok s q w.0 (known q h) w.1 h
 
-  -- the first of a row reaches each of them, and each of them goes on to its end
-  along : (p : ℕ) (xs : List ℕ) (q : ℕ) → s.people q ≡ true → AllRemain s (p ∷ xs) → WishOnTo m s p xs q → (y : ℕ) → among (p ∷ xs) y ≡ true → Reach (successor m s) p y × Reach (successor m s) (successor m s y) q
-  along p [] q hq remain w y h =
+  -- the first of a row reaches each of them, and each of them goes on to whom the room points
+  along : (p : ℕ) (xs : List ℕ) (room q : ℕ) → holder m s room ≡ q → AllRemain s (p ∷ xs) → WishOnTo m s p xs room → (y : ℕ) → among (p ∷ xs) y ≡ true → Reach (successor m s) p y × Reach (successor m s) (successor m s y) q
+  along p [] room q to remain w y h =
       elim (or_cases (p == y) false h) [
         | inl e ↦ subst (λ z. Reach (successor m s) p z × Reach (successor m s) (successor m s z) q) (eqb-true p y e)
-            (here, subst (λ z. Reach (successor m s) z q) (sym (points_to p q hq w)) here)
+            (here, subst (λ z. Reach (successor m s) z q) (sym (successor_at m s p (Some room) w ∙ to)) here)
         | inr f ↦ absurd (both_ways false refl f)
       ]
-  along p (x ∷ xs) q hq remain w y h =
+  along p (x ∷ xs) room q to remain w y h =
       let self : among (x ∷ xs) x ≡ true = or_left (x == x) (among xs x) (eq-eqb x x refl) in
-      let to : successor m s p ≡ x = points_to p x (remain x (or_right (p == x) (among (x ∷ xs) x) self)) w.0 in
+      let next : successor m s p ≡ x = points_to p x (remain x (or_right (p == x) (among (x ∷ xs) x) self)) w.0 in
       let rest : (z : ℕ) → among (x ∷ xs) z ≡ true → Reach (successor m s) x z × Reach (successor m s) (successor m s z) q =
-      along x xs q hq (λ z hz. remain z (or_right (p == z) (among (x ∷ xs) z) hz)) w.1 in
+      along x xs room q to (λ z hz. remain z (or_right (p == z) (among (x ∷ xs) z) hz)) w.1 in
       elim (or_cases (p == y) (among (x ∷ xs) y) h) [
         | inl e ↦ subst (λ z. Reach (successor m s) p z × Reach (successor m s) (successor m s z) q) (eqb-true p y e)
-            (here, subst (λ z. Reach (successor m s) z q) (sym to) (there (rest x self).1))
-        | inr f ↦ (there (subst (λ z. Reach (successor m s) z y) (sym to) (rest y f).0), (rest y f).1)
+            (here, subst (λ z. Reach (successor m s) z q) (sym next) (there (rest x self).1))
+        | inr f ↦ (there (subst (λ z. Reach (successor m s) z y) (sym next) (rest y f).0), (rest y f).1)
       ]
 
+  row_cycle : (room person : ℕ) (others : List ℕ) → holder m s room ≡ person → AllRemain s (person ∷ others) → WishOnTo m s person others room → (p : ℕ) → among (person ∷ others) p ≡ true → on_cycle m s p ≡ true
+  row_cycle room person others to remain wishes p h =
+      let both : Reach (successor m s) person p × Reach (successor m s) (successor m s p) person = along person others room person to remain wishes p h in
+      cycle_from m s known p (remain p h) (reach_trans (successor m s) both.1 both.0)
+
+  free_holder : (room : ℕ) → ((t : ℕ) → tenant m room ≡ Some t → s.people t ≡ false) → holder m s room ≡ first m s
+  unfolding holder
+  free_holder room free = by_tenant (tenant m room) refl
+    where
+      by_tenant : (o : Option ℕ) → tenant m room ≡ o → tenant_or_first m s o ≡ first m s
+      by_tenant None e = refl
+      by_tenant (Some t) e = cond-false (s.people t) t (first m s) (free t e)
+
+first_among : (person : ℕ) (others : List ℕ) → among (person ∷ others) person ≡ true
+first_among person others = or_left (person == person) (among others person) (eq-eqb person person refl)
+
 pub loop_cycle : (m : Market) → IsMarket m → (s : Stage) → IsKnown m s → (person : ℕ) (others : List ℕ) → IsLoop m s person others → (p : ℕ) → among (person ∷ others) p ≡ true → on_cycle m s p ≡ true
-loop_cycle m ok s known person others loop p h =
-    let self : among (person ∷ others) person ≡ true = or_left (person == person) (among others person) (eq-eqb person person refl) in
-    let both : Reach (successor m s) person p × Reach (successor m s) (successor m s p) person =
-    along m ok s known person others person (loop.remain person self) loop.remain loop.wishes p h in
-    cycle_from m s known p (loop.remain p h) (reach_trans (successor m s) both.1 both.0)
+loop_cycle m ok s known person others loop =
+    let there_still : s.people person ≡ true = loop.remain person (first_among person others) in
+    row_cycle m ok s known loop.room person others (home_holder m ok s person loop.room (known person there_still) loop.lives there_still) loop.remain loop.wishes
+
+pub chain_cycle : (m : Market) → IsMarket m → (s : Stage) → IsKnown m s → (person : ℕ) (others : List ℕ) → IsChain m s person others → (p : ℕ) → among (person ∷ others) p ≡ true → on_cycle m s p ≡ true
+chain_cycle m ok s known person others chain =
+    row_cycle m ok s known chain.room person others (free_holder m ok s known chain.room chain.free ∙ chain.leads) chain.remain chain.wishes

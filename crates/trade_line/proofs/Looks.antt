@@ -1,5 +1,5 @@
 -- Sums over people, and what an ask reads of a list.
-use Rattle.std.proofs.Common.{◌≡◌, ℕ, zero, suc, ◌+◌, ◌<◌, ◌≤◌, Bool, true, false, ◌==◌, List, [], ◌∷◌, length, Some, None, find, get_or, drop, refl, sym, ap, ◌∙◌, subst, inl, inr, arith, eq-eqb, le_refl}
+use Rattle.std.proofs.Common.{◌≡◌, ℕ, zero, suc, ◌+◌, ◌<◌, ◌≤◌, Bool, true, false, ◌==◌, List, [], ◌∷◌, length, Some, None, find, get_or, drop, refl, sym, ap, ◌∙◌, inl, inr, arith, eq-eqb, ne_eqb, le_refl, AllPairs, ◌≢◌}
 use Rattle.std.proofs.lemmas.Bool.{cases_Bool, cases_eq, or_left, or_right}
 use Rattle.trade_line.specs.Below.{sum_below}
 use Rattle.trade_line.specs.Member.{among}
@@ -39,29 +39,13 @@ sum_point (suc n) f g a l others =
           omega arith
     ]
 
--- one of the summands grows by k, and none falls
-pub sum_gain : (n : ℕ) (f g : ℕ → ℕ) (a k : ℕ) → a < n → f a + k ≤ g a
-    → ((y : ℕ) → y < n → (y ≡ a → ⊥) → f y ≤ g y) → sum_below n f + k ≤ sum_below n g
-sum_gain zero f g a k l at others = absurd (omega arith)
-sum_gain (suc n) f g a k l at others =
-    elim (cases_eq a n) [
-      | inl e ↦
-          let ih : sum_below n f ≤ sum_below n g = sum_le n g f (λ y yl. others y (omega arith) (λ z. omega arith)) in
-          let last : f n + k ≤ g n = subst (λ z. f z + k ≤ g z) e at in
-          omega arith
-      | inr d ↦
-          let ih : sum_below n f + k ≤ sum_below n g = sum_gain n f g a k (omega arith) at (λ y yl ne. others y (omega arith) ne) in
-          let last : f n ≤ g n = others n (omega arith) (λ z. d (sym z)) in
-          omega arith
-    ]
-
--- two summands are at most one more than a third
-pub sum_two : (n : ℕ) (f g h : ℕ → ℕ) → ((y : ℕ) → y < n → f y + g y ≤ suc (h y))
-    → sum_below n f + sum_below n g ≤ n + sum_below n h
-sum_two zero f g h each = le_refl 0
+-- two summands are one more than a third
+pub sum_two : (n : ℕ) (f g h : ℕ → ℕ) → ((y : ℕ) → y < n → f y + g y ≡ suc (h y))
+    → sum_below n f + sum_below n g ≡ n + sum_below n h
+sum_two zero f g h each = refl
 sum_two (suc n) f g h each =
-    let ih : sum_below n f + sum_below n g ≤ n + sum_below n h = sum_two n f g h (λ y l. each y (omega arith)) in
-    let last : f n + g n ≤ suc (h n) = each n (omega arith) in
+    let ih : sum_below n f + sum_below n g ≡ n + sum_below n h = sum_two n f g h (λ y l. each y (omega arith)) in
+    let last : f n + g n ≡ suc (h n) = each n (omega arith) in
     omega arith
 
 -- an ask reads a list up to the first entry that passes
@@ -122,14 +106,14 @@ find_on q (x ∷ xs) (suc c) h =
     let f : q x ≡ false = h 0 (omega arith) in
     rw f (find_on q xs c (λ k l. h (suc k) (omega arith)))
 
-pub place_most : (xs : List ℕ) (i x : ℕ) → i < length xs → get_or xs i 0 ≡ x → place x xs ≤ i
-place_most [] i x l e = absurd (omega arith)
-place_most (y ∷ ys) zero x l e = rw (eq-eqb y x e) (le_refl 0)
-place_most (y ∷ ys) (suc i) x l e =
-    elim (cases_Bool (y == x)) [
-      | inl t ↦ rw t (omega arith)
-      | inr f ↦ let ih : place x ys ≤ i = place_most ys i x (omega arith) e in rw f (omega arith)
-    ]
+-- in a list without repeats each entry has its own place
+pub place_is : (xs : List ℕ) (i x : ℕ) → AllPairs ◌≢◌ xs → i < length xs → get_or xs i 0 ≡ x
+    → place x xs ≡ i
+place_is [] i x h l e = absurd (omega arith)
+place_is (y ∷ ys) zero x h l e = rw (eq-eqb y x e) refl
+place_is (y ∷ ys) (suc i) x h l e =
+    let ne : (y == x) ≡ false = ne_eqb y x (λ z. h 0 (suc i) 0 (omega arith) l (z ∙ sym e)) in
+    rw ne (ap suc (place_is ys i x (λ j k d jk kl. h (suc j) (suc k) d (omega arith) (omega arith)) (omega arith) e))
 
 pub among_at : (xs : List ℕ) (i x : ℕ) → i < length xs → get_or xs i 0 ≡ x → among xs x ≡ true
 among_at [] i x l e = absurd (omega arith)

@@ -1,9 +1,9 @@
 -- Cycles of a stage: what stays of them while others leave, and when people who wish for one
 -- another's homes are one.
 use Rattle.std.specs.Prelude.{◌≡◌, ℕ, ◌<◌, Bool, true, false, List, [], ◌∷◌, Some}
-use Rattle.trade_line.specs.Market.{Market, home}
+use Rattle.trade_line.specs.Market.{Market, home, tenant}
 use Rattle.trade_line.specs.Member.{among}
-use Rattle.trade_line.specs.TopTradingCycles.{Stage, wish, successor, on_cycle, leave}
+use Rattle.trade_line.specs.TopTradingCycles.{Stage, wish, first, successor, on_cycle, leave}
 
 -- whoever remains is a person of the market
 abbrev pub IsStageOf : Market → Stage → Type 0
@@ -32,16 +32,28 @@ abbrev pub WishesForHomeOf : Market → Stage → ℕ → ℕ → Type 0
 WishesForHomeOf m s p q = (h : ℕ) × (home m q ≡ Some h) × (wish m s p ≡ Some h)
 
 -- p wishes for the home of the first of the others, each of them for that of the next, and the last
--- for that of q; with no others, p for that of q
+-- for the room; with no others, p for the room
 abbrev pub WishOnTo : Market → Stage → ℕ → List ℕ → ℕ → Type 0
-WishOnTo m s p [] q = WishesForHomeOf m s p q
-WishOnTo m s p (x ∷ xs) q = WishesForHomeOf m s p x × WishOnTo m s x xs q
+WishOnTo m s p [] room = wish m s p ≡ Some room
+WishOnTo m s p (x ∷ xs) room = WishesForHomeOf m s p x × WishOnTo m s x xs room
 
 -- all of them remain
 abbrev pub AllRemain : Stage → List ℕ → Type 0
 AllRemain s people = (p : ℕ) → among people p ≡ true → s.people p ≡ true
 
--- people who remain, each of whom wishes for the home of the next, and the last for that of the first
+-- people who remain, each of whom wishes for the home of the next, and the last for that of the
+-- first
 pub record IsLoop (m : Market) (s : Stage) (p : ℕ) (others : List ℕ) : Type 0 where
+  pub room : ℕ
+  pub lives : home m p ≡ Some room
   pub remain : AllRemain s (p ∷ others)
-  pub wishes : WishOnTo m s p others p
+  pub wishes : WishOnTo m s p others room
+
+-- people who remain, each of whom wishes for the home of the next, and the last for a room whose
+-- tenant, if it has one, does not remain; the first of them is the first of all who remain
+pub record IsChain (m : Market) (s : Stage) (p : ℕ) (others : List ℕ) : Type 0 where
+  pub room : ℕ
+  pub free : (t : ℕ) → tenant m room ≡ Some t → s.people t ≡ false
+  pub leads : first m s ≡ p
+  pub remain : AllRemain s (p ∷ others)
+  pub wishes : WishOnTo m s p others room

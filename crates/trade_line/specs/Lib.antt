@@ -4,6 +4,7 @@ pub mod Problem
 pub mod Faults
 pub mod TopTradingCycles
 pub mod Cycles
+pub mod Removals
 pub mod Member
 pub mod Rank
 pub mod Looks

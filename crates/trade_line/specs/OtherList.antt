@@ -28,15 +28,15 @@ LacksOwn m p l = (r : ℕ) → home m p ≡ Some r → All (λ x. x ≢ r) l
 abbrev pub IsListFor : Market → ℕ → List ℕ → Type 0
 IsListFor m p l = IsListIndexed m p l × AllPairs ◌≢◌ l × LacksOwn m p l
 
--- the fault is the first rule that the person or the list breaks; want of memory may come at any
--- list
+-- the fault is the first rule that the person or the list breaks; want of memory may come wherever
+-- no index is at fault
 abbrev pub IsFirstListFault : Market → ℕ → List ℕ → TradeFault → Type 0
 IsFirstListFault m p l BadIndex = ¬ IsListIndexed m p l
 IsFirstListFault m p l HomeShared = ⊥
 IsFirstListFault m p l ListRepeats = IsListIndexed m p l × ¬ AllPairs ◌≢◌ l
 IsFirstListFault m p l OwnRoomListed =
     IsListIndexed m p l × AllPairs ◌≢◌ l × ¬ LacksOwn m p l
-IsFirstListFault m p l OutOfMemory = Unit {0}
+IsFirstListFault m p l OutOfMemory = IsListIndexed m p l
 
 -- nobody gets a room by another list that they rank, by their own list, above the one that they
 -- get by it

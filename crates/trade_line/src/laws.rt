@@ -1,12 +1,13 @@
 //! Laws of the definitions, for every market. The contract is the law; the function does nothing.
-ghost use Rattle.std.specs.Prelude.{◌≡◌, ℕ, Bool, true, List, ◌∷◌};
+ghost use Rattle.std.specs.Prelude.{◌≡◌, ℕ, ◌<◌, Bool, true, Option, List, ◌∷◌};
 ghost use Rattle.trade_line.specs.Core.{HasNoVacantRoom, IsOnlyInStrictCore, IsStrictCoreByTradesApart, KeepsSelfContained};
-ghost use Rattle.trade_line.specs.Cycles.{AreCycles, IsLoop, IsStageOf, LeavesOtherCycles};
+ghost use Rattle.trade_line.specs.Cycles.{AreCycles, IsChain, IsLoop, IsStageOf, LeavesOtherCycles};
 ghost use Rattle.trade_line.specs.Groups.{IsGroupStrategyproof, IsNonbossy};
 ghost use Rattle.trade_line.specs.Market.{Market, IsMarket};
 ghost use Rattle.trade_line.specs.Member.{among};
 ghost use Rattle.trade_line.specs.OtherList.{IsListProof};
-ghost use Rattle.trade_line.specs.TopTradingCycles.{Stage, gets, on_cycle};
+ghost use Rattle.trade_line.specs.Removals.{IsGivenByRemovals};
+ghost use Rattle.trade_line.specs.TopTradingCycles.{Stage, gets, on_cycle, start};
 
 /// By no other list does anybody get a room that their own list ranks above the one that they get
 /// by it, while all others keep theirs (Roth 1982; Abdulkadiroglu and Sönmez 1999).
@@ -40,17 +41,24 @@ pub fn strict_core_keeps_self_contained_groups()
     ensures { (m : Market) → IsMarket m → KeepsSelfContained m (gets m) }
 {}
 
-/// No group of tenants has a better trade apart exactly where the assignment is in the strict core
-/// (Roth and Postlewaite 1977).
+/// No group of tenants has a better trade apart exactly where the assignment is in the strict core.
 pub fn trades_apart_tell_the_strict_core()
     ensures { (m : Market) → IsMarket m → IsStrictCoreByTradesApart m }
 {}
 
 /// People who leave a stage in whole cycles, with the rooms that they wish for, leave all its other
-/// cycles as they are. So cycles may be removed one at a time, in any order.
+/// cycles as they are.
 pub fn other_cycles_stay()
     ensures { (m : Market) (s : Stage) (group : ℕ → Bool) → IsStageOf m s → AreCycles m s group
         → LeavesOtherCycles m s group }
+{}
+
+/// Whole cycles may be removed one group at a time, in any order: each series of removals that goes
+/// on until nobody remains gives what top trading cycles gives, and there is one.
+pub fn cycles_leave_in_any_order()
+    ensures same { (m : Market) (f : ℕ → Option ℕ) → IsGivenByRemovals m f (start m)
+        → (p : ℕ) → p < m.people → f p ≡ gets m p }
+    ensures given { (m : Market) → IsGivenByRemovals m (gets m) (start m) }
 {}
 
 /// People who remain at a stage, each of whom wishes for the home of the next, and the last for the
@@ -58,5 +66,13 @@ pub fn other_cycles_stay()
 pub fn loops_are_cycles()
     ensures { (m : Market) → IsMarket m → (s : Stage) → IsStageOf m s
         → (person : ℕ) (others : List ℕ) → IsLoop m s person others
+        → (p : ℕ) → among (person ∷ others) p ≡ true → on_cycle m s p ≡ true }
+{}
+
+/// So are people who remain, each of whom wishes for the home of the next, and the last for a room
+/// without a tenant who remains, where the first of them is the first of all who remain.
+pub fn chains_are_cycles()
+    ensures { (m : Market) → IsMarket m → (s : Stage) → IsStageOf m s
+        → (person : ℕ) (others : List ℕ) → IsChain m s person others
         → (p : ℕ) → among (person ∷ others) p ≡ true → on_cycle m s p ≡ true }
 {}

@@ -8,8 +8,8 @@ use crate::out_of_memory::OutOfMemory;
 use std::alloc::Global;
 use std::marker::Model;
 
-/// The people who wait for their turn, as a list without repeats, the front first. Only `whole` takes memory. `run` is proved
-/// over every such line.
+/// The people who wait for their turn, as a list, the front first. Only `whole` takes memory. `run` is proved over every such
+/// line.
 pub trait Line: Drop {
     ghost people: { Self → List ℕ };
 

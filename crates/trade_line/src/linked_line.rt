@@ -1,5 +1,5 @@
 //! A line whose calls take constant time.
-ghost use Rattle.std.specs.Prelude.{◌≡◌, ℕ, List};
+ghost use Rattle.std.specs.Prelude.{ℕ, List};
 ghost use Rattle.trade_line.specs.Inner.Links.{IsLinkedRing, linked_people};
 
 use crate::line::Line;

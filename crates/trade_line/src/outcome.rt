@@ -46,7 +46,7 @@ impl Outcome {
     }
 
     /// How many list entries the asks read. An ask reads on from the entry that the person asked for last, that entry included,
-    /// up to the entry that it asks for, or else to the end of the list.
+    /// or else from the start, up to the entry that it asks for, or else to the end of the list.
     pub fn looks(&self) -> u128
         ensures { result ≡ self.now.looks }
     {

@@ -1,10 +1,9 @@
 //! A problem: who lives where, and what each person lists.
-ghost use Rattle.std.specs.Prelude.{◌≡◌, ◌<◌, All, Err, IfOk, IfErr, OnOk};
+ghost use Rattle.std.specs.Prelude.{◌≡◌, ◌<◌, All, IfOk, IfErr, OnOk};
 ghost use Rattle.trade_line.specs.Market.{Market, IsMarket, home, list_of, tenant};
 ghost use Rattle.trade_line.specs.Problem.{market_of, IsFirstFault};
-ghost use Rattle.trade_line.specs.OtherList.{with_list, IsListIndexed, IsListFor, IsFirstListFault};
-ghost use Rattle.trade_line.specs.declared.fault.TradeFault.TheVariants.{OutOfMemory};
-ghost use Rattle.trade_line.specs.Inner.Draft.{drafted, told_market};
+ghost use Rattle.trade_line.specs.OtherList.{with_list, IsListFor, IsFirstListFault};
+ghost use Rattle.trade_line.specs.Inner.Draft.{told_market};
 ghost use Rattle.trade_line.specs.Inner.Tenants.{IsTenants};
 
 use crate::draft::{Draft, is_distinct, is_list_known, lacks};
@@ -115,7 +114,6 @@ impl Problem {
     fn check_list(&self, alloc: Global, person: usize, list: &[usize]) -> Result<(), TradeFault>
         ensures fits { OnOk result (IsListFor self.now person list.now) }
         ensures first_fault { IfErr result (IsFirstListFault self.now person list.now) }
-        ensures memory { result ≡ Err OutOfMemory → IsListIndexed self.now person list.now }
     {
         if person >= self.order_len || !is_list_known(list, self.room_count) {
             return Err(TradeFault::BadIndex);
@@ -142,7 +140,6 @@ impl Problem {
         ensures market { OnOk result (IsMarket self.now) }
         ensures fits { OnOk result (IsListFor self.now person list.items) }
         ensures first_fault { IfErr result (IsFirstListFault self.now person list.items) }
-        ensures memory { result ≡ Err OutOfMemory → IsListIndexed self.now person list.items }
     {
         self.check_list(alloc, person, &list)?;
         let homes = Vec::from_slice(alloc, &self.homes)?;

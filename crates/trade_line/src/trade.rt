@@ -57,7 +57,7 @@ fn serve<L: Line>(
         ≡ Some room }
     ensures onward { Onward problem.now (state_of (L.people line.old) progress.old)
         (state_of (L.people line.new) progress.new) }
-    ensures keeps { KeepsCursors problem.now person (Some room)
+    ensures keeps { KeepsCursors problem.now person room
         (state_of (L.people line.old) progress.old) (state_of (L.people line.new) progress.new) }
 {
     match problem.tenant_of(room) {
@@ -131,6 +131,8 @@ pub fn run<L: Line>(problem: &Problem, line: L, bench: Bench) -> Outcome
     ensures apart { HasNoBetterTradeApart problem.now (given_in result.rooms) }
     ensures asks_least { problem.now.people ≤ result.asks }
     ensures asks_most { result.asks ≤ problem.now.people + tenant_count problem.now }
+    ensures looks { result.looks + problem.now.people
+        ≡ result.asks + all_needed problem.now (given_in result.rooms) }
     ensures looks_least { all_needed problem.now (given_in result.rooms) ≤ result.looks }
     ensures looks_most { result.looks ≤ result.asks + all_listed problem.now }
 {

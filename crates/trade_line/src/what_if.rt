@@ -1,7 +1,6 @@
 //! What a person would get by another list.
-ghost use Rattle.std.specs.Prelude.{◌≡◌, ◌≤◌, Err, IfOk, IfErr, OnOk};
-ghost use Rattle.trade_line.specs.OtherList.{with_list, IsListIndexed, IsListFor, IsFirstListFault};
-ghost use Rattle.trade_line.specs.declared.fault.TradeFault.TheVariants.{OutOfMemory};
+ghost use Rattle.std.specs.Prelude.{◌≡◌, ◌≤◌, IfOk, IfErr, OnOk};
+ghost use Rattle.trade_line.specs.OtherList.{with_list, IsListFor, IsFirstListFault};
 ghost use Rattle.trade_line.specs.Rank.{rank};
 ghost use Rattle.trade_line.specs.TopTradingCycles.{gets};
 
@@ -28,7 +27,6 @@ pub fn run_with_list(
         (λ room. rank problem.now person (gets problem.now person) ≤ rank problem.now person room) }
     ensures accepted { OnOk result (IsListFor problem.now person list.items) }
     ensures first_fault { IfErr result (IsFirstListFault problem.now person list.items) }
-    ensures memory { result ≡ Err OutOfMemory → IsListIndexed problem.now person list.items }
 {
     let changed = problem.with_list(alloc, person, list)?;
     let line = LinkedLine::whole(alloc, changed.people())?;

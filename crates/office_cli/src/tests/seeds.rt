@@ -35,6 +35,13 @@ fn prints_words_of_a_seed(rt: HostRuntime) -> Result<(), Fail> {
             "",
             "",
         ),
+        // An integer with a sign.
+        (
+            ["words", "--seed", ZEROS, "--count=-0"].as_slice(),
+            0,
+            "",
+            "",
+        ),
         (
             ["words", "--seed", ZEROS_BUT_ONE, "--count", "2"].as_slice(),
             2,

@@ -1,11 +1,12 @@
 //! The words after the program's name.
 use crate::carry_out::carry_out;
 use crate::program::program;
-use crate::requests::Request;
 use crate::tests::failing::FailingReader;
 use crate::usage::Program;
-use crate::words::{WordFault, words_to_command};
+use crate::word_fault::WordFault;
+use crate::words::words_to_command;
 use office_core::{Command, Query};
+use office_store::Request;
 use room_types::Watched;
 use std::test::Fail;
 

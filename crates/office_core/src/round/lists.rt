@@ -12,13 +12,6 @@ use room_types::grammars::RoomCodes;
 use room_types::{OutOfMemory, PersonId, RoomCode, Table};
 use std::alloc::Global;
 
-/// Where a person lives.
-pub(crate) fn home_of<'a>(office: &'a Office, person: &PersonId) -> Option<&'a RoomCode>
-    ensures { option_copied result ≡ home_of office.now person.now }
-{
-    office.people.get(person)?.home.as_ref()
-}
-
 /// The homes of the people, by the numbers of the rooms.
 pub(crate) fn homes(
     alloc: Global,
@@ -26,7 +19,8 @@ pub(crate) fn homes(
     people: &[PersonId],
     numbers: &Table<RoomCodes, usize>,
 ) -> Result<Vec<Option<usize>>, OutOfMemory>
-    ensures { IfOk result (λ homes. homes.items ≡ map_list (λ p. option_and_then (map.get numbers.now) (home_of office.now p)) people.now) }
+    ensures { IfOk result (λ homes. homes.items ≡
+        map_list (λ p. option_and_then (map.get numbers.now) (home_of office.now p)) people.now) }
 {
     let mut homes = Vec::with_capacity(alloc, people.len())?;
     for person in people {
@@ -42,7 +36,7 @@ fn home_number(
 ) -> Option<usize>
     ensures { result ≡ option_and_then (map.get numbers.now) (home_of office.now person.now) }
 {
-    let home = home_of(office, person)?;
+    let home = office.home_of(person)?;
     numbers.get(home).copied()
 }
 
@@ -53,7 +47,8 @@ pub(crate) fn numbered(
     home: Option<&RoomCode>,
     codes: &[RoomCode],
 ) -> Result<Vec<usize>, OutOfMemory>
-    ensures { IfOk result (λ list. list.items ≡ filter_map (map.get numbers.now) (before_own (option_copied home.entry) codes.now)) }
+    ensures { IfOk result (λ list. list.items ≡
+        filter_map (map.get numbers.now) (before_own (option_copied home.entry) codes.now)) }
 {
     let mut list = Vec::new(alloc);
     for code in before_own(home, codes) {
@@ -90,8 +85,10 @@ pub(crate) fn lists(
     numbers: &Table<RoomCodes, usize>,
 ) -> Result<Vec<Vec<usize>>, OutOfMemory>
     ensures lists { IfOk result (λ lists. map_list (λ list. list.items) lists.items ≡
-        map_list (λ p. filter_map (map.get numbers.now) (before_own (home_of office.now p) (choices_of office.now p))) people.now) }
-    ensures differ { OnOk result (All (λ p. first_repeated [] (choices_of office.now p) ≡ None) people.now) }
+        map_list (λ p. filter_map (map.get numbers.now)
+        (before_own (home_of office.now p) (choices_of office.now p))) people.now) }
+    ensures differ { OnOk result
+        (All (λ p. first_repeated [] (choices_of office.now p) ≡ None) people.now) }
 {
     let mut lists = Vec::with_capacity(alloc, people.len())?;
     for person in people {
@@ -107,11 +104,12 @@ fn recorded_list(
     numbers: &Table<RoomCodes, usize>,
 ) -> Result<Vec<usize>, OutOfMemory>
     ensures list { IfOk result (λ list. list.items ≡
-        filter_map (map.get numbers.now) (before_own (home_of office.now person.now) (choices_of office.now person.now))) }
+        filter_map (map.get numbers.now)
+        (before_own (home_of office.now person.now) (choices_of office.now person.now))) }
     ensures differ { OnOk result (first_repeated [] (choices_of office.now person.now) ≡ None) }
 {
     match office.choices.get(person) {
-        Some(choices) => numbered(alloc, numbers, home_of(office, person), choices.as_slice()),
+        Some(choices) => numbered(alloc, numbers, office.home_of(person), choices.as_slice()),
         None => Ok(Vec::new(alloc)),
     }
 }

@@ -11,7 +11,8 @@ pub(crate) fn numbers<G: Grammar>(
     alloc: Global,
     names: &[Text<G>],
 ) -> Result<Table<G, usize>, OutOfMemory>
-    ensures { IfOk result (λ numbers. (name : List ℕ) → map.get numbers name ≡ number_in names.now name) }
+    ensures { IfOk result
+        (λ numbers. (name : List ℕ) → map.get numbers name ≡ number_in names.now name) }
 {
     let mut numbers = Table::new(alloc);
     for (number, name) in names.iter().enumerate() {

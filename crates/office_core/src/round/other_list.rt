@@ -1,18 +1,18 @@
 //! What another list would give.
 ghost use Rattle.std.specs.Prelude.{◌≡◌, ◌≤◌, IfOk, true};
-ghost use Rattle.office_core.specs.Laws.{HomesDiffer};
+ghost use Rattle.office_core.specs.Office.Invariants.{HomesDiffer};
 ghost use Rattle.office_core.specs.Round.{is_participant, number_in, result_of, result_by, round_rank};
 
 use crate::office::Office;
-use crate::round::lists::{home_of, numbered};
+use crate::round::lists::numbered;
 use crate::round::problem::{round_problem, want_of_memory};
 use crate::round::results::room_named;
 use room_types::{Choices, OutOfMemory, PersonId, RoomCode};
 use std::alloc::Global;
 use trade_line::what_if::run_with_list;
 
-/// The room that a participant would get by this list in place of the recorded one, where the order and all other lists stay
-/// (none for no room). By the recorded list it never ranks above the result. It is refused for want of memory alone.
+/// The room that a participant would get by this list in place of the recorded one, where the order and all other
+/// lists stay (none for no room). By the recorded list it never ranks above the result. It is refused only for memory.
 pub fn what_if(
     alloc: Global,
     office: &Office,
@@ -32,7 +32,7 @@ pub fn what_if(
     let list = numbered(
         alloc,
         &round.numbers,
-        home_of(office, person),
+        office.home_of(person),
         choices.as_slice(),
     )?;
     match run_with_list(alloc, &round.problem, number, list) {

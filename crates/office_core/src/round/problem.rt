@@ -1,9 +1,9 @@
 //! The problem of the round, with the names of its people and rooms.
 ghost use Rattle.std.specs.Prelude.{◌≡◌, IfOk, OnOk};
 ghost use Rattle.trade_line.specs.Market.{IsMarket};
-ghost use Rattle.office_core.specs.Laws.{HomesDiffer};
+ghost use Rattle.office_core.specs.Office.Invariants.{HomesDiffer};
 ghost use Rattle.office_core.specs.Round.{round_market};
-ghost use Rattle.office_core.specs.RoundProblem.{IsProblemOf};
+ghost use Rattle.office_core.specs.Inner.RoundProblem.{IsProblemOf};
 
 use crate::office::Office;
 use crate::round::lists::{homes, lists};
@@ -28,7 +28,7 @@ pub(crate) struct RoundProblem {
     pub(crate) problem: Problem,
 }
 
-/// The problem of the office's round. Homes that differ make it well formed, so it is refused for want of memory alone.
+/// The problem of the office's round. Homes that differ make it well formed, so it is refused only for memory.
 /// It takes n log n steps for n people, rooms and entries of lists.
 pub(crate) fn round_problem(alloc: Global, office: &Office) -> Result<RoundProblem, OutOfMemory>
     requires { HomesDiffer office.now }

@@ -24,7 +24,8 @@ pub(crate) fn round_rooms(alloc: Global, office: &Office) -> Result<Vec<RoomCode
 
 // The homes of those who have withdrawn.
 fn kept_back(alloc: Global, office: &Office) -> Result<Table<RoomCodes, ()>, OutOfMemory>
-    ensures { IfOk result (λ homes. (room : List ℕ) → map.contains_key homes room ≡ is_kept_back office.now room) }
+    ensures { IfOk result
+        (λ homes. (room : List ℕ) → map.contains_key homes room ≡ is_kept_back office.now room) }
 {
     let mut homes = Table::new(alloc);
     for (id, person) in office.people.iter() {

@@ -4,7 +4,8 @@ use crate::{Choices, Grammar, RoomCode, Text, TypeFault, Word};
 use std::alloc::{AllocError, Global};
 use std::process::Abort;
 
-// A row is a type, a text, and the value as it is printed, or the fault after a `!`. The codes of a list stand apart by one space.
+// A row is a type, a text, and the value as it is printed, or the fault after a `!`. The codes of a list stand apart by
+// one space.
 const WORKED: &str = "\
 room|H1|H1\n\
 room|A|A\n\
@@ -110,6 +111,9 @@ list|R1 R2 R3 R4 R5 R6 R7 R8 R9 R10 R11 R12 R13 R14 R15 R16 R17 R18 R19 R20 R21 
 list|H1 V H1|!RoomRepeated H1\n\
 list|H1 V X V H1|!RoomRepeated V";
 
+// What is told of a value whose copy is another.
+const OTHER_COPY: &str = "!OtherCopy";
+
 #[test]
 fn worked_values(rt: HostRuntime) -> Result<(), AllocError> {
     assert_eq!(rt; WORKED.lines().count(), 103);
@@ -136,7 +140,7 @@ fn told(alloc: Global, kind: &str, text: &str) -> Result<String, AllocError> {
     }
 }
 
-// The value that the text spells, as it is printed.
+// The value that the text spells, as it is printed. A copy of it has to be equal.
 fn printed(alloc: Global, kind: &str, text: &str) -> Result<String, TypeFault> {
     match kind {
         "room" => printed_text::<RoomCodes>(alloc, text),
@@ -151,6 +155,9 @@ fn printed(alloc: Global, kind: &str, text: &str) -> Result<String, TypeFault> {
 
 fn printed_text<G: Grammar>(alloc: Global, text: &str) -> Result<String, TypeFault> {
     let value = Text::<G>::read(alloc, text)?;
+    if value.copy()? != value {
+        return Ok(String::from_str(alloc, OTHER_COPY)?);
+    }
     Ok(format!(in alloc; "{value}")?)
 }
 
@@ -166,6 +173,9 @@ fn printed_list(alloc: Global, text: &str) -> Result<String, TypeFault> {
         codes.push(code).map_err(|_| TypeFault::OutOfMemory)?;
     }
     let choices = Choices::read(codes)?;
+    if choices.copy()?.as_slice() != choices.as_slice() {
+        return Ok(String::from_str(alloc, OTHER_COPY)?);
+    }
     spaced(alloc, choices.as_slice())
 }
 

@@ -1,40 +1,44 @@
 -- How far each list was read, and how many entries the reading took.
 -- A list `c` of cursors has for each person the place on the own list at which they read on.
-use Rattle.std.specs.Prelude.{◌≡◌, ℕ, suc, ◌+◌, ◌<◌, ◌≤◌, Bool, true, false, cond, nat_lt, Option, List, [], ◌∷◌, length, slice_index_or}
+use Rattle.std.specs.Prelude.{◌≡◌, ℕ, suc, ◌+◌, ◌<◌, ◌≤◌, Bool, true, false, cond, nat_lt, Option, Some, List, [], ◌∷◌, length, slice_index_or}
 use Rattle.trade_line.specs.Below.{sum_below}
 use Rattle.trade_line.specs.Market.{Market, home, list_of}
 use Rattle.trade_line.specs.Member.{among}
-use Rattle.trade_line.specs.Looks.{needed}
+use Rattle.trade_line.specs.Rank.{rank}
 use Rattle.trade_line.specs.Inner.State.{State, stage_at, given_to}
 
 -- the cursor of p
 abbrev pub cursor : List ℕ → ℕ → ℕ
 cursor c p = slice_index_or c p 0
 
--- p has read what p has to read to find x: the entries before the cursor and the one at it
-abbrev pub HasReadNeeded : Market → List ℕ → ℕ → Option ℕ → Type 0
-HasReadNeeded m c p x = needed m p x ≤ suc (cursor c p)
+-- the cursor of p stands at the place at which p ranks x
+abbrev pub StandsAt : Market → List ℕ → ℕ → Option ℕ → Type 0
+StandsAt m c p x = rank m p x ≡ cursor c p
 
--- whoever behind a has asked has read up to the home of the one before
-abbrev pub HaveReadBehind : Market → List Bool → List ℕ → ℕ → List ℕ → Type 0
-HaveReadBehind m asked c a [] = Unit {0}
-HaveReadBehind m asked c a (b ∷ r) =
-    (slice_index_or asked b false ≡ true → HasReadNeeded m c b (home m a))
-    × HaveReadBehind m asked c b r
+-- the same, at an entry of the list and not at its end
+abbrev pub StaysAt : Market → List ℕ → ℕ → Option ℕ → Type 0
+StaysAt m c p x = (cursor c p < length (list_of m p)) × StandsAt m c p x
+
+-- whoever behind a has asked stays at the home of the one before
+abbrev pub StayBehind : Market → List Bool → List ℕ → ℕ → List ℕ → Type 0
+StayBehind m asked c a [] = Unit {0}
+StayBehind m asked c a (b ∷ r) =
+    (slice_index_or asked b false ≡ true → StaysAt m c b (home m a)) × StayBehind m asked c b r
 
 -- the same of a whole line, of which the front waits for nobody
-abbrev pub HaveReadInLine : Market → List Bool → List ℕ → List ℕ → Type 0
-HaveReadInLine m asked c [] = Unit {0}
-HaveReadInLine m asked c (a ∷ r) = HaveReadBehind m asked c a r
+abbrev pub StayInLine : Market → List Bool → List ℕ → List ℕ → Type 0
+StayInLine m asked c [] = Unit {0}
+StayInLine m asked c (a ∷ r) = StayBehind m asked c a r
 
--- between two turns: the entries before each cursor are gone, and whoever waits for a room or was served has read up to it
+-- between two turns: the entries before each cursor are gone, whoever waits for a room stays at it, and the cursor of whoever
+-- was served stands at what they were given
 pub record AreCursors (m : Market) (s : State) (c : List ℕ) : Type 0 where
   pub cursors_len : length c ≡ m.people
   pub within : (p : ℕ) → p < m.people → cursor c p ≤ length (list_of m p)
   pub gone : (p k : ℕ) → p < m.people → k < cursor c p
       → (stage_at s).rooms (slice_index_or (list_of m p) k 0) ≡ false
-  pub waiting : HaveReadInLine m s.asked c s.line
-  pub served : (p : ℕ) → p < m.people → among s.line p ≡ false → HasReadNeeded m c p (given_to s p)
+  pub waiting : StayInLine m s.asked c s.line
+  pub served : (p : ℕ) → p < m.people → among s.line p ≡ false → StandsAt m c p (given_to s p)
 
 -- how many entries lie before the cursors
 abbrev pub cursor_sum : Market → List ℕ → ℕ
@@ -48,21 +52,23 @@ spent m line c p = cond (among line p) 0 (cond (nat_lt (cursor c p) (length (lis
 abbrev pub spent_sum : Market → List ℕ → List ℕ → ℕ
 spent_sum m line c = sum_below m.people (spent m line c)
 
--- a turn of a for the room leads from s to t: nobody joins the line, and cursors stay right where a has read up to the room
-pub record KeepsCursors (m : Market) (a : ℕ) (room : Option ℕ) (s t : State) : Type 0 where
+-- a turn of a for the room leads from s to t: nobody joins the line, cursors stay right where a stays at the room, and none of
+-- those who leave has the cursor at the end of the list
+pub record KeepsCursors (m : Market) (a : ℕ) (room : ℕ) (s t : State) : Type 0 where
   pub inside : (p : ℕ) → among t.line p ≡ true → among s.line p ≡ true
-  pub cursors : (c : List ℕ) → AreCursors m s c → HasReadNeeded m c a room → AreCursors m t c
+  pub cursors : (c : List ℕ) → AreCursors m s c → StaysAt m c a (Some room) → AreCursors m t c
+  pub left :
+      (c : List ℕ) → AreCursors m s c → StaysAt m c a (Some room)
+      → (p : ℕ) → among s.line p ≡ true → among t.line p ≡ false → cursor c p < length (list_of m p)
 
 -- a turn that leads from s to t and moves the cursors from c to d reads `read` entries: those that a cursor passes, and the
--- one at which it stays, if any
+-- one at which it stays; none where it is at the end, and its person leaves
 pub record TurnReads (m : Market) (s : State) (c : List ℕ) (t : State) (d : List ℕ) (read : ℕ) : Type 0 where
   pub cursors : AreCursors m t d
-  pub least : suc (cursor_sum m d) + spent_sum m s.line c
-      ≤ read + cursor_sum m c + spent_sum m t.line d
-  pub most : read + cursor_sum m c ≤ suc (cursor_sum m d)
+  pub reads : read + cursor_sum m c + spent_sum m t.line d
+      ≡ suc (cursor_sum m d) + spent_sum m s.line c
 
 -- the turns so far took so many asks and looks
 pub record ReadSoFar (m : Market) (s : State) (c : List ℕ) (asks : ℕ) (looks : ℕ) : Type 0 where
   pub cursors : AreCursors m s c
-  pub least : asks + cursor_sum m c ≤ looks + spent_sum m s.line c
-  pub most : looks ≤ asks + cursor_sum m c
+  pub reads : looks + spent_sum m s.line c ≡ asks + cursor_sum m c

@@ -1,6 +1,6 @@
 use Rattle.std.proofs.Common.{◌≡◌, ◌∙◌, length, take, inr, refl, arith}
 use Rattle.std.proofs.lemmas.List.{take_all}
-use Rattle.office_cli.proofs.StreamLemmas.{or_true, Puts-kept}
+use Rattle.room_types.proofs.StreamLemmas.{or_true, Puts-kept}
 use Rattle.office_cli.proofs.carry_out.say.Goals as goal
 
 pub returns-in-Err-flush : goal.returns-in-Err-flush

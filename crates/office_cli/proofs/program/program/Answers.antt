@@ -7,8 +7,8 @@ use Rattle.office_cli.specs.declared.usage.Program.{Program}
 use Rattle.office_cli.proofs.ProgramLemmas.{entered_is, fault_told, line_entered, some_words, usage_is_free, usage_is_simple}
 use Rattle.office_cli.proofs.program.program.Goals as goal
 
-pub returns-in-Some : goal.returns-in-Some
-returns-in-Some c =
+pub returns-in-Some-clause-understands : goal.returns-in-Some-clause-understands
+returns-in-Some-clause-understands c =
     let is = c.in_ok-command.ensures in
     let words = map (λ (w : Bor (List ℕ)). w.now) c.args.words.now in
     let some : 0 < length words = some_words c.args.words.now (sym c.is_empty.ensures ∙ c.if-is_empty.false) in
@@ -16,10 +16,10 @@ returns-in-Some c =
     let met = (c.in-Ok.ensures.matches (ap is_simple is ∙ usage_is_simple)).1 ∙ ap (λ (a : App). subcommand_of a words) is in
     let rows = rows_of (found_of c.in-Some.entries.now) in
     let entered = entered_is c.in-Ok.matches c.in-Some.name.now rows c.in-Some.ensures.name c.in-Some.ensures.rows in
-    subst (λ (o : Option Program). Understands o c.line.result) (sym (line_entered words c.in-Some.name.now rows some taken (sym met ∙ entered))) c.line.ensures
+    subst (λ (o : Option Program). Understands o c.entered_line.result) (sym (line_entered words c.in-Some.name.now rows some taken (sym met ∙ entered))) c.entered_line.ensures
 
-pub returns : goal.returns
-returns c =
+pub returns-clause-understands : goal.returns-clause-understands
+returns-clause-understands c =
     let is = c.in_ok-command.ensures in
     let words = map (λ (w : Bor (List ℕ)). w.now) c.args.words.now in
     let some : 0 < length words = some_words c.args.words.now (sym c.is_empty.ensures ∙ c.if-is_empty.false) in

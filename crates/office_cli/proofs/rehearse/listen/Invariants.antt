@@ -1,20 +1,22 @@
-use Rattle.std.proofs.Common.{◌≡◌, ◌*◌, ◌^◌, ◌≤◌, vec_len}
+use Rattle.std.proofs.Common.{◌≡◌, ◌*◌, ◌^◌, ◌≤◌, length}
+use Rattle.room_types.specs.Streams.{output_of}
 use Rattle.room_types.specs.Watched.{watched_inner, watched_failed, watched_reads}
-use Rattle.office_core.specs.Laws.{IsLawful}
-use Rattle.office_cli.specs.Streams.{output_of}
 use Rattle.office_cli.specs.Sessions.{Listened, state}
 use Rattle.office_cli.proofs.rehearse.listen.Given as goal
 
--- all that was read is heard
+-- all that was read is heard, and each read gave a byte
 abbrev pub invariant-reads : goal.invariant-reads
 invariant-reads g l =
     let contents = g.W.Write.contents in
     let remaining = g.R.Read.remaining in
     record {
-      heard : Listened (state l.fn.office (output_of contents l.fn.output) l.fn.begun.items l.fn.told) (state l.office (output_of contents l.output) l.begun.items l.told) (remaining (watched_inner l.fn.input)) (remaining (watched_inner l.input));
-      bound : l.told.sent ≤ l.counter * 2 ^ 76;
-      short : vec_len l.begun ≤ 65536;
+      heard : Listened g.H.Handler.handles
+          (state l.fn.handler (output_of contents l.fn.output) l.fn.session)
+          (state l.handler (output_of contents l.output) l.session)
+          (remaining (watched_inner l.fn.input)) (remaining (watched_inner l.input));
+      each : l.counter ≤ length heard.bytes;
+      bound : l.session.sent ≤ l.counter * 2 ^ 76;
       count : watched_reads l.input ≡ l.counter;
       failed : watched_failed l.input ≡ watched_failed l.fn.input;
-      lawful : IsLawful l.office;
+      ready : g.H.Handler.is_ready l.handler;
     }

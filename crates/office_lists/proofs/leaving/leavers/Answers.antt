@@ -1,8 +1,7 @@
 use Rattle.std.proofs.Common.{◌≡◌, ℕ, Option, ◌++◌, [], ◌∷◌, map, take, sym, ◌∙◌, ap}
 use Rattle.std.specs.Prelude.{option_and_then}
 use Rattle.std.specs.BTreeMap.{get_by}
-use Rattle.std.specs.Cmp.Lexicographic.{slice_cmp}
-use Rattle.std.specs.Ordering.{nat_cmp}
+use Rattle.room_types.specs.Texts.{text_cmp}
 use Rattle.std.proofs.lemmas.List.{map_more, take_all}
 use Rattle.office_lists.specs.Waves.{Mover, leaver}
 use Rattle.office_lists.proofs.leaving.leavers.Goals as goal
@@ -17,7 +16,7 @@ loop-entry-preserved c =
     elim c.match-entry.branch [
       | in-Some w ↦
           w.leaver-is ∙ w.copied-leaver.ensures ∙ w.get.ensures.value
-          ∙ ap (λ t. get_by (λ key. slice_cmp nat_cmp t key.now) c.in_ok-by_room.by_room) w.as_str.ensures.text
+          ∙ ap (λ t. get_by (λ key. text_cmp t key.now) c.in_ok-by_room.by_room) w.as_str.ensures.text
           ∙ c.in_ok-by_room.ensures w.in-Some.room ∙ sym (ap (option_and_then (leaver entries)) w.in-Some.is)
       | in-None w ↦ w.leaver-is ∙ sym (ap (option_and_then (leaver entries)) w.in-None.is)
     ] in

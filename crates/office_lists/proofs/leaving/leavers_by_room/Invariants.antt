@@ -1,10 +1,8 @@
 use Rattle.std.proofs.Common.{◌≡◌, take}
 use Rattle.std.specs.BTreeMap.{get_by}
-use Rattle.std.specs.Cmp.Lexicographic.{slice_cmp}
-use Rattle.std.specs.Ordering.{nat_cmp}
-use Rattle.room_types.specs.Texts.{Text}
+use Rattle.room_types.specs.Texts.{Text, text_cmp}
 use Rattle.office_lists.specs.Waves.{leaver}
 use Rattle.office_lists.proofs.leaving.leavers_by_room.Given as goal
 
 abbrev pub invariant-loop-i : goal.invariant-loop-i
-invariant-loop-i l = (room : Text) → get_by (λ key. slice_cmp nat_cmp room key.now) l.by_room ≡ leaver (take l.i l.entries) room
+invariant-loop-i l = (room : Text) → get_by (λ key. text_cmp room key.now) l.by_room ≡ leaver (take l.i l.entries) room

@@ -7,13 +7,13 @@ use Rattle.office_lists.proofs.leaving.number_chain.Goals as goal
 pub loop-at-preserved : goal.loop-at-preserved
 loop-at-preserved c =
     let followers = c.args.followers.now in
-    let number = c.loop-at.number in
+    let count = c.loop-at.count in
     let end = c.args.end in
-    let there : followed followers number end ≡ Some c.in-Some.here = sym c.loop-at.invariant.here ∙ c.in-Some.is in
-    let within : c.in-Some.here < length c.loop-at.waves = omega (arith, c.requires.within number c.in-Some.here there, c.loop-at.invariant.numbered.as_many) in
+    let there : followed followers count end ≡ Some c.in-Some.here = sym c.loop-at.invariant.here ∙ c.in-Some.is in
+    let within : c.in-Some.here < length c.loop-at.waves = omega (arith, c.requires.within count c.in-Some.here there, c.loop-at.invariant.numbered.as_many) in
     record {
-      numbered = one_numbered followers end number c.in-Some.here c.args.waves.now c.loop-at.waves c.loop-at.invariant.numbered there within;
-      here = sym (ap (λ count. followed followers count end) (add-one number) ∙ ap (option_and_then (next followers)) there);
+      numbered = one_numbered followers end c.args.first count c.in-Some.here c.args.waves.now c.loop-at.waves c.loop-at.invariant.numbered there within;
+      here = sym (ap (λ n. followed followers n end) (add-one count) ∙ ap (option_and_then (next followers)) there);
     }
 
 none_left : (at : Option ℕ) → ((i : ℕ) → at ≡ Some i → ⊥) → at ≡ None
@@ -22,4 +22,4 @@ none_left (Some i) h = absurd (h i refl)
 
 pub returns : goal.returns
 returns c =
-    all_numbered c.args.followers.now c.args.end c.loop-at.number c.args.waves.now c.loop-at.waves c.loop-at.invariant.numbered (sym c.loop-at.invariant.here ∙ none_left c.loop-at.at c.in_default.not-Some)
+    all_numbered c.args.followers.now c.args.end c.args.first c.loop-at.count c.args.waves.now c.loop-at.waves c.loop-at.invariant.numbered (sym c.loop-at.invariant.here ∙ none_left c.loop-at.at c.in_default.not-Some)

@@ -1,14 +1,15 @@
 use Rattle.std.proofs.Common.{◌≡◌, ◌-◌}
 use Rattle.office_lists.specs.Waves.{followed}
+use Rattle.office_lists.specs.declared.leaving.TheConstants.{MOVE_LIMIT}
 use Rattle.office_lists.proofs.Chains.{IsNumberedTo}
 use Rattle.office_lists.proofs.leaving.number_chain.Given as goal
 
 abbrev pub invariant-loop-at : goal.invariant-loop-at
 invariant-loop-at l =
     record {
-      numbered : IsNumberedTo l.followers l.end l.number l.fn.waves l.waves;
-      here : l.at ≡ followed l.followers l.number l.end;
+      numbered : IsNumberedTo l.followers l.end l.first l.count l.fn.waves l.waves;
+      here : l.at ≡ followed l.followers l.count l.end;
     }
 
 abbrev pub decreases-loop-at : goal.decreases-loop-at
-decreases-loop-at l = 2000 - l.number
+decreases-loop-at l = MOVE_LIMIT - l.count

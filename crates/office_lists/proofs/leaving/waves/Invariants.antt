@@ -1,5 +1,5 @@
 use Rattle.std.proofs.Common.{◌≡◌}
-use Rattle.office_lists.specs.Waves.{leavers}
+use Rattle.office_lists.specs.Waves.{leavers, end_numbers}
 use Rattle.office_lists.specs.Followers.{AreFollowers}
 use Rattle.office_lists.proofs.Chains.{AreNumberedTo}
 use Rattle.office_lists.proofs.leaving.waves.Given as goal
@@ -9,5 +9,5 @@ invariant-loop-end l =
     record {
       leavers : l.leaver-items ≡ leavers l.entries;
       linked : AreFollowers l.leaver-items l.followers.items;
-      numbered : AreNumberedTo l.leaver-items l.followers.items l.end l.waves.items;
+      numbered : AreNumberedTo (end_numbers l.entries) l.leaver-items l.followers.items l.end l.waves.items;
     }

@@ -1,17 +1,16 @@
 use Rattle.std.proofs.Common.{◌≡◌, Bor, map, ap, ◌∙◌, rules}
-use Rattle.std.specs.Cmp.{IsTotalOrder}
-use Rattle.std.proofs.lemmas.Cmp.{then_total, on_total, nat_cmp_total, nat_list_cmp_total}
+use Rattle.std.specs.Ordering.{on}
+use Rattle.std.proofs.lemmas.Cmp.{on_total}
 use Rattle.std.proofs.lemmas.List.Sorted.{ranks_by, answers_always}
 use Rattle.std.proofs.lemmas.Iterator.{YieldsList-from_slice}
 use Rattle.std.proofs.lemmas.Iterator.Consumers.{map_from_collect}
 use Rattle.std.proofs.lemmas.Result.{IfOk-at_ok}
 use Rattle.room_types.specs.declared.moves.Move.{Move}
-use Rattle.office_lists.specs.MoveDay.{turn, move_cmp, ascending}
-use Rattle.office_lists.proofs.StableSorts.{ascending_by_sort, by_view, map-ascending}
+use Rattle.room_types.specs.Ascending.{ascending}
+use Rattle.room_types.proofs.Arrangements.{one_arrangement, map-ascending}
+use Rattle.office_lists.specs.MoveDay.{move_cmp}
+use Rattle.office_lists.proofs.MoveDays.{move_total}
 use Rattle.office_lists.proofs.move_day.in_order.Goals as goal
-
-move_total : IsTotalOrder move_cmp
-move_total = then_total (on_total (λ m. turn m.wave) nat_cmp_total) (on_total (λ m. m.person) nat_list_cmp_total)
 
 pub returns : goal.returns
 returns c =
@@ -20,5 +19,6 @@ returns c =
     let weak = ranks_by move_total view in
     let sorted = c.in_ok-sort_by.ensures.sorted _ weak (answers_always _ _ _ (λ f a r q k. search rules)) in
     let stable = c.sort_by.ensures.stable _ weak (answers_always _ _ _ (λ f a r q k. search rules)) in
-    ap (map view) (ascending_by_sort (by_view view move_cmp) (on_total view move_total) c.in_ok-rows.rows.items c.sort_by.new.self.items sorted stable)
+    let one = one_arrangement (on view move_cmp) (on_total view move_total) c.in_ok-rows.rows.items in
+    ap (map view) (one.one c.sort_by.new.self.items (record { same_items = c.sort_by.ensures.permutation; ascends = sorted; ties_stay = stable }))
     ∙ map-ascending view move_cmp c.in_ok-rows.rows.items ∙ ap (ascending move_cmp) shows

@@ -1,4 +1,4 @@
-use Rattle.std.proofs.Common.{◌≡◌, ◌≤◌, arith, sym, ◌∙◌, ap, subst, get_or, length, false}
+use Rattle.std.proofs.Common.{◌≡◌, arith, sym, ◌∙◌, ap, subst, get_or, length, false}
 use Rattle.std.proofs.lemmas.List.{length-replicate}
 use Rattle.trade_line.specs.TopTradingCycles.{ttc}
 use Rattle.trade_line.specs.Assignment.{given_in, IsAssignment, IsIndividuallyRational, IsEfficient}
@@ -6,7 +6,7 @@ use Rattle.trade_line.specs.TradeApart.{HasNoBetterTradeApart}
 use Rattle.trade_line.specs.Looks.{all_needed}
 use Rattle.trade_line.specs.Inner.State.{state_of}
 use Rattle.trade_line.proofs.Whole.{underway_asks, underway_start, underway_end, all_same}
-use Rattle.trade_line.proofs.Cursors.{read_start, read_least, read_most}
+use Rattle.trade_line.proofs.Cursors.{read_start, read_all, needed_listed}
 use Rattle.trade_line.proofs.Given.{given_assignment, given_rational, given_efficient, given_apart}
 use Rattle.trade_line.proofs.trade.run.Goals as goal
 
@@ -28,6 +28,8 @@ returns g c =
     let ok = c.people-people.ensures.market in
     let ended = sym c.front.ensures ∙ c.in_default.is in
     let asks_least = underway_asks c.args.problem.now _ _ c.loop-person.invariant.underway ended in
+    let exact = read_all c.args.problem.now _ _ _ _ c.loop-person.invariant.read ended in
+    let same : all_needed c.args.problem.now (given_in c.new.result.rooms) ≡ all_needed c.args.problem.now (given_in c.loop-person.progress.given.items) = ap (λ z. all_needed c.args.problem.now (given_in z)) c.new.ensures.rooms in
     let is : c.new.result.rooms ≡ ttc c.args.problem.now = c.new.ensures.rooms ∙ underway_end c.args.problem.now _ _ c.loop-person.invariant.underway ended in
     record {
       rooms = is;
@@ -37,8 +39,7 @@ returns g c =
       apart = subst (λ z. HasNoBetterTradeApart c.args.problem.now (given_in z)) (sym is) (given_apart c.args.problem.now ok);
       asks_least = omega (arith, c.new.ensures.asks, asks_least);
       asks_most = omega (arith, c.new.ensures.asks, c.loop-person.invariant.underway.turns);
-      looks_least = subst (λ z. all_needed c.args.problem.now (given_in z) ≤ c.new.result.looks) (sym c.new.ensures.rooms)
-          (subst (λ z. all_needed c.args.problem.now (given_in c.loop-person.progress.given.items) ≤ z) (sym c.new.ensures.looks)
-          (read_least c.args.problem.now _ _ _ _ c.loop-person.invariant.read ended asks_least));
-      looks_most = omega (arith, c.new.ensures.asks, c.new.ensures.looks, read_most c.args.problem.now _ _ _ _ c.loop-person.invariant.read);
+      looks = omega (arith, c.new.ensures.asks, c.new.ensures.looks, exact, same);
+      looks_least = omega (arith, c.new.ensures.looks, exact, same, asks_least);
+      looks_most = omega (arith, c.new.ensures.asks, c.new.ensures.looks, exact, needed_listed c.args.problem.now (given_in c.loop-person.progress.given.items));
     }

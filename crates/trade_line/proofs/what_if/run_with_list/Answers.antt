@@ -19,5 +19,4 @@ returns c =
           (list_proof c.args.problem.now c.in_ok-changed.ensures.market c.args.person c.args.list.items c.in_ok-changed.ensures.fits.0.0 ok);
       accepted = c.in_ok-changed.ensures.fits;
       first_fault = tt;
-      memory = λ e. absurd (cc);
     }

@@ -1,9 +1,9 @@
 use Rattle.std.proofs.Common.{◌≡◌, sym, subst}
 use Rattle.room_types.specs.declared.phase.Phase.TheVariants.{Idle}
-use Rattle.office_core.specs.Laws.{IsLawful}
+use Rattle.office_core.specs.Office.Invariants.{IsLawful}
 use Rattle.office_core.specs.Office.{empty_office}
 use Rattle.office_core.specs.declared.office.Office.{Office}
-use Rattle.office_core.proofs.Empty.{empty_lawful}
+use Rattle.office_core.proofs.OfficeLemmas.Empty.{empty_lawful}
 use Rattle.office_core.proofs.office.Office.empty.Goals as goal
 
 pub returns-clause-lawful : goal.returns-clause-lawful

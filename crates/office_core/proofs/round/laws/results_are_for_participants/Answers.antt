@@ -1,6 +1,6 @@
 use Rattle.office_core.specs.Round.{round_results}
-use Rattle.office_core.proofs.Puts.{with_all-entries}
-use Rattle.office_core.proofs.Results.{contains_key-round_results, entries-round_results}
+use Rattle.office_core.proofs.RoundLemmas.Puts.{with_all-entries}
+use Rattle.office_core.proofs.RoundLemmas.Results.{contains_key-round_results, entries-round_results}
 use Rattle.office_core.proofs.round.laws.results_are_for_participants.Goals as goal
 
 pub returns : goal.returns

@@ -1,4 +1,4 @@
-use Rattle.office_core.proofs.Results.{same_round}
+use Rattle.office_core.proofs.RoundLemmas.Results.{same_round}
 use Rattle.office_core.proofs.round.laws.rounds_stand.Goals as goal
 
 pub returns : goal.returns

@@ -4,7 +4,7 @@ use Rattle.std.specs.Option.{option_copied}
 use Rattle.std.proofs.lemmas.Iterator.{YieldsList-from_slice}
 use Rattle.std.proofs.lemmas.Iterator.Search.{position_from_yields_List}
 use Rattle.office_core.specs.Office.{is_text}
-use Rattle.office_core.proofs.Names.{before_first-Some, before_first-None}
+use Rattle.office_core.proofs.RoundLemmas.Names.{before_first-Some, before_first-None}
 use Rattle.office_core.proofs.round.lists.before_own.Goals as goal
 
 pub returns-in-Some : goal.returns-in-Some

@@ -1,7 +1,7 @@
 use Rattle.std.proofs.Common.{◌++◌, ◌∷◌, [], ℕ, Vec, Global, sym, ap, ◌∙◌}
 use Rattle.std.specs.Option.{option_copied}
 use Rattle.std.specs.FinMap as map
-use Rattle.office_core.proofs.Names.{numbered-some, numbered-none}
+use Rattle.office_core.proofs.RoundLemmas.Names.{numbered-some, numbered-none}
 use Rattle.office_core.proofs.round.lists.numbered.Goals.{in-Some+in_ok-push, in_default}
 use Rattle.office_core.proofs.round.lists.numbered.Goals as goal
 

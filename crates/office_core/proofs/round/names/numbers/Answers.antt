@@ -2,7 +2,7 @@ use Rattle.std.proofs.Common.{ap, ◌∙◌}
 use Rattle.std.specs.FinMap as map
 use Rattle.std.specs.FinMap.{get-empty}
 use Rattle.room_types.specs.Texts.{text_cmp}
-use Rattle.office_core.proofs.Names.{numbers-fresh, numbers-known}
+use Rattle.office_core.proofs.RoundLemmas.Names.{numbers-fresh, numbers-known}
 use Rattle.office_core.proofs.round.names.numbers.Goals.{then-not-contains_key+in_ok-copy+in_ok-insert, else-not-contains_key}
 use Rattle.office_core.proofs.round.names.numbers.Goals as goal
 

@@ -6,7 +6,7 @@ use Rattle.trade_line.specs.Market.{IsMarket}
 use Rattle.trade_line.specs.Problem.{market_of}
 use Rattle.office_core.specs.Office.{choices_of}
 use Rattle.office_core.specs.Round.{round_market, number_in}
-use Rattle.office_core.proofs.RoundMarket.{market-IsMarket, market-same, sole_fault}
+use Rattle.office_core.proofs.RoundLemmas.Problem.{market-IsMarket, market-same, sole_fault}
 use Rattle.office_core.proofs.round.problem.round_problem.Goals as goal
 
 pub want_of_memory-requires : goal.want_of_memory-requires

@@ -5,7 +5,7 @@ use Rattle.std.specs.FinMap as map
 use Rattle.std.specs.FinMap.{get-empty}
 use Rattle.room_types.specs.Texts.{text_cmp}
 use Rattle.office_core.specs.declared.office.Assigned.{Assigned}
-use Rattle.office_core.proofs.Names.{given-more}
+use Rattle.office_core.proofs.RoundLemmas.Names.{given-more}
 use Rattle.office_core.proofs.round.results.named.Goals as goal
 
 pub loop-number-init : goal.loop-number-init

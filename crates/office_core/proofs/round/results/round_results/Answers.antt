@@ -4,8 +4,8 @@ use Rattle.std.proofs.lemmas.Result.{IfOk-weaker}
 use Rattle.trade_line.specs.Market.{IsMarket}
 use Rattle.trade_line.specs.TopTradingCycles.{ttc}
 use Rattle.office_core.specs.Round.{round_market}
-use Rattle.office_core.proofs.Participants.{people_differ}
-use Rattle.office_core.proofs.Results.{results-same, rational, efficient}
+use Rattle.office_core.proofs.RoundLemmas.People.{people_differ}
+use Rattle.office_core.proofs.RoundLemmas.Results.{results-same}
 use Rattle.office_core.proofs.round.results.round_results.Goals as goal
 
 pub named-requires : goal.named-requires
@@ -20,7 +20,4 @@ returns c =
       results = IfOk-weaker c.named.result _ _ (λ results told.
           results-same office results c.deref.result.now c.deref-2.result.now c.in_ok-outcome.outcome.rooms ok
           (c.deref.ensures.value ∙ about.people) (c.deref-2.ensures.value ∙ about.rooms) (c.in_ok-outcome.ensures ∙ ap ttc about.market) told) c.named.ensures;
-      well_formed = IfOk-weaker c.named.result _ _ (λ results told. ok) c.named.ensures;
-      rational = IfOk-weaker c.named.result _ _ (λ results told. rational office ok) c.named.ensures;
-      efficient = IfOk-weaker c.named.result _ _ (λ results told. efficient office ok) c.named.ensures;
     }

@@ -7,7 +7,7 @@ use Rattle.std.specs.FinMap.{get-empty}
 use Rattle.std.proofs.lemmas.Map.Iter.{rest_more}
 use Rattle.room_types.specs.Texts.{text_cmp}
 use Rattle.office_core.specs.Office.{has_withdrawn, lives_in, is_text}
-use Rattle.office_core.proofs.Names.{kept_back-more}
+use Rattle.office_core.proofs.RoundLemmas.Names.{kept_back-more}
 use Rattle.office_core.proofs.round.rooms.kept_back.Goals as goal
 
 pub loop-id-init : goal.loop-id-init

@@ -1,0 +1,45 @@
+//! The yardstick for the time of a run: the mechanism of `crates/trade_line` in plain Rust, on the markets of
+//! `crates/trade_bench`. It prints the columns that `trade_bench` prints.
+mod generator;
+mod line;
+mod markets;
+
+use crate::line::{run, Outcome};
+use crate::markets::{shapes, Market, NONE};
+use std::hint::black_box;
+use std::time::Instant;
+
+// People and runs of one measurement, multiplied.
+const TURNS: usize = 50_000;
+
+// A number that tells the rooms of one run from those of another.
+fn check(outcome: &Outcome) -> u64 {
+    (outcome.rooms.iter()).fold(0, |sum: u64, &room| {
+        let number = if room == NONE { 0 } else { room as u64 + 1 };
+        sum.wrapping_mul(31).wrapping_add(number)
+    })
+}
+
+// Nanoseconds a run.
+fn time(market: &Market) -> u128 {
+    let repeats = (TURNS / market.people()).max(1);
+    let start = Instant::now();
+    for _ in 0..repeats {
+        black_box(run(black_box(market)));
+    }
+    start.elapsed().as_nanos() / repeats as u128
+}
+
+fn main() {
+    let timed = std::env::args().nth(1).is_some_and(|word| word == "times");
+    for shape in shapes() {
+        let market = shape.market();
+        let outcome = run(&market);
+        print!("{} {} {} ", shape.people, shape.listed, shape.kind);
+        print!("{} {} {}", outcome.asks, outcome.looks, check(&outcome));
+        if timed {
+            print!(" {}", time(&market));
+        }
+        println!();
+    }
+}

@@ -1,5 +1,0 @@
-use Rattle.office_cli.proofs.SessionLemmas.{Finished-unflushed}
-use Rattle.office_cli.proofs.rehearse.finish.Goals as goal
-
-pub returns-in-Err-clause-unfinished : goal.returns-in-Err-clause-unfinished
-returns-in-Err-clause-unfinished g c = Finished-unflushed _ _ _ _ _ _ _ c.in_ok-answer_rest.ensures.finished c.in-Err.ensures.bytes c.in-Err.ensures.taken

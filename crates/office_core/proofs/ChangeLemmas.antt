@@ -1,0 +1,2 @@
+-- Lemmas on changes.
+pub mod Apply

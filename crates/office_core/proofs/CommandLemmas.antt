@@ -1,0 +1,72 @@
+-- The changes of each accepted command lead from a lawful office to a lawful one.
+use Rattle.std.proofs.Common.{◌≡◌, List, Option, Some, None, sym, subst}
+use Rattle.std.specs.Prelude.{Result, Ok, Err, IfOk, OnOk}
+pub mod AddPerson
+pub mod AddRoom
+pub mod Cancel
+pub mod Changes
+pub mod CloseRound
+pub mod Draw
+pub mod Leave
+pub mod OpenRound
+pub mod Publish
+pub mod Remove
+pub mod Reopen
+pub mod Run
+pub mod SetChoices
+pub mod SetHome
+pub mod Settle
+pub mod Shut
+pub mod Withdraw
+pub mod Words
+use Rattle.office_core.specs.Change.{LeadsOn}
+use Rattle.office_core.specs.Command.Decision.{Decides}
+use Rattle.office_core.specs.Command.{checks, accepts, next, reply_to, changes_of}
+use Rattle.office_core.specs.Inner.Formed.{IsFormed}
+use Rattle.office_core.specs.Office.Invariants.{IsLawful}
+use Rattle.office_core.specs.declared.command.Command.{Command}
+use Rattle.office_core.specs.declared.command.Command.TheVariants as command
+use Rattle.office_core.specs.declared.command.decision.Decision.{Decision}
+use Rattle.office_core.specs.declared.office.Office.{Office}
+use Rattle.office_core.specs.declared.refusal.Refusal.{Refusal}
+use Rattle.office_core.proofs.CommandLemmas.AddPerson.{add_person-leads}
+use Rattle.office_core.proofs.CommandLemmas.AddRoom.{add_room-leads}
+use Rattle.office_core.proofs.CommandLemmas.Cancel.{cancel-leads}
+use Rattle.office_core.proofs.CommandLemmas.CloseRound.{close_round-leads}
+use Rattle.office_core.proofs.CommandLemmas.Draw.{draw-leads}
+use Rattle.office_core.proofs.CommandLemmas.Leave.{leave-leads}
+use Rattle.office_core.proofs.CommandLemmas.OpenRound.{open_round-leads}
+use Rattle.office_core.proofs.CommandLemmas.Publish.{publish-leads}
+use Rattle.office_core.proofs.CommandLemmas.Run.{run-leads}
+use Rattle.office_core.proofs.CommandLemmas.Settle.{settle-leads}
+use Rattle.office_core.proofs.CommandLemmas.Remove.{remove-leads}
+use Rattle.office_core.proofs.CommandLemmas.Reopen.{reopen-leads}
+use Rattle.office_core.proofs.CommandLemmas.SetChoices.{set_choices-leads}
+use Rattle.office_core.proofs.CommandLemmas.SetHome.{set_home-leads}
+use Rattle.office_core.proofs.CommandLemmas.Shut.{shut-leads}
+use Rattle.office_core.proofs.CommandLemmas.Withdraw.{withdraw-leads}
+
+pub leads_on : (office : Office) (given : Command) → IsFormed given → IsLawful office → accepts office given ≡ None → LeadsOn office (next office given) (changes_of office given)
+leads_on office (command.AddRoom room) f l h = add_room-leads office room l h
+leads_on office (command.AddPerson person name key home) f l h = add_person-leads office person name key home l h
+leads_on office (command.SetHome person room) f l h = set_home-leads office person room l h
+leads_on office (command.Leave person) f l h = leave-leads office person l h
+leads_on office (command.Remove person) f l h = remove-leads office person l h
+leads_on office (command.Shut room) f l h = shut-leads office room l h
+leads_on office (command.Reopen room) f l h = reopen-leads office room l h
+leads_on office command.OpenRound f l h = open_round-leads office l h
+leads_on office (command.SetChoices person choices) f l h = set_choices-leads office person choices f l h
+leads_on office (command.Withdraw person) f l h = withdraw-leads office person l h
+leads_on office command.CloseRound f l h = close_round-leads office l h
+leads_on office (command.Draw words) f l h = draw-leads office words l h
+leads_on office command.Run f l h = run-leads office l h
+leads_on office command.Publish f l h = publish-leads office l h
+leads_on office command.Settle f l h = settle-leads office l h
+leads_on office command.Cancel f l h = cancel-leads office l h
+
+pub decision_leads : (office : Office) (given : Command) (result : Result Decision Refusal) → IsLawful office → OnOk result (IsFormed given)
+    → Decides (checks office given) (reply_to office given) (changes_of office given) result
+    → IfOk result (λ decision. LeadsOn office (next office given) decision.changes.items)
+decision_leads office given (Ok decision) l f d =
+    subst (λ changes. LeadsOn office (next office given) changes) (sym d.changed) (leads_on office given f l d.accepted)
+decision_leads office given (Err refusal) l f d = tt

@@ -1,0 +1,16 @@
+-- Lemmas on the round.
+pub mod Apart
+pub mod Kept
+pub mod Lists
+pub mod Movers
+pub mod Names
+pub mod People
+pub mod Problem
+pub mod Puts
+pub mod Recorded
+pub mod Results
+pub mod Rooms
+pub mod Settled
+pub mod Settling
+pub mod Stays
+pub mod WellTraded

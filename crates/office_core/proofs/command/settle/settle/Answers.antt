@@ -1,0 +1,18 @@
+use Rattle.std.proofs.Common.{◌≤◌, sym, subst, ◌∙◌, length}
+use Rattle.office_lists.specs.Waves.{NewRoomsDiffer}
+use Rattle.office_core.specs.Office.Limits.{people_limit}
+use Rattle.office_core.proofs.RoundLemmas.Problem.{lawful-IsMarket}
+use Rattle.office_core.proofs.RoundLemmas.Settled.{new_rooms_differ, few_movers}
+use Rattle.office_core.proofs.OfficeLemmas.Untouched.{published_given}
+use Rattle.office_core.proofs.command.settle.settle.Goals as goal
+
+pub waves-requires-clause-few : goal.waves-requires-clause-few
+waves-requires-clause-few c =
+    subst (λ ms. length ms ≤ people_limit) (sym (c.as_slice-movers.ensures.value ∙ c.in_ok-movers.ensures)) (few_movers c.args.office.now c.requires.register)
+
+pub waves-requires-clause-new_rooms_differ : goal.waves-requires-clause-new_rooms_differ
+waves-requires-clause-new_rooms_differ c =
+    let office = c.args.office.now in
+    subst (λ ms. NewRoomsDiffer ms) (sym (c.as_slice-movers.ensures.value ∙ c.in_ok-movers.ensures))
+    (new_rooms_differ office c.requires.register (lawful-IsMarket office c.requires)
+    (c.requires.results.given (published_given office.phase (sym c.is_published.ensures ∙ c.if-not-is_published.false))))

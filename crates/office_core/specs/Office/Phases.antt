@@ -1,0 +1,62 @@
+-- Tests on phases.
+use Rattle.std.specs.Prelude.{Bool, true, false, ◌||◌}
+use Rattle.room_types.specs.declared.phase.Phase.{Phase}
+use Rattle.room_types.specs.declared.phase.Phase.TheVariants.{Idle, Opened, Closed, Drawn, Ran, Published}
+
+-- no round is under way
+abbrev pub is_idle : Phase → Bool
+is_idle Idle = true
+is_idle _ = false
+
+-- people may list rooms, or withdraw
+abbrev pub is_open : Phase → Bool
+is_open Opened = true
+is_open _ = false
+
+-- the lists are final, and nothing is drawn yet
+abbrev pub is_closed : Phase → Bool
+is_closed Closed = true
+is_closed _ = false
+
+-- the words are drawn, and the rooms are not traded yet
+abbrev pub is_drawn : Phase → Bool
+is_drawn Drawn = true
+is_drawn _ = false
+
+-- the rooms are traded, and the results are not published yet
+abbrev pub is_ran : Phase → Bool
+is_ran Ran = true
+is_ran _ = false
+
+-- each participant sees the result
+abbrev pub is_published : Phase → Bool
+is_published Published = true
+is_published _ = false
+
+-- rooms and people may be added, and rooms be shut or reopened
+abbrev pub is_preparing : Phase → Bool
+is_preparing phase = is_idle phase || is_open phase
+
+-- a round is under way and is not yet published
+abbrev pub may_cancel : Phase → Bool
+may_cancel Idle = false
+may_cancel Opened = true
+may_cancel Closed = true
+may_cancel Drawn = true
+may_cancel Ran = true
+may_cancel Published = false
+
+-- the words are drawn
+abbrev pub has_words : Phase → Bool
+has_words Idle = false
+has_words Opened = false
+has_words Closed = false
+has_words Drawn = true
+has_words Ran = true
+has_words Published = true
+
+-- the results are there
+abbrev pub has_results : Phase → Bool
+has_results Ran = true
+has_results Published = true
+has_results _ = false

@@ -1,0 +1,25 @@
+-- What a query is to answer.
+use Rattle.std.specs.Prelude.{◌≡◌, Bool, true, false, not, Result, Ok, Err, MatchResult, ◌⊎◌}
+use Rattle.office_core.specs.Empty.{is_empty}
+use Rattle.office_core.specs.Refusal.Checks.{names_room}
+use Rattle.office_core.specs.declared.refusal.Refusal.{Refusal}
+use Rattle.office_core.specs.declared.refusal.Refusal.TheVariants.{OutOfMemory}
+use Rattle.office_core.specs.declared.reply.Reply.{Reply}
+use Rattle.office_core.specs.declared.reply.Reply.TheVariants as reply
+
+-- Whether memory is taken: for the room that a refusal names, and for every reply but the round's numbers, and rooms,
+-- people, results or moves where there are none.
+abbrev pub reply_takes_memory : Result Reply Refusal → Bool
+reply_takes_memory (Ok (reply.Round number phase people withdrawn)) = false
+reply_takes_memory (Ok (reply.Rooms rows)) = not (is_empty rows)
+reply_takes_memory (Ok (reply.People rows)) = not (is_empty rows)
+reply_takes_memory (Ok (reply.Results rows)) = not (is_empty rows)
+reply_takes_memory (Ok (reply.Moves rows)) = not (is_empty rows)
+reply_takes_memory (Ok _) = true
+reply_takes_memory (Err refusal) = names_room refusal
+
+-- what is to be told, or out of memory where memory is taken
+abbrev pub Tells : Result Reply Refusal → Result Reply Refusal → Type 0
+Tells told result =
+    MatchResult result (λ reply. told ≡ Ok reply)
+    (λ refusal. (told ≡ Err refusal) ⊎ ((refusal ≡ OutOfMemory) × (reply_takes_memory told ≡ true)))

@@ -1,0 +1,44 @@
+-- What a person sees of the office by the key.
+use Rattle.std.specs.Prelude.{Option, None, Some, Result, Ok, Err, if◌then◌else◌}
+use Rattle.std.specs.FinMap as map
+use Rattle.room_types.specs.Texts.{Text}
+use Rattle.office_core.specs.Office.{owner, choices_of, has_withdrawn, is_shown, recorded_result}
+use Rattle.office_core.specs.declared.office.Office.{Office}
+use Rattle.office_core.specs.declared.office.person.Person.{Person}
+use Rattle.office_core.specs.declared.refusal.Refusal.{Refusal}
+use Rattle.office_core.specs.declared.refusal.Refusal.TheVariants.{UnknownPerson}
+use Rattle.office_core.specs.declared.reply.Standing.{Standing}
+use Rattle.office_core.specs.declared.reply.Reply.{Reply}
+use Rattle.office_core.specs.declared.reply.Reply.TheVariants as reply
+
+-- the result, hidden until it is published
+abbrev pub shown_result : Office → Text → Option Text
+shown_result office person = if is_shown office person then recorded_result office person else None
+
+-- what the person sees
+abbrev pub standing_of : Office → Text → Person → Standing
+standing_of office person kept = record {
+  person = person;
+  name = kept.name;
+  home = kept.home;
+  round = office.number;
+  phase = office.phase;
+  choices = choices_of office person;
+  withdrawn = has_withdrawn office person;
+  shown = is_shown office person;
+  result = shown_result office person;
+}
+
+-- of the person of this identifier, where that person is known
+abbrev pub told_person : Office → Text → Option Person → Result Reply Refusal
+told_person office person None = Err UnknownPerson
+told_person office person (Some kept) = Ok (reply.Me (standing_of office person kept))
+
+-- of the owner of a key, where it has one
+abbrev pub told_owner : Office → Option Text → Result Reply Refusal
+told_owner office None = Err UnknownPerson
+told_owner office (Some person) = told_person office person (map.get office.people person)
+
+-- what the owner of the key sees
+abbrev pub told : Office → Text → Result Reply Refusal
+told office key = told_owner office (owner office key)

@@ -1,0 +1,34 @@
+-- What another list would give a participant, where the order and all other lists stay.
+use Rattle.std.specs.Prelude.{◌≤◌, not, List, ◌∷◌, Option, None, Some, Result, Ok, Err}
+use Rattle.std.specs.List.{flat_map}
+use Rattle.room_types.specs.Texts.{Text}
+use Rattle.office_core.specs.Refusal.Checks.{Check, first_refusal, room_checks}
+use Rattle.office_core.specs.Office.{knows_person, has_withdrawn, recorded_result}
+use Rattle.office_core.specs.Office.Phases.{has_results}
+use Rattle.office_core.specs.Round.{result_by, round_rank}
+use Rattle.office_core.specs.declared.office.Office.{Office}
+use Rattle.office_core.specs.declared.refusal.Refusal.{Refusal}
+use Rattle.office_core.specs.declared.refusal.Refusal.TheVariants.{BadPhase, UnknownPerson, NotInRound}
+use Rattle.office_core.specs.declared.reply.Reply.{Reply}
+use Rattle.office_core.specs.declared.reply.Reply.TheVariants as reply
+
+abbrev pub checks : Office → Text → List Text → List Check
+checks office person choices =
+    (not (has_results office.phase), BadPhase office.phase)
+    ∷ (not (knows_person office person), UnknownPerson)
+    ∷ (has_withdrawn office person, NotInRound)
+    ∷ flat_map (room_checks office) choices
+
+-- by the recorded list, the room that another list would give is never ranked above the result
+abbrev pub GainsNothing : Office → Text → Reply → Type 0
+GainsNothing office person (reply.WouldGet room) =
+    round_rank office person (recorded_result office person) ≤ round_rank office person room
+GainsNothing office person _ = Unit {0}
+
+abbrev pub told_unless : Option Refusal → Reply → Result Reply Refusal
+told_unless None reply = Ok reply
+told_unless (Some refusal) reply = Err refusal
+
+abbrev pub told : Office → Text → List Text → Result Reply Refusal
+told office person choices =
+    told_unless (first_refusal (checks office person choices)) (reply.WouldGet (result_by office person choices))

@@ -1,0 +1,47 @@
+-- The numbers and names of refusals.
+pub mod Checks
+use Rattle.std.specs.Prelude.{ℕ, List, codes}
+use Rattle.office_core.specs.declared.refusal.Refusal.{Refusal}
+use Rattle.office_core.specs.declared.refusal.Refusal.TheVariants.{BadPhase, UnknownPerson, UnknownRoom}
+use Rattle.office_core.specs.declared.refusal.Refusal.TheVariants.{DuplicateRoom, DuplicatePerson, KeyInUse}
+use Rattle.office_core.specs.declared.refusal.Refusal.TheVariants.{RoomShut, RoomTaken, HasHome, NoHome, Withdrawn}
+use Rattle.office_core.specs.declared.refusal.Refusal.TheVariants.{WrongWordCount, LimitReached, NotInRound}
+use Rattle.office_core.specs.declared.refusal.Refusal.TheVariants.{NoSuchRound, NotShut, OutOfMemory}
+
+abbrev pub number_of : Refusal → ℕ
+number_of (BadPhase phase) = 1
+number_of UnknownPerson = 2
+number_of (UnknownRoom room) = 3
+number_of DuplicateRoom = 4
+number_of DuplicatePerson = 5
+number_of KeyInUse = 6
+number_of (RoomShut room) = 7
+number_of RoomTaken = 8
+number_of HasHome = 9
+number_of NoHome = 10
+number_of Withdrawn = 11
+number_of (WrongWordCount want got) = 12
+number_of LimitReached = 13
+number_of NotInRound = 16
+number_of NoSuchRound = 17
+number_of NotShut = 18
+number_of OutOfMemory = 19
+
+abbrev pub name_of : Refusal → List ℕ
+name_of (BadPhase phase) = codes "BadPhase"
+name_of UnknownPerson = codes "UnknownPerson"
+name_of (UnknownRoom room) = codes "UnknownRoom"
+name_of DuplicateRoom = codes "DuplicateRoom"
+name_of DuplicatePerson = codes "DuplicatePerson"
+name_of KeyInUse = codes "KeyInUse"
+name_of (RoomShut room) = codes "RoomShut"
+name_of RoomTaken = codes "RoomTaken"
+name_of HasHome = codes "HasHome"
+name_of NoHome = codes "NoHome"
+name_of Withdrawn = codes "Withdrawn"
+name_of (WrongWordCount want got) = codes "WrongWordCount"
+name_of LimitReached = codes "LimitReached"
+name_of NotInRound = codes "NotInRound"
+name_of NoSuchRound = codes "NoSuchRound"
+name_of NotShut = codes "NotShut"
+name_of OutOfMemory = codes "OutOfMemory"

@@ -1,0 +1,37 @@
+-- The refusals that a command or a query may have, in their order: the first that applies counts.
+use Rattle.std.specs.Prelude.{Bool, true, false, not, List, [], ◌∷◌, ◌++◌, Option, None, Some, if◌then◌else◌}
+use Rattle.room_types.specs.Texts.{Text}
+use Rattle.office_core.specs.Office.{knows_room, is_shut, is_taken}
+use Rattle.office_core.specs.declared.office.Office.{Office}
+use Rattle.office_core.specs.declared.refusal.Refusal.{Refusal}
+use Rattle.office_core.specs.declared.refusal.Refusal.TheVariants.{UnknownRoom, RoomShut, RoomTaken}
+
+-- a refusal, and whether it applies
+abbrev pub Check : Type 0
+Check = Bool × Refusal
+
+-- the first refusal that applies
+abbrev pub first_refusal : List Check → Option Refusal
+first_refusal [] = None
+first_refusal (check ∷ checks) = if check.0 then Some check.1 else first_refusal checks
+
+-- a room is to be known and not shut
+abbrev pub room_checks : Office → Text → List Check
+room_checks office room =
+    (not (knows_room office room), UnknownRoom room)
+    ∷ (is_shut office room, RoomShut room) ∷ []
+
+-- a home is to be known, not shut and free
+abbrev pub home_checks : Office → Text → List Check
+home_checks office room = room_checks office room ++ (is_taken office room, RoomTaken) ∷ []
+
+-- the checks of a home, where there is one
+abbrev pub home_checks_if_any : Office → Option Text → List Check
+home_checks_if_any office None = []
+home_checks_if_any office (Some room) = home_checks office room
+
+-- whether a refusal names a room: it holds a copy of the code
+abbrev pub names_room : Refusal → Bool
+names_room (UnknownRoom room) = true
+names_room (RoomShut room) = true
+names_room _ = false

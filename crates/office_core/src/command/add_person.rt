@@ -1,0 +1,51 @@
+//! A person is added, perhaps with a home.
+ghost use Rattle.office_core.specs.Command.Decision.{Decides};
+ghost use Rattle.office_core.specs.Command.AddPerson.{checks, reply_to, changes_of};
+
+use crate::change::Change;
+use crate::command::decision::{Decision, one_change};
+use crate::office::Office;
+use crate::office::limits::PEOPLE_LIMIT;
+use crate::office::phases::is_preparing;
+use crate::refusal::Refusal;
+use crate::refusal::rooms::may_live_if_any;
+use crate::reply::Reply;
+use room_types::rows::copy_optional;
+use room_types::{Key, Name, PersonId, RoomCode};
+use std::alloc::Global;
+
+/// Decides to add a person. Refused in turn: `BadPhase` unless idle or open; `DuplicatePerson`; `KeyInUse`; for a home
+/// `UnknownRoom`, `RoomShut` or `RoomTaken`; `LimitReached` at `PEOPLE_LIMIT` people. It goes through the people.
+pub fn add_person(
+    alloc: Global,
+    office: &Office,
+    person: &PersonId,
+    name: &Name,
+    key: &Key,
+    home: &Option<RoomCode>,
+) -> Result<Decision, Refusal>
+    ensures { Decides (checks office.now person.now name.now key.now home.now)
+        (reply_to office.now person.now)
+        (changes_of office.now person.now name.now key.now home.now) result }
+{
+    if !is_preparing(office.phase) {
+        return Err(Refusal::BadPhase(office.phase));
+    }
+    if office.people.contains_key(person) {
+        return Err(Refusal::DuplicatePerson);
+    }
+    if office.owner(key).is_some() {
+        return Err(Refusal::KeyInUse);
+    }
+    may_live_if_any(office, home)?;
+    if office.people.len() >= PEOPLE_LIMIT {
+        return Err(Refusal::LimitReached);
+    }
+    let change = Change::PutPerson {
+        person: person.copy()?,
+        name: name.copy()?,
+        key: key.copy()?,
+        home: copy_optional(home)?,
+    };
+    one_change(alloc, Reply::Done, change)
+}

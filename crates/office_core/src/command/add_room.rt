@@ -1,0 +1,32 @@
+//! A room that is not shut is added.
+ghost use Rattle.office_core.specs.Command.Decision.{Decides};
+ghost use Rattle.office_core.specs.Command.AddRoom.{checks, reply_to, changes_of};
+
+use crate::change::Change;
+use crate::command::decision::{Decision, one_change};
+use crate::office::Office;
+use crate::office::limits::ROOM_LIMIT;
+use crate::office::phases::is_preparing;
+use crate::refusal::Refusal;
+use crate::reply::Reply;
+use room_types::RoomCode;
+use std::alloc::Global;
+
+/// Decides to add a room that is not shut. Refused in turn: `BadPhase` unless idle or open; `DuplicateRoom`;
+/// `LimitReached` at `ROOM_LIMIT` rooms.
+pub fn add_room(alloc: Global, office: &Office, room: &RoomCode) -> Result<Decision, Refusal>
+    ensures { Decides (checks office.now room.now) (reply_to office.now room.now)
+        (changes_of office.now room.now) result }
+{
+    if !is_preparing(office.phase) {
+        return Err(Refusal::BadPhase(office.phase));
+    }
+    if office.rooms.contains_key(room) {
+        return Err(Refusal::DuplicateRoom);
+    }
+    if office.rooms.len() >= ROOM_LIMIT {
+        return Err(Refusal::LimitReached);
+    }
+    let room = room.copy()?;
+    one_change(alloc, Reply::Done, Change::PutRoom { room, shut: false })
+}

@@ -1,0 +1,27 @@
+//! The round is given up.
+ghost use Rattle.office_core.specs.Command.Decision.{Decides};
+ghost use Rattle.office_core.specs.Command.Cancel.{checks, reply_to, changes_of};
+
+use crate::change::Change;
+use crate::command::decision::{Decision, two_changes};
+use crate::office::Office;
+use crate::office::phases::may_cancel;
+use crate::refusal::Refusal;
+use crate::reply::Reply;
+use room_types::Phase;
+use std::alloc::Global;
+
+/// Decides to give the round up, whose number stays used. Refused with `BadPhase` where no round is under way, or its
+/// results are published.
+pub fn cancel(alloc: Global, office: &Office) -> Result<Decision, Refusal>
+    ensures { Decides (checks office.now) (reply_to office.now) (changes_of office.now) result }
+{
+    if !may_cancel(office.phase) {
+        return Err(Refusal::BadPhase(office.phase));
+    }
+    let over = Change::PutRound {
+        number: office.number,
+        phase: Phase::Idle,
+    };
+    two_changes(alloc, Reply::Cancelled, Change::ClearRound, over)
+}

@@ -1,0 +1,27 @@
+//! The lists are final.
+ghost use Rattle.office_core.specs.Command.Decision.{Decides};
+ghost use Rattle.office_core.specs.Command.CloseRound.{checks, reply_to, changes_of};
+
+use crate::change::Change;
+use crate::command::decision::{Decision, one_change};
+use crate::office::Office;
+use crate::office::phases::is_open;
+use crate::refusal::Refusal;
+use crate::reply::Reply;
+use room_types::Phase;
+use std::alloc::Global;
+
+/// Decides to make the lists final, and counts the participants. Refused with `BadPhase` unless open.
+pub fn close_round(alloc: Global, office: &Office) -> Result<Decision, Refusal>
+    ensures { Decides (checks office.now) (reply_to office.now) (changes_of office.now) result }
+{
+    if !is_open(office.phase) {
+        return Err(Refusal::BadPhase(office.phase));
+    }
+    let participants = office.participant_count();
+    let change = Change::PutRound {
+        number: office.number,
+        phase: Phase::Closed,
+    };
+    one_change(alloc, Reply::Closed { participants }, change)
+}

@@ -1,0 +1,81 @@
+//! What a command leads to.
+ghost use Rattle.std.specs.Prelude.{IfOk, OnOk};
+ghost use Rattle.office_core.specs.Change.{LeadsOn};
+ghost use Rattle.office_core.specs.Command.Decision.{Decides};
+ghost use Rattle.office_core.specs.Command.{checks, next, reply_to, changes_of};
+ghost use Rattle.office_core.specs.Inner.Formed.{IsFormed};
+ghost use Rattle.office_core.specs.Office.Invariants.{IsLawful};
+ghost use Rattle.office_core.specs.Replies.{RowsAscend};
+
+use crate::command::Command;
+use crate::command::add_person::add_person;
+use crate::command::add_room::add_room;
+use crate::command::cancel::cancel;
+use crate::command::close_round::close_round;
+use crate::command::decision::Decision;
+use crate::command::draw::draw;
+use crate::command::leave::leave;
+use crate::command::open_round::open_round;
+use crate::command::publish::publish;
+use crate::command::remove::remove;
+use crate::command::reopen::reopen;
+use crate::command::run::run;
+use crate::command::set_choices::set_choices;
+use crate::command::set_home::set_home;
+use crate::command::settle::settle;
+use crate::command::shut::shut;
+use crate::command::withdraw::withdraw;
+use crate::office::Office;
+use crate::refusal::Refusal;
+use std::alloc::Global;
+
+/// Decides a command. It changes nothing by itself: the changes of the decision, each applied by `apply` in their
+/// order, carry the command out, and the office stays lawful.
+///
+/// # Errors
+///
+/// The first refusal of the command's line that applies: `BadPhase` in another phase, and then those of the command's
+/// own file. `OutOfMemory` only where memory is taken: for the code in `UnknownRoom` or `RoomShut`, and for the changes
+/// of a command that is not refused. A `Withdraw` that is repeated changes nothing, and is always answered.
+pub fn decide(alloc: Global, office: &Office, command: &Command) -> Result<Decision, Refusal>
+    requires { IsLawful office.now }
+    ensures decides { Decides (checks office.now command.now) (reply_to office.now command.now)
+        (changes_of office.now command.now) result }
+    ensures leads { IfOk result
+        (λ decision. LeadsOn office.now (next office.now command.now) decision.changes.items) }
+    ensures ascending { IfOk result (λ decision. RowsAscend decision.reply) }
+{
+    decision_of(alloc, office, command)
+}
+
+// The command's own function.
+fn decision_of(alloc: Global, office: &Office, command: &Command) -> Result<Decision, Refusal>
+    requires { IsLawful office.now }
+    ensures formed { OnOk result (IsFormed command.now) }
+    ensures decides { Decides (checks office.now command.now) (reply_to office.now command.now)
+        (changes_of office.now command.now) result }
+{
+    match command {
+        Command::AddRoom { room } => add_room(alloc, office, room),
+        Command::AddPerson {
+            person,
+            name,
+            key,
+            home,
+        } => add_person(alloc, office, person, name, key, home),
+        Command::SetHome { person, room } => set_home(alloc, office, person, room),
+        Command::Leave { person } => leave(alloc, office, person),
+        Command::Remove { person } => remove(alloc, office, person),
+        Command::Shut { room } => shut(alloc, office, room),
+        Command::Reopen { room } => reopen(alloc, office, room),
+        Command::OpenRound => open_round(alloc, office),
+        Command::SetChoices { person, choices } => set_choices(alloc, office, person, choices),
+        Command::Withdraw { person } => withdraw(alloc, office, person),
+        Command::CloseRound => close_round(alloc, office),
+        Command::Draw { words } => draw(alloc, office, words.as_slice()),
+        Command::Run => run(alloc, office),
+        Command::Publish => publish(alloc, office),
+        Command::Settle => settle(alloc, office),
+        Command::Cancel => cancel(alloc, office),
+    }
+}

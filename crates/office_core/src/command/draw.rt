@@ -1,0 +1,56 @@
+//! Each participant gets a word.
+ghost use Rattle.std.specs.Prelude.{◌≡◌, IfOk, length};
+ghost use Rattle.office_core.specs.Command.Decision.{Decides};
+ghost use Rattle.office_core.specs.Command.Draw.{checks, reply_to, changes_of, words_put};
+
+use crate::change::Change;
+use crate::command::decision::Decision;
+use crate::office::Office;
+use crate::office::phases::is_closed;
+use crate::refusal::Refusal;
+use crate::reply::Reply;
+use room_types::{OutOfMemory, PersonId, Phase, Word};
+use std::alloc::Global;
+
+/// Decides that word i goes to participant i, in ascending identifier. Refused in turn: `BadPhase` unless closed;
+/// `WrongWordCount` unless there is one word for each participant.
+#[tactic(auto, using(crate::proofs::CommandLemmas::Changes::has_last))]
+pub fn draw(alloc: Global, office: &Office, words: &[Word]) -> Result<Decision, Refusal>
+    ensures { Decides (checks office.now words.now) (reply_to office.now words.now)
+        (changes_of office.now words.now) result }
+{
+    if !is_closed(office.phase) {
+        return Err(Refusal::BadPhase(office.phase));
+    }
+    let want = office.participant_count();
+    let got = words.len();
+    if got != want {
+        return Err(Refusal::WrongWordCount { want, got });
+    }
+    let people = office.participants(alloc)?;
+    let mut changes = words_put(alloc, people.as_slice(), words)?;
+    changes.push(Change::PutRound {
+        number: office.number,
+        phase: Phase::Drawn,
+    })?;
+    Ok(Decision {
+        reply: Reply::Drawn { participants: want },
+        changes,
+    })
+}
+
+// A change for each word.
+#[tactic(auto, using(crate::proofs::CommandLemmas::Words::words_put_more))]
+fn words_put(alloc: Global, people: &[PersonId], words: &[Word]) -> Result<Vec<Change>, OutOfMemory>
+    requires { length words.now ≡ length people.now }
+    ensures { IfOk result (λ changes. changes.items ≡ words_put people.now words.now) }
+{
+    let mut changes = Vec::new(alloc);
+    for (i, person) in people.iter().enumerate() {
+        changes.push(Change::PutWord {
+            person: person.copy()?,
+            word: words[i],
+        })?;
+    }
+    Ok(changes)
+}

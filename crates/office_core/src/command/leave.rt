@@ -1,0 +1,30 @@
+//! Somebody gives the home up.
+ghost use Rattle.office_core.specs.Command.Decision.{Decides};
+ghost use Rattle.office_core.specs.Command.Leave.{checks, reply_to, changes_of};
+
+use crate::change::Change;
+use crate::command::decision::{Decision, one_change};
+use crate::office::Office;
+use crate::office::phases::is_idle;
+use crate::refusal::Refusal;
+use crate::reply::Reply;
+use room_types::PersonId;
+use std::alloc::Global;
+
+/// Decides that a person has no home from then on. Refused in turn: `BadPhase` unless idle; `UnknownPerson`; `NoHome`.
+pub fn leave(alloc: Global, office: &Office, person: &PersonId) -> Result<Decision, Refusal>
+    ensures { Decides (checks office.now person.now) (reply_to office.now person.now)
+        (changes_of office.now person.now) result }
+{
+    if !is_idle(office.phase) {
+        return Err(Refusal::BadPhase(office.phase));
+    }
+    let Some(kept) = office.people.get(person) else {
+        return Err(Refusal::UnknownPerson);
+    };
+    if !kept.home.is_some() {
+        return Err(Refusal::NoHome);
+    }
+    let person = person.copy()?;
+    one_change(alloc, Reply::Done, Change::PutHome { person, home: None })
+}

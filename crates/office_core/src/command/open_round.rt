@@ -1,0 +1,31 @@
+//! A round begins.
+ghost use Rattle.office_core.specs.Command.Decision.{Decides};
+ghost use Rattle.office_core.specs.Command.OpenRound.{checks, reply_to, changes_of};
+
+use crate::change::Change;
+use crate::command::decision::{Decision, one_change};
+use crate::office::Office;
+use crate::office::limits::ROUND_LIMIT;
+use crate::office::phases::is_idle;
+use crate::refusal::Refusal;
+use crate::reply::Reply;
+use room_types::Phase;
+use std::alloc::Global;
+
+/// Decides to begin the next round. Refused in turn: `BadPhase` unless idle; `LimitReached` after round `ROUND_LIMIT`.
+pub fn open_round(alloc: Global, office: &Office) -> Result<Decision, Refusal>
+    ensures { Decides (checks office.now) (reply_to office.now) (changes_of office.now) result }
+{
+    if !is_idle(office.phase) {
+        return Err(Refusal::BadPhase(office.phase));
+    }
+    if office.number >= ROUND_LIMIT {
+        return Err(Refusal::LimitReached);
+    }
+    let round = office.number + 1;
+    let change = Change::PutRound {
+        number: round,
+        phase: Phase::Opened,
+    };
+    one_change(alloc, Reply::Opened { round }, change)
+}

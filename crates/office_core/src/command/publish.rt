@@ -1,0 +1,27 @@
+//! Each participant sees the result.
+ghost use Rattle.office_core.specs.Command.Decision.{Decides};
+ghost use Rattle.office_core.specs.Command.Publish.{checks, reply_to, changes_of};
+
+use crate::change::Change;
+use crate::command::decision::{Decision, one_change};
+use crate::office::Office;
+use crate::office::phases::is_ran;
+use crate::refusal::Refusal;
+use crate::reply::Reply;
+use room_types::Phase;
+use std::alloc::Global;
+
+/// Decides to show each participant the result. Refused with `BadPhase` unless the round has run and is not published.
+pub fn publish(alloc: Global, office: &Office) -> Result<Decision, Refusal>
+    ensures { Decides (checks office.now) (reply_to office.now) (changes_of office.now) result }
+{
+    if !is_ran(office.phase) {
+        return Err(Refusal::BadPhase(office.phase));
+    }
+    let participants = office.participant_count();
+    let change = Change::PutRound {
+        number: office.number,
+        phase: Phase::Published,
+    };
+    one_change(alloc, Reply::Published { participants }, change)
+}

@@ -1,0 +1,31 @@
+//! A person without a home goes.
+ghost use Rattle.office_core.specs.Command.Decision.{Decides};
+ghost use Rattle.office_core.specs.Command.Remove.{checks, reply_to, changes_of};
+
+use crate::change::Change;
+use crate::command::decision::{Decision, one_change};
+use crate::office::Office;
+use crate::office::phases::is_idle;
+use crate::refusal::Refusal;
+use crate::reply::Reply;
+use room_types::PersonId;
+use std::alloc::Global;
+
+/// Decides to forget a person who has no home; recorded moves stay. Refused in turn: `BadPhase` unless idle;
+/// `UnknownPerson`; `HasHome`.
+pub fn remove(alloc: Global, office: &Office, person: &PersonId) -> Result<Decision, Refusal>
+    ensures { Decides (checks office.now person.now) (reply_to office.now person.now)
+        (changes_of office.now person.now) result }
+{
+    if !is_idle(office.phase) {
+        return Err(Refusal::BadPhase(office.phase));
+    }
+    let Some(kept) = office.people.get(person) else {
+        return Err(Refusal::UnknownPerson);
+    };
+    if kept.home.is_some() {
+        return Err(Refusal::HasHome);
+    }
+    let person = person.copy()?;
+    one_change(alloc, Reply::Done, Change::DropPerson { person })
+}

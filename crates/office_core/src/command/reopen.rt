@@ -1,0 +1,31 @@
+//! A shut room is open again, without a tenant.
+ghost use Rattle.office_core.specs.Command.Decision.{Decides};
+ghost use Rattle.office_core.specs.Command.Reopen.{checks, reply_to, changes_of};
+
+use crate::change::Change;
+use crate::command::decision::{Decision, one_change};
+use crate::office::Office;
+use crate::office::phases::is_preparing;
+use crate::refusal::{Refusal, unknown_room};
+use crate::reply::Reply;
+use room_types::RoomCode;
+use std::alloc::Global;
+
+/// Decides to bring a shut room back into use. Refused in turn: `BadPhase` unless idle or open; `UnknownRoom`;
+/// `NotShut`.
+pub fn reopen(alloc: Global, office: &Office, room: &RoomCode) -> Result<Decision, Refusal>
+    ensures { Decides (checks office.now room.now) (reply_to office.now room.now)
+        (changes_of office.now room.now) result }
+{
+    if !is_preparing(office.phase) {
+        return Err(Refusal::BadPhase(office.phase));
+    }
+    if !office.rooms.contains_key(room) {
+        return Err(unknown_room(room));
+    }
+    if !office.is_shut(room) {
+        return Err(Refusal::NotShut);
+    }
+    let room = room.copy()?;
+    one_change(alloc, Reply::Done, Change::PutRoom { room, shut: false })
+}

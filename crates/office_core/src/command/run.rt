@@ -1,0 +1,59 @@
+//! The rooms are traded.
+ghost use Rattle.std.specs.Prelude.{◌≡◌, IfOk, map as map_list};
+ghost use Rattle.std.specs.FinMap as map;
+ghost use Rattle.office_core.specs.Command.Decision.{Decides};
+ghost use Rattle.office_core.specs.Command.Run.{checks, reply_to, changes_of, result_put};
+ghost use Rattle.office_core.specs.Office.Invariants.{IsLawful};
+
+use crate::change::Change;
+use crate::command::decision::Decision;
+use crate::office::phases::is_drawn;
+use crate::office::{Assigned, Office};
+use crate::refusal::Refusal;
+use crate::reply::Reply;
+use crate::round::round_results;
+use room_types::grammars::PersonIds;
+use room_types::rows::copy_optional;
+use room_types::{OutOfMemory, Phase, Table};
+use std::alloc::Global;
+
+/// Decides the exchange: each participant's result is the room of top trading cycles in the round's problem
+/// (Abdulkadiroglu and Sönmez 1999). Refused with `BadPhase` unless drawn.
+#[tactic(auto, using(crate::proofs::CommandLemmas::Changes::has_last))]
+pub fn run(alloc: Global, office: &Office) -> Result<Decision, Refusal>
+    requires { IsLawful office.now }
+    ensures { Decides (checks office.now) (reply_to office.now) (changes_of office.now) result }
+{
+    if !is_drawn(office.phase) {
+        return Err(Refusal::BadPhase(office.phase));
+    }
+    let results = round_results(alloc, office)?;
+    let participants = office.participant_count();
+    let mut changes = results_put(alloc, &results)?;
+    changes.push(Change::PutRound {
+        number: office.number,
+        phase: Phase::Ran,
+    })?;
+    Ok(Decision {
+        reply: Reply::Ran { participants },
+        changes,
+    })
+}
+
+// A change for each result.
+fn results_put(
+    alloc: Global,
+    results: &Table<PersonIds, Assigned>,
+) -> Result<Vec<Change>, OutOfMemory>
+    ensures { IfOk result (λ changes.
+        changes.items ≡ map_list result_put (map.entries results.now)) }
+{
+    let mut changes = Vec::new(alloc);
+    for (id, given) in results.iter() {
+        changes.push(Change::PutResult {
+            person: id.copy()?,
+            room: copy_optional(&given.room)?,
+        })?;
+    }
+    Ok(changes)
+}

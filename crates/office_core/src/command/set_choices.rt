@@ -1,0 +1,46 @@
+//! A list of rooms replaces the one before.
+ghost use Rattle.std.specs.Prelude.{OnOk};
+ghost use Rattle.room_types.specs.Choices.{IsChoices};
+ghost use Rattle.office_core.specs.Command.Decision.{Decides};
+ghost use Rattle.office_core.specs.Command.SetChoices.{checks, reply_to, changes_of};
+
+use crate::change::Change;
+use crate::command::decision::{Decision, one_change};
+use crate::office::Office;
+use crate::office::phases::is_open;
+use crate::refusal::Refusal;
+use crate::refusal::rooms::may_list_all;
+use crate::reply::Reply;
+use room_types::{Choices, PersonId};
+use std::alloc::Global;
+
+/// Decides to replace a person's list. Refused in turn: `BadPhase` unless open; `UnknownPerson`; `Withdrawn`; for the
+/// first room that is not known or is shut `UnknownRoom` or `RoomShut`.
+pub fn set_choices(
+    alloc: Global,
+    office: &Office,
+    person: &PersonId,
+    choices: &Choices,
+) -> Result<Decision, Refusal>
+    ensures formed { OnOk result (IsChoices choices.now) }
+    ensures decides { Decides (checks office.now person.now choices.now)
+        (reply_to office.now person.now choices.now) (changes_of office.now person.now choices.now)
+        result }
+{
+    if !is_open(office.phase) {
+        return Err(Refusal::BadPhase(office.phase));
+    }
+    if !office.people.contains_key(person) {
+        return Err(Refusal::UnknownPerson);
+    }
+    if office.has_withdrawn(person) {
+        return Err(Refusal::Withdrawn);
+    }
+    may_list_all(office, choices.as_slice())?;
+    let change = Change::PutChoices {
+        person: person.copy()?,
+        choices: choices.copy()?,
+    };
+    let choices = choices.copy()?;
+    one_change(alloc, Reply::Chosen { choices }, change)
+}

@@ -1,0 +1,42 @@
+//! Somebody without a home gets one.
+ghost use Rattle.office_core.specs.Command.Decision.{Decides};
+ghost use Rattle.office_core.specs.Command.SetHome.{checks, reply_to, changes_of};
+
+use crate::change::Change;
+use crate::command::decision::{Decision, one_change};
+use crate::office::Office;
+use crate::office::phases::is_idle;
+use crate::refusal::Refusal;
+use crate::refusal::rooms::may_live;
+use crate::reply::Reply;
+use room_types::{PersonId, RoomCode};
+use std::alloc::Global;
+
+/// Decides that a person without a home moves into a room. Refused in turn: `BadPhase` unless idle; `UnknownPerson`;
+/// `HasHome`; `UnknownRoom`; `RoomShut`; `RoomTaken`. It goes through the people.
+pub fn set_home(
+    alloc: Global,
+    office: &Office,
+    person: &PersonId,
+    room: &RoomCode,
+) -> Result<Decision, Refusal>
+    ensures { Decides (checks office.now person.now room.now)
+        (reply_to office.now person.now room.now)
+        (changes_of office.now person.now room.now) result }
+{
+    if !is_idle(office.phase) {
+        return Err(Refusal::BadPhase(office.phase));
+    }
+    let Some(kept) = office.people.get(person) else {
+        return Err(Refusal::UnknownPerson);
+    };
+    if kept.home.is_some() {
+        return Err(Refusal::HasHome);
+    }
+    may_live(office, room)?;
+    let change = Change::PutHome {
+        person: person.copy()?,
+        home: Some(room.copy()?),
+    };
+    one_change(alloc, Reply::Done, change)
+}

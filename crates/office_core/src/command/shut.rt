@@ -1,0 +1,41 @@
+//! A room is shut, and its tenancy ends.
+ghost use Rattle.office_core.specs.Command.Decision.{Decides};
+ghost use Rattle.office_core.specs.Command.Shut.{checks, reply_to, changes_of};
+
+use crate::change::Change;
+use crate::command::decision::{Decision, one_change, two_changes};
+use crate::office::Office;
+use crate::office::phases::is_preparing;
+use crate::refusal::Refusal;
+use crate::refusal::rooms::may_list;
+use crate::reply::Reply;
+use room_types::RoomCode;
+use std::alloc::Global;
+
+/// Decides to take a room out of use; the reply names the tenant who loses the home. Refused in turn: `BadPhase` unless
+/// idle or open; `UnknownRoom`; `RoomShut`. It goes through the people.
+#[tactic(auto, using(crate::proofs::CommandLemmas::Changes::has_last))]
+pub fn shut(alloc: Global, office: &Office, room: &RoomCode) -> Result<Decision, Refusal>
+    ensures { Decides (checks office.now room.now) (reply_to office.now room.now)
+        (changes_of office.now room.now) result }
+{
+    if !is_preparing(office.phase) {
+        return Err(Refusal::BadPhase(office.phase));
+    }
+    may_list(office, room)?;
+    let closed = Change::PutRoom {
+        room: room.copy()?,
+        shut: true,
+    };
+    match office.tenant(room) {
+        Some(tenant) => {
+            let left = Change::PutHome {
+                person: tenant.copy()?,
+                home: None,
+            };
+            let displaced = Some(tenant.copy()?);
+            two_changes(alloc, Reply::Shut { displaced }, left, closed)
+        }
+        None => one_change(alloc, Reply::Shut { displaced: None }, closed),
+    }
+}

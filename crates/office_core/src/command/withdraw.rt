@@ -1,0 +1,34 @@
+//! Somebody takes no part in the round.
+ghost use Rattle.office_core.specs.Command.Decision.{Decides};
+ghost use Rattle.office_core.specs.Command.Withdraw.{checks, reply_to, changes_of};
+
+use crate::change::Change;
+use crate::command::decision::{Decision, one_change};
+use crate::office::Office;
+use crate::office::phases::is_open;
+use crate::refusal::Refusal;
+use crate::reply::Reply;
+use room_types::PersonId;
+use std::alloc::Global;
+
+/// Decides that a person, and that person's room, take no part in the round; a repeat changes nothing. Refused in turn:
+/// `BadPhase` unless open; `UnknownPerson`.
+pub fn withdraw(alloc: Global, office: &Office, person: &PersonId) -> Result<Decision, Refusal>
+    ensures { Decides (checks office.now person.now) (reply_to office.now person.now)
+        (changes_of office.now person.now) result }
+{
+    if !is_open(office.phase) {
+        return Err(Refusal::BadPhase(office.phase));
+    }
+    if !office.people.contains_key(person) {
+        return Err(Refusal::UnknownPerson);
+    }
+    if office.has_withdrawn(person) {
+        return Ok(Decision {
+            reply: Reply::Withdrawn,
+            changes: Vec::new(alloc),
+        });
+    }
+    let person = person.copy()?;
+    one_change(alloc, Reply::Withdrawn, Change::PutWithdrawn { person })
+}

@@ -1,0 +1,133 @@
+//! What is read from an office.
+ghost use Rattle.std.specs.Prelude.{◌≡◌, IfOk, length};
+ghost use Rattle.std.specs.Option.{option_copied};
+ghost use Rattle.office_core.specs.Office.{tenant, owner, home_of, recorded_result, is_shut, lives_in};
+ghost use Rattle.office_core.specs.Office.{has_withdrawn, participants, is_over, is_under_way, is_shown};
+
+use crate::office::Office;
+use crate::office::person::Person;
+use crate::office::phases::{is_idle, is_published};
+use room_types::{Grammar, Key, OutOfMemory, PersonId, RoomCode, Text};
+use std::alloc::Global;
+
+impl Office {
+    /// Who lives in a room, or `None` where nobody does. It goes through the people.
+    pub fn tenant(&self, room: &RoomCode) -> Option<&PersonId>
+        ensures { option_copied result ≡ tenant self.now room.now }
+    {
+        for (id, person) in self.people.iter() {
+            if lives_in(person, room) {
+                return Some(id);
+            }
+        }
+        None
+    }
+
+    /// Whose key it is, or `None` where it is nobody's. It goes through the people.
+    pub fn owner(&self, key: &Key) -> Option<&PersonId>
+        ensures { option_copied result ≡ owner self.now key.now }
+    {
+        for (id, person) in self.people.iter() {
+            if person.key == *key {
+                return Some(id);
+            }
+        }
+        None
+    }
+
+    /// Where a person lives, or `None` for no home and for somebody unknown.
+    pub fn home_of(&self, person: &PersonId) -> Option<&RoomCode>
+        ensures { option_copied result ≡ home_of self.now person.now }
+    {
+        self.people.get(person)?.home.as_ref()
+    }
+
+    /// The recorded result of a person, or `None` for no room and where none is recorded.
+    pub fn recorded_result(&self, person: &PersonId) -> Option<&RoomCode>
+        ensures { option_copied result ≡ recorded_result self.now person.now }
+    {
+        self.results.get(person)?.room.as_ref()
+    }
+
+    /// Whether a room is known and shut.
+    pub fn is_shut(&self, room: &RoomCode) -> bool
+        ensures { result ≡ is_shut self.now room.now }
+    {
+        self.rooms.get(room).copied().unwrap_or(false)
+    }
+
+    /// Whether a person has withdrawn from the round.
+    pub fn has_withdrawn(&self, person: &PersonId) -> bool
+        ensures { result ≡ has_withdrawn self.now person.now }
+    {
+        self.withdrawn.contains_key(person)
+    }
+
+    /// Whether a person sees the result.
+    pub fn is_shown(&self, person: &PersonId) -> bool
+        ensures { result ≡ is_shown self.now person.now }
+    {
+        is_published(self.phase) && !self.has_withdrawn(person)
+    }
+
+    /// Whether a round is settled or cancelled.
+    pub fn is_over(&self, round: u16) -> bool
+        ensures { result ≡ is_over self.now round }
+    {
+        1 <= round && round <= self.number && !self.is_under_way(round)
+    }
+
+    /// Whether a round has begun, and is neither settled nor cancelled.
+    pub fn is_under_way(&self, round: u16) -> bool
+        ensures { result ≡ is_under_way self.now round }
+    {
+        !is_idle(self.phase) && round == self.number
+    }
+
+    /// How many people have not withdrawn. It takes no memory.
+    pub fn participant_count(&self) -> usize
+        ensures { result ≡ length (participants self.now) }
+    {
+        let mut count = 0;
+        for (id, _) in self.people.iter() {
+            if !self.has_withdrawn(id) {
+                count += 1;
+            }
+        }
+        count
+    }
+
+    /// Who has not withdrawn, by identifier.
+    pub fn participants(&self, alloc: Global) -> Result<Vec<PersonId>, OutOfMemory>
+        ensures { IfOk result (λ people. people.items ≡ participants self.now) }
+    {
+        let mut people = Vec::new(alloc);
+        for (id, _) in self.people.iter() {
+            if !self.has_withdrawn(id) {
+                people.push(id.copy()?)?;
+            }
+        }
+        Ok(people)
+    }
+}
+
+/// A copy of a text that was found, if any.
+pub(crate) fn copy_found<G: Grammar>(
+    found: Option<&Text<G>>,
+) -> Result<Option<Text<G>>, OutOfMemory>
+    ensures { IfOk result (λ copy. copy ≡ option_copied found.entry) }
+{
+    match found {
+        Some(text) => Ok(Some(text.copy()?)),
+        None => Ok(None),
+    }
+}
+
+fn lives_in(person: &Person, room: &RoomCode) -> bool
+    ensures { result ≡ lives_in room.now person.now }
+{
+    match &person.home {
+        Some(home) => home == room,
+        None => false,
+    }
+}

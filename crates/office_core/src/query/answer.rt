@@ -1,0 +1,48 @@
+//! What a query is answered.
+ghost use Rattle.std.specs.Prelude.{IfOk};
+ghost use Rattle.office_core.specs.Query.Answer.{Tells};
+ghost use Rattle.office_core.specs.Office.Invariants.{IsLawful};
+ghost use Rattle.office_core.specs.Query.{told, GainsNothing};
+ghost use Rattle.office_core.specs.Replies.{RowsAscend};
+
+use crate::office::Office;
+use crate::query::Query;
+use crate::query::me::me;
+use crate::query::moves::moves;
+use crate::query::order::order;
+use crate::query::people::people;
+use crate::query::results::results;
+use crate::query::rooms::rooms;
+use crate::query::round::round;
+use crate::query::what_if::what_if;
+use crate::refusal::Refusal;
+use crate::reply::Reply;
+use std::alloc::Global;
+
+/// Answers a query, and changes nothing. The room that another list would give is never ranked above the result, by the
+/// recorded list. Rows of rooms ascend by code, and rows of people and of results by identifier.
+///
+/// # Errors
+///
+/// `BadPhase` for `Order` before the draw, and for `Results` and `WhatIf` before the run; `NoSuchRound` for the moves
+/// of a round that is not over; `UnknownPerson` for a key or an identifier that nobody has; `NotInRound` for `WhatIf`
+/// of somebody who has withdrawn, and for the first room on the list that is not known or is shut `UnknownRoom` or
+/// `RoomShut`. `OutOfMemory` only for the code in a refusal, and for every reply but that of `Round`, and those of
+/// `Rooms`, `People`, `Results` and `Moves` where there are none.
+pub fn answer(alloc: Global, office: &Office, query: &Query) -> Result<Reply, Refusal>
+    requires { IsLawful office.now }
+    ensures told { Tells (told office.now query.now) result }
+    ensures no_gain { IfOk result (GainsNothing office.now query.now) }
+    ensures ascending { IfOk result RowsAscend }
+{
+    match query {
+        Query::Rooms => rooms(alloc, office),
+        Query::People => people(alloc, office),
+        Query::Round => round(office),
+        Query::Order => order(alloc, office),
+        Query::Results => results(alloc, office),
+        Query::Moves(number) => moves(alloc, office, *number),
+        Query::Me(key) => me(alloc, office, key),
+        Query::WhatIf(person, choices) => what_if(alloc, office, person, choices),
+    }
+}

@@ -1,0 +1,76 @@
+//! What a person sees by the key.
+ghost use Rattle.std.specs.Prelude.{◌≡◌, IfOk};
+ghost use Rattle.office_core.specs.Query.Answer.{Tells};
+ghost use Rattle.office_core.specs.Office.{choices_of};
+ghost use Rattle.office_core.specs.Query.Me.{told, standing_of, shown_result};
+
+use crate::office::Office;
+use crate::office::look::copy_found;
+use crate::office::person::Person;
+use crate::refusal::Refusal;
+use crate::reply::{Reply, Standing};
+use room_types::rows::copy_optional;
+use room_types::{Choices, Key, OutOfMemory, PersonId, RoomCode};
+use std::alloc::Global;
+
+/// What the person of this key sees. Refused with `UnknownPerson` where nobody has the key. It goes through the people.
+pub fn me(alloc: Global, office: &Office, key: &Key) -> Result<Reply, Refusal>
+    ensures { Tells (told office.now key.now) result }
+{
+    let Some(id) = office.owner(key) else {
+        return Err(Refusal::UnknownPerson);
+    };
+    let Some(person) = office.people.get(id) else {
+        return Err(Refusal::UnknownPerson);
+    };
+    let standing = standing_of(alloc, office, id, person)?;
+    Ok(Reply::Me(standing))
+}
+
+fn standing_of(
+    alloc: Global,
+    office: &Office,
+    id: &PersonId,
+    person: &Person,
+) -> Result<Standing, OutOfMemory>
+    ensures { IfOk result (λ seen. seen ≡ standing_of office.now id.now person.now) }
+{
+    Ok(Standing {
+        person: id.copy()?,
+        name: person.name.copy()?,
+        home: copy_optional(&person.home)?,
+        round: office.number,
+        phase: office.phase,
+        choices: recorded_choices(alloc, office, id)?,
+        withdrawn: office.has_withdrawn(id),
+        shown: office.is_shown(id),
+        result: shown_result(office, id)?,
+    })
+}
+
+// A copy of the recorded list, or the empty one.
+fn recorded_choices(
+    alloc: Global,
+    office: &Office,
+    person: &PersonId,
+) -> Result<Choices, OutOfMemory>
+    ensures { IfOk result (λ choices. choices ≡ choices_of office.now person.now) }
+{
+    if let Some(choices) = office.choices.get(person) {
+        return choices.copy();
+    }
+    match Choices::read(Vec::new(alloc)) {
+        Ok(choices) => Ok(choices),
+        Err(_) => Err(OutOfMemory {}),
+    }
+}
+
+// A copy of the result, where it is shown.
+fn shown_result(office: &Office, person: &PersonId) -> Result<Option<RoomCode>, OutOfMemory>
+    ensures { IfOk result (λ room. room ≡ shown_result office.now person.now) }
+{
+    if !office.is_shown(person) {
+        return Ok(None);
+    }
+    copy_found(office.recorded_result(person))
+}

@@ -1,0 +1,44 @@
+//! The moves of a round that is over.
+ghost use Rattle.std.specs.Prelude.{◌≡◌, IfOk, OnErr, false};
+ghost use Rattle.office_core.specs.Empty.{is_empty};
+ghost use Rattle.office_core.specs.Query.Answer.{Tells};
+ghost use Rattle.office_core.specs.Query.Moves.{told, move_rows};
+
+use crate::office::Office;
+use crate::refusal::Refusal;
+use crate::reply::Reply;
+use room_types::rows::copy_optional;
+use room_types::{Listing, Move, OutOfMemory};
+use std::alloc::Global;
+
+/// The moves of this round, by identifier; none of a round that was cancelled. Refused with `NoSuchRound` unless
+/// the round is over.
+pub fn moves(alloc: Global, office: &Office, round: u16) -> Result<Reply, Refusal>
+    ensures { Tells (told office.now round) result }
+{
+    if !office.is_over(round) {
+        return Err(Refusal::NoSuchRound);
+    }
+    let rows = move_rows(alloc, office, round)?;
+    Ok(Reply::Moves(Listing::new(rows)))
+}
+
+fn move_rows(alloc: Global, office: &Office, round: u16) -> Result<Vec<Move>, OutOfMemory>
+    ensures rows { IfOk result (λ rows. rows.items ≡ move_rows office.now round) }
+    ensures memory { OnErr result (is_empty (move_rows office.now round) ≡ false) }
+{
+    let mut rows = Vec::new(alloc);
+    let Some(moves) = office.moves.get(round) else {
+        return Ok(rows);
+    };
+    for (id, moved) in moves.by_person.iter() {
+        rows.push(Move {
+            round,
+            person: id.copy()?,
+            from: copy_optional(&moved.from)?,
+            to: copy_optional(&moved.to)?,
+            wave: moved.wave,
+        })?;
+    }
+    Ok(rows)
+}

@@ -1,0 +1,42 @@
+//! The participants in the drawn order.
+ghost use Rattle.std.specs.Prelude.{◌≡◌, IfOk, map};
+ghost use Rattle.office_core.specs.Query.Answer.{Tells};
+ghost use Rattle.office_core.specs.Query.Order.{told, order_row};
+
+use crate::office::Office;
+use crate::office::phases::has_words;
+use crate::refusal::Refusal;
+use crate::reply::{OrderRow, Reply};
+use crate::round::people::{round_people, word_of};
+use room_types::{Listing, OutOfMemory, PersonId};
+use std::alloc::Global;
+
+/// The participants in the drawn order, with their words. Refused with `BadPhase` where there are no words.
+pub fn order(alloc: Global, office: &Office) -> Result<Reply, Refusal>
+    ensures { Tells (told office.now) result }
+{
+    if !has_words(office.phase) {
+        return Err(Refusal::BadPhase(office.phase));
+    }
+    let people = round_people(alloc, office)?;
+    let rows = order_rows(alloc, office, people.as_slice())?;
+    Ok(Reply::Order(Listing::new(rows)))
+}
+
+// Each of the people with the word.
+fn order_rows(
+    alloc: Global,
+    office: &Office,
+    people: &[PersonId],
+) -> Result<Vec<OrderRow>, OutOfMemory>
+    ensures { IfOk result (λ rows. rows.items ≡ map (order_row office.now) people.now) }
+{
+    let mut rows = Vec::with_capacity(alloc, people.len())?;
+    for person in people {
+        rows.push(OrderRow {
+            word: word_of(office, person),
+            person: person.copy()?,
+        })?;
+    }
+    Ok(rows)
+}

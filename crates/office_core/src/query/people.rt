@@ -1,0 +1,25 @@
+//! The people by identifier.
+ghost use Rattle.office_core.specs.Query.Answer.{Tells};
+ghost use Rattle.office_core.specs.Query.People.{told};
+
+use crate::office::Office;
+use crate::refusal::Refusal;
+use crate::reply::Reply;
+use room_types::rows::copy_optional;
+use room_types::{Listing, PersonRow};
+use std::alloc::Global;
+
+/// The people by identifier, without their keys.
+pub fn people(alloc: Global, office: &Office) -> Result<Reply, Refusal>
+    ensures { Tells (told office.now) result }
+{
+    let mut rows = Vec::new(alloc);
+    for (id, person) in office.people.iter() {
+        rows.push(PersonRow {
+            person: id.copy()?,
+            name: person.name.copy()?,
+            home: copy_optional(&person.home)?,
+        })?;
+    }
+    Ok(Reply::People(Listing::new(rows)))
+}

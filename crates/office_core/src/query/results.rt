@@ -1,0 +1,38 @@
+//! What the participants get.
+ghost use Rattle.std.specs.Prelude.{◌≡◌, IfOk, OnErr, false};
+ghost use Rattle.office_core.specs.Empty.{is_empty};
+ghost use Rattle.office_core.specs.Query.Answer.{Tells};
+ghost use Rattle.office_core.specs.Query.Results.{told, result_rows};
+
+use crate::office::Office;
+use crate::office::phases::has_results;
+use crate::refusal::Refusal;
+use crate::reply::Reply;
+use room_types::rows::copy_optional;
+use room_types::{Listing, OutOfMemory, ResultRow};
+use std::alloc::Global;
+
+/// What each participant gets, by identifier. Refused with `BadPhase` where there are no results.
+pub fn results(alloc: Global, office: &Office) -> Result<Reply, Refusal>
+    ensures { Tells (told office.now) result }
+{
+    if !has_results(office.phase) {
+        return Err(Refusal::BadPhase(office.phase));
+    }
+    let rows = result_rows(alloc, office)?;
+    Ok(Reply::Results(Listing::new(rows)))
+}
+
+fn result_rows(alloc: Global, office: &Office) -> Result<Vec<ResultRow>, OutOfMemory>
+    ensures rows { IfOk result (λ rows. rows.items ≡ result_rows office.now) }
+    ensures memory { OnErr result (is_empty (result_rows office.now) ≡ false) }
+{
+    let mut rows = Vec::new(alloc);
+    for (id, given) in office.results.iter() {
+        rows.push(ResultRow {
+            person: id.copy()?,
+            room: copy_optional(&given.room)?,
+        })?;
+    }
+    Ok(rows)
+}

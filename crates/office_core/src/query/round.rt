@@ -1,0 +1,19 @@
+//! The round's number and phase, with counts.
+ghost use Rattle.std.specs.Prelude.{◌≡◌};
+ghost use Rattle.office_core.specs.Query.Round.{told};
+
+use crate::office::Office;
+use crate::refusal::Refusal;
+use crate::reply::Reply;
+
+/// The last round's number, the phase, how many people there are, and how many have withdrawn. It takes no memory.
+pub fn round(office: &Office) -> Result<Reply, Refusal>
+    ensures { result ≡ told office.now }
+{
+    Ok(Reply::Round {
+        number: office.number,
+        phase: office.phase,
+        people: office.people.len(),
+        withdrawn: office.withdrawn.len(),
+    })
+}

@@ -1,0 +1,14 @@
+//! Requests to the office, and who handles them.
+#![tactic(auto)]
+
+pub mod handler;
+pub mod handling;
+pub mod in_memory;
+pub mod requests;
+
+pub use crate::handler::Handler;
+pub use crate::handling::handle_all;
+pub use crate::requests::{Answer, Request};
+
+#[cfg(test)]
+mod tests;

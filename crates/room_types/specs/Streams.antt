@@ -1,0 +1,42 @@
+-- What is seen of the readers and writers that are lent.
+use Rattle.std.specs.Prelude.{◌≡◌, ℕ, zero, suc, Bool, List, length, Option}
+use Rattle.std.specs.Io.KnownBytes.{Appends}
+use Rattle.room_types.specs.Watched.{watched_inner, watched_failed, watched_reads, watched_taken, watched_flushes, watched_pending, counted}
+use Rattle.room_types.specs.declared.watched.Watched.{Watched}
+
+-- a reader: the bytes it has left, if it tells them, whether a call of it failed, and how often it was read
+pub record Input : Type 0 where
+  pub remaining : Option (List ℕ)
+  pub failed : Bool
+  pub reads : ℕ
+
+-- a writer: the bytes it holds, if it tells them, whether a call of it failed, how many bytes it took, how often it was flushed,
+-- and whether it took bytes since a flush last succeeded
+pub record Output : Type 0 where
+  pub contents : Option (List ℕ)
+  pub failed : Bool
+  pub taken : ℕ
+  pub flushes : ℕ
+  pub pending : Bool
+
+abbrev pub input_of : {R : Type 0} → (R → Option (List ℕ)) → Watched R → Input
+input_of remaining w = record { remaining = remaining (watched_inner w); failed = watched_failed w; reads = watched_reads w }
+
+abbrev pub output_of : {W : Type 0} → (W → Option (List ℕ)) → Watched W → Output
+output_of contents w = record {
+  contents = contents (watched_inner w);
+  failed = watched_failed w;
+  taken = watched_taken w;
+  flushes = watched_flushes w;
+  pending = watched_pending w;
+}
+
+-- the count of bytes after n more, up to the greatest number that fits
+abbrev pub count_after : ℕ → ℕ → ℕ
+count_after count zero = count
+count_after count (suc n) = counted count (suc n)
+
+-- exactly these bytes went out
+pub record Puts (before after : Output) (bytes : List ℕ) : Type 0 where
+  pub written : Appends before.contents after.contents bytes
+  pub taken : after.taken ≡ count_after before.taken (length bytes)

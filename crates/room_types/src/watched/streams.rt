@@ -1,0 +1,90 @@
+//! A stream that is watched.
+ghost use Rattle.std.specs.Prelude.{◌≡◌, ◌&&◌, ◌||◌};
+ghost use Rattle.std.specs.Io.{ReadsAtMost, WritesAtMost};
+ghost use Rattle.std.specs.Io.KnownBytes.{Keeps, ReadConsumes, WriteAppends};
+ghost use Rattle.room_types.specs.Watched.{watched_inner, watched_failed, watched_reads, watched_taken, watched_flushes, watched_pending, counted, has_taken, is_failure, is_failed_write, taken_after};
+
+use crate::stream::Stream;
+use crate::watched::Watched;
+use std::io::Result;
+
+impl<T: Stream> Watched<T> {
+    /// A read, which keeps what was written.
+    pub fn read_some(&mut self, buf: &mut [u8]) -> Result<usize>
+        ensures bound { ReadsAtMost result buf.new }
+        ensures bytes { ReadConsumes (T.remaining (watched_inner self.old))
+            (T.remaining (watched_inner self.new)) result buf.new }
+        ensures kept { Keeps (T.contents (watched_inner self.old))
+            (T.contents (watched_inner self.new)) }
+        ensures failed { watched_failed self.new ≡ watched_failed self.old || is_failure result }
+        ensures reads { watched_reads self.new ≡ counted (watched_reads self.old) 1 }
+        ensures taken { watched_taken self.new ≡ watched_taken self.old }
+        ensures flushes { watched_flushes self.new ≡ watched_flushes self.old }
+        ensures pending { watched_pending self.new ≡ watched_pending self.old }
+    {
+        self.reads = self.reads.saturating_add(1);
+        let result = self.inner.read_some(buf);
+        if result.is_err() {
+            self.failed = true;
+        }
+        result
+    }
+
+    /// A write, which keeps what is left to read.
+    pub fn write_some(&mut self, buf: &[u8]) -> Result<usize>
+        ensures bound { WritesAtMost result buf.now }
+        ensures bytes { WriteAppends (T.contents (watched_inner self.old))
+            (T.contents (watched_inner self.new)) result buf.now }
+        ensures kept { Keeps (T.remaining (watched_inner self.old))
+            (T.remaining (watched_inner self.new)) }
+        ensures failed { watched_failed self.new
+            ≡ watched_failed self.old || is_failed_write buf.now result }
+        ensures reads { watched_reads self.new ≡ watched_reads self.old }
+        ensures taken { watched_taken self.new ≡ taken_after (watched_taken self.old) result }
+        ensures flushes { watched_flushes self.new ≡ watched_flushes self.old }
+        ensures pending { watched_pending self.new ≡ has_taken result || watched_pending self.old }
+    {
+        let result = self.inner.write_some(buf);
+        match result {
+            Ok(n) => {
+                if n == 0 && !buf.is_empty() {
+                    self.failed = true;
+                }
+                if n > 0 {
+                    self.pending = true;
+                }
+                self.taken = self.taken.saturating_add(n as u64);
+                Ok(n)
+            }
+            Err(e) => {
+                self.failed = true;
+                Err(e)
+            }
+        }
+    }
+
+    /// A flush, which keeps what was written and what is left to read.
+    pub fn flush_all(&mut self) -> Result<()>
+        ensures bytes { Keeps (T.contents (watched_inner self.old))
+            (T.contents (watched_inner self.new)) }
+        ensures kept { Keeps (T.remaining (watched_inner self.old))
+            (T.remaining (watched_inner self.new)) }
+        ensures failed { watched_failed self.new ≡ watched_failed self.old || is_failure result }
+        ensures reads { watched_reads self.new ≡ watched_reads self.old }
+        ensures taken { watched_taken self.new ≡ watched_taken self.old }
+        ensures flushes { watched_flushes self.new ≡ counted (watched_flushes self.old) 1 }
+        ensures pending { watched_pending self.new ≡ is_failure result && watched_pending self.old }
+    {
+        self.flushes = self.flushes.saturating_add(1);
+        match self.inner.flush_all() {
+            Ok(()) => {
+                self.pending = false;
+                Ok(())
+            }
+            Err(e) => {
+                self.failed = true;
+                Err(e)
+            }
+        }
+    }
+}

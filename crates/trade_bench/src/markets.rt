@@ -1,0 +1,198 @@
+//! The markets that are run. `bench/line` draws them by the same steps.
+ghost use Rattle.std.specs.Prelude.{◌<◌, length};
+
+use crate::generator::Generator;
+use std::alloc::{AllocError, Global};
+use std::fmt;
+use trade_line::fault::TradeFault;
+use trade_line::problem::Problem;
+
+const SEED: u64 = 1;
+
+const SIZES: [usize; 6] = [100, 500, 1000, 2000, 4000, 8000];
+
+// How many rooms each person lists.
+const LISTED: [usize; 3] = [5, 20, 40];
+
+const KINDS: [(Kind, &'static [usize]); 5] = [
+    (Kind::AllTenants, &LISTED),
+    (Kind::HalfTenants, &LISTED),
+    (Kind::NoTenants, &LISTED),
+    (Kind::OneList, &[40]),
+    (Kind::Chain, &[1]),
+];
+
+/// Who lives where, and what is listed.
+#[derive(Clone, Copy)]
+pub enum Kind {
+    /// Everybody lives somewhere, and lists rooms of their own.
+    AllTenants,
+    /// Each person lives somewhere with a chance of a half, and lists rooms of their own.
+    HalfTenants,
+    /// Nobody lives anywhere, and each person lists rooms of their own.
+    NoTenants,
+    /// Nobody lives anywhere, and all list the same rooms.
+    OneList,
+    /// Each tenant lists the room of the next, and the last lists a vacant room.
+    Chain,
+}
+
+impl fmt::Display for Kind {
+    fn fmt<W: fmt::Write>(&self, f: &mut fmt::Formatter<W>) -> fmt::Result {
+        f.write_str(match self {
+            Kind::AllTenants => "all_tenants",
+            Kind::HalfTenants => "half_tenants",
+            Kind::NoTenants => "no_tenants",
+            Kind::OneList => "one_list",
+            Kind::Chain => "chain",
+        })
+    }
+}
+
+/// How many people there are, how many rooms each lists, and the kind of market.
+#[derive(Clone, Copy)]
+pub struct Shape {
+    pub people: usize,
+    pub listed: usize,
+    pub kind: Kind,
+}
+
+/// All shapes that are run, the smallest first.
+pub fn shapes(alloc: Global) -> Result<Vec<Shape>, AllocError> {
+    let mut shapes = Vec::new(alloc);
+    for people in SIZES {
+        for (kind, lengths) in KINDS {
+            for listed in lengths {
+                shapes.push(Shape {
+                    people,
+                    listed: *listed,
+                    kind,
+                })?;
+            }
+        }
+    }
+    Ok(shapes)
+}
+
+impl Shape {
+    /// The market of this shape, always the same.
+    pub fn problem(&self, alloc: Global) -> Result<Problem, TradeFault> {
+        match self.kind {
+            Kind::AllTenants => self.drawn(alloc, 10),
+            Kind::HalfTenants => self.drawn(alloc, 5),
+            Kind::NoTenants => self.drawn(alloc, 0),
+            Kind::OneList => self.one_list(alloc),
+            Kind::Chain => self.chain(alloc),
+        }
+    }
+
+    // Of ten people so many live somewhere, on average, and each lists rooms of their own.
+    fn drawn(&self, alloc: Global, tenths: usize) -> Result<Problem, TradeFault> {
+        let mut generator = Generator::new(SEED);
+        let mut rooms = shuffled(alloc, self.people, &mut generator)?;
+        let homes = drawn_homes(alloc, &rooms, tenths, &mut generator)?;
+        let mut lists = Vec::with_capacity(alloc, self.people)?;
+        for home in &homes {
+            lists.push(list_without(alloc, *home, self.listed, &mut rooms, &mut generator)?)?;
+        }
+        Problem::new(alloc, self.people, self.people, homes, lists)
+    }
+
+    fn one_list(&self, alloc: Global) -> Result<Problem, TradeFault> {
+        let mut generator = Generator::new(SEED);
+        let mut rooms = numbers(alloc, self.people)?;
+        let list = list_without(alloc, None, self.listed, &mut rooms, &mut generator)?;
+        let homes = vec![in alloc; None; self.people]?;
+        let mut lists = Vec::with_capacity(alloc, self.people)?;
+        for _ in 0..self.people {
+            lists.push(Vec::from_slice(alloc, &list)?)?;
+        }
+        Problem::new(alloc, self.people, self.people, homes, lists)
+    }
+
+    fn chain(&self, alloc: Global) -> Result<Problem, TradeFault> {
+        let mut homes = Vec::with_capacity(alloc, self.people)?;
+        let mut lists = Vec::with_capacity(alloc, self.people)?;
+        for person in 0..self.people {
+            homes.push(Some(person))?;
+            lists.push(vec![in alloc; person + 1]?)?;
+        }
+        Problem::new(
+            alloc,
+            self.people,
+            self.people.saturating_add(1),
+            homes,
+            lists,
+        )
+    }
+}
+
+// All numbers below the count.
+fn numbers(alloc: Global, count: usize) -> Result<Vec<usize>, AllocError> {
+    let mut numbers = Vec::with_capacity(alloc, count)?;
+    for number in 0..count {
+        numbers.push(number)?;
+    }
+    Ok(numbers)
+}
+
+// All numbers below the count, in a drawn order.
+fn shuffled(
+    alloc: Global,
+    count: usize,
+    generator: &mut Generator,
+) -> Result<Vec<usize>, AllocError> {
+    let mut rooms = numbers(alloc, count)?;
+    for place in 0..rooms.len() {
+        swap_on(&mut rooms, place, generator);
+    }
+    Ok(rooms)
+}
+
+// Of ten people so many live somewhere, on average, each in the room at their own place.
+fn drawn_homes(
+    alloc: Global,
+    rooms: &[usize],
+    tenths: usize,
+    generator: &mut Generator,
+) -> Result<Vec<Option<usize>>, AllocError> {
+    let mut homes = Vec::with_capacity(alloc, rooms.len())?;
+    for room in rooms {
+        let home = if generator.below(10) < tenths {
+            Some(*room)
+        } else {
+            None
+        };
+        homes.push(home)?;
+    }
+    Ok(homes)
+}
+
+// Puts a room that stands at this place or behind it at this place.
+fn swap_on(rooms: &mut [usize], place: usize, generator: &mut Generator)
+    requires { place < length rooms.old }
+{
+    let other = place + generator.below(rooms.len() - place);
+    rooms.swap(place, other);
+}
+
+// So many different rooms that are not the home, where there are so many.
+fn list_without(
+    alloc: Global,
+    home: Option<usize>,
+    listed: usize,
+    rooms: &mut [usize],
+    generator: &mut Generator,
+) -> Result<Vec<usize>, AllocError> {
+    let mut list = Vec::with_capacity(alloc, listed)?;
+    for place in 0..rooms.len() {
+        if list.len() == listed {
+            break;
+        }
+        swap_on(rooms, place, generator);
+        if home != Some(rooms[place]) {
+            list.push(rooms[place])?;
+        }
+    }
+    Ok(list)
+}

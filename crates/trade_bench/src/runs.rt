@@ -1,0 +1,43 @@
+//! Runs of one market.
+use std::alloc::Global;
+use std::time::Instant;
+use trade_line::bench::Bench;
+use trade_line::line::Line;
+use trade_line::linked_line::LinkedLine;
+use trade_line::out_of_memory::OutOfMemory;
+use trade_line::outcome::Outcome;
+use trade_line::problem::Problem;
+use trade_line::trade::run;
+
+// People and runs of one measurement, multiplied.
+const TURNS: usize = 50_000;
+
+/// One run, with the memory that it takes.
+pub fn once(alloc: Global, problem: &Problem) -> Result<Outcome, OutOfMemory> {
+    let line = LinkedLine::whole(alloc, problem.people())?;
+    let bench = Bench::new(alloc, problem)?;
+    Ok(run(problem, line, bench))
+}
+
+/// A number that tells the rooms of one run from those of another.
+pub fn check(problem: &Problem, outcome: &Outcome) -> u64 {
+    let mut sum: u64 = 0;
+    for person in 0..problem.people() {
+        let number = match outcome.room_of(person) {
+            Some(room) => (room as u64).wrapping_add(1),
+            None => 0,
+        };
+        sum = sum.wrapping_mul(31).wrapping_add(number);
+    }
+    sum
+}
+
+/// Nanoseconds a run.
+pub fn time(rt: &HostRuntime, problem: &Problem) -> anyhow::Result<u128> {
+    let repeats = (TURNS / problem.people().max(1)).max(1);
+    let start = Instant::now(rt)?;
+    for _ in 0..repeats {
+        once(rt.alloc(), problem)?;
+    }
+    Ok(start.elapsed(rt)?.as_nanos() / repeats as u128)
+}
