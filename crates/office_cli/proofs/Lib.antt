@@ -8,3 +8,5 @@ pub mod RoundLemmas
 pub mod RunLemmas
 pub mod SentenceLemmas
 pub mod SessionLemmas
+pub mod SimulationLemmas
+pub mod TextLemmas

@@ -1,5 +1,5 @@
 -- Runs one after the other.
-use Rattle.std.proofs.Common.{◌≡◌, ◌≤◌, ◌+◌, ℕ, Bool, true, false, inr, refl, List, [], ◌∷◌, ◌++◌, length, max, ◌∙◌, ap, subst, arith, length-append}
+use Rattle.std.proofs.Common.{◌≡◌, ◌≤◌, ◌<◌, ◌+◌, ℕ, Bool, true, false, inr, refl, List, [], ◌∷◌, ◌++◌, length, max, ◌∙◌, ap, subst, arith, length-append}
 use Rattle.std.proofs.lemmas.List.Concat.{flat_map-append}
 use Rattle.office_store.specs.declared.requests.Answer.{Answer}
 use Rattle.office_store.specs.declared.requests.Request.{Request}
@@ -44,6 +44,15 @@ texts_front-within [] = omega arith
 texts_front-within (r ∷ []) = omega arith
 texts_front-within (r ∷ q ∷ rs) =
     omega (arith, length-append (text_of r) (texts_of (front (q ∷ rs))), length-append (text_of r) (texts_of (q ∷ rs)), texts_front-within (q ∷ rs))
+
+-- all texts but the last of two lists, where the second has bytes
+pub texts_front-more : (rs ss : List Said) → 0 < length (texts_of ss)
+    → length (texts_of (front (rs ++ ss))) ≡ length (texts_of rs) + length (texts_of (front ss))
+texts_front-more rs [] some = absurd (omega (arith, some))
+texts_front-more [] (s ∷ ss) some = omega arith
+texts_front-more (r ∷ []) (s ∷ ss) some = omega (arith, length-append (text_of r) (texts_of (front (s ∷ ss))), length-append (text_of r) [])
+texts_front-more (r ∷ q ∷ rs) (s ∷ ss) some =
+    omega (arith, length-append (text_of r) (texts_of (front (q ∷ rs ++ s ∷ ss))), length-append (text_of r) (texts_of (q ∷ rs)), texts_front-more (q ∷ rs) (s ∷ ss) some)
 
 -- all texts but the last of two lists
 pub texts_front-append : (rs ss : List Said) → length (texts_of (front (rs ++ ss))) ≤ length (texts_of rs) + length (texts_of (front ss))

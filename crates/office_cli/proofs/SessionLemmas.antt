@@ -1,6 +1,6 @@
 -- What is heard of pieces of the input, one after the other.
 use Rattle.std.proofs.Common.{rules, tests, ◌≡◌, ℕ, ◌+◌, ◌<◌, ◌≤◌, Bool, true, false, eqb, max, List, [], ◌∷◌, ◌++◌, length, refl, sym, ap, ◌∙◌, subst, arith, append_assoc, append-nil, length-append, Option, inl, inr, ◌⊎◌}
-use Rattle.std.specs.Prelude.{◌&&◌}
+use Rattle.std.specs.Prelude.{◌&&◌, ◌||◌, ◌^◌}
 use Rattle.std.specs.List.{list_all}
 use Rattle.std.specs.Io.KnownBytes.{Consumes, Keeps}
 use Rattle.std.proofs.KnownBytes.{Consumes-trans, Consumes-nil, Consumes-kept}
@@ -11,17 +11,27 @@ use Rattle.office_store.specs.declared.requests.Answer.{Answer}
 use Rattle.office_store.specs.declared.requests.Request.{Request}
 use Rattle.office_cli.specs.declared.ending.Ending.{Ending}
 use Rattle.office_cli.specs.declared.ending.Ending.TheVariants.{Ended, ReadFault, WriteFault, NoMemory}
-use Rattle.office_cli.specs.Lines.{is_short, line_limit, read_limit, unended}
+use Rattle.office_cli.specs.Lines.{is_short, line_limit, piece_limit, read_limit, unended}
 use Rattle.room_types.specs.Streams.{Input, Output}
+use Rattle.room_types.specs.Watched.{counted}
 use Rattle.office_cli.specs.Texts.{text_of}
 use Rattle.office_cli.specs.Runs.{texts_of, greatest_status}
 use Rattle.office_cli.specs.Sessions.{ended_from, partial_from, State, Heard, Suits, Halted, Answered, Broken, Finished, Unfinished, Listened, Stopped, OnlyWhereFailed}
 use Rattle.office_cli.proofs.LineLemmas.{ended_from-append, partial_from-append}
-use Rattle.office_cli.proofs.RunLemmas.{Run-append, greatest_status-append, texts_of-append, texts_front-within, texts_front-append}
+use Rattle.office_cli.proofs.RunLemmas.{Run-append, greatest_status-append, texts_of-append, texts_front-within, texts_front-append, texts_front-more}
 use Rattle.room_types.proofs.StreamLemmas.{Puts-nil, Puts-trans, Puts-kept}
 
 pub both : (a b : Bool) → a ≡ true → b ≡ true → (a && b) ≡ true
 both a b p q = rw (p, q) refl
+
+-- none but the first
+pub or_neither : (a b c : Bool) → b ≡ false → c ≡ false → (a || b || c) ≡ a
+or_neither true b c p q = refl
+or_neither false b c p q = rw (p, q) refl
+
+-- one read more than gave a byte each
+pub read_once : (reads reads' counter bytes : ℕ) → reads' ≡ counted reads 1 → reads ≡ counter → counter ≤ bytes → counter < 2 ^ 32 → reads' ≤ bytes + 1
+read_once reads reads' counter bytes e c each few = omega (arith, e, c, each, few)
 
 -- the line that the end of the input ends is short, where what has begun is
 pub short_unended : (begun : List ℕ) → length begun ≤ line_limit → list_all is_short (unended begun) ≡ true
@@ -36,8 +46,12 @@ one_unended : (begun : List ℕ) → 0 < length begun → unended begun ≡ begu
 one_unended [] e = absurd (omega arith)
 one_unended (b ∷ bs) e = refl
 
-Suits-along : (e : Ending) (a a' u n n' : ℕ) → a ≡ a' → n ≡ n' → Suits e a u n → Suits e a' u n'
-Suits-along e a a' u n n' p q h = subst (λ m. Suits e m u n') p (subst (λ m. Suits e a u m) q h)
+Suits-along : (e : Ending) (a a' l l' u n n' : ℕ) → a ≡ a' → (0 < u → l' ≡ l) → n ≡ n' → Suits e a l u n → Suits e a' l' u n'
+Suits-along Ended a a' l l' u n n' p r q h = h
+Suits-along ReadFault a a' l l' u n n' p r q h = (h.0, sym q ∙ h.1)
+Suits-along (WriteFault m) a a' l l' u n n' p r q h = h ∙ p
+Suits-along (NoMemory m) a a' l l' u n n' p r q h =
+    (h.0 ∙ p, elim h.1 [ inl k ↦ inl (r k.1 ∙ k.0, k.1) | inr k ↦ inr (k.0, omega (arith, k.1, q), omega (arith, k.2, q)) ])
 
 -- what failed, from an earlier time on
 pub OnlyWhereFailed-since : (e : Ending) (a b c : Bool) → b ≡ a → OnlyWhereFailed e b c → OnlyWhereFailed e a c
@@ -89,6 +103,7 @@ module _ {H : Type 0} (handles : H → Request → Answer → H → Type 0) wher
     sent = h.sent;
     unsent = h.unsent;
     cut = ap (λ l. l ++ ys) h.cut ∙ append_assoc h.heard h.rest ys;
+    some = h.some;
     short = h.short;
     run = h.run;
     written = h.written;
@@ -114,12 +129,14 @@ module _ {H : Type 0} (handles : H → Request → Answer → H → Type 0) wher
         sent = length first + q.sent;
         unsent = q.unsent;
         cut = ap (λ l. xs ++ l) q.cut ∙ sym (append_assoc xs q.heard q.rest);
+        some = omega (arith, q.some, length-append xs q.heard);
         short = ap (list_all is_short) ended ∙ list_all-append is_short (ended_from s.partial_line xs) (ended_from t.partial_line q.heard) ∙ both _ _ p.short q.short;
         run = rw ended (Run-append handles s.handler t.handler o _ _ _ _ p.run q.run);
         written = rw (texts, take-append-add first (texts_of q.answers) q.sent) (Puts-trans s.out t.out out _ _ p.written q.written);
         all = omega (arith, q.all, ap length texts, length-append first (texts_of q.answers));
         whole = omega (arith, texts_front-append p.answers q.answers, q.whole);
-        suits = Suits-along e _ _ _ _ _ (omega (arith, p.sent)) (ap length begun) q.suits;
+        suits = Suits-along e _ _ _ _ _ _ _ (omega (arith, p.sent))
+            (λ some. omega (arith, texts_front-more p.answers q.answers (omega (arith, some, q.all)))) (ap length begun) q.suits;
       }
 
   -- ---- one byte
@@ -152,12 +169,13 @@ module _ {H : Type 0} (handles : H → Request → Answer → H → Type 0) wher
         sent = h.sent;
         unsent = h.unsent;
         cut = refl;
+        some = omega arith;
         short = one_short s.partial_line short;
         run = (o, h.step, refl);
         written = rw text h.written;
         all = h.all ∙ ap length (sym text);
         whole = omega arith;
-        suits = h.suits;
+        suits = Suits-along ending _ _ _ _ _ _ _ refl (λ some. omega arith) refl h.suits;
       })
 
   -- a byte that goes on with a line
@@ -177,7 +195,7 @@ module _ {H : Type 0} (handles : H → Request → Answer → H → Type 0) wher
   }
 
   -- a byte that makes a line too long
-  pub too_long : (s : State H) (b : ℕ) → eqb b 10 ≡ false → line_limit ≤ length s.partial_line → Halted handles s ReadFault s.handler s.out (b ∷ [])
+  pub too_long : (s : State H) (b : ℕ) → eqb b 10 ≡ false → length s.partial_line ≡ line_limit → Halted handles s ReadFault s.handler s.out (b ∷ [])
   too_long s b e long = record {
     heard = b ∷ [];
     rest = [];
@@ -185,30 +203,35 @@ module _ {H : Type 0} (handles : H → Request → Answer → H → Type 0) wher
     sent = 0;
     unsent = 0;
     cut = refl;
+    some = omega arith;
     short = rw e refl;
     run = rw e refl;
     written = Puts-nil s.out;
     all = refl;
     whole = omega arith;
-    suits = (refl, rw e (omega (arith, length-append s.partial_line (b ∷ []))));
+    suits = (refl, rw e (omega (arith, long, length-append s.partial_line (b ∷ []))));
   }
 
-  -- no memory for a byte
-  pub no_room : (s : State H) (b : ℕ) → Halted handles s (NoMemory s.sent) s.handler s.out (b ∷ [])
-  no_room s b = record {
-    heard = [];
-    rest = b ∷ [];
-    answers = [];
-    sent = 0;
-    unsent = 0;
-    cut = refl;
-    short = refl;
-    run = refl;
-    written = Puts-nil s.out;
-    all = refl;
-    whole = omega arith;
-    suits = omega arith;
-  }
+  -- no memory for a byte that goes on with a line
+  pub no_room : (s : State H) (b : ℕ) → eqb b 10 ≡ false → length s.partial_line < line_limit
+      → Halted handles s (NoMemory s.sent) s.handler s.out (b ∷ [])
+  no_room s b e short =
+      let longer : length (s.partial_line ++ b ∷ []) ≡ length s.partial_line + 1 = length-append s.partial_line (b ∷ []) in
+      record {
+        heard = b ∷ [];
+        rest = [];
+        answers = [];
+        sent = 0;
+        unsent = 0;
+        cut = refl;
+        some = omega arith;
+        short = rw e refl;
+        run = rw e refl;
+        written = Puts-nil s.out;
+        all = refl;
+        whole = omega arith;
+        suits = (omega arith, inr (refl, rw e (omega (arith, longer)), rw e (omega (arith, longer, short))));
+      }
 
   -- ---- the last line
 
@@ -240,7 +263,7 @@ module _ {H : Type 0} (handles : H → Request → Answer → H → Type 0) wher
         written = rw text h.written;
         all = h.all ∙ ap length (sym text);
         whole = omega arith;
-        suits = h.suits;
+        suits = Suits-along ending _ _ _ _ _ _ _ refl (λ some. omega arith) refl h.suits;
       }
 
   -- a flush that failed
@@ -281,24 +304,42 @@ module _ {H : Type 0} (handles : H → Request → Answer → H → Type 0) wher
   Listened-longer s t v u u' u'' piece h c k n each some =
       let longer : n + 1 ≤ length (h.bytes ++ piece) = omega (arith, each, some, length-append h.bytes piece) in longer
 
-  -- nothing more
-  pub Listened-kept : (s t : State H) (u u' u'' : Option (List ℕ)) → Listened handles s t u u' → Keeps u' u'' → Listened handles s t u u''
-  Listened-kept s t u u' u'' h k = record { bytes = h.bytes; read = Consumes-kept _ _ _ _ h.read k; heard = h.heard }
+  -- a read that gave nothing
+  pub Listened-end : (s t : State H) (u u' u'' : Option (List ℕ)) (reads : ℕ) (h : Listened handles s t u u') → Consumes u' u'' []
+      → reads ≤ length h.bytes + 1 → (k : Listened handles s t u u'') × (reads ≤ length k.bytes + 1)
+  Listened-end s t u u' u'' reads h c each =
+      (record { bytes = h.bytes; read = subst (Consumes u u'') (append-nil h.bytes) (Consumes-trans _ _ _ _ _ h.read c); heard = h.heard }, each)
 
   -- a halt within a piece
   pub Stopped-halted : (s t : State H) (e : Ending) (o : H) (out : Output) (u : Option (List ℕ)) (i i' : Input) (piece : List ℕ)
-      → Listened handles s t i.remaining u → Consumes u i'.remaining piece → Halted handles t e o out piece → i'.failed ≡ i.failed → Stopped handles s e o out i i'
-  Stopped-halted s t e o out u i i' piece h c k w = record {
-    bytes = h.bytes ++ piece;
-    read = Consumes-trans _ _ _ _ _ h.read c;
-    why = inl (Heard-Halted s t e o out _ _ h.heard k, w);
+      (h : Listened handles s t i.remaining u) → Consumes u i'.remaining piece → Halted handles t e o out piece → length piece ≤ piece_limit
+      → i'.reads ≤ length h.bytes + 1 → i'.failed ≡ i.failed → Stopped handles s e o out i i'
+  unfolding Heard-Halted
+  Stopped-halted s t e o out u i i' piece h c k within reads w =
+      let near : length k.rest < piece_limit = omega (arith, within, ap length k.cut, length-append k.heard k.rest, k.some) in
+      record {
+        bytes = h.bytes ++ piece;
+        read = Consumes-trans _ _ _ _ _ h.read c;
+        reads = omega (arith, reads, length-append h.bytes piece);
+        why = inl (Heard-Halted s t e o out _ _ h.heard k, near, w);
+      }
+
+  -- a read failed
+  pub Stopped-failed : (s t : State H) (i i' : Input) (u : Option (List ℕ)) (h : Listened handles s t i.remaining u) → Keeps u i'.remaining
+      → i'.reads ≤ length h.bytes + 1 → length t.partial_line ≤ line_limit → i'.failed ≡ true → Stopped handles s ReadFault t.handler t.out i i'
+  Stopped-failed s t i i' u h k reads begun failed = record {
+    bytes = h.bytes;
+    read = Consumes-kept _ _ _ _ h.read k;
+    reads = reads;
+    why = inr (refl, record { after = t; heard = h.heard; handler_is = refl; out_is = refl; begun = begun; cause = inl failed });
   }
 
   -- no more can be read
-  pub Stopped-cut : (s t : State H) (i i' : Input) (h : Listened handles s t i.remaining i'.remaining)
-      → (i'.failed ≡ true) ⊎ ((read_limit ≤ i'.reads) × (read_limit ≤ length h.bytes)) → Stopped handles s ReadFault t.handler t.out i i'
-  Stopped-cut s t i i' h cause = record {
+  pub Stopped-cut : (s t : State H) (i i' : Input) (h : Listened handles s t i.remaining i'.remaining) → i'.reads ≤ length h.bytes + 1
+      → length t.partial_line ≤ line_limit → (i'.failed ≡ true) ⊎ ((read_limit ≤ i'.reads) × (read_limit ≤ length h.bytes)) → Stopped handles s ReadFault t.handler t.out i i'
+  Stopped-cut s t i i' h reads begun cause = record {
     bytes = h.bytes;
     read = h.read;
-    why = inr (refl, record { after = t; heard = h.heard; handler_is = refl; out_is = refl; cause = cause });
+    reads = reads;
+    why = inr (refl, record { after = t; heard = h.heard; handler_is = refl; out_is = refl; begun = begun; cause = cause });
   }

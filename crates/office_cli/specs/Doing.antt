@@ -3,7 +3,7 @@ use Rattle.std.specs.Prelude.{◌≡◌, ℕ, ◌<◌, ◌⊎◌, true, false, L
 use Rattle.room_types.specs.Watched.{counted}
 use Rattle.office_core.specs.Office.{empty_office}
 use Rattle.office_core.specs.declared.office.Office.{Office}
-use Rattle.office_store.specs.Requests.{Handles}
+use Rattle.office_store.specs.LawfulSteps.{HandlesLawfully}
 use Rattle.office_cli.specs.declared.ending.Ending.{Ending}
 use Rattle.office_cli.specs.declared.usage.Program.{Program}
 use Rattle.office_cli.specs.declared.usage.Program.TheVariants.{Rehearse, Words}
@@ -28,9 +28,12 @@ abbrev pub Refuses : WordFault → ℕ → Output → Output → Output → Outp
 Refuses NotUnderstood status out out' error error' = Says (line_of (codes "rooms: not understood" ∷ [])) 2 status error error' × (out' ≡ out)
 Refuses OutOfMemory status out out' error error' = Says (line_of (codes "unavailable" ∷ [])) 3 status out out' × (error' ≡ error)
 
--- an empty office hears standard input and answers on standard output
+-- A desk in memory, which shows the empty office at first, hears standard input and answers on standard output. Or memory is
+-- wanting for the desk, and nothing is heard.
 abbrev pub RehearsesAnew : ℕ → Input → Input → Output → Output → Type 0
-RehearsesAnew status input input' out out' = (ending : Ending) × (office : Office) × Rehearses Handles ending status empty_office office input input' out out'
+RehearsesAnew status input input' out out' =
+    ((ending : Ending) × (office : Office) × Rehearses HandlesLawfully ending status empty_office office input input' out out')
+    ⊎ (Says (line_of (codes "unavailable" ∷ [])) 3 status out out' × (input' ≡ input))
 
 -- the line is done, or the words are refused that are none
 abbrev pub DoesLine : Option Program → ℕ → Input → Input → Output → Output → Output → Output → Type 0

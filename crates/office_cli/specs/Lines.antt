@@ -1,7 +1,6 @@
 -- The lines of the input.
 use Rattle.std.specs.Prelude.{ℕ, Bool, List, [], ◌∷◌, ◌++◌, length, ◌==◌, nat_le}
 use Rattle.std.specs.List.{slice_split}
-use Rattle.office_cli.specs.declared.limits.TheConstants.{LINE_LIMIT, READ_LIMIT}
 
 -- a line feed
 abbrev pub is_line_end : ℕ → Bool
@@ -42,12 +41,16 @@ lines_of bytes = ended_lines bytes ++ unended (last_part bytes)
 
 -- the longest line that is heard, without its line feed
 abbrev pub line_limit : ℕ
-line_limit = LINE_LIMIT
+line_limit = 65536
 
 -- the line is heard
 abbrev pub is_short : List ℕ → Bool
 is_short line = nat_le (length line) line_limit
 
+-- how many bytes are read at once at most
+abbrev pub piece_limit : ℕ
+piece_limit = 4096
+
 -- how often the input is read at most
 abbrev pub read_limit : ℕ
-read_limit = READ_LIMIT
+read_limit = 1048576

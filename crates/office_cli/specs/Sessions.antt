@@ -1,5 +1,5 @@
 -- What a rehearsal did with a part of its input: words of inner contracts and invariants.
-use Rattle.std.specs.Prelude.{◌≡◌, ℕ, ◌+◌, ◌<◌, ◌≤◌, ◌⊎◌, Bool, true, max, List, [], ◌∷◌, ◌++◌, length, take, Option, if◌then◌else◌}
+use Rattle.std.specs.Prelude.{◌≡◌, ℕ, ◌+◌, ◌-◌, ◌<◌, ◌≤◌, ◌⊎◌, Bool, true, max, List, [], ◌∷◌, ◌++◌, length, take, Option, if◌then◌else◌}
 use Rattle.std.specs.List.{list_all}
 use Rattle.std.specs.Io.KnownBytes.{Consumes}
 use Rattle.office_cli.specs.declared.said.Said.{Said}
@@ -8,7 +8,7 @@ use Rattle.office_cli.specs.declared.ending.Ending.TheVariants.{Ended, ReadFault
 use Rattle.office_cli.specs.declared.session.Session.{Session}
 use Rattle.office_store.specs.declared.requests.Answer.{Answer}
 use Rattle.office_store.specs.declared.requests.Request.{Request}
-use Rattle.office_cli.specs.Lines.{is_short, is_line_end, line_limit, read_limit, front, unended}
+use Rattle.office_cli.specs.Lines.{is_short, is_line_end, line_limit, piece_limit, read_limit, front, unended}
 use Rattle.room_types.specs.Streams.{Input, Output, Puts}
 use Rattle.office_cli.specs.Texts.{text_of, status_of}
 use Rattle.office_cli.specs.Runs.{Run, Step, texts_of, greatest_status}
@@ -41,12 +41,18 @@ state handler out session = record {
   status = session.status;
 }
 
--- how an ending fits the number of bytes sent, of those not sent, and the length of what has begun
-abbrev pub Suits : Ending → ℕ → ℕ → ℕ → Type 0
-Suits Ended sent unsent len = ⊥
-Suits ReadFault sent unsent len = (unsent ≡ 0) × (line_limit < len)
-Suits (WriteFault n) sent unsent len = n ≡ sent
-Suits (NoMemory n) sent unsent len = n ≡ sent
+-- How an ending fits the number of bytes sent, of those among them of the last text, of those not sent, and the length of the
+-- line that has begun. Memory was wanting for the last text, of which nothing went out, or for the line that has begun.
+abbrev pub Suits : Ending → ℕ → ℕ → ℕ → ℕ → Type 0
+Suits Ended sent of_last unsent begun = ⊥
+Suits ReadFault sent of_last unsent begun = (unsent ≡ 0) × (begun ≡ line_limit + 1)
+Suits (WriteFault n) sent of_last unsent begun = n ≡ sent
+Suits (NoMemory n) sent of_last unsent begun =
+    (n ≡ sent) × (((of_last ≡ 0) × (0 < unsent)) ⊎ ((unsent ≡ 0) × (0 < begun) × (begun ≤ line_limit)))
+
+-- how many of the bytes that went out are of the last text
+abbrev pub of_last_text : ℕ → List Said → ℕ
+of_last_text sent answers = sent - length (texts_of (front answers))
 
 -- a write fault where the writer failed, and any other ending where it did not
 abbrev pub OnlyWhereFailed : Ending → Bool → Bool → Type 0
@@ -68,7 +74,7 @@ module _ {H : Type 0} (handles : H → Request → Answer → H → Type 0) wher
     pub sent : after.sent ≡ before.sent + length (texts_of answers)
     pub status : after.status ≡ max before.status (greatest_status answers)
 
-  -- The rehearsal stopped within the bytes. The lines that the bytes up to there ended were answered, and a front of their texts
+  -- The rehearsal stopped within the bytes, after the first of them or later. The lines that the bytes up to there ended were answered, and a front of their texts
   -- went out, all but the last text whole.
   pub record Halted (before : State H) (ending : Ending) (handler : H) (out : Output) (bytes : List ℕ) : Type 0 where
     pub heard : List ℕ
@@ -77,12 +83,13 @@ module _ {H : Type 0} (handles : H → Request → Answer → H → Type 0) wher
     pub sent : ℕ
     pub unsent : ℕ
     pub cut : bytes ≡ heard ++ rest
+    pub some : 0 < length heard
     pub short : list_all is_short (ended_from before.partial_line heard) ≡ true
     pub run : Run handles before.handler (ended_from before.partial_line heard) answers handler
     pub written : Puts before.out out (take sent (texts_of answers))
     pub all : sent + unsent ≡ length (texts_of answers)
     pub whole : length (texts_of (front answers)) ≤ sent
-    pub suits : Suits ending (before.sent + sent) unsent (length (partial_from before.partial_line heard))
+    pub suits : Suits ending (before.sent + sent) (of_last_text sent answers) unsent (length (partial_from before.partial_line heard))
 
   -- The line that had come was answered, and all of the text went out.
   pub record Answered (before after : State H) : Type 0 where
@@ -103,7 +110,7 @@ module _ {H : Type 0} (handles : H → Request → Answer → H → Type 0) wher
     pub step : Step handles before.handler before.partial_line said handler
     pub written : Puts before.out out (take sent (text_of said))
     pub all : sent + unsent ≡ length (text_of said)
-    pub suits : Suits ending (before.sent + sent) unsent 0
+    pub suits : Suits ending (before.sent + sent) sent unsent 0
 
   -- The last line, if one has begun, was answered, its text went out, and the output was flushed so often in all.
   pub record Finished (before after : State H) (flushes : ℕ) : Type 0 where
@@ -125,7 +132,7 @@ module _ {H : Type 0} (handles : H → Request → Answer → H → Type 0) wher
     pub written : Puts before.out out (take sent (texts_of answers))
     pub all : sent + unsent ≡ length (texts_of answers)
     pub whole : length (texts_of (front answers)) ≤ sent
-    pub suits : Suits ending (before.sent + sent) unsent 0
+    pub suits : Suits ending (before.sent + sent) (of_last_text sent answers) unsent 0
 
   -- All that was read was heard.
   pub record Listened (before after : State H) (unread unread' : Option (List ℕ)) : Type 0 where
@@ -133,18 +140,22 @@ module _ {H : Type 0} (handles : H → Request → Answer → H → Type 0) wher
     pub read : Consumes unread unread' bytes
     pub heard : Heard before after bytes
 
-  -- All that was read was heard, and a read failed, or too many were made that each gave a byte.
+  -- All that was read was heard, what has begun of a line is not too long, and a read failed, or too many were made that each
+  -- gave a byte.
   pub record Cut (before : State H) (handler : H) (out : Output) (bytes : List ℕ) (input : Input) : Type 0 where
     pub after : State H
     pub heard : Heard before after bytes
     pub handler_is : handler ≡ after.handler
     pub out_is : out ≡ after.out
+    pub begun : length after.partial_line ≤ line_limit
     pub cause : (input.failed ≡ true) ⊎ ((read_limit ≤ input.reads) × (read_limit ≤ length bytes))
 
-  -- why a rehearsal stopped: within what was read, without a failed read; or since no more could be read
+  -- Why a rehearsal stopped: within the piece that was read last, without a failed read; or since no more could be read. Each
+  -- read but the last gave a byte.
   pub record Stopped (before : State H) (ending : Ending) (handler : H) (out : Output) (input input' : Input) : Type 0 where
     pub bytes : List ℕ
     pub read : Consumes input.remaining input'.remaining bytes
+    pub reads : input'.reads ≤ length bytes + 1
     pub why :
-        (Halted before ending handler out bytes × (input'.failed ≡ input.failed))
+        ((halted : Halted before ending handler out bytes) × (length halted.rest < piece_limit) × (input'.failed ≡ input.failed))
         ⊎ ((ending ≡ ReadFault) × Cut before handler out bytes input')

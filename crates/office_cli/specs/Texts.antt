@@ -23,12 +23,6 @@ SaidAscends Nothing = ⊤
 SaidAscends (Answered answer) = AnswerAscends answer
 SaidAscends NotUnderstood = ⊤
 
--- it is not nothing
-abbrev pub SaysSomething : Said → Type 0
-SaysSomething Nothing = ⊥
-SaysSomething (Answered answer) = ⊤
-SaysSomething NotUnderstood = ⊤
-
 -- how the line went: accepted, refused, not understood, or unavailable
 abbrev pub status_of : Said → ℕ
 status_of Nothing = 0

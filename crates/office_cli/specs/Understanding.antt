@@ -1,5 +1,5 @@
 -- How words are read.
-use Rattle.std.specs.Prelude.{◌≡◌, ⊤, Option, Some, None, Result, Ok, Err}
+use Rattle.std.specs.Prelude.{◌≡◌, ⊤, Bool, true, Option, Some, None, Result, Ok, Err}
 use Rattle.office_cli.specs.declared.word_fault.WordFault.{WordFault}
 use Rattle.office_cli.specs.declared.word_fault.WordFault.TheVariants.{NotUnderstood, OutOfMemory}
 
@@ -13,3 +13,9 @@ UnderstandsAs view meaning (Err OutOfMemory) = ⊤
 -- what was read is what the words mean
 abbrev pub Understands : {X : Type 0} → Option X → Result X WordFault → Type 0
 Understands meaning result = UnderstandsAs (λ x. x) meaning result
+
+-- memory is wanting only where it is taken
+abbrev pub WantsMemoryOnlyIf : {X : Type 0} → Bool → Result X WordFault → Type 0
+WantsMemoryOnlyIf takes (Ok x) = ⊤
+WantsMemoryOnlyIf takes (Err NotUnderstood) = ⊤
+WantsMemoryOnlyIf takes (Err OutOfMemory) = takes ≡ true

@@ -1,5 +1,5 @@
 -- The request that the words of a line are.
-use Rattle.std.specs.Prelude.{Bool, false, List, [], ◌∷◌, Option, Some, None, is_some, option_and_then, option_map}
+use Rattle.std.specs.Prelude.{Bool, false, ◌&&◌, List, [], ◌∷◌, length, ◌==◌, nat_le, Option, Some, None, is_some, option_and_then, option_map}
 use Rattle.room_types.specs.Grammars.{is_key, is_name, is_person_id, is_room_code}
 use Rattle.room_types.specs.Texts.{Text}
 use Rattle.room_types.specs.Words.{word_of}
@@ -103,6 +103,53 @@ request_after verb.Results rest = alone (Ask Results) rest
 request_after verb.Moves rest = ask_moves rest
 request_after verb.Me rest = ask_me rest
 request_after verb.WhatIf rest = ask_what_if rest
+
+-- the first word is in the grammar
+abbrev pub first_in : (Text → Bool) → List Text → Bool
+first_in is_text [] = false
+first_in is_text (word ∷ rest) = is_text word
+
+-- a word of a draw
+abbrev pub is_drawn_word : Text → Bool
+is_drawn_word word = is_some (word_of word)
+
+-- Memory is taken for the words after a first one. Values are copied, from the first on, up to one that is out of its grammar,
+-- and only where there are as many as the request has. Nothing is copied of a number, or where no word may stand.
+abbrev pub copies : Verb → List Text → Bool
+copies verb.Room rest = is_some (add_room rest)
+copies verb.Person rest = nat_le 2 (length rest) && first_in is_person_id rest
+copies verb.Home rest = length rest == 2 && first_in is_person_id rest
+copies verb.Leave rest = is_some (leave rest)
+copies verb.Remove rest = is_some (remove rest)
+copies verb.Shut rest = is_some (shut rest)
+copies verb.Reopen rest = is_some (reopen rest)
+copies verb.Open rest = false
+copies verb.Close rest = false
+copies verb.Run rest = false
+copies verb.Publish rest = false
+copies verb.Settle rest = false
+copies verb.Cancel rest = false
+copies verb.Choose rest = first_in is_person_id rest
+copies verb.Withdraw rest = is_some (withdraw rest)
+copies verb.Draw rest = first_in is_drawn_word rest
+copies verb.Rooms rest = false
+copies verb.People rest = false
+copies verb.Round rest = false
+copies verb.Order rest = false
+copies verb.Results rest = false
+copies verb.Moves rest = false
+copies verb.Me rest = is_some (ask_me rest)
+copies verb.WhatIf rest = first_in is_person_id rest
+
+-- memory is taken to read a verb, if there is one, with the words after it
+abbrev pub takes_memory_after : Option Verb → List Text → Bool
+takes_memory_after None rest = false
+takes_memory_after (Some verb) rest = copies verb rest
+
+-- memory is taken to read the words as a request
+abbrev pub takes_memory : List Text → Bool
+takes_memory [] = false
+takes_memory (first ∷ rest) = takes_memory_after (verb_of first) rest
 
 -- the request, if the words are one
 abbrev pub request_of : List Text → Option Request

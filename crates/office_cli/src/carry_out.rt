@@ -1,8 +1,9 @@
 //! What the words after the program's name ask for, done over standard input, output and error.
-ghost use Rattle.std.specs.Prelude.{map};
-ghost use Rattle.room_types.specs.Watched.{IsFresh};
+ghost use Rattle.std.specs.Prelude.{◌≤◌, map};
+ghost use Rattle.room_types.specs.Watched.{IsFresh, StopsAtEnd, StopsAtFailure, watched_reads};
 ghost use Rattle.room_types.specs.Streams.{input_of, output_of};
 ghost use Rattle.office_cli.specs.Doing.{CarriesOut, RehearsesAnew, Refuses, Says};
+ghost use Rattle.office_cli.specs.Lines.{read_limit};
 
 use crate::program::program;
 use crate::rehearse::rehearse;
@@ -10,7 +11,7 @@ use crate::texts::{ACCEPTED, NOT_UNDERSTOOD, UNAVAILABLE};
 use crate::usage::Program;
 use crate::word_fault::WordFault;
 use crate::word_lines::words_text;
-use office_core::Office;
+use office_store::Desk;
 use room_types::Watched;
 use room_types::send::send;
 use std::alloc::Global;
@@ -27,7 +28,11 @@ pub fn carry_out<'a, R: Read, W: Write, E: Write>(
     requires fresh_input { IsFresh input.old }
     requires fresh_output { IsFresh output.old }
     requires fresh_error { IsFresh error.old }
-    ensures { CarriesOut (map (λ word. word.now) words.entry.now) result
+    ensures few { watched_reads input.new ≤ read_limit }
+    ensures no_late_read { StopsAtEnd input.old input.new }
+    ensures no_late_write { StopsAtFailure output.old output.new }
+    ensures no_late_error { StopsAtFailure error.old error.new }
+    ensures carries_out { CarriesOut (map (λ word. word.now) words.entry.now) result
         (input_of R.remaining input.old) (input_of R.remaining input.new)
         (output_of W.contents output.old) (output_of W.contents output.new)
         (output_of E.contents error.old) (output_of E.contents error.new) }
@@ -42,7 +47,7 @@ pub fn carry_out<'a, R: Read, W: Write, E: Write>(
     }
 }
 
-// An empty office hears the input.
+// A desk in memory, with an empty office, hears the input. Where memory is wanting for the desk, that is said.
 fn rehearse_anew<R: Read, W: Write>(
     alloc: Global,
     input: &mut Watched<R>,
@@ -50,12 +55,17 @@ fn rehearse_anew<R: Read, W: Write>(
 ) -> u8
     requires fresh_input { IsFresh input.old }
     requires fresh_output { IsFresh output.old }
-    ensures { RehearsesAnew result
+    ensures few { watched_reads input.new ≤ read_limit }
+    ensures no_late_read { StopsAtEnd input.old input.new }
+    ensures no_late_write { StopsAtFailure output.old output.new }
+    ensures rehearses { RehearsesAnew result
         (input_of R.remaining input.old) (input_of R.remaining input.new)
         (output_of W.contents output.old) (output_of W.contents output.new) }
 {
-    let mut office = Office::empty(alloc);
-    rehearse(alloc, &mut office, input, output).status
+    match Desk::in_memory(alloc) {
+        Ok(mut desk) => rehearse(alloc, &mut desk, input, output).status,
+        Err(_) => say(output, "unavailable\n", UNAVAILABLE),
+    }
 }
 
 /// Says that the words were not understood, on standard error, or that memory was refused, on standard output. Gives the exit status.
@@ -64,7 +74,11 @@ pub fn refuse<W: Write, E: Write>(
     output: &mut Watched<W>,
     error: &mut Watched<E>,
 ) -> u8
-    ensures { Refuses fault result
+    requires fresh_output { IsFresh output.old }
+    requires fresh_error { IsFresh error.old }
+    ensures no_late_write { StopsAtFailure output.old output.new }
+    ensures no_late_error { StopsAtFailure error.old error.new }
+    ensures refuses { Refuses fault result
         (output_of W.contents output.old) (output_of W.contents output.new)
         (output_of E.contents error.old) (output_of E.contents error.new) }
 {
@@ -76,7 +90,9 @@ pub fn refuse<W: Write, E: Write>(
 
 // Writes the text and flushes. The exit status is this one, unless the device fails.
 fn say<W: Write>(output: &mut Watched<W>, text: &str, status: u8) -> u8
-    ensures { Says text.now status result (output_of W.contents output.old)
+    requires fresh { IsFresh output.old }
+    ensures no_late_write { StopsAtFailure output.old output.new }
+    ensures says { Says text.now status result (output_of W.contents output.old)
         (output_of W.contents output.new) }
 {
     match send(output, text.as_bytes()) {

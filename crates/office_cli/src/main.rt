@@ -1,7 +1,7 @@
 //! The program `rooms`: lines of text are heard and answered, and the words of its command line are read.
 #![tactic(auto)]
 
-ghost use Rattle.std.specs.Prelude.{◌≡◌, IfOk, drop, map, string_bytes};
+ghost use Rattle.std.specs.Prelude.{◌≡◌, ◌<◌, IfOk, OnErr, drop, length, map, string_bytes};
 
 pub mod carry_out;
 pub mod ending;
@@ -66,10 +66,11 @@ fn words_of_system(rt: &HostRuntime) -> Result<Vec<String>, WordFault> {
     }
 }
 
-// The words after the program's name, as texts.
+// The words after the program's name, as texts. Memory is taken only where there are any.
 fn texts_after_name<'a>(alloc: Global, words: &'a [String]) -> Result<Vec<&'a str>, AllocError>
-    ensures { IfOk result
+    ensures texts { IfOk result
         (λ texts. map (λ text. text.now) texts.items ≡ drop 1 (map string_bytes words.now)) }
+    ensures memory { OnErr result (1 < length words.now) }
 {
     let mut texts = Vec::new(alloc);
     let [_name, rest @ ..] = words else {

@@ -1,5 +1,5 @@
 //! The drawn order, as it is printed.
-ghost use Rattle.std.specs.Prelude.{◌≡◌, ◌++◌, IfOk, OnOk, string_bytes};
+ghost use Rattle.std.specs.Prelude.{◌≡◌, ◌<◌, ◌++◌, IfOk, OnErr, OnOk, length, string_bytes};
 ghost use Rattle.office_cli.specs.OrderLines.{order_line, order_text, right_in};
 
 use office_core::OrderRow;
@@ -9,9 +9,11 @@ use std::alloc::{AllocError, Global};
 /// The width of the column of places.
 const PLACE_WIDTH: usize = 4;
 
-/// The rows in their order, with places from 1.
+/// The rows in their order, with places from 1. Without rows there are no bytes, and no memory is taken.
+#[tactic(auto, using(crate::proofs::TextLemmas::order_some))]
 pub fn text_of_order(alloc: Global, rows: &[OrderRow]) -> Result<String, OutOfMemory>
-    ensures { IfOk result (λ text. string_bytes text ≡ order_text rows.now) }
+    ensures text { IfOk result (λ text. string_bytes text ≡ order_text rows.now) }
+    ensures memory { OnErr result (0 < length (order_text rows.now)) }
 {
     let mut text = String::new(alloc);
     let mut place = 1u64;

@@ -1,14 +1,15 @@
 //! A rehearsal: lines from a reader are heard, and answered on a writer.
-ghost use Rattle.std.specs.Prelude.{◌≡◌, ◌^◌, ◌≤◌, OnOk, IfErr};
+ghost use Rattle.std.specs.Prelude.{◌≡◌, ◌+◌, ◌^◌, ◌≤◌, length, OnOk, IfErr};
 ghost use Rattle.std.specs.Io.KnownBytes.{IsAtEnd};
 ghost use Rattle.room_types.specs.Streams.{input_of, output_of};
 ghost use Rattle.room_types.specs.Watched.{watched_inner, watched_failed, watched_reads, IsFresh};
+ghost use Rattle.room_types.specs.Watched.{StopsAtEnd, StopsAtFailure};
 ghost use Rattle.office_cli.specs.Lines.{read_limit};
 ghost use Rattle.office_cli.specs.Rehearsals.{Rehearses};
 ghost use Rattle.office_cli.specs.Sessions.{Listened, Stopped, OnlyWhereFailed, state};
 
 use crate::ending::{Ending, Rehearsed};
-use crate::limits::READ_LIMIT;
+use crate::limits::{PIECE_LIMIT, READ_LIMIT};
 use crate::session::Session;
 use crate::texts::UNAVAILABLE;
 use office_store::Handler;
@@ -17,7 +18,8 @@ use std::alloc::Global;
 use std::io::{Read, Write};
 
 /// Hears each line of the input, and answers it on the output. What was handled stands on every ending. Apart from what the
-/// handler takes, it takes no memory but that of one line, its words and its answer.
+/// handler takes, it takes no memory but that of one line, its words and its answer. The lines of a piece are answered
+/// before more is read, and neither the input nor the output is used after its failure, nor the input after its end.
 pub fn rehearse<H: Handler, R: Read, W: Write>(
     alloc: Global,
     handler: &mut H,
@@ -28,6 +30,8 @@ pub fn rehearse<H: Handler, R: Read, W: Write>(
     requires fresh_input { IsFresh input.old }
     requires fresh_output { IsFresh output.old }
     ensures few { watched_reads input.new ≤ read_limit }
+    ensures no_late_read { StopsAtEnd input.old input.new }
+    ensures no_late_write { StopsAtFailure output.old output.new }
     ensures rehearses { Rehearses H.handles result.ending result.status handler.old handler.new
         (input_of R.remaining input.old) (input_of R.remaining input.new)
         (output_of W.contents output.old) (output_of W.contents output.new) }
@@ -64,10 +68,11 @@ fn listen<H: Handler, R: Read, W: Write>(
     requires sent { session.old.sent ≡ 0 }
     requires reads { watched_reads input.old ≡ 0 }
     ensures end { OnOk result (IsAtEnd (R.remaining (watched_inner input.new))) }
-    ensures heard { OnOk result (Listened H.handles
+    ensures heard { OnOk result ((heard : Listened H.handles
         (state handler.old (output_of W.contents output.old) session.old)
         (state handler.new (output_of W.contents output.new) session.new)
-        (R.remaining (watched_inner input.old)) (R.remaining (watched_inner input.new))) }
+        (R.remaining (watched_inner input.old)) (R.remaining (watched_inner input.new)))
+        × (watched_reads input.new ≤ length heard.bytes + 1)) }
     ensures stopped { IfErr result (λ ending. Stopped H.handles
         (state handler.old (output_of W.contents output.old) session.old) ending
         handler.new (output_of W.contents output.new)
@@ -76,10 +81,12 @@ fn listen<H: Handler, R: Read, W: Write>(
         OnlyWhereFailed ending (watched_failed output.old) (watched_failed output.new)) }
     ensures kept { OnOk result (watched_failed input.new ≡ watched_failed input.old) }
     ensures few { watched_reads input.new ≤ read_limit }
+    ensures no_late_read { StopsAtEnd input.old input.new }
+    ensures no_late_write { StopsAtFailure output.old output.new }
     ensures bound { OnOk result (session.new.sent ≤ 2 ^ 100) }
     ensures ready { H.is_ready handler.new }
 {
-    let mut buffer = [0u8; 4096];
+    let mut buffer = [0u8; PIECE_LIMIT];
     'reads: for _ in 0..READ_LIMIT {
         match input.read(&mut buffer) {
             Ok(0) => return Ok(()),

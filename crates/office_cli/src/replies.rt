@@ -1,5 +1,5 @@
 //! The lines of replies.
-ghost use Rattle.std.specs.Prelude.{◌≡◌, ◌++◌, [], ◌∷◌, IfOk, OnOk, string_bytes};
+ghost use Rattle.std.specs.Prelude.{◌≡◌, ◌<◌, ◌++◌, [], ◌∷◌, IfOk, OnErr, OnOk, length, string_bytes};
 ghost use Rattle.office_core.specs.Replies.{RowsAscend};
 ghost use Rattle.office_cli.specs.OutputLines.{line_of};
 ghost use Rattle.office_cli.specs.Replies.{reply_text, result_text, spaced, standing_text, yes_or_no};
@@ -11,10 +11,12 @@ use office_lists::{move_day_text, or_none, people_text, results_text, rooms_text
 use room_types::{OutOfMemory, PersonId, RoomCode};
 use std::alloc::{AllocError, Global};
 
-/// The lines of a reply, whose rows ascend, as `answer` and `decide` give them.
+/// The lines of a reply, whose rows ascend, as `answer` and `decide` give them. Where they have no bytes, no memory is
+/// taken.
 pub fn text_of_reply(alloc: Global, reply: &Reply) -> Result<String, OutOfMemory>
     requires ascending { RowsAscend reply.now }
-    ensures { IfOk result (λ text. string_bytes text ≡ reply_text reply.now) }
+    ensures text { IfOk result (λ text. string_bytes text ≡ reply_text reply.now) }
+    ensures memory { OnErr result (0 < length (reply_text reply.now)) }
 {
     match reply {
         Reply::Done => line(alloc, "ok\n"),

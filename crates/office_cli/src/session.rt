@@ -1,6 +1,6 @@
 //! What is kept of a rehearsal between two bytes of its input.
 ghost use Rattle.std.specs.Prelude.{◌≤◌, vec_len};
-ghost use Rattle.office_cli.specs.declared.limits.TheConstants.{LINE_LIMIT};
+ghost use Rattle.office_cli.specs.Lines.{line_limit};
 
 use crate::ending::Ending;
 use crate::hearing::hear;
@@ -18,13 +18,13 @@ pub struct Session {
     pub partial_line: Vec<u8>,
     pub sent: u128,
     pub status: u8,
-    ghost short: { vec_len partial_line ≤ LINE_LIMIT },
+    ghost short: { vec_len partial_line ≤ line_limit },
 }
 
 impl Session {
     ghost use Rattle.std.specs.Prelude.{◌≡◌, ◌+◌, ◌*◌, ◌^◌, ◌<◌, OnOk, IfErr, false, length, [], ◌∷◌};
     ghost use Rattle.room_types.specs.Streams.{output_of};
-    ghost use Rattle.room_types.specs.Watched.{watched_failed, watched_flushes, watched_pending, counted};
+    ghost use Rattle.room_types.specs.Watched.{watched_failed, watched_flushes, watched_pending, counted, StopsAtFailure};
     ghost use Rattle.office_cli.specs.Sessions.{Answered, Broken, Finished, Heard, Halted, OnlyWhereFailed, Unfinished, state};
 
     /// Nothing was heard or sent.
@@ -57,6 +57,7 @@ impl Session {
             handler.new (output_of W.contents output.new)) }
         ensures failed { IfErr result (λ ending.
             OnlyWhereFailed ending (watched_failed output.old) (watched_failed output.new)) }
+        ensures no_late_write { StopsAtFailure output.old output.new }
         ensures bound { OnOk result (self.new.sent < self.old.sent + 2 ^ 64) }
         ensures ready { H.is_ready handler.new }
     {
@@ -95,6 +96,7 @@ impl Session {
             handler.new (output_of W.contents output.new) (byte ∷ [])) }
         ensures failed { IfErr result (λ ending.
             OnlyWhereFailed ending (watched_failed output.old) (watched_failed output.new)) }
+        ensures no_late_write { StopsAtFailure output.old output.new }
         ensures bound { OnOk result (self.new.sent < self.old.sent + 2 ^ 64) }
         ensures ready { H.is_ready handler.new }
     {
@@ -128,6 +130,7 @@ impl Session {
             handler.new (output_of W.contents output.new) piece.now) }
         ensures failed { IfErr result (λ ending.
             OnlyWhereFailed ending (watched_failed output.old) (watched_failed output.new)) }
+        ensures no_late_write { StopsAtFailure output.old output.new }
         ensures bound { OnOk result (self.new.sent ≤ self.old.sent + length piece.now * 2 ^ 64) }
         ensures ready { H.is_ready handler.new }
     {
@@ -154,6 +157,7 @@ impl Session {
             handler.new (output_of W.contents output.new)) }
         ensures failed { IfErr result (λ ending.
             OnlyWhereFailed ending (watched_failed output.old) (watched_failed output.new)) }
+        ensures no_late_write { StopsAtFailure output.old output.new }
         ensures ready { H.is_ready handler.new }
     {
         if self.partial_line.is_empty() {
@@ -181,6 +185,7 @@ impl Session {
             handler.new (output_of W.contents output.new)) }
         ensures failed { IfErr result (λ ending.
             OnlyWhereFailed ending (watched_failed output.old) (watched_failed output.new)) }
+        ensures no_late_write { StopsAtFailure output.old output.new }
         ensures ready { H.is_ready handler.new }
     {
         self.answer_rest(alloc, handler, output)?;

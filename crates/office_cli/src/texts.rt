@@ -1,6 +1,6 @@
 //! What is said of lines, and the statuses of lines.
-ghost use Rattle.std.specs.Prelude.{◌≡◌, IfOk, OnErr, string_bytes};
-ghost use Rattle.office_cli.specs.Texts.{text_of as text-of, status_of as status-of, SaidAscends, SaysSomething};
+ghost use Rattle.std.specs.Prelude.{◌≡◌, ◌<◌, IfOk, OnErr, length, string_bytes};
+ghost use Rattle.office_cli.specs.Texts.{text_of as text-of, status_of as status-of, SaidAscends};
 
 use crate::output_lines::line;
 use crate::refusals::text_of_refusal;
@@ -22,12 +22,12 @@ pub const NOT_UNDERSTOOD: u8 = 2;
 /// The status where memory or a device failed.
 pub const UNAVAILABLE: u8 = 3;
 
-/// The lines that are printed, where the rows of a reply ascend, as handlers give them. Where nothing is said, no memory is
-/// taken.
+/// The lines that are printed, where the rows of a reply ascend, as handlers give them. Where they have no bytes, no
+/// memory is taken.
 pub fn text_of(alloc: Global, said: &Said) -> Result<String, OutOfMemory>
     requires ascending { SaidAscends said.now }
     ensures text { IfOk result (λ text. string_bytes text ≡ text-of said.now) }
-    ensures memory { OnErr result (SaysSomething said.now) }
+    ensures memory { OnErr result (0 < length (text-of said.now)) }
 {
     match said {
         Said::Nothing => Ok(String::new(alloc)),

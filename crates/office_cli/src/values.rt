@@ -1,11 +1,12 @@
 //! The values that words are.
-ghost use Rattle.std.specs.Prelude.{◌≡◌, length, map};
+ghost use Rattle.std.specs.Prelude.{◌≡◌, false, is_some, length, map};
 ghost use Rattle.std.specs.Char.{is_ascii_digit};
 ghost use Rattle.std.specs.Int.{is_in_range};
 ghost use Rattle.std.specs.List.{list_all};
-ghost use Rattle.office_cli.specs.Understanding.{Understands, UnderstandsAs};
+ghost use Rattle.office_cli.specs.Understanding.{Understands, UnderstandsAs, WantsMemoryOnlyIf};
 ghost use Rattle.room_types.specs.Words.{word_of};
 ghost use Rattle.office_cli.specs.Values.{all_of, choices_in, codes_of, in_grammar, is_round_number, joined, only, round_number};
+ghost use Rattle.office_cli.specs.Words.{first_in, is_drawn_word};
 ghost use Rattle.room_types.specs.Grammars.{is_name};
 
 use crate::word_fault::WordFault;
@@ -15,9 +16,10 @@ use std::alloc::Global;
 /// How many digits the number of a round has at most.
 pub const ROUND_DIGITS: usize = 4;
 
-/// The value that a word is in its grammar.
+/// The value that a word is in its grammar. Memory is taken for such a word alone.
 pub fn value_of<G: Grammar>(alloc: Global, word: &str) -> Result<Text<G>, WordFault>
-    ensures { Understands (in_grammar G.is_text word.now) result }
+    ensures understands { Understands (in_grammar G.is_text word.now) result }
+    ensures memory { WantsMemoryOnlyIf (G.is_text word.now) result }
 {
     match Text::read(alloc, word) {
         Ok(value) => Ok(value),
@@ -26,9 +28,12 @@ pub fn value_of<G: Grammar>(alloc: Global, word: &str) -> Result<Text<G>, WordFa
     }
 }
 
-/// The value that the only word is in its grammar.
+/// The value that the only word is in its grammar. Memory is taken for such a word alone.
 pub fn only_value<G: Grammar>(alloc: Global, words: &[&str]) -> Result<Text<G>, WordFault>
-    ensures { Understands (only G.is_text (map (λ word. word.now) words.now)) result }
+    ensures understands { Understands
+        (only G.is_text (map (λ word. word.now) words.now)) result }
+    ensures memory { WantsMemoryOnlyIf
+        (is_some (only G.is_text (map (λ word. word.now) words.now))) result }
 {
     match words {
         [word] => value_of(alloc, word),
@@ -67,9 +72,11 @@ fn all_codes(alloc: Global, words: &[&str]) -> Result<Vec<RoomCode>, WordFault>
     Ok(codes)
 }
 
-/// The words of a draw that the words are.
+/// The words of a draw that the words are. Memory is taken once the first of them is one.
 pub fn drawn_words(alloc: Global, words: &[&str]) -> Result<Listing<Word>, WordFault>
-    ensures { Understands (all_of word_of (map (λ word. word.now) words.now)) result }
+    ensures understands { Understands (all_of word_of (map (λ word. word.now) words.now)) result }
+    ensures memory { WantsMemoryOnlyIf
+        (first_in is_drawn_word (map (λ word. word.now) words.now)) result }
 {
     let mut drawn = Vec::new(alloc);
     for word in words {
@@ -79,7 +86,8 @@ pub fn drawn_words(alloc: Global, words: &[&str]) -> Result<Listing<Word>, WordF
 }
 
 fn drawn_word(word: &str) -> Result<Word, WordFault>
-    ensures { Understands (word_of word.now) result }
+    ensures understands { Understands (word_of word.now) result }
+    ensures memory { WantsMemoryOnlyIf false result }
 {
     match Word::read(word) {
         Ok(word) => Ok(word),
@@ -87,9 +95,10 @@ fn drawn_word(word: &str) -> Result<Word, WordFault>
     }
 }
 
-/// The number of a round that a word of digits is.
+/// The number of a round that a word of digits is. It takes no memory.
 pub fn round_of(word: &str) -> Result<u16, WordFault>
-    ensures { Understands (round_number word.now) result }
+    ensures understands { Understands (round_number word.now) result }
+    ensures memory { WantsMemoryOnlyIf false result }
 {
     if !is_round_number(word) {
         return Err(WordFault::NotUnderstood);

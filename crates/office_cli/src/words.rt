@@ -1,7 +1,9 @@
 //! The request that the words of a line are.
-ghost use Rattle.std.specs.Prelude.{◌≡◌, IfErr, map, true};
-ghost use Rattle.office_cli.specs.Understanding.{Understands};
-ghost use Rattle.office_cli.specs.Words.{add_person, add_room, alone, ask_me, ask_moves, ask_what_if, draw, leave, names_request, remove, reopen, request_after, request_of, set_choices, set_home, shut, withdraw};
+ghost use Rattle.std.specs.Prelude.{false, map};
+ghost use Rattle.office_cli.specs.Understanding.{Understands, WantsMemoryOnlyIf};
+ghost use Rattle.office_cli.specs.Words.{add_person, add_room, alone, ask_me, ask_moves, ask_what_if, draw, leave, remove, reopen, request_after, request_of, set_choices, set_home, shut, withdraw};
+ghost use Rattle.office_cli.specs.Words.{copies, takes_memory};
+ghost use Rattle.office_cli.specs.declared.verbs.Verb.TheVariants as verb;
 
 use crate::values::{choices_of, drawn_words, name_of, only_value, round_of, value_of};
 use crate::verbs::{Verb, verb_of};
@@ -10,12 +12,11 @@ use office_core::{Command, Query};
 use office_store::Request;
 use std::alloc::Global;
 
-/// The request that the words of a line are. `NotUnderstood` is answered exactly where they are none, and memory is wanting
-/// only where the first word is that of a request.
+/// The request that the words of a line are. `NotUnderstood` is answered exactly where they are none. Memory is wanting
+/// only where it is taken: for copies of values, from the first on, where there are as many as the request has.
 pub fn words_to_command(alloc: Global, words: &[&str]) -> Result<Request, WordFault>
     ensures understands { Understands (request_of (map (λ word. word.now) words.now)) result }
-    ensures named { IfErr result (λ fault. fault ≡ WordFault.OutOfMemory
-        → names_request (map (λ word. word.now) words.now) ≡ true) }
+    ensures memory { WantsMemoryOnlyIf (takes_memory (map (λ word. word.now) words.now)) result }
 {
     let [first, rest @ ..] = words else {
         return Err(WordFault::NotUnderstood);
@@ -28,7 +29,9 @@ pub fn words_to_command(alloc: Global, words: &[&str]) -> Result<Request, WordFa
 
 // The request of the words after a first word.
 fn request_after(alloc: Global, verb: Verb, rest: &[&str]) -> Result<Request, WordFault>
-    ensures { Understands (request_after verb (map (λ word. word.now) rest.now)) result }
+    ensures understands { Understands
+        (request_after verb (map (λ word. word.now) rest.now)) result }
+    ensures memory { WantsMemoryOnlyIf (copies verb (map (λ word. word.now) rest.now)) result }
 {
     match verb {
         Verb::Room => add_room(alloc, rest),
@@ -59,7 +62,9 @@ fn request_after(alloc: Global, verb: Verb, rest: &[&str]) -> Result<Request, Wo
 }
 
 fn add_room(alloc: Global, words: &[&str]) -> Result<Request, WordFault>
-    ensures { Understands (add_room (map (λ word. word.now) words.now)) result }
+    ensures understands { Understands (add_room (map (λ word. word.now) words.now)) result }
+    ensures memory { WantsMemoryOnlyIf (copies verb.Room (map (λ word. word.now) words.now))
+        result }
 {
     let room = only_value(alloc, words)?;
     Ok(Request::Office(Command::AddRoom { room }))
@@ -67,7 +72,9 @@ fn add_room(alloc: Global, words: &[&str]) -> Result<Request, WordFault>
 
 // The rest of the words, joined by one space, is the name.
 fn add_person(alloc: Global, words: &[&str]) -> Result<Request, WordFault>
-    ensures { Understands (add_person (map (λ word. word.now) words.now)) result }
+    ensures understands { Understands (add_person (map (λ word. word.now) words.now)) result }
+    ensures memory { WantsMemoryOnlyIf (copies verb.Person (map (λ word. word.now) words.now))
+        result }
 {
     match words {
         [person, key, name @ ..] => {
@@ -86,7 +93,9 @@ fn add_person(alloc: Global, words: &[&str]) -> Result<Request, WordFault>
 }
 
 fn set_home(alloc: Global, words: &[&str]) -> Result<Request, WordFault>
-    ensures { Understands (set_home (map (λ word. word.now) words.now)) result }
+    ensures understands { Understands (set_home (map (λ word. word.now) words.now)) result }
+    ensures memory { WantsMemoryOnlyIf (copies verb.Home (map (λ word. word.now) words.now))
+        result }
 {
     match words {
         [person, room] => {
@@ -99,35 +108,45 @@ fn set_home(alloc: Global, words: &[&str]) -> Result<Request, WordFault>
 }
 
 fn leave(alloc: Global, words: &[&str]) -> Result<Request, WordFault>
-    ensures { Understands (leave (map (λ word. word.now) words.now)) result }
+    ensures understands { Understands (leave (map (λ word. word.now) words.now)) result }
+    ensures memory { WantsMemoryOnlyIf (copies verb.Leave (map (λ word. word.now) words.now))
+        result }
 {
     let person = only_value(alloc, words)?;
     Ok(Request::Office(Command::Leave { person }))
 }
 
 fn remove(alloc: Global, words: &[&str]) -> Result<Request, WordFault>
-    ensures { Understands (remove (map (λ word. word.now) words.now)) result }
+    ensures understands { Understands (remove (map (λ word. word.now) words.now)) result }
+    ensures memory { WantsMemoryOnlyIf (copies verb.Remove (map (λ word. word.now) words.now))
+        result }
 {
     let person = only_value(alloc, words)?;
     Ok(Request::Office(Command::Remove { person }))
 }
 
 fn shut(alloc: Global, words: &[&str]) -> Result<Request, WordFault>
-    ensures { Understands (shut (map (λ word. word.now) words.now)) result }
+    ensures understands { Understands (shut (map (λ word. word.now) words.now)) result }
+    ensures memory { WantsMemoryOnlyIf (copies verb.Shut (map (λ word. word.now) words.now))
+        result }
 {
     let room = only_value(alloc, words)?;
     Ok(Request::Office(Command::Shut { room }))
 }
 
 fn reopen(alloc: Global, words: &[&str]) -> Result<Request, WordFault>
-    ensures { Understands (reopen (map (λ word. word.now) words.now)) result }
+    ensures understands { Understands (reopen (map (λ word. word.now) words.now)) result }
+    ensures memory { WantsMemoryOnlyIf (copies verb.Reopen (map (λ word. word.now) words.now))
+        result }
 {
     let room = only_value(alloc, words)?;
     Ok(Request::Office(Command::Reopen { room }))
 }
 
 fn set_choices(alloc: Global, words: &[&str]) -> Result<Request, WordFault>
-    ensures { Understands (set_choices (map (λ word. word.now) words.now)) result }
+    ensures understands { Understands (set_choices (map (λ word. word.now) words.now)) result }
+    ensures memory { WantsMemoryOnlyIf (copies verb.Choose (map (λ word. word.now) words.now))
+        result }
 {
     match words {
         [person, rooms @ ..] => {
@@ -140,21 +159,27 @@ fn set_choices(alloc: Global, words: &[&str]) -> Result<Request, WordFault>
 }
 
 fn withdraw(alloc: Global, words: &[&str]) -> Result<Request, WordFault>
-    ensures { Understands (withdraw (map (λ word. word.now) words.now)) result }
+    ensures understands { Understands (withdraw (map (λ word. word.now) words.now)) result }
+    ensures memory { WantsMemoryOnlyIf (copies verb.Withdraw (map (λ word. word.now) words.now))
+        result }
 {
     let person = only_value(alloc, words)?;
     Ok(Request::Office(Command::Withdraw { person }))
 }
 
 fn draw(alloc: Global, words: &[&str]) -> Result<Request, WordFault>
-    ensures { Understands (draw (map (λ word. word.now) words.now)) result }
+    ensures understands { Understands (draw (map (λ word. word.now) words.now)) result }
+    ensures memory { WantsMemoryOnlyIf (copies verb.Draw (map (λ word. word.now) words.now))
+        result }
 {
     let words = drawn_words(alloc, words)?;
     Ok(Request::Office(Command::Draw { words }))
 }
 
 fn ask_moves(words: &[&str]) -> Result<Request, WordFault>
-    ensures { Understands (ask_moves (map (λ word. word.now) words.now)) result }
+    ensures understands { Understands (ask_moves (map (λ word. word.now) words.now)) result }
+    ensures memory { WantsMemoryOnlyIf (copies verb.Moves (map (λ word. word.now) words.now))
+        result }
 {
     match words {
         [round] => {
@@ -166,14 +191,17 @@ fn ask_moves(words: &[&str]) -> Result<Request, WordFault>
 }
 
 fn ask_me(alloc: Global, words: &[&str]) -> Result<Request, WordFault>
-    ensures { Understands (ask_me (map (λ word. word.now) words.now)) result }
+    ensures understands { Understands (ask_me (map (λ word. word.now) words.now)) result }
+    ensures memory { WantsMemoryOnlyIf (copies verb.Me (map (λ word. word.now) words.now)) result }
 {
     let key = only_value(alloc, words)?;
     Ok(Request::Ask(Query::Me(key)))
 }
 
 fn ask_what_if(alloc: Global, words: &[&str]) -> Result<Request, WordFault>
-    ensures { Understands (ask_what_if (map (λ word. word.now) words.now)) result }
+    ensures understands { Understands (ask_what_if (map (λ word. word.now) words.now)) result }
+    ensures memory { WantsMemoryOnlyIf (copies verb.WhatIf (map (λ word. word.now) words.now))
+        result }
 {
     match words {
         [person, rooms @ ..] => {
@@ -187,7 +215,8 @@ fn ask_what_if(alloc: Global, words: &[&str]) -> Result<Request, WordFault>
 
 // The request of a word after which none may stand.
 fn alone(words: &[&str], request: Request) -> Result<Request, WordFault>
-    ensures { Understands (alone request (map (λ word. word.now) words.now)) result }
+    ensures understands { Understands (alone request (map (λ word. word.now) words.now)) result }
+    ensures memory { WantsMemoryOnlyIf false result }
 {
     if words.is_empty() {
         Ok(request)

@@ -5,4 +5,5 @@ pub mod RefusalLemmas
 pub mod ReplyLemmas
 pub mod RoundLemmas
 pub mod Rows
+pub mod SoundnessLemmas
 pub mod Truths

@@ -8,15 +8,18 @@ use Rattle.office_core.specs.Office.Moves.{moves_of, with_move}
 use Rattle.office_core.specs.Office.{knows_room, knows_person, has_withdrawn}
 use Rattle.office_core.specs.declared.office.Office.{Office}
 use Rattle.office_core.specs.declared.change.Change.{Change}
-use Rattle.office_core.specs.declared.change.Change.TheVariants.{PutRoom, PutPerson, DropPerson, PutHome, PutWithdrawn}
-use Rattle.office_core.specs.declared.change.Change.TheVariants.{PutChoices, PutWord, PutResult, AddMove}
+use Rattle.office_core.specs.declared.change.Change.TheVariants.{PutRoom, PutPerson, DropPerson}
+use Rattle.office_core.specs.declared.change.Change.TheVariants.{PutHome, PutWithdrawn}
+use Rattle.office_core.specs.declared.change.Change.TheVariants.{PutChoices, PutWord, PutResult}
+use Rattle.office_core.specs.declared.change.Change.TheVariants.{AddMove}
 use Rattle.office_core.specs.declared.change.Change.TheVariants.{PutRound, ClearRound}
 
 -- a known person moves to the home
 abbrev pub with_home : Office → Text → Option Text → Office
 with_home office person home = elim (map.get office.people person) [
   | None ↦ office
-  | Some kept ↦ record office { people = map.insert office.people person (record kept { home = home }) }
+  | Some kept ↦
+      record office { people = map.insert office.people person (record kept { home = home }) }
 ]
 
 -- an empty list and none are the same: none is kept
@@ -37,11 +40,16 @@ without_round office = record office {
 abbrev pub applied : Office → Change → Office
 applied office (PutRoom room shut) = record office { rooms = map.insert office.rooms room shut }
 applied office (PutPerson person name key home) =
-    record office { people = map.insert office.people person (record { name = name; key = key; home = home }) }
+    record office {
+      people = map.insert office.people person
+          (record { name = name; key = key; home = home });
+    }
 applied office (DropPerson person) = record office { people = map.remove office.people person }
 applied office (PutHome person home) = with_home office person home
-applied office (PutWithdrawn person) = record office { withdrawn = map.insert office.withdrawn person tt }
-applied office (PutChoices person choices) = record office { choices = with_list office.choices person choices }
+applied office (PutWithdrawn person) =
+    record office { withdrawn = map.insert office.withdrawn person tt }
+applied office (PutChoices person choices) =
+    record office { choices = with_list office.choices person choices }
 applied office (PutWord person word) = record office { words = map.insert office.words person word }
 applied office (PutResult person room) =
     record office { results = map.insert office.results person (record { room = room }) }
@@ -49,8 +57,8 @@ applied office (AddMove move) = record office { moves = with_move office.moves m
 applied office (PutRound number phase) = record office { number = number; phase = phase }
 applied office ClearRound = without_round office
 
--- whether the change takes memory: what is taken out, or only set, takes none, and neither does the home of somebody
--- unknown
+-- whether the change takes memory: what is taken out, or only set, takes none, and neither does the
+-- home of somebody unknown
 abbrev pub change_takes_memory : Office → Change → Bool
 change_takes_memory office (PutRoom room shut) = true
 change_takes_memory office (PutPerson person name key home) = true
@@ -72,11 +80,12 @@ applied_all office (change ∷ changes) = applied_all (applied office change) ch
 -- homes differ before the changes, between any two of them, and after them
 abbrev pub StaysApart : Office → List Change → Type 0
 StaysApart office [] = HomesDiffer office
-StaysApart office (change ∷ changes) = HomesDiffer office × StaysApart (applied office change) changes
+StaysApart office (change ∷ changes) =
+    HomesDiffer office × StaysApart (applied office change) changes
 
--- What a keeper of rows may rely on at each change, `first` being the office before all of them: a room is known now as
--- it was at first, who is put or dropped has not withdrawn, who withdraws or gets a list, a word or a result is known,
--- and a person moves once a round.
+-- What a keeper of rows may rely on at each change, `first` being the office before all of them: a
+-- room is known now as it was at first, who is put or dropped has not withdrawn, who withdraws or
+-- gets a list, a word or a result is known, and a person moves once a round.
 abbrev pub Fits : Office → Office → Change → Type 0
 Fits first office (PutRoom room shut) = knows_room office room ≡ knows_room first room
 Fits first office (PutPerson person name key home) = has_withdrawn office person ≡ false
@@ -85,14 +94,17 @@ Fits first office (PutWithdrawn person) = knows_person office person ≡ true
 Fits first office (PutChoices person choices) = knows_person office person ≡ true
 Fits first office (PutWord person word) = knows_person office person ≡ true
 Fits first office (PutResult person room) = knows_person office person ≡ true
-Fits first office (AddMove move) = map.contains_key (moves_of office.moves move.round) move.person ≡ false
+Fits first office (AddMove move) =
+    map.contains_key (moves_of office.moves move.round) move.person ≡ false
 Fits first office _ = Unit {0}
 
 abbrev pub AllFit : Office → Office → List Change → Type 0
 AllFit first office [] = Unit {0}
-AllFit first office (change ∷ changes) = Fits first office change × AllFit first (applied office change) changes
+AllFit first office (change ∷ changes) =
+    Fits first office change × AllFit first (applied office change) changes
 
--- The changes lead from an office to the next one, which is lawful. Homes differ on the way, and each change fits.
+-- The changes lead from an office to the next one, which is lawful. Homes differ on the way, and
+-- each change fits.
 pub record LeadsOn (office next : Office) (changes : List Change) : Type 0 where
   pub leads : applied_all office changes ≡ next
   pub apart : StaysApart office changes

@@ -44,7 +44,8 @@ use Rattle.office_core.specs.Command.Withdraw as withdraw
 -- each refusal of a command, in the order of its line
 abbrev pub checks : Office → Command → List Check
 checks office (command.AddRoom room) = add_room.checks office room
-checks office (command.AddPerson person name key home) = add_person.checks office person name key home
+checks office (command.AddPerson person name key home) =
+    add_person.checks office person name key home
 checks office (command.SetHome person room) = set_home.checks office person room
 checks office (command.Leave person) = leave.checks office person
 checks office (command.Remove person) = remove.checks office person
@@ -105,7 +106,8 @@ reply_to office command.Cancel = cancel.reply_to office
 -- the changes that carry an accepted command out, in order
 abbrev pub changes_of : Office → Command → List Change
 changes_of office (command.AddRoom room) = add_room.changes_of office room
-changes_of office (command.AddPerson person name key home) = add_person.changes_of office person name key home
+changes_of office (command.AddPerson person name key home) =
+    add_person.changes_of office person name key home
 changes_of office (command.SetHome person room) = set_home.changes_of office person room
 changes_of office (command.Leave person) = leave.changes_of office person
 changes_of office (command.Remove person) = remove.changes_of office person

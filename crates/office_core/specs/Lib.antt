@@ -3,8 +3,10 @@ pub mod Command
 pub mod Empty
 pub mod Inner
 pub mod Office
+pub mod Puts
 pub mod Query
 pub mod Refusal
 pub mod Replies
 pub mod ReplyLaws
 pub mod Round
+pub mod Soundness

@@ -90,11 +90,13 @@ choices_of office person = unwrap_or (map.get office.choices person) []
 
 -- the recorded result: the room that a participant gets, or none
 abbrev pub recorded_result : Office → Text → Option Text
-recorded_result office person = option_and_then (λ (given : Assigned). given.room) (map.get office.results person)
+recorded_result office person =
+    option_and_then (λ (given : Assigned). given.room) (map.get office.results person)
 
 -- who has not withdrawn, by identifier
 abbrev pub participants : Office → List Text
-participants office = map_list (λ e. e.0) (filter (λ e. not (has_withdrawn office e.0)) (map.entries office.people))
+participants office =
+    map_list (λ e. e.0) (filter (λ e. not (has_withdrawn office e.0)) (map.entries office.people))
 
 -- whether the round has begun, and is neither settled nor cancelled
 abbrev pub is_under_way : Office → ℕ → Bool
@@ -102,7 +104,8 @@ is_under_way office round = not (is_idle office.phase) && eqb round office.numbe
 
 -- whether the round is settled or cancelled
 abbrev pub is_over : Office → ℕ → Bool
-is_over office round = nat_le 1 round && nat_le round office.number && not (is_under_way office round)
+is_over office round =
+    nat_le 1 round && nat_le round office.number && not (is_under_way office round)
 
 -- whether a person sees the result
 abbrev pub is_shown : Office → Text → Bool

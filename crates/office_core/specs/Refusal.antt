@@ -2,11 +2,16 @@
 pub mod Checks
 use Rattle.std.specs.Prelude.{ℕ, List, codes}
 use Rattle.office_core.specs.declared.refusal.Refusal.{Refusal}
-use Rattle.office_core.specs.declared.refusal.Refusal.TheVariants.{BadPhase, UnknownPerson, UnknownRoom}
-use Rattle.office_core.specs.declared.refusal.Refusal.TheVariants.{DuplicateRoom, DuplicatePerson, KeyInUse}
-use Rattle.office_core.specs.declared.refusal.Refusal.TheVariants.{RoomShut, RoomTaken, HasHome, NoHome, Withdrawn}
-use Rattle.office_core.specs.declared.refusal.Refusal.TheVariants.{WrongWordCount, LimitReached, NotInRound}
-use Rattle.office_core.specs.declared.refusal.Refusal.TheVariants.{NoSuchRound, NotShut, OutOfMemory}
+use Rattle.office_core.specs.declared.refusal.Refusal.TheVariants.{BadPhase, UnknownPerson}
+use Rattle.office_core.specs.declared.refusal.Refusal.TheVariants.{UnknownRoom}
+use Rattle.office_core.specs.declared.refusal.Refusal.TheVariants.{DuplicateRoom, DuplicatePerson}
+use Rattle.office_core.specs.declared.refusal.Refusal.TheVariants.{KeyInUse}
+use Rattle.office_core.specs.declared.refusal.Refusal.TheVariants.{RoomShut, RoomTaken, HasHome}
+use Rattle.office_core.specs.declared.refusal.Refusal.TheVariants.{NoHome, Withdrawn}
+use Rattle.office_core.specs.declared.refusal.Refusal.TheVariants.{WrongWordCount, LimitReached}
+use Rattle.office_core.specs.declared.refusal.Refusal.TheVariants.{NotInRound}
+use Rattle.office_core.specs.declared.refusal.Refusal.TheVariants.{NoSuchRound, NotShut}
+use Rattle.office_core.specs.declared.refusal.Refusal.TheVariants.{OutOfMemory}
 
 abbrev pub number_of : Refusal → ℕ
 number_of (BadPhase phase) = 1

@@ -4,7 +4,8 @@ use Rattle.room_types.specs.Ascending.{AscendsBy}
 use Rattle.office_core.specs.declared.reply.Reply.{Reply}
 use Rattle.office_core.specs.declared.reply.Reply.TheVariants as reply
 
--- rows of rooms ascend by code, rows of people and of results by identifier, and no two have the same
+-- rows of rooms ascend by code, rows of people and of results by identifier, and no two have the
+-- same
 abbrev pub RowsAscend : Reply → Type 0
 RowsAscend reply.Done = ⊤
 RowsAscend (reply.Shut displaced) = ⊤

@@ -1,5 +1,6 @@
 -- The rows of what is replied ascend: laws for the crates above.
-use Rattle.std.specs.Prelude.{Bool, true, false, Option, None, Some, Ok, Err, IfOk, if◌then◌else◌, refl}
+use Rattle.std.specs.Prelude.{Bool, true, false, Option, None, Some, Ok, Err, IfOk, if◌then◌else◌}
+use Rattle.std.specs.Prelude.{refl}
 use Rattle.std.specs.FinMap as maps
 use Rattle.room_types.specs.TextMaps.{rows_ascend}
 use Rattle.room_types.specs.Texts.{Text}
@@ -28,35 +29,45 @@ use Rattle.office_core.specs.declared.refusal.Refusal.TheVariants.{BadPhase, NoS
 use Rattle.office_core.specs.declared.reply.Reply.{Reply}
 use Rattle.office_core.specs.declared.reply.Reply.TheVariants as reply
 
-if_ascends : (b : Bool) (given : Reply) (refusal : Refusal) → RowsAscend given → IfOk (if b then Ok given else Err refusal) RowsAscend
+if_ascends : (b : Bool) (given : Reply) (refusal : Refusal) → RowsAscend given
+    → IfOk (if b then Ok given else Err refusal) RowsAscend
 if_ascends true given refusal h = h
 if_ascends false given refusal h = tt
 
-unless_ascends : (refused : Option Refusal) (given : Reply) → RowsAscend given → IfOk (told_unless refused given) RowsAscend
+unless_ascends : (refused : Option Refusal) (given : Reply) → RowsAscend given
+    → IfOk (told_unless refused given) RowsAscend
 unless_ascends None given h = h
 unless_ascends (Some refusal) given h = tt
 
-person_ascends : (office : Office) (person : Text) (kept : Option Person) → IfOk (told_person office person kept) RowsAscend
+person_ascends : (office : Office) (person : Text) (kept : Option Person)
+    → IfOk (told_person office person kept) RowsAscend
 person_ascends office person None = tt
 person_ascends office person (Some kept) = tt
 
-owner_ascends : (office : Office) (person : Option Text) → IfOk (told_owner office person) RowsAscend
+owner_ascends : (office : Office) (person : Option Text)
+    → IfOk (told_owner office person) RowsAscend
 owner_ascends office None = tt
 owner_ascends office (Some person) = person_ascends office person (maps.get office.people person)
 
 -- in the reply to a query
 pub told_ascends : (office : Office) (asked : Query) → IfOk (told office asked) RowsAscend
-told_ascends office query.Rooms = rows_ascend (room_row office) (λ row. row.room) (λ e. refl) office.rooms
-told_ascends office query.People = rows_ascend person_row (λ row. row.person) (λ e. refl) office.people
+told_ascends office query.Rooms =
+    rows_ascend (room_row office) (λ row. row.room) (λ e. refl) office.rooms
+told_ascends office query.People =
+    rows_ascend person_row (λ row. row.person) (λ e. refl) office.people
 told_ascends office query.Round = tt
-told_ascends office query.Order = if_ascends (has_words office.phase) (reply.Order (order_rows office)) (BadPhase office.phase) tt
+told_ascends office query.Order =
+    if_ascends (has_words office.phase) (reply.Order (order_rows office)) (BadPhase office.phase) tt
 told_ascends office query.Results =
-    if_ascends (has_results office.phase) (reply.Results (result_rows office)) (BadPhase office.phase)
+    if_ascends (has_results office.phase) (reply.Results (result_rows office))
+    (BadPhase office.phase)
     (rows_ascend result_row (λ row. row.person) (λ e. refl) office.results)
-told_ascends office (query.Moves number) = if_ascends (is_over office number) (reply.Moves (move_rows office number)) NoSuchRound tt
+told_ascends office (query.Moves number) =
+    if_ascends (is_over office number) (reply.Moves (move_rows office number)) NoSuchRound tt
 told_ascends office (query.Me key) = owner_ascends office (owner office key)
 told_ascends office (query.WhatIf person choices) =
-    unless_ascends (first_refusal (checks office person choices)) (reply.WouldGet (result_by office person choices)) tt
+    unless_ascends (first_refusal (checks office person choices))
+    (reply.WouldGet (result_by office person choices)) tt
 
 -- in the reply to a command, which has none
 pub reply_ascends : (office : Office) (given : Command) → RowsAscend (reply_to office given)

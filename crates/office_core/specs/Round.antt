@@ -14,7 +14,8 @@ use Rattle.trade_line.specs.Market.{Market, list_of}
 use Rattle.trade_line.specs.OtherList.{with_list}
 use Rattle.trade_line.specs.Rank.{rank}
 use Rattle.trade_line.specs.TopTradingCycles.{gets}
-use Rattle.office_core.specs.Office.{is_text, knows_person, lives_in, home_of, has_withdrawn, choices_of, participants}
+use Rattle.office_core.specs.Office.{is_text, knows_person, lives_in, home_of, has_withdrawn}
+use Rattle.office_core.specs.Office.{choices_of, participants}
 use Rattle.office_core.specs.declared.office.Assigned.{Assigned}
 use Rattle.office_core.specs.declared.office.Office.{Office}
 

@@ -9,6 +9,7 @@ mod query;
 mod refusal;
 mod reply;
 pub mod round;
+mod soundness;
 
 pub use crate::change::Change;
 pub use crate::change::apply::{apply, office_after};
@@ -23,6 +24,7 @@ pub use crate::query::Query;
 pub use crate::query::answer::answer;
 pub use crate::refusal::Refusal;
 pub use crate::reply::{OrderRow, Reply, Standing};
+pub use crate::soundness::sound;
 
 #[cfg(test)]
 mod tests;

@@ -9,5 +9,5 @@ mod results;
 mod rooms;
 pub(crate) mod settlement;
 
-pub use crate::round::other_list::what_if;
+pub use crate::round::other_list::result_by;
 pub use crate::round::results::round_results;

@@ -20,7 +20,8 @@ line widths [] = codes "\n"
 
 -- a table: the line of its headings, and one for each row
 abbrev pub table : {Row : Type 0} → List ℕ → List Text → (Row → List Text) → List Row → Text
-table widths headings cells rows = line widths headings ++ flat_map (λ row. line widths (cells row)) rows
+table widths headings cells rows = line widths headings
+    ++ flat_map (λ row. line widths (cells row)) rows
 
 -- the text, or `none`
 abbrev pub or_none : Option Text → Text

@@ -1,5 +1,5 @@
 //! Waves: who has to move before whom.
-ghost use Rattle.std.specs.Prelude.{◌≡◌, ◌<◌, ◌≤◌, ℕ, List, Some, length, IfOk};
+ghost use Rattle.std.specs.Prelude.{◌≡◌, ◌<◌, ◌≤◌, ℕ, List, Some, length, IfOk, OnErr};
 ghost use Rattle.std.specs.BTreeMap.{get_by};
 ghost use Rattle.room_types.specs.Texts.{Text, text_cmp};
 ghost use Rattle.office_lists.specs.Waves.{Mover, NewRoomsDiffer, AreWaves, HaveOneWaveEach, leaver, leavers as leavers_of, followed, waves_of};
@@ -20,13 +20,17 @@ pub type Entry = (PersonId, Option<RoomCode>, Option<RoomCode>);
 
 /// The wave of each entry, in order: 1 where nobody leaves the new room, a swap where the movers pass their rooms
 /// round in a circle, and else the wave after that of the new room's leaver. The leaver of a room is the first entry
-/// whose old room it is. It takes n log n comparisons.
+/// whose old room it is. No entries take no memory. It takes n log n comparisons.
 pub fn waves(alloc: Global, entries: &[Entry]) -> Result<Vec<Wave>, OutOfMemory>
     requires few { length entries.now ≤ MOVE_LIMIT }
     requires new_rooms_differ { NewRoomsDiffer entries.now }
     ensures each { IfOk result (λ waves. AreWaves entries.now waves.items) }
     ensures computed { IfOk result (λ waves. waves.items ≡ waves_of entries.now) }
+    ensures memory { OnErr result (0 < length entries.now) }
 {
+    if entries.is_empty() {
+        return Ok(Vec::new(alloc));
+    }
     let leavers = leavers(alloc, entries)?;
     let followers = followers(alloc, &leavers)?;
     let mut waves = vec![in alloc; Wave::Swap; entries.len()]?;

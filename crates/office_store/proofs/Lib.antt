@@ -1,1 +1,4 @@
+mod DeskLemmas
+pub mod DeskRunLemmas
+mod EmptyLemmas
 pub mod RunLemmas

@@ -1,4 +1,4 @@
--- Runs of requests, one more at a time.
+-- Runs of requests.
 use Rattle.std.proofs.Common.{◌≡◌, List, [], ◌∷◌, ◌++◌, refl, subst}
 use Rattle.office_store.specs.Requests.{IsRun}
 use Rattle.office_store.specs.declared.requests.Request.{Request}

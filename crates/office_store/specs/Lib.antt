@@ -1,1 +1,3 @@
+pub mod Desk
+pub mod LawfulSteps
 pub mod Requests

@@ -36,10 +36,12 @@ abbrev pub office_after : Office → Request → Office
 office_after office (request.Office command) = office_but (accepts office command) office (next office command)
 office_after office (request.Ask query) = office
 
--- The request has its answer and its effect. Or it is answered that memory is wanting, and the office stays: the only free choice.
+-- The request has its answer and its effect. Or it is answered that memory is wanting, and the
+-- office stays: the only free choice.
 abbrev pub Handles : Office → Request → Answer → Office → Type 0
 Handles old request answer new =
-    ((answer ≡ answer_to old request) × (new ≡ office_after old request)) ⊎ ((answer ≡ Unavailable) × (new ≡ old))
+    ((answer ≡ answer_to old request) × (new ≡ office_after old request))
+    ⊎ ((answer ≡ Unavailable) × (new ≡ old))
 
 -- the rows of the reply, if there is one, ascend
 abbrev pub AnswerAscends : Answer → Type 0
@@ -48,7 +50,8 @@ AnswerAscends (Refused refusal) = ⊤
 AnswerAscends Unavailable = ⊤
 
 -- From the old one on, the requests have these answers, each in turn, and the new one is left.
-abbrev pub IsRun : {H : Type 0} → (H → Request → Answer → H → Type 0) → H → List Request → List Answer → H → Type 0
+abbrev pub IsRun : {H : Type 0} → (H → Request → Answer → H → Type 0) → H → List Request
+    → List Answer → H → Type 0
 IsRun handles old [] [] new = new ≡ old
 IsRun handles old (request ∷ requests) (answer ∷ answers) new =
     (between : _) × handles old request answer between × IsRun handles between requests answers new

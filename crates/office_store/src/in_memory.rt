@@ -42,7 +42,7 @@ fn execute(alloc: Global, office: &mut Office, command: &Command) -> Answer
     }
 }
 
-fn answer_query(alloc: Global, office: &Office, query: &Query) -> Answer
+pub(crate) fn answer_query(alloc: Global, office: &Office, query: &Query) -> Answer
     requires { IsLawful office.now }
     ensures handles { Handles office.now (Request-Ask query.now) result office.now }
     ensures ascending { AnswerAscends result }

@@ -1,11 +1,13 @@
 //! Requests to the office, and who handles them.
 #![tactic(auto)]
 
+pub mod desk;
 pub mod handler;
 pub mod handling;
 pub mod in_memory;
 pub mod requests;
 
+pub use crate::desk::{Back, Desk, DeskFault, Unavailable, handle_all_in_memory};
 pub use crate::handler::Handler;
 pub use crate::handling::handle_all;
 pub use crate::requests::{Answer, Request};

@@ -17,6 +17,6 @@ pub enum Answer {
     Reply(Reply),
     /// The request was refused, and changed nothing.
     Refused(Refusal),
-    /// Memory was refused, and nothing was changed.
+    /// Memory was refused, or the database did not serve, and nothing was changed.
     Unavailable,
 }

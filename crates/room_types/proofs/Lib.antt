@@ -1,5 +1,7 @@
 pub mod Arrangements
 pub mod HexTexts
+pub mod MapEntries
 pub mod Repeats
 pub mod StreamLemmas
 pub mod Trees
+pub mod WordTexts

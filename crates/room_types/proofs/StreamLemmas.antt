@@ -65,6 +65,10 @@ pub or_false : (b : Bool) → (b || false) ≡ b
 or_false true = refl
 or_false false = refl
 
+-- nothing that was not before
+pub or_known : (a b : Bool) → b ≡ false → (a || b) ≡ a
+or_known a b e = ap (λ c. a || c) e ∙ or_false a
+
 and_or_false : (b c : Bool) → (b || (c && false)) ≡ b
 and_or_false true c = refl
 and_or_false false true = refl

@@ -6,7 +6,8 @@ use Rattle.std.specs.Ordering.{is_gt}
 use Rattle.room_types.specs.Texts.{Text, text_cmp}
 
 -- the same items, none below the one before it, and those that tie in the order in which they stood
-pub record IsArrangement {X : Type 0} (cmp : X → X → Ordering) (items arranged : List X) : Type 0 where
+pub record IsArrangement {X : Type 0} (cmp : X → X → Ordering)
+    (items arranged : List X) : Type 0 where
   pub same_items : IsPermutation items arranged
   pub ascends : IsSorted cmp arranged
   pub ties_stay : IsStable cmp items arranged

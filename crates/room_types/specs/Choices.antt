@@ -1,20 +1,23 @@
 -- Lists of rooms, the best first.
-use Rattle.std.specs.Prelude.{◌≡◌, ◌≤◌, List, [], length, nat_lt, Option, None, Some, if◌then◌else◌}
+use Rattle.std.specs.Prelude.{◌≡◌, ◌≤◌, ℕ, List, [], length, nat_lt, Option, None, Some, if◌then◌else◌}
 use Rattle.std.specs.Option.{option_map}
 use Rattle.room_types.specs.Repeats.{first_repeated}
 use Rattle.room_types.specs.Texts.{Text}
-use Rattle.room_types.specs.declared.choices.TheConstants.{CHOICE_LIMIT}
 use Rattle.room_types.specs.declared.fault.TypeFault.{TypeFault}
 use Rattle.room_types.specs.declared.fault.TypeFault.TheVariants.{TooManyChoices, RoomRepeated}
 
+-- how many rooms a list may have
+abbrev pub choice_limit : ℕ
+choice_limit = 40
+
 -- not too many, and none twice
 abbrev pub IsChoices : List Text → Type 0
-IsChoices codes = (length codes ≤ CHOICE_LIMIT) × (first_repeated [] codes ≡ None)
+IsChoices codes = (length codes ≤ choice_limit) × (first_repeated [] codes ≡ None)
 
 -- what a list is refused for
 abbrev pub choices_fault : List Text → Option TypeFault
 choices_fault codes =
-    if nat_lt CHOICE_LIMIT (length codes) then Some TooManyChoices
+    if nat_lt choice_limit (length codes) then Some TooManyChoices
     else option_map (λ code. RoomRepeated code) (first_repeated [] codes)
 
 -- a list is refused for a room that stands twice

@@ -69,11 +69,13 @@ module _ {X : Type 0} where
   entries_ascend m = keys_ascend (maps.entries m) (entries_sorted m)
 
   -- and so do rows that are made of them, and show the same key
-  pub rows_ascend : {Row : Type 0} (row : Text × X → Row) (key : Row → Text) → ((e : Text × X) → key (row e) ≡ e.0)
+  pub rows_ascend : {Row : Type 0} (row : Text × X → Row) (key : Row → Text)
+      → ((e : Text × X) → key (row e) ≡ e.0)
       → (m : TextMap X) → AscendsBy key (map row (maps.entries m))
   rows_ascend row key same m =
       subst (λ keys. IsStrictlySortedBy text_cmp keys)
-      (sym (map-map key row (maps.entries m) ∙ ap (λ f. map f (maps.entries m)) (λ i e. same e i))) (entries_ascend m)
+      (sym (map-map key row (maps.entries m)
+      ∙ ap (λ f. map f (maps.entries m)) (λ i e. same e i))) (entries_ascend m)
 
   pub get-put_same : (m : TextMap X) (k : Text) (v : X) → maps.get (maps.insert m k v) k ≡ Some v
   get-put_same m k v =
@@ -82,7 +84,8 @@ module _ {X : Type 0} where
 
   pub get-put_other : (m : TextMap X) (k : Text) (v : X) (q : Text) → eq_by_cmp text_cmp q k ≡ false
       → maps.get (maps.insert m k v) q ≡ maps.get m q
-  get-put_other m k v q e = get-insert nat_list_cmp_total m k v q ∙ ap (λ b. cond b (Some v) (maps.get m q)) e
+  get-put_other m k v q e = get-insert nat_list_cmp_total m k v q
+      ∙ ap (λ b. cond b (Some v) (maps.get m q)) e
 
   pub get-gone_same : (m : TextMap X) (k : Text) → maps.get (maps.remove m k) k ≡ None
   get-gone_same m k =
@@ -91,33 +94,41 @@ module _ {X : Type 0} where
 
   pub get-gone_other : (m : TextMap X) (k : Text) (q : Text) → eq_by_cmp text_cmp q k ≡ false
       → maps.get (maps.remove m k) q ≡ maps.get m q
-  get-gone_other m k q e = get-remove nat_list_cmp_total m k q ∙ ap (λ b. cond b None (maps.get m q)) e
+  get-gone_other m k q e = get-remove nat_list_cmp_total m k q
+      ∙ ap (λ b. cond b None (maps.get m q)) e
 
   -- where the old value and the new one are the same
-  pub get-put_either : (m : TextMap X) (k : Text) (v : X) (q : Text) (w : X) → v ≡ w → maps.get m q ≡ Some w
+  pub get-put_either : (m : TextMap X) (k : Text) (v : X) (q : Text) (w : X) → v ≡ w
+      → maps.get m q ≡ Some w
       → maps.get (maps.insert m k v) q ≡ Some w
   get-put_either m k v q w e h =
       elim (text_cases q k) as (λ _. maps.get (maps.insert m k v) q ≡ Some w) [
-        | inl same ↦ ap (λ p. maps.get (maps.insert m k v) p) same ∙ get-put_same m k v ∙ ap (λ x. Some x) e
+        | inl same ↦ ap (λ p. maps.get (maps.insert m k v) p) same ∙ get-put_same m k v
+            ∙ ap (λ x. Some x) e
         | inr other ↦ get-put_other m k v q other ∙ h
       ]
 
-  pub contains_key-put_same : (m : TextMap X) (k : Text) (v : X) → maps.contains_key (maps.insert m k v) k ≡ true
+  pub contains_key-put_same : (m : TextMap X) (k : Text) (v : X)
+      → maps.contains_key (maps.insert m k v) k ≡ true
   contains_key-put_same m k v = ap is_some (get-put_same m k v)
 
   -- what was known stays known
-  pub contains_key-put : (m : TextMap X) (k : Text) (v : X) (q : Text) → maps.contains_key m q ≡ true
+  pub contains_key-put : (m : TextMap X) (k : Text) (v : X) (q : Text)
+      → maps.contains_key m q ≡ true
       → maps.contains_key (maps.insert m k v) q ≡ true
   contains_key-put m k v q h =
       elim (text_cases q k) as (λ _. maps.contains_key (maps.insert m k v) q ≡ true) [
-        | inl same ↦ ap (λ p. maps.contains_key (maps.insert m k v) p) same ∙ contains_key-put_same m k v
+        | inl same ↦ ap (λ p. maps.contains_key (maps.insert m k v) p) same
+            ∙ contains_key-put_same m k v
         | inr other ↦ ap is_some (get-put_other m k v q other) ∙ h
       ]
 
   pub len-put_known : (m : TextMap X) (k : Text) (v : X) → maps.contains_key m k ≡ true
       → maps.len (maps.insert m k v) ≡ maps.len m
-  len-put_known m k v known = len-insert nat_list_cmp_total m k v ∙ ap (λ b. cond b (maps.len m) (maps.len m + 1)) known
+  len-put_known m k v known = len-insert nat_list_cmp_total m k v
+      ∙ ap (λ b. cond b (maps.len m) (maps.len m + 1)) known
 
   pub len-put_fresh : (m : TextMap X) (k : Text) (v : X) → maps.contains_key m k ≡ false
       → maps.len (maps.insert m k v) ≡ maps.len m + 1
-  len-put_fresh m k v new = len-insert nat_list_cmp_total m k v ∙ ap (λ b. cond b (maps.len m) (maps.len m + 1)) new
+  len-put_fresh m k v new = len-insert nat_list_cmp_total m k v
+      ∙ ap (λ b. cond b (maps.len m) (maps.len m + 1)) new

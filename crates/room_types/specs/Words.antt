@@ -3,7 +3,10 @@ use Rattle.std.specs.Prelude.{ℕ, ◌+◌, ◌*◌, ◌-◌, ◌++◌, eqb, fal
 use Rattle.std.specs.Prelude.{Option, None, Some, if◌then◌else◌}
 use Rattle.std.specs.Int.{is_in_range}
 use Rattle.std.specs.Fmt.{digits}
-use Rattle.room_types.specs.declared.word.TheConstants.{WORD_DIGITS}
+
+-- how many digits a word has
+abbrev pub word_digits : ℕ
+word_digits = 16
 
 -- the value of a digit of either case
 abbrev pub hex_digit : ℕ → Option ℕ
@@ -20,8 +23,8 @@ hex_value value (byte ∷ bytes) =
 
 -- the word of exactly sixteen digits
 abbrev pub word_of : List ℕ → Option ℕ
-word_of text = if eqb (length text) WORD_DIGITS then hex_value 0 text else None
+word_of text = if eqb (length text) word_digits then hex_value 0 text else None
 
 -- the digits of a word in lower case, with zeros before them up to sixteen
 abbrev pub word_text : ℕ → List ℕ
-word_text word = replicate (WORD_DIGITS - length (digits 16 false word)) 48 ++ digits 16 false word
+word_text word = replicate (word_digits - length (digits 16 false word)) 48 ++ digits 16 false word

@@ -1,6 +1,6 @@
 //! A text, sent to a watched writer.
 ghost use Rattle.std.specs.Prelude.{◌≡◌, ◌<◌, length, take, OnOk, OnErr, true, IfErr};
-ghost use Rattle.room_types.specs.Watched.{watched_failed, watched_flushes};
+ghost use Rattle.room_types.specs.Watched.{watched_failed, watched_flushes, StopsAtFailure};
 ghost use Rattle.room_types.specs.Streams.{Puts, output_of};
 
 use crate::watched::Watched;
@@ -17,6 +17,7 @@ pub fn send<W: Write>(output: &mut Watched<W>, text: &[u8]) -> Result<(), usize>
     ensures kept { OnOk result (watched_failed output.new ≡ watched_failed output.old) }
     ensures failed { OnErr result (watched_failed output.new ≡ true) }
     ensures flushes { watched_flushes output.new ≡ watched_flushes output.old }
+    ensures stops { StopsAtFailure output.old output.new }
 {
     // Once it was read, the count is known to fit.
     let _taken = output.taken();

@@ -108,6 +108,14 @@ impl<G: Grammar, V: Drop> Table<G, V> {
         let _ = self.tree.remove(key);
     }
 
+    /// Takes the key and its value out, and gives the value, if it is there.
+    pub fn take(&mut self, key: &Text<G>) -> Option<V>
+        ensures value { result ≡ map.get self.old key.now }
+        ensures gone { self.new ≡ map.remove self.old key.now }
+    {
+        self.tree.remove(key)
+    }
+
     /// Takes out all entries.
     pub fn clear(&mut self)
         ensures { self.new ≡ map.empty }

@@ -66,9 +66,20 @@ fn keeps_tables(rt: HostRuntime) -> Result<(), TypeFault> {
         ascending.push_str(room.as_str())?;
     }
     assert_eq!(rt; ascending.as_str(), "R1R10R11R12R3R4R5R6R7R8R9");
+    assert_eq!(rt; copy.take(&code), Some(true));
+    assert_eq!(rt; copy.take(&code), None);
     copy.clear();
     assert_eq!(rt; copy.len(), 0);
+    Ok(())
+}
+
+#[test]
+fn keeps_listings(rt: HostRuntime) -> Result<(), TypeFault> {
+    let alloc = rt.alloc();
     assert_eq!(rt; Listing::new(codes(alloc, 3)?).as_slice().len(), 3);
+    let mut listing = Listing::empty(alloc);
+    listing.push(RoomCode::read(alloc, "R1")?)?;
+    assert_eq!(rt; listing.len(), 1);
     Ok(())
 }
 
@@ -108,8 +119,12 @@ impl Write for Faulty {
     }
 }
 
+fn new_device() -> Faulty {
+    Faulty { calls: 0, lent: 0 }
+}
+
 fn watched_faulty() -> Watched<Faulty> {
-    Watched::new(Faulty { calls: 0, lent: 0 })
+    Watched::new(new_device())
 }
 
 // The kind of the error, if there is one.
@@ -117,28 +132,37 @@ fn kind<T: Drop>(answer: io::Result<T>) -> Option<ErrorKind> {
     answer.err().map(|error| error.kind())
 }
 
-// Each call of a watched device, also after a failure, is one of the device, with all bytes, and has its answer. A
-// failure that one more call would hide is told.
+// What a call of a faulty device is to answer, the first being 1.
+fn wanted_at(call: u32) -> Option<ErrorKind> {
+    if call == 2 {
+        return Some(ErrorKind::Other);
+    }
+    None
+}
+
+// Each of ten calls of a watched device, also after a failure, is one of the device, with all bytes, and has its
+// answer. A failure that one more call would hide is told.
 #[test]
 fn passes_calls_on(rt: HostRuntime) {
     let mut input = watched_faulty();
     let mut output = watched_faulty();
     let mut flushed = watched_faulty();
-    for wanted in [None, Some(ErrorKind::Other), None] {
+    for call in 1..=10 {
+        let wanted = wanted_at(call);
         assert_eq!(rt; kind(input.read(&mut [0u8; 3])), wanted);
         assert_eq!(rt; kind(output.write(b"ab")), wanted);
         assert_eq!(rt; kind(flushed.flush()), wanted);
     }
-    assert!(rt; input.failed() && input.reads() == 3);
-    assert!(rt; output.failed() && output.taken() == 4);
-    assert!(rt; flushed.failed() && flushed.flushes() == 3);
+    assert!(rt; input.failed() && input.late() && input.reads() == 10);
+    assert!(rt; output.failed() && output.late() && output.taken() == 18);
+    assert!(rt; flushed.failed() && flushed.late() && flushed.flushes() == 10);
     let (input, output, flushed) = (
         input.into_inner(),
         output.into_inner(),
         flushed.into_inner(),
     );
-    assert!(rt; (input.calls, input.lent) == (3, 9) && (output.calls, output.lent) == (3, 6));
-    assert_eq!(rt; flushed.calls, 3);
+    assert!(rt; (input.calls, input.lent) == (10, 30) && (output.calls, output.lent) == (10, 20));
+    assert_eq!(rt; flushed.calls, 10);
 }
 
 #[test]
@@ -149,6 +173,7 @@ fn watches_streams(rt: HostRuntime) -> io::Result<()> {
         assert_eq!(rt; input.read(&mut byte)?, taken);
     }
     assert!(rt; input.reads() == 3 && !input.failed() && input.taken() == 0);
+    assert!(rt; input.ended() && !input.late());
     let mut space = [0u8; 3];
     let mut output = Watched::new(&mut space[..]);
     assert_eq!(rt; output.write(b"abcd")?, 3);

@@ -1,18 +1,19 @@
 //! A reader or writer that counts its reads, its flushes and the bytes that it took, and remembers a failure that it
-//! answered, and whether bytes wait for a flush.
+//! answered, the end that it told, a call that came after those, and whether bytes wait for a flush.
 ghost use Rattle.std.specs.Prelude.{◌≡◌, ◌&&◌, ◌||◌, false};
 ghost use Rattle.std.specs.Io.{ReadsAtMost, WritesAtMost};
 ghost use Rattle.std.specs.Io.KnownBytes.{Keeps, ReadConsumes, WriteAppends};
 ghost use Rattle.room_types.specs.Watched.{watched_inner, watched_failed, watched_reads, watched_taken};
-ghost use Rattle.room_types.specs.Watched.{watched_flushes, watched_pending};
-ghost use Rattle.room_types.specs.Watched.{counted, has_taken, is_failure, is_failed_write, taken_after};
+ghost use Rattle.room_types.specs.Watched.{watched_ended, watched_flushes, watched_late, watched_pending};
+ghost use Rattle.room_types.specs.Watched.{counted, has_taken, is_end, is_failure, is_failed_write, taken_after};
 
 mod streams;
 
 use std::io::{Read, Result, Write};
 
 /// A reader or writer, with whether it answered a failure, how often it was read and flushed, how many bytes it took,
-/// and whether it took any since a flush last succeeded. It passes each call on once, and takes no memory.
+/// whether it took any since a flush last succeeded, whether a read found its end, and whether a call came too late. It
+/// passes each call on once, and takes no memory.
 #[derive(Drop)]
 pub struct Watched<T> {
     inner: T,
@@ -21,6 +22,8 @@ pub struct Watched<T> {
     taken: u64,
     flushes: u64,
     pending: bool,
+    ended: bool,
+    late: bool,
 }
 
 impl<T> Watched<T> {
@@ -32,6 +35,8 @@ impl<T> Watched<T> {
         ensures taken { watched_taken result ≡ 0 }
         ensures flushes { watched_flushes result ≡ 0 }
         ensures pending { watched_pending result ≡ false }
+        ensures ended { watched_ended result ≡ false }
+        ensures late { watched_late result ≡ false }
     {
         Watched {
             inner,
@@ -40,6 +45,8 @@ impl<T> Watched<T> {
             taken: 0,
             flushes: 0,
             pending: false,
+            ended: false,
+            late: false,
         }
     }
 
@@ -78,6 +85,20 @@ impl<T> Watched<T> {
         self.pending
     }
 
+    /// Whether a read gave no byte, though its buffer had room.
+    pub fn ended(&self) -> bool
+        ensures { result ≡ watched_ended self.now }
+    {
+        self.ended
+    }
+
+    /// Whether a call was made after one had failed, or a read after one had found the end.
+    pub fn late(&self) -> bool
+        ensures { result ≡ watched_late self.now }
+    {
+        self.late
+    }
+
     /// The reader or writer inside.
     pub fn into_inner(self) -> T
         ensures { result ≡ watched_inner self }
@@ -98,13 +119,23 @@ impl<T: Read> Read for Watched<T> {
         ensures taken { watched_taken self.new ≡ watched_taken self.old }
         ensures flushes { watched_flushes self.new ≡ watched_flushes self.old }
         ensures pending { watched_pending self.new ≡ watched_pending self.old }
+        ensures ended { watched_ended self.new ≡ watched_ended self.old || is_end buf.new result }
+        ensures late { watched_late self.new
+            ≡ watched_late self.old || watched_failed self.old || watched_ended self.old }
     {
+        self.late = self.late || self.failed || self.ended;
         self.reads = self.reads.saturating_add(1);
         let result = self.inner.read(buf);
-        if result.is_err() {
-            self.failed = true;
+        match result {
+            Ok(n) => {
+                self.ended = self.ended || (n == 0 && !buf.is_empty());
+                Ok(n)
+            }
+            Err(e) => {
+                self.failed = true;
+                Err(e)
+            }
         }
-        result
     }
 }
 
@@ -121,7 +152,10 @@ impl<T: Write> Write for Watched<T> {
         ensures taken { watched_taken self.new ≡ taken_after (watched_taken self.old) result }
         ensures flushes { watched_flushes self.new ≡ watched_flushes self.old }
         ensures pending { watched_pending self.new ≡ has_taken result || watched_pending self.old }
+        ensures ended { watched_ended self.new ≡ watched_ended self.old }
+        ensures late { watched_late self.new ≡ watched_late self.old || watched_failed self.old }
     {
+        self.late = self.late || self.failed;
         let result = self.inner.write(buf);
         match result {
             Ok(n) => {
@@ -149,7 +183,10 @@ impl<T: Write> Write for Watched<T> {
         ensures taken { watched_taken self.new ≡ watched_taken self.old }
         ensures flushes { watched_flushes self.new ≡ counted (watched_flushes self.old) 1 }
         ensures pending { watched_pending self.new ≡ is_failure result && watched_pending self.old }
+        ensures ended { watched_ended self.new ≡ watched_ended self.old }
+        ensures late { watched_late self.new ≡ watched_late self.old || watched_failed self.old }
     {
+        self.late = self.late || self.failed;
         self.flushes = self.flushes.saturating_add(1);
         match self.inner.flush() {
             Ok(()) => {

@@ -2,6 +2,7 @@
 use Rattle.std.proofs.Common.{◌≡◌, ℕ, ◌<◌, Bool, true, false, not, ◌&&◌, ◌||◌, ◌==◌, List, [], ◌∷◌, Option, Some, None, refl, sym, ap, ◌∙◌, subst, inl, inr, eqb-true, eq-eqb, ne_eqb}
 use mathlib.Core.Path.{fun_ext}
 use Rattle.std.proofs.lemmas.Bool.{and_parts, and_from, or_cases, or_left, or_right, false_from_ne_true, both_ways, cond-true, cond-false, and_right}
+use Rattle.std.proofs.Math.Bool.{or-false}
 use Rattle.trade_line.specs.Below.{first_below, or_else}
 use Rattle.trade_line.specs.Market.{Market, IsMarket, home, list_of, is_room, tenant}
 use Rattle.trade_line.specs.TopTradingCycles.{Stage, wish, first, tenant_or_first, holder, successor, taken, leave}
@@ -10,7 +11,7 @@ use Rattle.trade_line.specs.Member.{among}
 use Rattle.trade_line.specs.Inner.Queue.{last_of, WaitsBehind}
 use Rattle.trade_line.specs.Inner.Removal.Reach.{here, there}
 use Rattle.trade_line.specs.Inner.Removal.Leads.{trade}
-use Rattle.trade_line.proofs.Search.{same_yes, not_yes, not_from, find_passes, find_keeps, first_passes, first_finds, is_room_gives, is_room_from}
+use Rattle.trade_line.proofs.Search.{and_nots, same_yes, not_yes, not_from, find_passes, find_keeps, first_passes, first_finds, is_room_gives, is_room_from}
 use Rattle.trade_line.proofs.Exchange.{successor_at, taken_gives, first_stays}
 use Rattle.trade_line.proofs.Unique.{same_stage, taken_from, removal}
 
@@ -131,15 +132,10 @@ module _ (m : Market) where
           both_ways (taken m s (λ p. k p || l p) r) no (taken_from m s (λ p. k p || l p) r g.0 g.1 (or_right (k g.0) (l g.0) g.2) (sym (same g.0 g.2) ∙ g.3))) in
           and_from (s.rooms r && not (taken m s k r)) (not (taken m (leave m s k) l r)) (and_from (s.rooms r) (not (taken m s k r)) a.0 (not_from (taken m s k r) nk)) (not_from (taken m (leave m s k) l r) nl)
 
-  pub people_both : (a k l : Bool) → ((a && not k) && not l) ≡ (a && not (k || l))
-  people_both true true l = refl
-  people_both true false l = refl
-  people_both false k l = refl
-
   -- two groups, one after the other, are one group
   pub leave_twice : (s : Stage) (k l : ℕ → Bool) → ((p : ℕ) → l p ≡ true → wish m (leave m s k) p ≡ wish m s p) → leave m (leave m s k) l ≡ leave m s (λ p. k p || l p)
   unfolding leave
-  leave_twice s k l same = same_stage (leave m (leave m s k) l) (leave m s (λ p. k p || l p)) (λ p. people_both (s.people p) (k p) (l p)) (taken_both s k l same)
+  leave_twice s k l same = same_stage (leave m (leave m s k) l) (leave m s (λ p. k p || l p)) (λ p. and_nots (s.people p) (k p) (l p)) (taken_both s k l same)
 
   -- the room v has no tenant who remains
   abbrev pub IsVacant : Stage → ℕ → Type 0
@@ -165,12 +161,8 @@ module _ (m : Market) where
   head_first ok s a [] v f known remain once w least e remaining fa d =
       trade (only a) (subst (λ k. IsTrade m s k) one (ring_trade s a [] known remain tt (successor_at m s a (Some v) e ∙ vacant_holder s v remaining ∙ least))) (λ p h. subst (λ z. f z ≡ wish m s z) (eqb-true a p h) fa) d
     where
-      drop_false : (b : Bool) → (b || false) ≡ b
-      drop_false true = refl
-      drop_false false = refl
-
       one : among (a ∷ []) ≡ only a
-      one = fun_ext (λ p. drop_false (a == p))
+      one = fun_ext (λ p. or-false (a == p))
   head_first ok s a (b ∷ r) v f known remain once w least e remaining fa d =
       trade (among (a ∷ b ∷ r)) whole fits (subst (λ t. Leads m f t) (leave_twice s (only a) (among (b ∷ r)) same) rest.1)
     where

@@ -2,6 +2,7 @@
 use Rattle.std.proofs.Common.{◌≡◌, ℕ, ◌<◌, ◌≤◌, ◌+◌, ◌⊎◌, Bool, true, false, not, ◌&&◌, ◌||◌, ◌==◌, Option, Some, None, is_some, is_none, length, find, refl, sym, ap, ◌∙◌, subst, inl, inr, arith, eqb-true, eq-eqb, le_refl, ltb, ltb-true, lt-ltb}
 use Rattle.std.proofs.lemmas.Bool.{cases_Bool, cases_lt, or_cases, or_left, or_right, and_parts, and_from, false_from_ne_true, both_ways, cond-true, cond-false}
 use Rattle.trade_line.specs.Below.{or_else}
+use Rattle.trade_line.specs.Cycles.{IsStageOf}
 use Rattle.trade_line.specs.Market.{Market, IsMarket, home, list_of, is_room, is_tenant}
 use Rattle.trade_line.specs.TopTradingCycles.{Stage, start, wish, successor, taken, leave, gets}
 use Rattle.trade_line.specs.Inner.Removal.{IsTrade, Leads}
@@ -15,7 +16,7 @@ use Rattle.trade_line.proofs.Search.{clash, not_yes, not_from, find_passes, is_r
 use Rattle.trade_line.proofs.Exchange.{successor_at, taken_gives}
 use Rattle.trade_line.proofs.Unique.{taken_from}
 use Rattle.trade_line.proofs.Chain.{home_holder}
-use Rattle.trade_line.proofs.Steps.{IsKnown, leave_known, start_known, gets_leads}
+use Rattle.trade_line.proofs.Steps.{leave_known, start_known, gets_leads}
 use Rattle.trade_line.proofs.Ranks.{best, not_among, rank_unlisted, rank_home}
 use Rattle.trade_line.proofs.Welfare.{HomesThere, homes_stay, start_homes, remains, reach_before, wish_there, gets_rational, gets_assignment, gets_apart}
 
@@ -145,7 +146,7 @@ module _ (m : Market) (ok : IsMarket m) where
           and_from (s.people t) (not (k t)) (held t h gt e b.0) (not_from (k t) stays)
 
     -- each home of the group goes to a member
-    given_out : {s : Stage} → Leads m g s → IsKnown m s → HomesThere m ok s → HomesHeld s → (t : ℕ) → group t ≡ true → s.people t ≡ true → (z : ℕ) × (group z ≡ true) × (g z ≡ home m t)
+    given_out : {s : Stage} → Leads m g s → IsStageOf m s → HomesThere m ok s → HomesHeld s → (t : ℕ) → group t ≡ true → s.people t ≡ true → (z : ℕ) × (group z ≡ true) × (g z ≡ home m t)
     unfolding leave
     given_out {s} (done none) known homes held t gt h = clash (s.people t) h (none t)
     given_out {s} (trade k tk gk d) known homes held t gt h =
@@ -162,7 +163,7 @@ module _ (m : Market) (ok : IsMarket m) where
       abbrev IsThere : Stage → Type 0
       IsThere s = (p : ℕ) → group p ≡ true → s.people p ≡ true → ((r : ℕ) → f p ≡ Some r → s.rooms r ≡ true) ⊎ (rank m p (g p) ≤ rank m p (f p))
 
-      module _ (s : Stage) (k : ℕ → Bool) (tk : IsTrade m s k) (gk : (p : ℕ) → k p ≡ true → g p ≡ wish m s p) (known : IsKnown m s) (homes : HomesThere m ok s) (held : HomesHeld s) (can : IsThere s) where
+      module _ (s : Stage) (k : ℕ → Bool) (tk : IsTrade m s k) (gk : (p : ℕ) → k p ≡ true → g p ≡ wish m s p) (known : IsStageOf m s) (homes : HomesThere m ok s) (held : HomesHeld s) (can : IsThere s) where
         no_loss : (p : ℕ) → k p ≡ true → group p ≡ true → rank m p (wish m s p) ≤ rank m p (f p)
         no_loss p y gp =
             elim (can p gp (tk.remain p y)) [
@@ -198,7 +199,7 @@ module _ (m : Market) (ok : IsMarket m) where
                 let same : p ≡ z.0 = ia.differ p z.0 r (known p here) (tk.known z.0 z.1) e (at_k z.0 z.1 z.2 ∙ z.3 ∙ t.2) in
                 subst (λ z. k z ≡ true) (sym same) z.1
 
-      group_from : {s : Stage} → Leads m g s → IsKnown m s → HomesThere m ok s → HomesHeld s → IsThere s → (p : ℕ) → group p ≡ true → s.people p ≡ true → f p ≡ g p
+      group_from : {s : Stage} → Leads m g s → IsStageOf m s → HomesThere m ok s → HomesHeld s → IsThere s → (p : ℕ) → group p ≡ true → s.people p ≡ true → f p ≡ g p
       unfolding leave
       group_from {s} (done none) known homes held can p gp h = clash (s.people p) h (none p)
       group_from {s} (trade k tk gk d) known homes held can p gp h =

@@ -1,7 +1,9 @@
 -- Counts below a bound, the pigeonhole principle, and repeated steps of a function.
 use Rattle.std.proofs.Common.{◌≡◌, ℕ, zero, suc, ◌+◌, ◌<◌, ◌≤◌, Bool, true, false, cond, not, ◌&&◌, ◌==◌, refl, sym, ap, ap₂, ◌∙◌, subst, inl, inr, arith, eqb-true, eq-eqb, ne_eqb, zero-add, suc-add}
 use Rattle.std.proofs.lemmas.Bool.{cases_Bool, cases_lt, and_from, and_right, false_from_ne_true, both_ways}
-use Rattle.trade_line.specs.Below.{some_below, count_below, times}
+use Rattle.std.specs.Fn.{iterate}
+use Rattle.std.proofs.Math.Bool.{and-true}
+use Rattle.trade_line.specs.Below.{some_below, count_below}
 use Rattle.trade_line.specs.Inner.Removal.{Reach}
 use Rattle.trade_line.specs.Inner.Removal.Reach.{here, there}
 use Rattle.trade_line.proofs.Search.{not_from, some_gives, some_from}
@@ -37,11 +39,7 @@ abbrev pub without : (ℕ → Bool) → ℕ → ℕ → Bool
 without q x y = q y && not (y == x)
 
 without_other : (q : ℕ → Bool) (x y : ℕ) → (y ≡ x → ⊥) → without q x y ≡ q y
-without_other q x y ne = rw (ne_eqb y x ne) (and_true (q y))
-  where
-    and_true : (b : Bool) → (b && true) ≡ b
-    and_true true = refl
-    and_true false = refl
+without_other q x y ne = rw (ne_eqb y x ne) (and-true (q y))
 
 pub count_without : (n : ℕ) (q : ℕ → Bool) (x : ℕ) → x < n → q x ≡ true → suc (count_below n (without q x)) ≡ count_below n q
 count_without zero q x h t = absurd (omega arith)
@@ -87,18 +85,22 @@ pigeonhole (suc c) n q x inside few =
           (r.0, r.1, r.2, omega (arith, r.3), r.4)
     ]
 
-pub times_reach : (g : ℕ → ℕ) (k x y : ℕ) → times k g x ≡ y → Reach g x y
+pub times_reach : (g : ℕ → ℕ) (k x y : ℕ) → iterate g k x ≡ y → Reach g x y
 times_reach g zero x y e = subst (λ z. Reach g x z) e here
 times_reach g (suc k) x y e = there (times_reach g k (g x) y e)
 
-pub times_after : (g : ℕ → ℕ) (k x : ℕ) → times k g (g x) ≡ g (times k g x)
+pub reach_times : (g : ℕ → ℕ) {x y : ℕ} → Reach g x y → (k : ℕ) × (iterate g k x ≡ y)
+reach_times g here = (0, refl)
+reach_times g (there r) = let t = reach_times g r in (suc t.0, t.1)
+
+pub times_after : (g : ℕ → ℕ) (k x : ℕ) → iterate g k (g x) ≡ g (iterate g k x)
 times_after g zero x = refl
 times_after g (suc k) x = times_after g k (g x)
 
-pub times_sum : (g : ℕ → ℕ) (a b x : ℕ) → times b g (times a g x) ≡ times (a + b) g x
+pub times_sum : (g : ℕ → ℕ) (a b x : ℕ) → iterate g b (iterate g a x) ≡ iterate g (a + b) x
 times_sum g zero b x = rw (zero-add b) refl
-times_sum g (suc a) b x = times_sum g a b (g x) ∙ sym (ap (λ k. times k g x) (suc-add a b))
+times_sum g (suc a) b x = times_sum g a b (g x) ∙ sym (ap (λ k. iterate g k x) (suc-add a b))
 
-pub times_stays : (g : ℕ → ℕ) (q : ℕ → Bool) → ((y : ℕ) → q y ≡ true → q (g y) ≡ true) → (k x : ℕ) → q x ≡ true → q (times k g x) ≡ true
+pub times_stays : (g : ℕ → ℕ) (q : ℕ → Bool) → ((y : ℕ) → q y ≡ true → q (g y) ≡ true) → (k x : ℕ) → q x ≡ true → q (iterate g k x) ≡ true
 times_stays g q closed zero x h = h
 times_stays g q closed (suc k) x h = times_stays g q closed k (g x) (closed x h)

@@ -1,31 +1,25 @@
 -- The cursors, turn by turn.
-use Rattle.std.proofs.Common.{◌≡◌, ℕ, suc, ◌+◌, ◌-◌, ◌<◌, ◌≤◌, Bool, true, false, cond, not, ◌==◌, List, [], ◌∷◌, ◌++◌, length, Option, Some, None, find, get_or, set, drop, refl, sym, ap, ap₂, ◌∙◌, subst, inl, inr, arith, eqb-true, eq-eqb, ne_eqb, ltb, lt-ltb, le-ltb, get_or-set_same, get_or-set_other, length-set}
-use mathlib.Core.Path.{fun_ext}
-use Rattle.std.specs.List.{range_with_len}
-use Rattle.std.proofs.lemmas.List.{get_or-drop, get_or_past, length-drop, set_past}
-use Rattle.std.proofs.lemmas.Bool.{cases_Bool, cases_eq, cases_lt, both_ways, or_cases, or_left, or_right, or_parts, and_parts, false_from_ne_true, cond-true}
-use Rattle.trade_line.specs.Below.{sum_below}
+use Rattle.std.proofs.Common.{◌≡◌, ℕ, ◌+◌, ◌-◌, ◌<◌, ◌≤◌, Bool, true, false, not, ◌==◌, List, [], ◌∷◌, ◌++◌, length, Option, Some, None, get_or, set, drop, refl, sym, ap, ◌∙◌, subst, inl, inr, arith, eqb-true, eq-eqb, ne_eqb, get_or-set_same, get_or-set_other, length-set}
+use Rattle.std.proofs.lemmas.List.{get_or-drop, get_or_past, set_past}
+use Rattle.std.proofs.lemmas.Bool.{cases_Bool, cases_eq, cases_lt, both_ways, or_cases, or_left, or_right, or_parts, and_parts, false_from_ne_true}
 use Rattle.trade_line.specs.Market.{Market, IsMarket, home, list_of, tenant}
 use Rattle.trade_line.specs.Member.{among, Once}
 use Rattle.trade_line.specs.Rank.{rank}
-use Rattle.trade_line.specs.Looks.{needed, all_needed, all_listed}
 use Rattle.trade_line.specs.Line.{front_of, tail_of, without}
-use Rattle.trade_line.specs.Assignment.{given_in}
 use Rattle.trade_line.specs.TopTradingCycles.{Stage, wish, leave}
 use Rattle.trade_line.specs.Inner.Queue.{close, WaitsBehind}
 use Rattle.trade_line.specs.Inner.State.{State, stage_at, has_asked, given_to}
 use Rattle.trade_line.specs.Inner.Turn.{Standing, Asks}
 use Rattle.trade_line.specs.Inner.Loop.{Closed}
-use Rattle.trade_line.specs.Inner.Reads.{reads, skipped}
-use Rattle.trade_line.specs.Inner.Looks.{cursor, StandsAt, StaysAt, StayBehind, StayInLine, AreCursors, cursor_sum, spent, spent_sum, KeepsCursors, TurnReads, ReadSoFar}
-use Rattle.trade_line.proofs.Looks.{sum_le, sum_none, sum_point, sum_two, skipped_gone, skipped_most, found_at, none_at, find_on, place_is, among_at}
+use Rattle.trade_line.specs.Inner.Reads.{skipped}
+use Rattle.trade_line.specs.Inner.Looks.{cursor, StandsAt, StaysAt, StayBehind, StayInLine, AreCursors, KeepsCursors}
+use Rattle.trade_line.proofs.Looks.{skipped_gone, place_is, among_at}
 use Rattle.trade_line.proofs.Lines.{among_self, among_more, among-append, among_left, among_right, among-without, without-append, waits_front}
 use Rattle.trade_line.proofs.Loops.{ring_line}
-use Rattle.trade_line.proofs.Ranks.{rank_listed, rank_home}
+use Rattle.trade_line.proofs.Ranks.{rank_listed}
 use Rattle.trade_line.proofs.Search.{not_yes, clash}
 use Rattle.trade_line.proofs.Turns.{granted, marked, brought, tenant_home}
-use Rattle.trade_line.proofs.States.{same_state, read_same}
-use Rattle.trade_line.proofs.Whole.{range_has}
+use Rattle.trade_line.proofs.States.{same_state}
 
 close_gone : (remaining : List Bool) (o : Option ℕ) (r : ℕ) → get_or remaining r false ≡ false
     → get_or (close remaining o) r false ≡ false
@@ -52,7 +46,7 @@ module _ (m : Market) where
   pub stays_at : IsMarket m → (c : List ℕ) (p i x : ℕ) → p < m.people → i < length (list_of m p)
       → get_or (list_of m p) i 0 ≡ x → cursor c p ≡ i → StaysAt m c p (Some x)
   stays_at ok c p i x known l e at =
-      (omega arith, rank_listed m ok p x (among_at (list_of m p) i x l e) ∙ place_is (list_of m p) i x (ok.lists_differ p known) l e ∙ sym at)
+      (omega arith, rank_listed m ok p x (among_at (list_of m p) i x l e) ∙ place_is (list_of m p) i x (ok.lists_strict p known) l e ∙ sym at)
 
   -- other marks and cursors that tell the same of those behind
   behind_same : (asked asked' : List Bool) (c c' : List ℕ) (b : ℕ) (xs : List ℕ)
@@ -65,7 +59,7 @@ module _ (m : Market) where
     behind_same asked asked' c c' x xs (λ p i. ha p (among_more x xs p i)) (λ p i. hc p (among_more x xs p i)) w.1,
   )
 
-  behind_fresh : (asked : List Bool) (c : List ℕ) (b : ℕ) (xs : List ℕ)
+  pub behind_fresh : (asked : List Bool) (c : List ℕ) (b : ℕ) (xs : List ℕ)
       → ((p : ℕ) → among xs p ≡ true → get_or asked p false ≡ false) → StayBehind m asked c b xs
   behind_fresh asked c b [] h = tt
   behind_fresh asked c b (x ∷ xs) h = (λ y. clash (get_or asked x false) y (h x (among_self x xs)), behind_fresh asked c x xs (λ p i. h p (among_more x xs p i)))
@@ -327,192 +321,3 @@ module _ (m : Market) where
 
   pub tail_gone : (a : ℕ) (s v : State) → Asks m a s → v.line ≡ tail_of s.line → among v.line a ≡ false
   tail_gone a s v ask x = subst (λ z. among z a ≡ false) (sym (x ∙ ap tail_of ask.split)) (subst Once ask.split ask.once).0
-
-  -- what a turn reads
-  moved_sum : (a place n : ℕ) (c d : List ℕ) → a < m.people → length c ≡ m.people → d ≡ set c a place
-      → place ≡ cursor c a + n → cursor_sum m d ≡ cursor_sum m c + n
-  moved_sum a place n c d l len e pe =
-      let same : cursor d a ≡ place = ap (λ z. get_or z a 0) e ∙ get_or-set_same c a place 0 (omega arith) in
-      let sum : cursor_sum m d + cursor c a ≡ cursor_sum m c + cursor d a = sum_point m.people (cursor c) (cursor d) a l (λ y yl ne. ap (λ z. get_or z y 0) e ∙ get_or-set_other c a y place 0 ne) in
-      omega arith
-
-  moved_not : (a place : ℕ) (c d : List ℕ) → d ≡ set c a place → (p : ℕ) → (p ≡ a → ⊥)
-      → cursor d p ≡ cursor c p
-  moved_not a place c d e p ne = ap (λ z. get_or z p 0) e ∙ get_or-set_other c a p place 0 ne
-
-  spent_waits : (line c : List ℕ) (p : ℕ) → among line p ≡ true → spent m line c p ≡ 0
-  spent_waits line c p y = cond-true {A = ℕ} (among line p) 0 (cond (ltb (cursor c p) (length (list_of m p))) 0 1) y
-
-  spent_not : (line c : List ℕ) (p : ℕ) → among line p ≡ false → cursor c p < length (list_of m p)
-      → spent m line c p ≡ 0
-  spent_not line c p n l = ap₂ (λ (b b2 : Bool). cond {A = ℕ} b 0 (cond b2 0 1)) n (lt-ltb (cursor c p) (length (list_of m p)) l)
-
-  spent_whole : (line c : List ℕ) (p : ℕ) → among line p ≡ false → length (list_of m p) ≤ cursor c p
-      → spent m line c p ≡ 1
-  spent_whole line c p n l = ap₂ (λ (b b2 : Bool). cond {A = ℕ} b 0 (cond b2 0 1)) n (le-ltb (cursor c p) (length (list_of m p)) l)
-
-  spent_same : (line line' c d : List ℕ) (p : ℕ) → among line' p ≡ among line p → cursor d p ≡ cursor c p
-      → spent m line' d p ≡ spent m line c p
-  spent_same line line' c d p e f = ap₂ (λ (b : Bool) (k : ℕ). cond {A = ℕ} b 0 (cond (ltb k (length (list_of m p))) 0 1)) e f
-
-  pub turn_found : (s t : State) (a place n read : ℕ) (c d : List ℕ) → a < m.people → AreCursors m s c
-      → d ≡ set c a place → place ≡ cursor c a + n → read ≡ suc n → among s.line a ≡ true
-      → ((p : ℕ) → among t.line p ≡ true → among s.line p ≡ true)
-      → ((p : ℕ) → among s.line p ≡ true → among t.line p ≡ false → cursor d p < length (list_of m p))
-      → AreCursors m t d → TurnReads m s c t d read
-  turn_found s t a place n read c d l tr e pe re there inside left td =
-      let sum : cursor_sum m d ≡ cursor_sum m c + n = moved_sum a place n c d l tr.cursors_len e pe in
-      let same : spent_sum m t.line d ≡ spent_sum m s.line c = ap (sum_below m.people) (fun_ext each) in
-      record { cursors = td; reads = omega arith }
-    where
-      each : (p : ℕ) → spent m t.line d p ≡ spent m s.line c p
-      each p =
-          elim (cases_Bool (among s.line p)) [
-            | inl y ↦ elim (cases_Bool (among t.line p)) [
-              | inl y2 ↦ spent_waits t.line d p y2 ∙ sym (spent_waits s.line c p y)
-              | inr n2 ↦ spent_not t.line d p n2 (left p y n2) ∙ sym (spent_waits s.line c p y)
-            ]
-            | inr out ↦ spent_same s.line t.line c d p
-                (false_from_ne_true (among t.line p) (λ y. both_ways (among s.line p) out (inside p y)) ∙ sym out)
-                (moved_not a place c d e p (λ pa. both_ways (among s.line p) out (subst (λ z. among s.line z ≡ true) (sym pa) there)))
-          ]
-
-  pub turn_found_none : (s t : State) (a place n read : ℕ) (c d : List ℕ) → a < m.people → AreCursors m s c
-      → d ≡ set c a place → place ≡ cursor c a + n → read ≡ n → place ≡ length (list_of m a)
-      → among s.line a ≡ true → among t.line a ≡ false
-      → ((p : ℕ) → (p ≡ a → ⊥) → among t.line p ≡ among s.line p) → AreCursors m t d
-      → TurnReads m s c t d read
-  turn_found_none s t a place n read c d l tr e pe re end there gone others td =
-      let sum : cursor_sum m d ≡ cursor_sum m c + n = moved_sum a place n c d l tr.cursors_len e pe in
-      let same : cursor d a ≡ place = ap (λ z. get_or z a 0) e ∙ get_or-set_same c a place 0 (omega (arith, tr.cursors_len)) in
-      let before : spent m s.line c a ≡ 0 = spent_waits s.line c a there in
-      let after : spent m t.line d a ≡ 1 = spent_whole t.line d a gone (omega arith) in
-      let more : spent_sum m t.line d + spent m s.line c a ≡ spent_sum m s.line c + spent m t.line d a =
-      sum_point m.people (spent m s.line c) (spent m t.line d) a l (λ p pl ne. spent_same s.line t.line c d p (others p ne) (moved_not a place c d e p ne)) in
-      record { cursors = td; reads = omega arith }
-
-  -- a whole run
-  pub read_start : (s : State) (c : List ℕ) → s.line ≡ range_with_len 0 m.people
-      → ((p : ℕ) → get_or s.asked p false ≡ false) → length c ≡ m.people → ((p : ℕ) → cursor c p ≡ 0)
-      → ReadSoFar m s c 0 0
-  read_start s c le none len zeros = record {
-    cursors = record {
-      cursors_len = len;
-      within = λ p l. (let z : cursor c p ≡ 0 = zeros p in omega arith);
-      gone = λ p k l lk. (let z : cursor c p ≡ 0 = zeros p in absurd (omega arith));
-      waiting = by_line s.line;
-      served = λ p l h. absurd (both_ways (among s.line p) h (subst (λ z. among z p ≡ true) (sym le) (range_has 0 m.people p (omega arith) (omega arith))));
-    };
-    reads =
-        let none_read : cursor_sum m c ≡ 0 = sum_none m.people (cursor c) (λ y l. zeros y) in
-        let none_left : spent_sum m s.line c ≡ 0 = sum_none m.people (spent m s.line c) (λ y l. spent_waits s.line c y (subst (λ z. among z y ≡ true) (sym le) (range_has 0 m.people y (omega arith) (omega arith)))) in
-        omega arith;
-  }
-    where
-      by_line : (l : List ℕ) → StayInLine m s.asked c l
-      by_line [] = tt
-      by_line (x ∷ xs) = behind_fresh s.asked c x xs (λ p i. none p)
-
-  pub read_more : (s t : State) (c d : List ℕ) (asks looks read : ℕ) → ReadSoFar m s c asks looks
-      → TurnReads m s c t d read → ReadSoFar m t d (asks + 1) (looks + read)
-  read_more s t c d asks looks read r k = record { cursors = k.cursors; reads = omega (arith, r.reads, k.reads) }
-
-  pub read_all : (s : State) (c : List ℕ) (asks looks : ℕ) → ReadSoFar m s c asks looks
-      → front_of s.line ≡ None → looks + m.people ≡ asks + all_needed m (given_in s.given)
-  read_all s c asks looks r e =
-      let two : all_needed m (given_in s.given) + spent_sum m s.line c ≡ m.people + cursor_sum m c =
-      sum_two m.people (λ p. needed m p (given_to s p)) (spent m s.line c) (cursor c) each in
-      omega (arith, r.reads)
-    where
-      empty : (l : List ℕ) → front_of l ≡ None → (p : ℕ) → among l p ≡ false
-      empty [] e p = refl
-      empty (x ∷ xs) e p = absurd (cc)
-
-      each : (p : ℕ) → p < m.people → needed m p (given_to s p) + spent m s.line c p ≡ suc (cursor c p)
-      each p l =
-          let stands : rank m p (given_to s p) ≡ cursor c p = r.cursors.served p l (empty s.line e p) in
-          elim (cases_lt (cursor c p) (length (list_of m p))) [
-            | inl b ↦ let z : spent m s.line c p ≡ 0 = spent_not s.line c p (empty s.line e p) b in omega arith
-            | inr b ↦ let z : spent m s.line c p ≡ 1 = spent_whole s.line c p (empty s.line e p) b in omega (arith, r.cursors.within p l)
-          ]
-
-  pub needed_listed : (f : ℕ → Option ℕ) → all_needed m f ≤ all_listed m
-  needed_listed f = sum_le m.people (λ p. length (list_of m p)) (λ p. needed m p (f p)) (λ p l. omega arith)
-
-  -- what an ask finds, and what it costs
-  pub record AskFinds (v : State) (a : ℕ) (c : List ℕ) (place : ℕ) (read : ℕ) (o : Option ℕ) : Type 0 where
-    pub passed : ℕ
-    pub place_is : place ≡ cursor c a + passed
-    pub cursors : AreCursors m v (set c a place)
-    pub found : find (stage_at v).rooms (list_of m a) ≡ o
-    pub some : (x : ℕ) → o ≡ Some x → StaysAt m (set c a place) a (Some x) × (read ≡ suc passed)
-    pub none : o ≡ None → (place ≡ length (list_of m a)) × (read ≡ passed)
-    pub ends : o ≡ None → StandsAt m (set c a place) a (home m a)
-
-  pub ask_finds : (s v : State) (a : ℕ) (c : List ℕ) (remaining : List Bool) (list : List ℕ) (from place read : ℕ) (o : Option ℕ)
-      → Standing m s → front_of s.line ≡ Some a → v.line ≡ s.line → v.asked ≡ set s.asked a true
-      → v.remaining ≡ s.remaining → v.given ≡ s.given → AreCursors m s c
-      → a < m.people → remaining ≡ v.remaining → list ≡ list_of m a → from ≡ get_or c a from → o ≡ find (λ r. get_or remaining r false) (drop from list) → place ≡ from + skipped (λ r. get_or remaining r false) (drop from list) → read ≡ reads (λ r. get_or remaining r false) (drop from list) → AskFinds v a c place read o
-  ask_finds s v a c remaining list from place read o st e x y z u tr known re le fe oe pe de = record {
-    passed = n;
-    place_is = passes;
-    cursors = cursors;
-    found = find_on q xs at past ∙ sym oe2;
-    some = λ w ow. (
-        let f : (n < length rest) × (get_or rest n 0 ≡ w) × (reads q rest ≡ suc n) = found_at q rest w (sym oe2 ∙ ow) in (
-          stays_at st.fits.market (set c a place) a place w known (omega (arith, f.0, passes, len)) (ap (λ k. get_or xs k 0) passes ∙ sym (get_or-drop at xs n 0) ∙ f.1) moved,
-          de2 ∙ f.2,
-        ));
-    none = λ on. (
-        let f : (n ≡ length rest) × (reads q rest ≡ length rest) = none_at q rest (sym oe2 ∙ on) in
-        (omega (arith, f.0, passes, len), de2 ∙ f.1 ∙ sym f.0));
-    ends = λ on. (
-        let f : (n ≡ length rest) × (reads q rest ≡ length rest) = none_at q rest (sym oe2 ∙ on) in
-        omega (arith, rank_home m st.fits.market a known, f.0, passes, len, moved));
-  }
-    where
-      q : ℕ → Bool
-      q = (stage_at v).rooms
-
-      at : ℕ
-      at = cursor c a
-
-      xs : List ℕ
-      xs = list_of m a
-
-      rest : List ℕ
-      rest = drop (cursor c a) (list_of m a)
-
-      n : ℕ
-      n = skipped (stage_at v).rooms (drop (cursor c a) (list_of m a))
-
-      from_is : from ≡ cursor c a
-      from_is = fe ∙ read_same c a from 0 (omega (arith, tr.cursors_len))
-
-      same : {A : Type 0} (f : (ℕ → Bool) → List ℕ → A)
-          → f (λ r. get_or remaining r false) (drop from list) ≡ f (stage_at v).rooms (drop (cursor c a) (list_of m a))
-      same f = ap (λ b. f (λ r. get_or b r false) (drop from list)) re ∙ ap (λ k. f (stage_at v).rooms (drop k list)) from_is ∙ ap (λ l. f (stage_at v).rooms (drop (cursor c a) l)) le
-
-      oe2 : o ≡ find (stage_at v).rooms (drop (cursor c a) (list_of m a))
-      oe2 = oe ∙ same find
-
-      de2 : read ≡ reads (stage_at v).rooms (drop (cursor c a) (list_of m a))
-      de2 = de ∙ same reads
-
-      passes : place ≡ cursor c a + skipped (stage_at v).rooms (drop (cursor c a) (list_of m a))
-      passes = pe ∙ ap₂ (λ (j k : ℕ). j + k) from_is (same skipped)
-
-      len : length (drop (cursor c a) (list_of m a)) + cursor c a ≡ length (list_of m a)
-      len = omega (arith, length-drop (cursor c a) (list_of m a), tr.within a known)
-
-      most : skipped (stage_at v).rooms (drop (cursor c a) (list_of m a)) ≤ length (drop (cursor c a) (list_of m a))
-      most = skipped_most (stage_at v).rooms (drop (cursor c a) (list_of m a))
-
-      moved : cursor (set c a place) a ≡ place
-      moved = get_or-set_same c a place 0 (omega (arith, tr.cursors_len))
-
-      past : (k : ℕ) → k < cursor c a → (stage_at v).rooms (get_or (list_of m a) k 0) ≡ false
-      past k l = ap (λ b. get_or b (get_or (list_of m a) k 0) false) z ∙ tr.gone a k known l
-
-      cursors : AreCursors m v (set c a place)
-      cursors = marked_cursors s v a place c (set c a place) st e x y z u tr refl passes (omega (arith, passes, len, most))

@@ -1,57 +1,55 @@
 -- Whole cycles leave the other cycles of their stage as they are, and people who wait for one another's homes are on a cycle.
 use Rattle.std.proofs.Common.{◌≡◌, ℕ, zero, suc, ◌+◌, ◌<◌, Bool, true, false, not, ◌==◌, List, [], ◌∷◌, Option, Some, None, refl, sym, ap, ◌∙◌, subst, inl, inr, arith, eqb-true, eq-eqb, le_refl}
 use Rattle.std.proofs.lemmas.Bool.{and_from, cond-false, or_cases, or_left, or_right, both_ways}
-use Rattle.trade_line.specs.Below.{some_below, times}
-use Rattle.trade_line.specs.Cycles.{AreCycles, LeavesOtherCycles, WishesForHomeOf, WishOnTo, AllRemain, IsLoop, IsChain}
+use Rattle.std.specs.Fn.{iterate}
+use Rattle.trade_line.proofs.Lines.{among_self}
+use Rattle.trade_line.specs.Below.{some_below}
+use Rattle.trade_line.specs.Cycles.{AreCycles, IsStageOf, LeavesOtherCycles, WishesForHomeOf, WishOnTo, AllRemain, IsLoop, IsChain}
 use Rattle.trade_line.specs.Inner.Removal.{Reach, IsTrade}
 use Rattle.trade_line.specs.Inner.Removal.Reach.{here, there}
 use Rattle.trade_line.specs.Market.{Market, IsMarket, tenant}
 use Rattle.trade_line.specs.Member.{among}
 use Rattle.trade_line.specs.TopTradingCycles.{Stage, first, tenant_or_first, holder, successor, remaining_count, on_cycle, leave}
 use Rattle.trade_line.proofs.Chain.{reach_trans, home_holder}
-use Rattle.trade_line.proofs.Count.{pigeonhole, times_after, times_stays, times_sum}
+use Rattle.trade_line.proofs.Count.{pigeonhole, reach_times, times_after, times_stays, times_sum}
 use Rattle.trade_line.proofs.Exchange.{minus, exchange, successor_at, successor_keeps, wish_keeps}
 use Rattle.trade_line.proofs.Search.{not_from, some_from}
-use Rattle.trade_line.proofs.Steps.{IsKnown, cycles_trade, leave_known, successor_remains}
+use Rattle.trade_line.proofs.Steps.{cycles_trade, leave_known, successor_remains}
 
 -- ---- how soon somebody comes back
 
 module _ (g : ℕ → ℕ) where
-  reach_times : {a b : ℕ} → Reach g a b → (k : ℕ) × (times k g a ≡ b)
-  reach_times here = (0, refl)
-  reach_times (there r) = let t = reach_times r in (suc t.0, t.1)
-
-  module _ (n p : ℕ) (back : times (suc n) g p ≡ p) where
-    all_back : (i : ℕ) → times (suc n) g (times i g p) ≡ times i g p
+  module _ (n p : ℕ) (back : iterate g (suc n) p ≡ p) where
+    all_back : (i : ℕ) → iterate g (suc n) (iterate g i p) ≡ iterate g i p
     all_back i =
         let swapped : i + suc n ≡ suc n + i = omega arith in
-        times_sum g i (suc n) p ∙ ap (λ k. times k g p) swapped ∙ sym (times_sum g (suc n) i p) ∙ ap (times i g) back
+        times_sum g i (suc n) p ∙ ap (λ k. iterate g k p) swapped ∙ sym (times_sum g (suc n) i p) ∙ ap (iterate g i) back
 
     -- where two of the turns lead to the same, as many turns as lie between them come back
-    back_between : (i j : ℕ) → i < j → times i g p ≡ times j g p → (k : ℕ) × (k < j) × (times (suc k) g p ≡ p)
+    back_between : (i j : ℕ) → i < j → iterate g i p ≡ iterate g j p → (k : ℕ) × (k < j) × (iterate g (suc k) p ≡ p)
     back_between i zero l e = absurd (omega (arith, l))
     back_between zero (suc j) l e = (j, omega arith, sym e)
     back_between (suc i) (suc j) l e =
-        let same : g (times i g p) ≡ g (times j g p) = sym (times_after g i p) ∙ e ∙ times_after g j p in
-        let r : (k : ℕ) × (k < j) × (times (suc k) g p ≡ p) =
-        back_between i j (omega (arith, l)) (sym (all_back i) ∙ ap (times n g) same ∙ all_back j) in
+        let same : g (iterate g i p) ≡ g (iterate g j p) = sym (times_after g i p) ∙ e ∙ times_after g j p in
+        let r : (k : ℕ) × (k < j) × (iterate g (suc k) p ≡ p) =
+        back_between i j (omega (arith, l)) (sym (all_back i) ∙ ap (iterate g n) same ∙ all_back j) in
         (r.0, omega (arith, r.1), r.2)
 
-module _ (m : Market) (s : Stage) (known : IsKnown m s) where
+module _ (m : Market) (s : Stage) (known : IsStageOf m s) where
   pub cycle_from : (p : ℕ) → s.people p ≡ true → Reach (successor m s) (successor m s p) p → on_cycle m s p ≡ true
   unfolding on_cycle
   cycle_from p h r =
-      let t : (k : ℕ) × (times k (successor m s) (successor m s p) ≡ p) = reach_times (successor m s) r in
-      let inside : (i : ℕ) → s.people (times i (successor m s) p) ≡ true = λ i. times_stays (successor m s) s.people (successor_remains m s known) i p h in
-      let two : (i : ℕ) × (j : ℕ) × (i < j) × (j < suc (remaining_count m s)) × (times i (successor m s) p ≡ times j (successor m s) p) =
-      pigeonhole (remaining_count m s) m.people s.people (λ i. times i (successor m s) p) (λ i l. (known (times i (successor m s) p) (inside i), inside i)) (le_refl (remaining_count m s)) in
-      let b : (k : ℕ) × (k < two.1) × (times (suc k) (successor m s) p ≡ p) = back_between (successor m s) t.0 p t.1 two.0 two.1 two.2 two.4 in
-      and_from (s.people p) (some_below (remaining_count m s) (λ k. times (suc k) (successor m s) p == p)) h
-      (some_from (remaining_count m s) (λ k. times (suc k) (successor m s) p == p) b.0 (omega (arith, b.1, two.3)) (eq-eqb (times (suc b.0) (successor m s) p) p b.2))
+      let t : (k : ℕ) × (iterate (successor m s) k (successor m s p) ≡ p) = reach_times (successor m s) r in
+      let inside : (i : ℕ) → s.people (iterate (successor m s) i p) ≡ true = λ i. times_stays (successor m s) s.people (successor_remains m s known) i p h in
+      let two : (i : ℕ) × (j : ℕ) × (i < j) × (j < suc (remaining_count m s)) × (iterate (successor m s) i p ≡ iterate (successor m s) j p) =
+      pigeonhole (remaining_count m s) m.people s.people (λ i. iterate (successor m s) i p) (λ i l. (known (iterate (successor m s) i p) (inside i), inside i)) (le_refl (remaining_count m s)) in
+      let b : (k : ℕ) × (k < two.1) × (iterate (successor m s) (suc k) p ≡ p) = back_between (successor m s) t.0 p t.1 two.0 two.1 two.2 two.4 in
+      and_from (s.people p) (some_below (remaining_count m s) (λ k. iterate (successor m s) (suc k) p == p)) h
+      (some_from (remaining_count m s) (λ k. iterate (successor m s) (suc k) p == p) b.0 (omega (arith, b.1, two.3)) (eq-eqb (iterate (successor m s) (suc b.0) p) p b.2))
 
 -- ---- whole cycles
 
-pub cycles_leave : (m : Market) (s : Stage) → IsKnown m s → (group : ℕ → Bool) → AreCycles m s group → IsTrade m s group
+pub cycles_leave : (m : Market) (s : Stage) → IsStageOf m s → (group : ℕ → Bool) → AreCycles m s group → IsTrade m s group
 cycles_leave m s known group c =
     let all : IsTrade m s (on_cycle m s) = cycles_trade m s known in
     record {
@@ -61,7 +59,7 @@ cycles_leave m s known group c =
       cycle = λ p h. all.cycle p (c.each p h);
     }
 
-pub others_stay : (m : Market) (s : Stage) (group : ℕ → Bool) → IsKnown m s → AreCycles m s group → LeavesOtherCycles m s group
+pub others_stay : (m : Market) (s : Stage) (group : ℕ → Bool) → IsStageOf m s → AreCycles m s group → LeavesOtherCycles m s group
 others_stay m s group known c =
     let gone : IsTrade m s group = cycles_leave m s known group c in
     let all : IsTrade m s (on_cycle m s) = cycles_trade m s known in
@@ -76,7 +74,7 @@ others_stay m s group known c =
 
 -- ---- loops and chains
 
-module _ (m : Market) (ok : IsMarket m) (s : Stage) (known : IsKnown m s) where
+module _ (m : Market) (ok : IsMarket m) (s : Stage) (known : IsStageOf m s) where
   points_to : (p q : ℕ) → s.people q ≡ true → WishesForHomeOf m s p q → successor m s p ≡ q
   points_to p q h w = successor_at m s p (Some w.0) w.2 ∙ home_holder m ok s q w.0 (known q h) w.1 h
 
@@ -112,14 +110,11 @@ module _ (m : Market) (ok : IsMarket m) (s : Stage) (known : IsKnown m s) where
       by_tenant None e = refl
       by_tenant (Some t) e = cond-false (s.people t) t (first m s) (free t e)
 
-first_among : (person : ℕ) (others : List ℕ) → among (person ∷ others) person ≡ true
-first_among person others = or_left (person == person) (among others person) (eq-eqb person person refl)
-
-pub loop_cycle : (m : Market) → IsMarket m → (s : Stage) → IsKnown m s → (person : ℕ) (others : List ℕ) → IsLoop m s person others → (p : ℕ) → among (person ∷ others) p ≡ true → on_cycle m s p ≡ true
+pub loop_cycle : (m : Market) → IsMarket m → (s : Stage) → IsStageOf m s → (person : ℕ) (others : List ℕ) → IsLoop m s person others → (p : ℕ) → among (person ∷ others) p ≡ true → on_cycle m s p ≡ true
 loop_cycle m ok s known person others loop =
-    let there_still : s.people person ≡ true = loop.remain person (first_among person others) in
+    let there_still : s.people person ≡ true = loop.remain person (among_self person others) in
     row_cycle m ok s known loop.room person others (home_holder m ok s person loop.room (known person there_still) loop.lives there_still) loop.remain loop.wishes
 
-pub chain_cycle : (m : Market) → IsMarket m → (s : Stage) → IsKnown m s → (person : ℕ) (others : List ℕ) → IsChain m s person others → (p : ℕ) → among (person ∷ others) p ≡ true → on_cycle m s p ≡ true
+pub chain_cycle : (m : Market) → IsMarket m → (s : Stage) → IsStageOf m s → (person : ℕ) (others : List ℕ) → IsChain m s person others → (p : ℕ) → among (person ∷ others) p ≡ true → on_cycle m s p ≡ true
 chain_cycle m ok s known person others chain =
     row_cycle m ok s known chain.room person others (free_holder m ok s known chain.room chain.free ∙ chain.leads) chain.remain chain.wishes

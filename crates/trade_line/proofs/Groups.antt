@@ -6,6 +6,7 @@ use Rattle.std.proofs.lemmas.Bool.{cases_Bool, and_from, both_ways, cond-true, c
 use Rattle.std.proofs.lemmas.List.Elements.{All-nil, All-cons}
 use Rattle.std.proofs.lemmas.List.FromFn.{get_or-map-range_with_len, length-map-range_with_len}
 use Rattle.trade_line.specs.Below.{or_else}
+use Rattle.trade_line.specs.Cycles.{IsStageOf}
 use Rattle.trade_line.specs.Market.{Market, IsMarket, home, list_of, is_room, tenant}
 use Rattle.trade_line.specs.TopTradingCycles.{Stage, start, wish, first, tenant_or_first, holder, target, successor, taken, leave, gets}
 use Rattle.trade_line.specs.Inner.Removal.{Reach, IsTrade, Leads}
@@ -16,7 +17,7 @@ use Rattle.trade_line.specs.Groups.{OthersKeep, NoneLoses, IsGroupStrategyproof,
 use Rattle.trade_line.proofs.Search.{clash, same_yes, not_from, find_passes, is_room_gives, is_room_from}
 use Rattle.trade_line.proofs.Exchange.{reach_same, taken_gives}
 use Rattle.trade_line.proofs.Unique.{same_stage, taken_from, removal}
-use Rattle.trade_line.proofs.Steps.{IsKnown, leave_known, start_known, gets_leads}
+use Rattle.trade_line.proofs.Steps.{leave_known, start_known, gets_leads}
 use Rattle.trade_line.proofs.Ranks.{best}
 use Rattle.trade_line.proofs.Welfare.{HomesThere, homes_stay, there_from, start_homes, remains, gets_assignment}
 
@@ -104,7 +105,7 @@ module _ (m : Market) (lists : List (List ℕ)) where
 
 -- where some ask for x alone, and rank it no lower than what they get by the own list, everybody gets x
 module _ (m : Market) (ok : IsMarket m) (lists : List (List ℕ)) (ok2 : IsMarket (with_lists m lists)) (f x : ℕ → Option ℕ) (each : (q : ℕ) → q < m.people → (list_of (with_lists m lists) q ≡ list_of m q) ⊎ ((list_of (with_lists m lists) q ≡ aim (home m q) (x q)) × (rank m q (x q) ≤ rank m q (f q)))) where
-  same_from : {s : Stage} → Leads m f s → IsKnown m s → HomesThere m ok s → Leads (with_lists m lists) x s → (p : ℕ) → s.people p ≡ true → x p ≡ f p
+  same_from : {s : Stage} → Leads m f s → IsStageOf m s → HomesThere m ok s → Leads (with_lists m lists) x s → (p : ℕ) → s.people p ≡ true → x p ≡ f p
   unfolding leave
   same_from {s} (done none) known homes e p h = clash (s.people p) h (none p)
   same_from {s} (trade k tk fk d) known homes e p h =
@@ -156,7 +157,7 @@ module _ (m : Market) (ok : IsMarket m) (group : ℕ → Bool) (lists : List (Li
       lists_known = all_lists (λ q xs. All (λ r. r < m.rooms) xs) (λ q l. aim_all (λ r. r < m.rooms) (home m q) (gets (with_lists m lists) q) (λ r e n. (gets_assignment (with_lists m lists) ok2).known q r l e)) ok.indexed.lists_known;
     };
     homes_differ = ok.homes_differ;
-    lists_differ = all_lists (λ q xs. AllPairs ◌≢◌ xs) (λ q l i j d ij le. absurd (omega (arith, ij, le, aim_short (home m q) (gets (with_lists m lists) q)))) ok.lists_differ;
+    lists_strict = all_lists (λ q xs. AllPairs ◌≢◌ xs) (λ q l i j d ij le. absurd (omega (arith, ij, le, aim_short (home m q) (gets (with_lists m lists) q)))) ok.lists_strict;
     own_unlisted = λ q r l e. all_lists (λ q xs. (r : ℕ) → home m q ≡ Some r → All (λ x. x ≢ r) xs) (λ q l r e. aim_all (λ x. x ≢ r) (home m q) (gets (with_lists m lists) q) (λ x ex n xr. both_ways (is_room x (home m q)) n (is_room_from x (home m q) (e ∙ ap Some (sym xr))))) (λ q l r e. ok.own_unlisted q r l e) q l r e;
   }
 

@@ -2,6 +2,7 @@
 use Rattle.std.proofs.Common.{◌≡◌, ℕ, zero, suc, ◌+◌, ◌<◌, ◌≤◌, Bool, true, false, not, ◌==◌, List, [], ◌∷◌, ◌++◌, length, replicate, zero-add, get_or, set, refl, sym, ap, ap₂, ◌∙◌, subst, inl, inr, arith, eqb-true, eq-eqb, ne_eqb, get_or-set_same, get_or-set_other, length-set, length-append}
 use Rattle.std.specs.List.{range_with_len}
 use Rattle.std.proofs.lemmas.Bool.{cases_Bool, cases_eq, both_ways, or_cases, or_parts, or_left, or_right, false_from_ne_true, and_parts, and_left, and_right, cases_lt}
+use Rattle.std.proofs.Math.Bool.{and-true}
 use Rattle.trade_line.specs.Below.{count_below}
 use Rattle.trade_line.specs.Member.{among, Once}
 use Rattle.trade_line.specs.Line.{tail_of, is_none_left, without}
@@ -9,7 +10,7 @@ use Rattle.trade_line.specs.Inner.Links.{Links, along, linked_people, IsLinkedRi
 use Rattle.trade_line.specs.Inner.Queue.{last_of}
 use Rattle.trade_line.proofs.Chain.{among_last}
 use Rattle.trade_line.proofs.Count.{count_less, count_most}
-use Rattle.trade_line.proofs.Lines.{among_self, among_more, among_left, among_right, once_right, once_apart, and_all, among-without, once_without, without_absent, without-append, without_hit}
+use Rattle.trade_line.proofs.Lines.{among_self, among_more, among_left, among_right, once_right, once_apart, among-without, once_without, without_absent, without-append, without_hit}
 use Rattle.trade_line.proofs.States.{read_same}
 use Rattle.trade_line.proofs.Whole.{range_has, range_within, range_once}
 use Rattle.std.proofs.Math.ListN.{get_or-append}
@@ -245,7 +246,7 @@ module _ (next previous : List ℕ) (waits : List Bool) (xs : List ℕ) (ring : 
     waits_are = λ q. elim (cases_eq q p) [
       | inl e ↦ subst (λ z. get_or (set waits p false) z false ≡ among (without p xs) z) (sym e)
           (get_or-set_same waits p false false (ring.known p i) ∙ sym (among-without p xs p ∙ and_right (among xs p) (not (p == p)) (rw (eq-eqb p p refl) refl)))
-      | inr n ↦ get_or-set_other waits p q false false n ∙ ring.waits_are q ∙ sym (among-without p xs q ∙ rw (ne_eqb p q (λ z. n (sym z))) (and_all (among xs q)))
+      | inr n ↦ get_or-set_other waits p q false false n ∙ ring.waits_are q ∙ sym (among-without p xs q ∙ rw (ne_eqb p q (λ z. n (sym z))) (and-true (among xs q)))
     ];
   }
 
@@ -278,7 +279,7 @@ module _ (next previous : List ℕ) (waits : List Bool) (xs : List ℕ) (ring : 
       ];
       waits_are = λ q. ring.waits_are q ∙ elim (cases_Bool (p == q)) [
         | inl y ↦ rw y (subst (λ z. among xs z ≡ true) (eqb-true p q y) i)
-        | inr n ↦ rw (n, among-without p xs q) (rw n (sym (and_all (among xs q))))
+        | inr n ↦ rw (n, among-without p xs q) (rw n (sym (and-true (among xs q))))
       ];
     }
       where

@@ -25,6 +25,6 @@ module _ (m : Market) (ok : IsMarket m) (p : ℕ) (l : List ℕ) (fits : IsListF
       lists_known = all_lists (λ q xs. All (λ r. r < m.rooms) xs) fits.0.1 ok.indexed.lists_known;
     };
     homes_differ = ok.homes_differ;
-    lists_differ = all_lists (λ q xs. AllPairs ◌≢◌ xs) fits.1 ok.lists_differ;
+    lists_strict = all_lists (λ q xs. AllPairs ◌≢◌ xs) fits.1 ok.lists_strict;
     own_unlisted = λ q r h e. all_lists (λ q xs. (r : ℕ) → home m q ≡ Some r → All (λ x. x ≢ r) xs) fits.2 (λ q h r e. ok.own_unlisted q r h e) q h r e;
   }

@@ -1,20 +1,22 @@
 -- The plain program, step for step.
-use Rattle.std.proofs.Common.{◌≡◌, ℕ, suc, ◌+◌, ◌<◌, ◌≤◌, Bool, true, false, not, ◌&&◌, ◌||◌, ◌==◌, cond, List, length, replicate, Option, Some, None, get_or, set, refl, sym, ap, ◌∙◌, subst, inl, inr, arith, add-one, eq-eqb, length-set, get_or-set_same, get_or-set_other, lt-ltb, le-ltb, ltb}
+use Rattle.std.proofs.Common.{◌≡◌, ℕ, suc, ◌+◌, ◌<◌, ◌≤◌, Bool, true, false, not, ◌&&◌, ◌==◌, cond, List, length, replicate, Option, Some, None, get_or, set, refl, sym, ap, ◌∙◌, subst, inl, inr, arith, add-one, eq-eqb, length-set, get_or-set_same, get_or-set_other, lt-ltb, le-ltb, ltb}
 use Rattle.std.specs.Option.{unwrap_or}
 use Rattle.std.proofs.lemmas.Bool.{cases_Bool, cases_lt, cases_eq, both_ways, cond-true, cond-false, and_from, and_parts}
 use Rattle.std.proofs.lemmas.List.{get_or_past, get_or-replicate, length-replicate}
 use Rattle.std.proofs.lemmas.List.FromFn.{fill_by_all}
-use Rattle.trade_line.specs.Below.{first_below, some_below, times}
+use Rattle.std.specs.Fn.{iterate}
+use Rattle.std.proofs.Math.Bool.{and-true, or-false}
+use Rattle.trade_line.specs.Below.{first_below, some_below}
+use Rattle.trade_line.specs.Cycles.{IsStageOf}
 use Rattle.trade_line.specs.Market.{Market, is_room, tenant}
 use Rattle.trade_line.specs.TopTradingCycles.{Stage, start, wish, first, tenant_or_first, holder, target, successor, remaining_count, on_cycle, taken, leave, step, gets_within, gets, ttc}
 use Rattle.trade_line.specs.Inner.Queue.{close}
 use Rattle.trade_line.specs.Inner.Plain.{remains, AreMarks, Gives, Stepping, Stepped, marked_stage}
 use Rattle.trade_line.specs.declared.plain.Remaining.{Remaining}
 use Rattle.trade_line.proofs.Count.{times_after}
-use Rattle.trade_line.proofs.Lines.{or_none, remaining_after, length-close}
-use Rattle.trade_line.proofs.Search.{first_finds, first_passes, first_is_least, some_from, not_yes}
+use Rattle.trade_line.proofs.Lines.{remaining_after, length-close}
+use Rattle.trade_line.proofs.Search.{and_nots, first_finds, first_passes, first_is_least, some_from, not_yes}
 use Rattle.trade_line.proofs.States.{read_same}
-use Rattle.trade_line.proofs.Steps.{IsKnown}
 use Rattle.trade_line.proofs.Unique.{same_stage}
 
 pub read_mark : (xs : List Bool) (i : ℕ) (r : Bool) → i < length xs → r ≡ get_or xs i r → get_or xs i false ≡ r
@@ -33,16 +35,11 @@ first_at n i q l none ok =
       | inr after ↦ let at : found.0 ≡ i = omega arith in found.1 ∙ ap Some at
     ]
 
-and_nots : (a b c : Bool) → ((a && not b) && not c) ≡ (a && not (b || c))
-and_nots true true c = refl
-and_nots true false c = refl
-and_nots false b c = refl
-
 pub some_more : (n : ℕ) (q : ℕ → Bool) → some_below n q ≡ false → q n ≡ false → some_below (n + 1) q ≡ false
 some_more n q none not_here = rw (add-one, none, not_here) refl
 
 module _ (m : Market) where
-  pub known_marks : (s : Remaining) → AreMarks m s → IsKnown m (remains s)
+  pub known_marks : (s : Remaining) → AreMarks m s → IsStageOf m (remains s)
   known_marks s marks p h =
       elim (cases_lt p m.people) [
         | inl l ↦ l
@@ -75,17 +72,17 @@ module _ (m : Market) where
 
   pub cycle_gone : (s : Stage) (p : ℕ) → s.people p ≡ false → on_cycle m s p ≡ false
   unfolding on_cycle
-  cycle_gone s p gone = ap (λ b. b && some_below (remaining_count m s) (λ k. times (suc k) (successor m s) p == p)) gone
+  cycle_gone s p gone = ap (λ b. b && some_below (remaining_count m s) (λ k. iterate (successor m s) (suc k) p == p)) gone
 
-  pub cycle_none : (s : Stage) (p : ℕ) → s.people p ≡ true → some_below (remaining_count m s) (λ k. times (suc k) (successor m s) p == p) ≡ false → on_cycle m s p ≡ false
+  pub cycle_none : (s : Stage) (p : ℕ) → s.people p ≡ true → some_below (remaining_count m s) (λ k. iterate (successor m s) (suc k) p == p) ≡ false → on_cycle m s p ≡ false
   unfolding on_cycle
-  cycle_none s p here none = ap (λ b. b && some_below (remaining_count m s) (λ k. times (suc k) (successor m s) p == p)) here ∙ none
+  cycle_none s p here none = ap (λ b. b && some_below (remaining_count m s) (λ k. iterate (successor m s) (suc k) p == p)) here ∙ none
 
-  pub cycle_found : (s : Stage) (p k : ℕ) → s.people p ≡ true → k < remaining_count m s → successor m s (times k (successor m s) p) ≡ p → on_cycle m s p ≡ true
+  pub cycle_found : (s : Stage) (p k : ℕ) → s.people p ≡ true → k < remaining_count m s → successor m s (iterate (successor m s) k p) ≡ p → on_cycle m s p ≡ true
   unfolding on_cycle
   cycle_found s p k here l back =
-      and_from (s.people p) (some_below (remaining_count m s) (λ k. times (suc k) (successor m s) p == p)) here
-      (some_from (remaining_count m s) (λ k. times (suc k) (successor m s) p == p) k l (eq-eqb (times (suc k) (successor m s) p) p (times_after (successor m s) k p ∙ back)))
+      and_from (s.people p) (some_below (remaining_count m s) (λ k. iterate (successor m s) (suc k) p == p)) here
+      (some_from (remaining_count m s) (λ k. iterate (successor m s) (suc k) p == p) k l (eq-eqb (iterate (successor m s) (suc k) p) p (times_after (successor m s) k p ∙ back)))
 
 module _ (m : Market) (s : Stage) (old : List (Option ℕ)) where
   pub stepping_start : (people rooms : List Bool) → length people ≡ m.people → length rooms ≡ m.rooms → length old ≡ m.people → ((p : ℕ) → get_or people p false ≡ s.people p) → ((r : ℕ) → get_or rooms r false ≡ s.rooms r) → Stepping m s old old people rooms 0
@@ -95,14 +92,10 @@ module _ (m : Market) (s : Stage) (old : List (Option ℕ)) where
     given_len = gl;
     stayed = λ p l. absurd (omega arith);
     waiting = λ p l. ps p;
-    rooms_left = λ r. rs r ∙ sym (all_left (s.rooms r));
+    rooms_left = λ r. rs r ∙ sym (and-true (s.rooms r));
     gave = λ p l. absurd (omega arith);
     kept = λ p l. refl;
   }
-    where
-      all_left : (b : Bool) → (b && true) ≡ b
-      all_left true = refl
-      all_left false = refl
 
   module _ (given : List (Option ℕ)) (people rooms : List Bool) (n : ℕ) (t : Stepping m s old given people rooms n) where
     pub stepping_stays : on_cycle m s n ≡ false → Stepping m s old given people rooms (n + 1)
@@ -112,20 +105,16 @@ module _ (m : Market) (s : Stage) (old : List (Option ℕ)) where
       given_len = t.given_len;
       stayed = λ p l. elim (cases_lt p n) [
         | inl b ↦ t.stayed p b
-        | inr a ↦ let at : n ≡ p = omega arith in subst (λ z. get_or people z false ≡ (s.people z && not (on_cycle m s z))) at (t.waiting n (omega arith) ∙ sym (rw off (all_left (s.people n))))
+        | inr a ↦ let at : n ≡ p = omega arith in subst (λ z. get_or people z false ≡ (s.people z && not (on_cycle m s z))) at (t.waiting n (omega arith) ∙ sym (rw off (and-true (s.people n))))
       ];
       waiting = λ p l. t.waiting p (omega arith);
-      rooms_left = λ r. t.rooms_left r ∙ ap (λ b. s.rooms r && not b) (sym (rw (add-one, off) (or_none (some_below n (λ p. on_cycle m s p && is_room r (wish m s p))))));
+      rooms_left = λ r. t.rooms_left r ∙ ap (λ b. s.rooms r && not b) (sym (rw (add-one, off) (or-false (some_below n (λ p. on_cycle m s p && is_room r (wish m s p))))));
       gave = λ p l. elim (cases_lt p n) [
         | inl b ↦ t.gave p b
         | inr a ↦ let at : n ≡ p = omega arith in subst (λ z. get_or given z None ≡ cond (on_cycle m s z) (wish m s z) (get_or old z None)) at (t.kept n (omega arith) ∙ sym (cond-false (on_cycle m s n) (wish m s n) (get_or old n None) off))
       ];
       kept = λ p l. t.kept p (omega arith);
     }
-      where
-        all_left : (b : Bool) → (b && true) ≡ b
-        all_left true = refl
-        all_left false = refl
 
     pub stepping_leaves : n < m.people → on_cycle m s n ≡ true → ((x : ℕ) → wish m s n ≡ Some x → x < m.rooms) → Stepping m s old (set given n (wish m s n)) (set people n false) (close rooms (wish m s n)) (n + 1)
     stepping_leaves nl on known = record {

@@ -2,20 +2,21 @@
 use Rattle.std.proofs.Common.{◌≡◌, ℕ, ◌<◌, Option}
 use Rattle.trade_line.specs.Inner.Removal.{Leads}
 use Rattle.trade_line.specs.Inner.Removal.Leads.{done, trade}
+use Rattle.trade_line.specs.Cycles.{IsStageOf}
 use Rattle.trade_line.specs.Market.{Market}
 use Rattle.trade_line.specs.Removals.{IsGivenByRemovals}
 use Rattle.trade_line.specs.Removals.IsGivenByRemovals.{over, remove}
 use Rattle.trade_line.specs.TopTradingCycles.{Stage, start, gets}
 use Rattle.trade_line.proofs.Cycles.{cycle_from, cycles_leave}
-use Rattle.trade_line.proofs.Steps.{IsKnown, leave_known, start_known, gets_leads, leads_gets}
+use Rattle.trade_line.proofs.Steps.{leave_known, start_known, gets_leads, leads_gets}
 
 module _ (m : Market) (f : ℕ → Option ℕ) where
-  removals_lead : {s : Stage} → IsKnown m s → IsGivenByRemovals m f s → Leads m f s
+  removals_lead : {s : Stage} → IsStageOf m s → IsGivenByRemovals m f s → Leads m f s
   removals_lead known (over nobody) = done nobody
   removals_lead {s} known (remove group c e rest) =
       trade group (cycles_leave m s known group c) e (removals_lead (leave_known m s group known) rest)
 
-  leads_by_removals : {s : Stage} → IsKnown m s → Leads m f s → IsGivenByRemovals m f s
+  leads_by_removals : {s : Stage} → IsStageOf m s → Leads m f s → IsGivenByRemovals m f s
   leads_by_removals known (done nobody) = over nobody
   leads_by_removals {s} known (trade group t e rest) =
       remove group (record { each = λ p h. cycle_from m s known p (t.remain p h) (t.cycle p h); closed = t.closed }) e

@@ -2,9 +2,11 @@
 use Rattle.std.proofs.Common.{◌≡◌, ℕ, zero, suc, ◌+◌, ◌-◌, ◌<◌, ◌≤◌, Bool, true, false, not, ◌&&◌, ◌==◌, Option, Some, None, refl, sym, ap, ◌∙◌, subst, inl, inr, arith, eqb-true, eq-eqb, ltb-true, lt-ltb, le_refl}
 use Rattle.std.specs.Option.{unwrap_or}
 use Rattle.std.proofs.lemmas.Bool.{and_right, cases_Bool, cases_lt, and_parts, and_from, false_from_ne_true, both_ways, cond-true, cond-false}
-use Rattle.trade_line.specs.Below.{some_below, first_below, count_below, times}
+use Rattle.std.specs.Fn.{iterate}
+use Rattle.trade_line.specs.Below.{some_below, first_below, count_below}
 use Rattle.trade_line.specs.Market.{Market, tenant}
 use Rattle.trade_line.specs.TopTradingCycles.{Stage, start, wish, first, tenant_or_first, holder, target, successor, remaining_count, on_cycle, leave, step, gets_within, gets}
+use Rattle.trade_line.specs.Cycles.{IsStageOf}
 use Rattle.trade_line.specs.Inner.Removal.{IsTrade, Leads}
 use Rattle.trade_line.specs.Inner.Removal.Leads.{done, trade}
 use Rattle.trade_line.proofs.Search.{not_yes, some_gives, some_from, first_finds, first_passes}
@@ -12,17 +14,13 @@ use Rattle.trade_line.proofs.Count.{count_le, count_most, count_some, count_less
 use Rattle.trade_line.proofs.Unique.{unique}
 
 module _ (m : Market) where
-  -- whoever remains is a person of the market
-  abbrev pub IsKnown : Stage → Type 0
-  IsKnown s = (p : ℕ) → s.people p ≡ true → p < m.people
-
-  first_remains : (s : Stage) → IsKnown s → (p : ℕ) → s.people p ≡ true → s.people (first m s) ≡ true
+  first_remains : (s : Stage) → IsStageOf m s → (p : ℕ) → s.people p ≡ true → s.people (first m s) ≡ true
   unfolding first
   first_remains s known p h =
       let r : (y : ℕ) × (first_below m.people s.people ≡ Some y) = first_finds m.people s.people p (known p h) h in
       subst (λ z. s.people z ≡ true) (sym (ap (λ o. unwrap_or o 0) r.1)) (first_passes m.people s.people r.0 r.1).0
 
-  holder_remains : (s : Stage) → IsKnown s → (p r : ℕ) → s.people p ≡ true → s.people (holder m s r) ≡ true
+  holder_remains : (s : Stage) → IsStageOf m s → (p r : ℕ) → s.people p ≡ true → s.people (holder m s r) ≡ true
   unfolding holder
   holder_remains s known p r h = by_tenant (tenant m r)
     where
@@ -34,7 +32,7 @@ module _ (m : Market) where
             | inr n ↦ rw n (first_remains s known p h)
           ]
 
-  pub successor_remains : (s : Stage) → IsKnown s → (p : ℕ) → s.people p ≡ true → s.people (successor m s p) ≡ true
+  pub successor_remains : (s : Stage) → IsStageOf m s → (p : ℕ) → s.people p ≡ true → s.people (successor m s p) ≡ true
   unfolding successor
   successor_remains s known p h = by_wish (wish m s p)
     where
@@ -42,44 +40,44 @@ module _ (m : Market) where
       by_wish None = h
       by_wish (Some r) = holder_remains s known p r h
 
-  pub cycles_trade : (s : Stage) → IsKnown s → IsTrade m s (on_cycle m s)
+  pub cycles_trade : (s : Stage) → IsStageOf m s → IsTrade m s (on_cycle m s)
   unfolding on_cycle
   cycles_trade s known = record {
     known = λ p h. known p (parts p h).0;
     remain = λ p h. (parts p h).0;
     closed = λ p h.
-        let c : (k : ℕ) × (k < remaining_count m s) × ((times (suc k) (successor m s) p == p) ≡ true) = turn p h in
-        let e : times (suc c.0) (successor m s) (successor m s p) ≡ successor m s p = times_after (successor m s) (suc c.0) p ∙ ap (successor m s) (eqb-true (times (suc c.0) (successor m s) p) p c.2) in
-        and_from (s.people (successor m s p)) (some_below (remaining_count m s) (λ k. times (suc k) (successor m s) (successor m s p) == successor m s p))
+        let c : (k : ℕ) × (k < remaining_count m s) × ((iterate (successor m s) (suc k) p == p) ≡ true) = turn p h in
+        let e : iterate (successor m s) (suc c.0) (successor m s p) ≡ successor m s p = times_after (successor m s) (suc c.0) p ∙ ap (successor m s) (eqb-true (iterate (successor m s) (suc c.0) p) p c.2) in
+        and_from (s.people (successor m s p)) (some_below (remaining_count m s) (λ k. iterate (successor m s) (suc k) (successor m s p) == successor m s p))
         (successor_remains s known p (parts p h).0)
-        (some_from (remaining_count m s) (λ k. times (suc k) (successor m s) (successor m s p) == successor m s p) c.0 c.1 (eq-eqb (times (suc c.0) (successor m s) (successor m s p)) (successor m s p) e));
+        (some_from (remaining_count m s) (λ k. iterate (successor m s) (suc k) (successor m s p) == successor m s p) c.0 c.1 (eq-eqb (iterate (successor m s) (suc c.0) (successor m s p)) (successor m s p) e));
     cycle = λ p h.
-        let c : (k : ℕ) × (k < remaining_count m s) × ((times (suc k) (successor m s) p == p) ≡ true) = turn p h in
-        times_reach (successor m s) c.0 (successor m s p) p (eqb-true (times (suc c.0) (successor m s) p) p c.2);
+        let c : (k : ℕ) × (k < remaining_count m s) × ((iterate (successor m s) (suc k) p == p) ≡ true) = turn p h in
+        times_reach (successor m s) c.0 (successor m s p) p (eqb-true (iterate (successor m s) (suc c.0) p) p c.2);
   }
     where
-      parts : (p : ℕ) → (s.people p && some_below (remaining_count m s) (λ k. times (suc k) (successor m s) p == p)) ≡ true → (s.people p ≡ true) × (some_below (remaining_count m s) (λ k. times (suc k) (successor m s) p == p) ≡ true)
-      parts p h = and_parts (s.people p) (some_below (remaining_count m s) (λ k. times (suc k) (successor m s) p == p)) h
+      parts : (p : ℕ) → (s.people p && some_below (remaining_count m s) (λ k. iterate (successor m s) (suc k) p == p)) ≡ true → (s.people p ≡ true) × (some_below (remaining_count m s) (λ k. iterate (successor m s) (suc k) p == p) ≡ true)
+      parts p h = and_parts (s.people p) (some_below (remaining_count m s) (λ k. iterate (successor m s) (suc k) p == p)) h
 
-      turn : (p : ℕ) → (s.people p && some_below (remaining_count m s) (λ k. times (suc k) (successor m s) p == p)) ≡ true → (k : ℕ) × (k < remaining_count m s) × ((times (suc k) (successor m s) p == p) ≡ true)
-      turn p h = some_gives (remaining_count m s) (λ k. times (suc k) (successor m s) p == p) (parts p h).1
+      turn : (p : ℕ) → (s.people p && some_below (remaining_count m s) (λ k. iterate (successor m s) (suc k) p == p)) ≡ true → (k : ℕ) × (k < remaining_count m s) × ((iterate (successor m s) (suc k) p == p) ≡ true)
+      turn p h = some_gives (remaining_count m s) (λ k. iterate (successor m s) (suc k) p == p) (parts p h).1
 
   -- while somebody remains, somebody is on a cycle
-  pub cycle_exists : (s : Stage) → IsKnown s → (p : ℕ) → s.people p ≡ true → (q : ℕ) × (on_cycle m s q ≡ true)
+  pub cycle_exists : (s : Stage) → IsStageOf m s → (p : ℕ) → s.people p ≡ true → (q : ℕ) × (on_cycle m s q ≡ true)
   unfolding on_cycle
   cycle_exists s known p h =
-      let x : ℕ → ℕ = λ i. times i (successor m s) p in
-      let inside : (i : ℕ) → s.people (times i (successor m s) p) ≡ true = λ i. times_stays (successor m s) s.people (successor_remains s known) i p h in
-      let r : (i : ℕ) × (j : ℕ) × (i < j) × (j < suc (remaining_count m s)) × (times i (successor m s) p ≡ times j (successor m s) p) =
-      pigeonhole (remaining_count m s) m.people s.people (λ i. times i (successor m s) p) (λ i l. (known (times i (successor m s) p) (inside i), inside i)) (le_refl (remaining_count m s)) in
+      let x : ℕ → ℕ = λ i. iterate (successor m s) i p in
+      let inside : (i : ℕ) → s.people (iterate (successor m s) i p) ≡ true = λ i. times_stays (successor m s) s.people (successor_remains s known) i p h in
+      let r : (i : ℕ) × (j : ℕ) × (i < j) × (j < suc (remaining_count m s)) × (iterate (successor m s) i p ≡ iterate (successor m s) j p) =
+      pigeonhole (remaining_count m s) m.people s.people (λ i. iterate (successor m s) i p) (λ i l. (known (iterate (successor m s) i p) (inside i), inside i)) (le_refl (remaining_count m s)) in
       let d : ℕ = r.1 - suc r.0 in
       let gap : r.0 + suc d ≡ r.1 = omega (arith, r.2) in
-      let e : times (suc d) (successor m s) (times r.0 (successor m s) p) ≡ times r.0 (successor m s) p =
-      times_sum (successor m s) r.0 (suc d) p ∙ ap (λ k. times k (successor m s) p) gap ∙ sym r.4 in
-      let q : ℕ = times r.0 (successor m s) p in (
+      let e : iterate (successor m s) (suc d) (iterate (successor m s) r.0 p) ≡ iterate (successor m s) r.0 p =
+      times_sum (successor m s) r.0 (suc d) p ∙ ap (λ k. iterate (successor m s) k p) gap ∙ sym r.4 in
+      let q : ℕ = iterate (successor m s) r.0 p in (
         q,
-        and_from (s.people q) (some_below (remaining_count m s) (λ k. times (suc k) (successor m s) q == q)) (inside r.0)
-            (some_from (remaining_count m s) (λ k. times (suc k) (successor m s) q == q) d (omega (arith, r.2, r.3)) (eq-eqb (times (suc d) (successor m s) q) q e)),
+        and_from (s.people q) (some_below (remaining_count m s) (λ k. iterate (successor m s) (suc k) q == q)) (inside r.0)
+            (some_from (remaining_count m s) (λ k. iterate (successor m s) (suc k) q == q) d (omega (arith, r.2, r.3)) (eq-eqb (iterate (successor m s) (suc d) q) q e)),
       )
 
   pub agree : (f g : ℕ → Option ℕ) {s : Stage} → Leads m f s → ((p : ℕ) → s.people p ≡ true → f p ≡ g p) → Leads m g s
@@ -88,11 +86,11 @@ module _ (m : Market) where
   agree f g {s} (trade k tk fk d) e =
       trade k tk (λ p h. sym (e p (tk.remain p h)) ∙ fk p h) (agree f g d (λ p h. e p (and_parts (s.people p) (not (k p)) h).0))
 
-  pub leave_known : (s : Stage) (k : ℕ → Bool) → IsKnown s → IsKnown (leave m s k)
+  pub leave_known : (s : Stage) (k : ℕ → Bool) → IsStageOf m s → IsStageOf m (leave m s k)
   unfolding leave
   leave_known s k known p h = known p (and_parts (s.people p) (not (k p)) h).0
 
-  pub step_fewer : (s : Stage) → IsKnown s → (k : ℕ) → remaining_count m s ≤ suc k → remaining_count m (step m s) ≤ k
+  pub step_fewer : (s : Stage) → IsStageOf m s → (k : ℕ) → remaining_count m s ≤ suc k → remaining_count m (step m s) ≤ k
   unfolding leave
   step_fewer s known k few =
       elim (cases_lt 0 (remaining_count m s)) [
@@ -110,7 +108,7 @@ module _ (m : Market) where
             omega arith
       ]
 
-  pub within_leads : (k : ℕ) (s : Stage) → IsKnown s → remaining_count m s ≤ k → Leads m (gets_within m k s) s
+  pub within_leads : (k : ℕ) (s : Stage) → IsStageOf m s → remaining_count m s ≤ k → Leads m (gets_within m k s) s
   unfolding gets_within leave
   within_leads zero s known few =
       done (λ p. false_from_ne_true (s.people p) (λ h.
@@ -124,7 +122,7 @@ module _ (m : Market) where
       (agree (gets_within m k (step m s)) (gets_within m (suc k) s) d
       (λ p h. sym (cond-false (on_cycle m s p) (wish m s p) (gets_within m k (step m s) p) (not_yes (on_cycle m s p) (and_parts (s.people p) (not (on_cycle m s p)) h).1))))
 
-  pub start_known : IsKnown (start m)
+  pub start_known : IsStageOf m (start m)
   unfolding start
   start_known p h = ltb-true p m.people h
 

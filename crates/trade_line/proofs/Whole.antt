@@ -1,4 +1,5 @@
 -- A whole run: its start and its end.
+use Rattle.trade_line.proofs.Lines.{among_none}
 use Rattle.trade_line.proofs.Asked.{asked_none}
 use Rattle.std.proofs.Common.{◌≡◌, ℕ, zero, suc, ◌+◌, ◌<◌, ◌≤◌, true, false, not, ◌&&◌, ◌==◌, List, [], ◌∷◌, length, replicate, None, get_or, refl, sym, ap, ◌∙◌, subst, inl, inr, arith, ltb, ltb-true, lt-ltb, le-ltb, eqb-true, eq-eqb}
 use Rattle.std.specs.List.{range_with_len}
@@ -108,14 +109,10 @@ module _ (m : Market) where
   underway_end s asks u e =
       fill_by_all (gets m) s.given m.people None u.standing.fits.given_len (λ k l. leads_gets m (given_to s) (u.settles (given_to s) ended) k l)
     where
-      empty : (l : List ℕ) → front_of l ≡ None → (p : ℕ) → among l p ≡ false
-      empty [] e p = refl
-      empty (x ∷ xs) e p = absurd (cc)
-
       ended : Settles m s.line s.remaining s.given (given_to s)
       ended = record {
         served = λ p l h. refl;
-        leads = done (λ p. empty s.line e p);
+        leads = done (λ p. among_none s.line e p);
       }
 
   pub underway_asks : (s : State) (asks : ℕ) → Underway m s asks → front_of s.line ≡ None → m.people ≤ asks

@@ -3,7 +3,6 @@
 --     first_below n p      the least number below n that passes
 --     count_below n p      how many numbers below n pass
 --     sum_below n f      the sum of f over the numbers below n
---     times k f x      f applied k times to x
 use Rattle.std.specs.Prelude.{ℕ, suc, ◌+◌, Bool, cond, Option, Some, None, false, zero, ◌||◌}
 
 abbrev pub some_below : ℕ → (ℕ → Bool) → Bool
@@ -22,10 +21,6 @@ first_below (suc n) p = or_else (first_below n p) (cond (p n) (Some n) None)
 abbrev pub count_below : ℕ → (ℕ → Bool) → ℕ
 count_below zero p = 0
 count_below (suc n) p = count_below n p + cond (p n) 1 0
-
-abbrev pub times : ℕ → (ℕ → ℕ) → ℕ → ℕ
-times zero f x = x
-times (suc k) f x = times k f (f x)
 
 abbrev pub sum_below : ℕ → (ℕ → ℕ) → ℕ
 sum_below zero f = 0

@@ -1,4 +1,5 @@
--- A problem of room exchange, seen as a market (Shapley and Scarf 1974; Abdulkadiroglu and Sönmez 1999): people in priority order,
+-- A problem of room exchange, seen as a market (Shapley and Scarf 1974; Abdulkadiroglu and Sönmez
+-- 1999): people in priority order,
 -- rooms, who lives where, and which rooms each person lists, the best first.
 -- People are the numbers below `people`, the first in priority being 0. Rooms are the numbers below `rooms`.
 use Rattle.std.specs.Prelude.{◌≡◌, ℕ, ◌<◌, Bool, Option, Some, None, List, [], length, ◌==◌, slice_index_or, false, All, AllPairs, ◌≢◌, is_some}
@@ -48,11 +49,12 @@ pub record IsIndexed (m : Market) : Type 0 where
 
 -- no two people have the same home
 abbrev pub HomesDiffer : Market → Type 0
-HomesDiffer m = (p q r : ℕ) → p < m.people → q < m.people → home m p ≡ Some r → home m q ≡ Some r → p ≡ q
+HomesDiffer m = (p q r : ℕ) → p < m.people → q < m.people → home m p ≡ Some r → home m q ≡ Some r
+    → p ≡ q
 
--- no list has a room twice
-abbrev pub ListsDiffer : Market → Type 0
-ListsDiffer m = (p : ℕ) → p < m.people → AllPairs ◌≢◌ (list_of m p)
+-- each list ranks its rooms strictly: none has a room twice
+abbrev pub ListsAreStrict : Market → Type 0
+ListsAreStrict m = (p : ℕ) → p < m.people → AllPairs ◌≢◌ (list_of m p)
 
 -- nobody lists their own home
 abbrev pub OwnUnlisted : Market → Type 0
@@ -62,5 +64,5 @@ OwnUnlisted m = (p r : ℕ) → p < m.people → home m p ≡ Some r → All (λ
 pub record IsMarket (m : Market) : Type 0 where
   pub indexed : IsIndexed m
   pub homes_differ : HomesDiffer m
-  pub lists_differ : ListsDiffer m
+  pub lists_strict : ListsAreStrict m
   pub own_unlisted : OwnUnlisted m

@@ -1,9 +1,11 @@
--- Top trading cycles in simultaneous steps (Shapley and Scarf 1974, who name David Gale; with vacant rooms and newcomers
+-- Top trading cycles in simultaneous steps (Shapley and Scarf 1974, who name David Gale; with
+-- vacant rooms and newcomers
 -- Abdulkadiroglu and Sönmez 1999).
 use Rattle.std.specs.List.{range_with_len}
 use Rattle.std.specs.Option.{unwrap_or}
 use Rattle.std.specs.Prelude.{ℕ, suc, Bool, cond, Option, Some, None, List, ◌==◌, not, zero, ◌&&◌, nat_lt, find, map}
-use Rattle.trade_line.specs.Below.{some_below, or_else, first_below, count_below, times}
+use Rattle.std.specs.Fn.{iterate}
+use Rattle.trade_line.specs.Below.{some_below, or_else, first_below, count_below}
 use Rattle.trade_line.specs.Market.{Market, floor, list_of, is_room, tenant}
 
 -- which people and which rooms remain
@@ -46,7 +48,8 @@ remaining_count m s = count_below m.people s.people
 
 -- p remains, and comes back to p after 1 to `remaining_count` successors
 unfoldable pub on_cycle : Market → Stage → ℕ → Bool
-on_cycle m s p = s.people p && some_below (remaining_count m s) (λ k. times (suc k) (successor m s) p == p)
+on_cycle m s p = s.people p
+    && some_below (remaining_count m s) (λ k. iterate (successor m s) (suc k) p == p)
 
 -- whether one of the group wishes for r
 unfoldable pub taken : Market → Stage → (ℕ → Bool) → ℕ → Bool

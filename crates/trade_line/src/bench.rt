@@ -1,5 +1,5 @@
 //! The memory of a run, taken before it begins.
-ghost use Rattle.std.specs.Prelude.{◌≡◌, ◌<◌, length, IfOk};
+ghost use Rattle.std.specs.Prelude.{◌≡◌, ◌<◌, ◌+◌, length, IfOk, OnErr};
 ghost use Rattle.trade_line.specs.Size.{Size, size_of};
 ghost use Rattle.trade_line.specs.Inner.Fresh.{IsFresh};
 
@@ -31,12 +31,22 @@ impl Model for Bench {
 }
 
 impl Bench {
-    /// The bench for a run of the problem, or that the memory for it was refused.
+    /// The bench for a run of the problem, or that the memory for it was refused. With no people and no rooms it takes
+    /// none.
     pub fn new(alloc: Global, problem: &Problem) -> Result<Self, OutOfMemory>
-        ensures { IfOk result (λ b. b ≡ size_of problem.now) }
+        ensures bench { IfOk result (λ b. b ≡ size_of problem.now) }
+        ensures memory { OnErr result (0 < problem.now.people + problem.now.rooms) }
     {
         let people = problem.people();
         let rooms = problem.rooms();
+        if people == 0 && rooms == 0 {
+            return Ok(Bench {
+                asked: Vec::new(alloc),
+                remaining: Vec::new(alloc),
+                given: Vec::new(alloc),
+                cursors: Vec::new(alloc),
+            });
+        }
         Ok(Bench {
             asked: vec![in alloc; false; people]?,
             remaining: vec![in alloc; true; rooms]?,

@@ -1,7 +1,7 @@
 //! A problem as it is handed in: its faults are still to be looked for.
 ghost use Rattle.std.specs.Prelude.{◌≡◌, ◌≢◌, ◌<◌, ◌↔◌, ◌⊎◌, ℕ, All, AllPairs, IsTrue, IfOk, IfErr};
 ghost use Rattle.std.specs.Prelude.{IfSome, OnOk, length, slice_index_or};
-ghost use Rattle.trade_line.specs.Market.{IsIndexed, HomesDiffer, ListsDiffer, OwnUnlisted};
+ghost use Rattle.trade_line.specs.Market.{IsIndexed, HomesDiffer, ListsAreStrict, OwnUnlisted};
 ghost use Rattle.trade_line.specs.Problem.{IsFirstFault};
 ghost use Rattle.trade_line.specs.Inner.Draft.{drafted};
 ghost use Rattle.trade_line.specs.Inner.Tenants.{IsTenants};
@@ -101,10 +101,10 @@ impl Draft {
         Ok(tenants)
     }
 
-    // Whether no list has a room twice.
-    pub(crate) fn do_lists_differ(&self, alloc: Global) -> Result<bool, OutOfMemory>
+    // Whether each list is strict: it has no room twice.
+    pub(crate) fn are_lists_strict(&self, alloc: Global) -> Result<bool, OutOfMemory>
         requires { IsIndexed (drafted self.now) }
-        ensures { IfOk result (λ differ. IsTrue differ ↔ ListsDiffer (drafted self.now)) }
+        ensures { IfOk result (λ strict. IsTrue strict ↔ ListsAreStrict (drafted self.now)) }
     {
         let nobody = self.lists.len();
         let mut last = vec![in alloc; nobody; self.room_count]?;

@@ -8,7 +8,8 @@ use std::alloc::{AllocError, AllocFailed};
 use std::error::Error;
 use std::fmt;
 
-/// The refusals, in the order in which they are looked for.
+/// The refusals, in the order in which they are looked for. That memory was refused may be told wherever no index is at
+/// fault, in place of any later one.
 #[derive(Clone, Copy, Debug, PartialEq, Eq, Hash)]
 pub enum TradeFault {
     /// A vector is not as long as there are people, a room is not below the number of rooms, or a person not below the

@@ -1,5 +1,5 @@
 //! The line of people who wait for their turn.
-ghost use Rattle.std.specs.Prelude.{◌≡◌, ℕ, ◌<◌, List, ◌∷◌, IfOk, IsTrue, false};
+ghost use Rattle.std.specs.Prelude.{◌≡◌, ℕ, ◌<◌, List, ◌∷◌, IfOk, OnErr, IsTrue, false};
 ghost use Rattle.std.specs.List.{range_with_len};
 ghost use Rattle.trade_line.specs.Member.{among};
 ghost use Rattle.trade_line.specs.Line.{front_of, tail_of, is_none_left, without};
@@ -62,7 +62,11 @@ impl Model for VecLine {
 impl Line for VecLine {
     ghost people = { λ line. line };
 
-    fn whole(alloc: Global, count: usize) -> Result<Self, OutOfMemory> {
+    // A line of nobody takes no memory.
+    fn whole(alloc: Global, count: usize) -> Result<Self, OutOfMemory>
+        ensures line { IfOk result (λ line. line ≡ range_with_len 0 count) }
+        ensures memory { OnErr result (0 < count) }
+    {
         let mut order = Vec::with_capacity(alloc, count)?;
         for person in 0..count {
             order.push(person)?;

@@ -62,7 +62,7 @@ impl Problem {
             return Err(TradeFault::BadIndex);
         }
         let tenants = draft.tenants(alloc)?;
-        if !draft.do_lists_differ(alloc)? {
+        if !draft.are_lists_strict(alloc)? {
             return Err(TradeFault::ListRepeats);
         }
         if !draft.is_own_unlisted() {

@@ -1,7 +1,7 @@
 //! Worked scripts.
 use crate::ending::{Ending, Rehearsed};
 use crate::rehearse::rehearse;
-use office_core::Office;
+use office_store::Desk;
 use room_types::Watched;
 use std::alloc::{AllocError, Global};
 use std::test::Fail;
@@ -41,13 +41,18 @@ pub fn answers_of_script(
     Ok(text)
 }
 
-/// What an empty office makes of the input, and what it writes.
+/// What a new desk in memory makes of the input, and what it writes. Where there is no desk, no memory is told.
 pub fn rehearsed(alloc: Global, input: &[u8]) -> (Rehearsed, Vec<u8>) {
-    let mut office = Office::empty(alloc);
     let mut input = Watched::new(input);
     let mut output = Watched::new(Vec::new(alloc));
-    let rehearsed = rehearse(alloc, &mut office, &mut input, &mut output);
-    (rehearsed, output.into_inner())
+    let how = match Desk::in_memory(alloc) {
+        Ok(mut desk) => rehearse(alloc, &mut desk, &mut input, &mut output),
+        Err(_) => Rehearsed {
+            status: 3,
+            ending: Ending::NoMemory { sent: 0 },
+        },
+    };
+    (how, output.into_inner())
 }
 
 const fn ended(status: u8) -> Rehearsed {

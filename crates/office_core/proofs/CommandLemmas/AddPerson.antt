@@ -17,33 +17,43 @@ use Rattle.office_core.specs.declared.refusal.Refusal.TheVariants.{LimitReached}
 use Rattle.office_core.proofs.RefusalLemmas.Checks.{may_live_if_any}
 use Rattle.office_core.proofs.OfficeLemmas.People.{nobody_has}
 use Rattle.office_core.proofs.OfficeLemmas.Register.{person_put, len-put_within}
-use Rattle.office_core.proofs.OfficeLemmas.Untouched.{prepared, undrawn, words_undrawn, results_undrawn, moves_stay}
+use Rattle.office_core.proofs.OfficeLemmas.Untouched.{prepared, undrawn, words_undrawn}
+use Rattle.office_core.proofs.OfficeLemmas.Untouched.{results_undrawn, moves_stay}
 use Rattle.office_core.proofs.OfficeLemmas.Lists.{person_known, unknown_stays}
 use Rattle.office_core.proofs.Truths.{none_if_not_some}
 
-pub add_person-leads : (office : Office) (person name key : Text) (home : Option Text) → IsLawful office → first_refusal (checks office person name key home) ≡ None
+pub add_person-leads : (office : Office) (person name key : Text) (home : Option Text)
+    → IsLawful office → first_refusal (checks office person name key home) ≡ None
     → LeadsOn office (next office person name key home) (changes_of office person name key home)
 add_person-leads office person name key home l h =
     let n = none_applies (checks office person name key home) h in
     let u = undrawn office l (prepared office.phase (not-false _ n.0)) in
-    let may = may_live_if_any office home ((nat_le people_limit (map.len office.people), LimitReached) ∷ []) n.1.1.1 in
+    let may = may_live_if_any office home
+    ((nat_le people_limit (map.len office.people), LimitReached) ∷ []) n.1.1.1 in
     let v : Person = record { name = name; key = key; home = home } in
     let new : Office = next office person name key home in
     let lawful : IsLawful new = record {
       register = person_put office.rooms office.people l.register person v
-          (λ q e. absurd (nobody_has (λ p. Some p.key) office.people key (none_if_not_some (owner office key) n.1.1.0) q e))
+          (λ q e. absurd (nobody_has (λ p. Some p.key) office.people key
+          (none_if_not_some (owner office key) n.1.1.0) q e))
           (λ q room e f. absurd (nobody_has (λ p. p.home) office.people room (may.0 room e).1 q f))
           (λ room e. (may.0 room e).0)
           (len-put_within office.people person v people_limit n.1.0 may.1.0);
-      lists = person_known office.rooms office.people office.choices office.withdrawn l.lists person v;
+      lists = person_known office.rooms office.people office.choices office.withdrawn l.lists person
+          v;
       round = l.round;
-      words = words_undrawn office.phase new.people office.withdrawn office.words u.has_no_words u.no_words;
+      words = words_undrawn office.phase new.people office.withdrawn office.words u.has_no_words
+          u.no_words;
       results = results_undrawn new u.has_no_results u.no_results;
       moves = moves_stay office new refl (λ round o. o) l.moves;
     } in
     record {
       leads = refl;
       apart = (l.register.homes, lawful.register.homes);
-      fits = (unknown_stays office.rooms office.people office.choices office.withdrawn l.lists person n.1.0, tt);
+      fits = (
+        unknown_stays office.rooms office.people office.choices office.withdrawn l.lists
+            person n.1.0,
+        tt,
+      );
       lawful = lawful;
     }

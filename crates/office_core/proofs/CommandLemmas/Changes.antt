@@ -4,6 +4,7 @@ use Rattle.office_core.specs.Empty.{is_empty}
 use Rattle.office_core.specs.declared.change.Change.{Change}
 
 -- where a change comes last there are changes
-pub has_last : (changes others : List Change) (change : Change) → is_empty (changes ++ change ∷ others) ≡ false
+pub has_last : (changes others : List Change) (change : Change)
+    → is_empty (changes ++ change ∷ others) ≡ false
 has_last [] others change = refl
 has_last (first ∷ changes) others change = refl

@@ -1,6 +1,7 @@
 -- A draw keeps the laws.
 use Rattle.std.proofs.Common.{◌≡◌, ℕ, not, ◌||◌, List, [], ◌∷◌, length, None, refl, ap, ◌∙◌, sym}
 use Rattle.std.proofs.lemmas.Bool.{and_parts, not-false, eqb-true}
+use Rattle.std.proofs.Math.Bool.{or-false}
 use Rattle.std.specs.List.{list_any}
 use Rattle.std.specs.Option.{is_some}
 use Rattle.std.specs.Ordering.{eq_by_cmp}
@@ -19,11 +20,14 @@ use Rattle.office_core.specs.declared.office.Office.{Office}
 use Rattle.office_core.proofs.RefusalLemmas.Checks.{none_applies}
 use Rattle.office_core.proofs.RoundLemmas.People.{participants_hold}
 use Rattle.office_core.proofs.OfficeLemmas.Over.{over-under_way}
-use Rattle.office_core.proofs.OfficeLemmas.Untouched.{closed_undrawn, closed_busy, undrawn, results_undrawn, moves_stay}
-use Rattle.office_core.proofs.CommandLemmas.Words.{words_put-lead, words_put-apart, words_put-fit, with_words-has}
-use Rattle.office_core.proofs.Truths.{or_false}
+use Rattle.office_core.proofs.OfficeLemmas.Untouched.{closed_undrawn, closed_busy, undrawn}
+use Rattle.office_core.proofs.OfficeLemmas.Untouched.{results_undrawn, moves_stay}
+use Rattle.office_core.proofs.CommandLemmas.Words.{words_put-lead, words_put-apart, words_put-fit}
+use Rattle.office_core.proofs.CommandLemmas.Words.{with_words-has}
 
-pub draw-leads : (office : Office) (words : List ℕ) → IsLawful office → first_refusal (checks office words) ≡ None → LeadsOn office (next office words) (changes_of office words)
+pub draw-leads : (office : Office) (words : List ℕ) → IsLawful office
+    → first_refusal (checks office words) ≡ None
+    → LeadsOn office (next office words) (changes_of office words)
 draw-leads office words l h =
     let n = none_applies (checks office words) h in
     let closed = not-false _ n.0 in
@@ -36,23 +40,33 @@ draw-leads office words l h =
     let lawful : IsLawful new = record {
       register = l.register;
       lists = l.lists;
-      round = record { few_rounds = l.round.few_rounds; numbered = λ _. l.round.numbered busy; idle_choices = λ e. absurd (cc); idle_withdrawn = λ e. absurd (cc) };
+      round = record {
+        few_rounds = l.round.few_rounds;
+        numbered = λ _. l.round.numbered busy;
+        idle_choices = λ e. absurd (cc);
+        idle_withdrawn = λ e. absurd (cc);
+      };
       words = record {
         none = λ e. absurd (cc);
         each = λ _ p.
             with_words-has map.empty people words p same
-            ∙ ap (λ b. list_any (eq_by_cmp text_cmp p) people || b) (ap is_some (get-empty text_cmp p))
-            ∙ or_false (list_any (eq_by_cmp text_cmp p) people)
+            ∙ ap (λ b. list_any (eq_by_cmp text_cmp p) people || b)
+            (ap is_some (get-empty text_cmp p))
+            ∙ or-false (list_any (eq_by_cmp text_cmp p) people)
             ∙ participants_hold office p;
       };
       results = results_undrawn new refl u.no_results;
       moves = moves_stay office new refl (over-under_way office Drawn busy refl) l.moves;
     } in
     record {
-      leads = words_put-lead office people words rest ∙ ap (λ kept. record office { words = with_words kept people words; phase = Drawn }) u.no_words;
-      apart = words_put-apart office people words rest l.register.homes (l.register.homes, l.register.homes);
+      leads = words_put-lead office people words rest
+          ∙ ap (λ kept. record office { words = with_words kept people words; phase = Drawn })
+          u.no_words;
+      apart = words_put-apart office people words rest l.register.homes
+          (l.register.homes, l.register.homes);
       fits = words_put-fit office office people words rest
-          (λ q e. (and_parts (knows_person office q) (not (has_withdrawn office q)) (sym (participants_hold office q) ∙ e)).0)
+          (λ q e. (and_parts (knows_person office q) (not (has_withdrawn office q))
+          (sym (participants_hold office q) ∙ e)).0)
           (tt, tt);
       lawful = lawful;
     }

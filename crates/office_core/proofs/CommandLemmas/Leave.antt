@@ -11,9 +11,17 @@ use Rattle.office_core.specs.Command.Leave.{checks, next, changes_of}
 use Rattle.office_core.proofs.OfficeLemmas.Homes.{moved-lawful}
 use Rattle.office_core.proofs.OfficeLemmas.Untouched.{prepared, idle_preparing}
 
-pub leave-leads : (office : Office) (person : Text) → IsLawful office → first_refusal (checks office person) ≡ None → LeadsOn office (next office person) (changes_of office person)
+pub leave-leads : (office : Office) (person : Text) → IsLawful office
+    → first_refusal (checks office person) ≡ None
+    → LeadsOn office (next office person) (changes_of office person)
 leave-leads office person l h =
     let n = none_applies (checks office person) h in
     let before = prepared office.phase (idle_preparing office.phase (not-false _ n.0)) in
-    let lawful : IsLawful (next office person) = moved-lawful office person None l before (λ q r e f. cc) (λ r e. cc) in
-    record { leads = refl; apart = (l.register.homes, lawful.register.homes); fits = (tt, tt); lawful = lawful }
+    let lawful : IsLawful (next office person) =
+    moved-lawful office person None l before (λ q r e f. cc) (λ r e. cc) in
+    record {
+      leads = refl;
+      apart = (l.register.homes, lawful.register.homes);
+      fits = (tt, tt);
+      lawful = lawful;
+    }

@@ -11,9 +11,11 @@ use Rattle.office_core.proofs.RefusalLemmas.Checks.{none_applies}
 use Rattle.office_core.specs.Command.OpenRound.{checks, next, changes_of}
 use Rattle.office_core.specs.Office.Limits.{round_limit}
 use Rattle.office_core.proofs.OfficeLemmas.Over.{over-begun}
-use Rattle.office_core.proofs.OfficeLemmas.Untouched.{prepared, idle_preparing, undrawn, words_undrawn, results_undrawn, moves_stay}
+use Rattle.office_core.proofs.OfficeLemmas.Untouched.{prepared, idle_preparing, undrawn}
+use Rattle.office_core.proofs.OfficeLemmas.Untouched.{words_undrawn, results_undrawn, moves_stay}
 
-pub open_round-leads : (office : Office) → IsLawful office → first_refusal (checks office) ≡ None → LeadsOn office (next office) (changes_of office)
+pub open_round-leads : (office : Office) → IsLawful office → first_refusal (checks office) ≡ None
+    → LeadsOn office (next office) (changes_of office)
 open_round-leads office l h =
     let n = none_applies (checks office) h in
     let idle = not-false _ n.0 in
@@ -22,9 +24,19 @@ open_round-leads office l h =
     let lawful : IsLawful (next office) = record {
       register = l.register;
       lists = l.lists;
-      round = record { few_rounds = omega (arith, few); numbered = λ _. omega arith; idle_choices = λ e. absurd (cc); idle_withdrawn = λ e. absurd (cc) };
+      round = record {
+        few_rounds = omega (arith, few);
+        numbered = λ _. omega arith;
+        idle_choices = λ e. absurd (cc);
+        idle_withdrawn = λ e. absurd (cc);
+      };
       words = words_undrawn Opened office.people office.withdrawn office.words refl u.no_words;
       results = results_undrawn (next office) refl u.no_results;
       moves = moves_stay office (next office) refl (over-begun office idle) l.moves;
     } in
-    record { leads = refl; apart = (l.register.homes, l.register.homes); fits = (tt, tt); lawful = lawful }
+    record {
+      leads = refl;
+      apart = (l.register.homes, l.register.homes);
+      fits = (tt, tt);
+      lawful = lawful;
+    }

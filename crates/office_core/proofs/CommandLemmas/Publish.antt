@@ -12,7 +12,8 @@ use Rattle.office_core.proofs.OfficeLemmas.Over.{over-under_way}
 use Rattle.office_core.proofs.RoundLemmas.Stays.{round_results-along}
 use Rattle.office_core.proofs.OfficeLemmas.Untouched.{ran_worded, ran_busy, ran_given, moves_stay}
 
-pub publish-leads : (office : Office) → IsLawful office → first_refusal (checks office) ≡ None → LeadsOn office (next office) (changes_of office)
+pub publish-leads : (office : Office) → IsLawful office → first_refusal (checks office) ≡ None
+    → LeadsOn office (next office) (changes_of office)
 publish-leads office l h =
     let n = none_applies (checks office) h in
     let ran = not-false _ n.0 in
@@ -20,9 +21,27 @@ publish-leads office l h =
     let lawful : IsLawful (next office) = record {
       register = l.register;
       lists = l.lists;
-      round = record { few_rounds = l.round.few_rounds; numbered = λ _. l.round.numbered busy; idle_choices = λ e. absurd (cc); idle_withdrawn = λ e. absurd (cc) };
-      words = record { none = λ e. absurd (cc); each = λ _. l.words.each (ran_worded office.phase ran) };
-      results = record { none = λ e. absurd (cc); given = λ _. l.results.given (ran_given office.phase ran) ∙ sym (round_results-along office office.results Published) };
-      moves = moves_stay office (next office) refl (over-under_way office Published busy refl) l.moves;
+      round = record {
+        few_rounds = l.round.few_rounds;
+        numbered = λ _. l.round.numbered busy;
+        idle_choices = λ e. absurd (cc);
+        idle_withdrawn = λ e. absurd (cc);
+      };
+      words = record {
+        none = λ e. absurd (cc);
+        each = λ _. l.words.each (ran_worded office.phase ran);
+      };
+      results = record {
+        none = λ e. absurd (cc);
+        given = λ _. l.results.given (ran_given office.phase ran)
+            ∙ sym (round_results-along office office.results Published);
+      };
+      moves = moves_stay office (next office) refl
+          (over-under_way office Published busy refl) l.moves;
     } in
-    record { leads = refl; apart = (l.register.homes, l.register.homes); fits = (tt, tt); lawful = lawful }
+    record {
+      leads = refl;
+      apart = (l.register.homes, l.register.homes);
+      fits = (tt, tt);
+      lawful = lawful;
+    }

@@ -15,9 +15,12 @@ use Rattle.office_core.specs.Command.Remove.{checks, next, changes_of}
 use Rattle.office_core.specs.Office.Invariants.{AreLists}
 use Rattle.office_core.proofs.OfficeLemmas.Empty.{no_lists}
 use Rattle.office_core.proofs.OfficeLemmas.Register.{person_gone}
-use Rattle.office_core.proofs.OfficeLemmas.Untouched.{prepared, idle_preparing, undrawn, words_undrawn, results_undrawn, moves_stay}
+use Rattle.office_core.proofs.OfficeLemmas.Untouched.{prepared, idle_preparing, undrawn}
+use Rattle.office_core.proofs.OfficeLemmas.Untouched.{words_undrawn, results_undrawn, moves_stay}
 
-pub remove-leads : (office : Office) (person : Text) → IsLawful office → first_refusal (checks office person) ≡ None → LeadsOn office (next office person) (changes_of office person)
+pub remove-leads : (office : Office) (person : Text) → IsLawful office
+    → first_refusal (checks office person) ≡ None
+    → LeadsOn office (next office person) (changes_of office person)
 remove-leads office person l h =
     let n = none_applies (checks office person) h in
     let idle = not-false _ n.0 in
@@ -27,16 +30,23 @@ remove-leads office person l h =
     let nobody = l.round.idle_withdrawn idle in
     let lawful : IsLawful new = record {
       register = person_gone office.rooms office.people l.register person;
-      lists = subst (λ choices. AreLists office.rooms new.people choices office.withdrawn) (sym no_choices)
-          (subst (λ withdrawn. AreLists office.rooms new.people map.empty withdrawn) (sym nobody) (no_lists office.rooms new.people));
+      lists = subst (λ choices. AreLists office.rooms new.people choices office.withdrawn)
+          (sym no_choices)
+          (subst (λ withdrawn. AreLists office.rooms new.people map.empty withdrawn) (sym nobody)
+          (no_lists office.rooms new.people));
       round = l.round;
-      words = words_undrawn office.phase new.people office.withdrawn office.words u.has_no_words u.no_words;
+      words = words_undrawn office.phase new.people office.withdrawn office.words u.has_no_words
+          u.no_words;
       results = results_undrawn new u.has_no_results u.no_results;
       moves = moves_stay office new refl (λ round o. o) l.moves;
     } in
     record {
       leads = refl;
       apart = (l.register.homes, lawful.register.homes);
-      fits = (ap (λ withdrawn. map.contains_key withdrawn person) nobody ∙ ap is_some (get-empty text_cmp person), tt);
+      fits = (
+        ap (λ withdrawn. map.contains_key withdrawn person) nobody
+            ∙ ap is_some (get-empty text_cmp person),
+        tt,
+      );
       lawful = lawful;
     }

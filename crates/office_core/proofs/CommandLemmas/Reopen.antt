@@ -11,19 +11,30 @@ use Rattle.office_core.specs.Command.Reopen.{checks, next, changes_of}
 use Rattle.office_core.specs.Office.Limits.{room_limit}
 use Rattle.room_types.specs.TextMaps.{len-put_known}
 use Rattle.office_core.proofs.OfficeLemmas.Register.{room_put}
-use Rattle.office_core.proofs.OfficeLemmas.Untouched.{prepared, undrawn, results_undrawn, moves_stay}
+use Rattle.office_core.proofs.OfficeLemmas.Untouched.{prepared, undrawn, results_undrawn}
+use Rattle.office_core.proofs.OfficeLemmas.Untouched.{moves_stay}
 use Rattle.office_core.proofs.OfficeLemmas.Lists.{room_known}
 
-pub reopen-leads : (office : Office) (room : Text) → IsLawful office → first_refusal (checks office room) ≡ None → LeadsOn office (next office room) (changes_of office room)
+pub reopen-leads : (office : Office) (room : Text) → IsLawful office
+    → first_refusal (checks office room) ≡ None
+    → LeadsOn office (next office room) (changes_of office room)
 reopen-leads office room l h =
     let n = none_applies (checks office room) h in
     let u = undrawn office l (prepared office.phase (not-false _ n.0)) in
     let lawful : IsLawful (next office room) = record {
-      register = room_put office.rooms office.people l.register room (subst (λ k. k ≤ room_limit) (sym (len-put_known office.rooms room false (not-false _ n.1.0))) l.register.few_rooms);
-      lists = room_known office.rooms office.people office.choices office.withdrawn l.lists room false;
+      register = room_put office.rooms office.people l.register room
+          (subst (λ k. k ≤ room_limit) (sym
+          (len-put_known office.rooms room false (not-false _ n.1.0))) l.register.few_rooms);
+      lists = room_known office.rooms office.people office.choices office.withdrawn l.lists room
+          false;
       round = l.round;
       words = l.words;
       results = results_undrawn (next office room) u.has_no_results u.no_results;
       moves = moves_stay office (next office room) refl (λ round o. o) l.moves;
     } in
-    record { leads = refl; apart = (l.register.homes, lawful.register.homes); fits = (refl, tt); lawful = lawful }
+    record {
+      leads = refl;
+      apart = (l.register.homes, lawful.register.homes);
+      fits = (refl, tt);
+      lawful = lawful;
+    }

@@ -1,5 +1,6 @@
 -- A run keeps the laws.
-use Rattle.std.proofs.Common.{◌≡◌, Bool, true, false, cond, not, List, [], ◌∷◌, ◌++◌, map as map_list, Option, Some, None, refl, ap, ◌∙◌, sym}
+use Rattle.std.proofs.Common.{◌≡◌, Bool, true, false, cond, not, List, [], ◌∷◌, ◌++◌}
+use Rattle.std.proofs.Common.{map as map_list, Option, Some, None, refl, ap, ◌∙◌, sym}
 use Rattle.std.proofs.lemmas.Bool.{and_parts, not-false}
 use Rattle.std.specs.Cmp.{tied_itself}
 use Rattle.std.specs.Cmp.Lexicographic.{nat_list_cmp_total}
@@ -15,7 +16,7 @@ use Rattle.office_core.specs.Command.Run.{checks, next, changes_of, result_put}
 use Rattle.office_core.specs.Office.Invariants.{IsLawful, HomesDiffer}
 use Rattle.office_core.specs.Office.{knows_person, has_withdrawn}
 use Rattle.office_core.specs.Round.{round_results}
-use Rattle.office_core.specs.Round.Laws.{with_all}
+use Rattle.office_core.specs.Puts.{with_all}
 use Rattle.office_core.specs.declared.change.Change.{Change}
 use Rattle.office_core.specs.declared.change.Change.TheVariants.{PutRound}
 use Rattle.office_core.specs.declared.office.Assigned.{Assigned}
@@ -25,33 +26,46 @@ use Rattle.office_core.proofs.OfficeLemmas.Over.{over-under_way}
 use Rattle.office_core.proofs.RoundLemmas.Puts.{with_all-entries}
 use Rattle.office_core.proofs.RoundLemmas.Results.{contains_key-round_results}
 use Rattle.office_core.proofs.RoundLemmas.Stays.{round_results-along}
-use Rattle.office_core.proofs.OfficeLemmas.Untouched.{drawn_worded, drawn_busy, drawn_unran, moves_stay}
+use Rattle.office_core.proofs.OfficeLemmas.Untouched.{drawn_worded, drawn_busy, drawn_unran}
+use Rattle.office_core.proofs.OfficeLemmas.Untouched.{moves_stay}
 
-results-lead : (office : Office) (es : List (Text × Assigned)) (rest : List Change) → applied_all office (map_list result_put es ++ rest) ≡ applied_all (record office { results = with_all office.results es }) rest
+results-lead : (office : Office) (es : List (Text × Assigned)) (rest : List Change)
+    → applied_all office (map_list result_put es ++ rest)
+    ≡ applied_all (record office { results = with_all office.results es }) rest
 results-lead office [] rest = refl
-results-lead office (e ∷ es) rest = results-lead (record office { results = map.insert office.results e.0 e.1 }) es rest
+results-lead office (e ∷ es) rest =
+    results-lead (record office { results = map.insert office.results e.0 e.1 }) es rest
 
-results-apart : (office : Office) (es : List (Text × Assigned)) (rest : List Change) → HomesDiffer office → StaysApart (record office { results = with_all office.results es }) rest
+results-apart : (office : Office) (es : List (Text × Assigned)) (rest : List Change)
+    → HomesDiffer office → StaysApart (record office { results = with_all office.results es }) rest
     → StaysApart office (map_list result_put es ++ rest)
 results-apart office [] rest differ s = s
-results-apart office (e ∷ es) rest differ s = (differ, results-apart (record office { results = map.insert office.results e.0 e.1 }) es rest differ s)
+results-apart office (e ∷ es) rest differ s = (
+  differ,
+  results-apart (record office { results = map.insert office.results e.0 e.1 }) es rest
+      differ s,
+)
 
-found_later : {X : Type 0} (b : Bool) (x : X) (o : Option X) → is_some o ≡ true → is_some (cond b (Some x) o) ≡ true
+found_later : {X : Type 0} (b : Bool) (x : X) (o : Option X) → is_some o ≡ true
+    → is_some (cond b (Some x) o) ≡ true
 found_later true x o e = refl
 found_later false x o e = e
 
 -- each of the people with a result is known
 results-fit : (first office : Office) (es : List (Text × Assigned)) (rest : List Change)
     → ((q : Text) → is_some (find text_cmp q es) ≡ true → knows_person office q ≡ true)
-    → AllFit first (record office { results = with_all office.results es }) rest → AllFit first office (map_list result_put es ++ rest)
+    → AllFit first (record office { results = with_all office.results es }) rest
+    → AllFit first office (map_list result_put es ++ rest)
 results-fit first office [] rest known s = s
 results-fit first office (e ∷ es) rest known s = (
-  known e.0 (ap (λ o. is_some (cond (is_eq o) (Some e.1) (find text_cmp e.0 es))) (tied_itself nat_list_cmp_total e.0)),
+  known e.0 (ap (λ o. is_some (cond (is_eq o) (Some e.1) (find text_cmp e.0 es)))
+      (tied_itself nat_list_cmp_total e.0)),
   results-fit first (record office { results = map.insert office.results e.0 e.1 }) es rest
       (λ q h. known q (found_later (eq_by_cmp text_cmp q e.0) e.1 (find text_cmp q es) h)) s,
 )
 
-pub run-leads : (office : Office) → IsLawful office → first_refusal (checks office) ≡ None → LeadsOn office (next office) (changes_of office)
+pub run-leads : (office : Office) → IsLawful office → first_refusal (checks office) ≡ None
+    → LeadsOn office (next office) (changes_of office)
 run-leads office l h =
     let n = none_applies (checks office) h in
     let drawn = not-false _ n.0 in
@@ -62,18 +76,33 @@ run-leads office l h =
     let lawful : IsLawful new = record {
       register = l.register;
       lists = l.lists;
-      round = record { few_rounds = l.round.few_rounds; numbered = λ _. l.round.numbered busy; idle_choices = λ e. absurd (cc); idle_withdrawn = λ e. absurd (cc) };
-      words = record { none = λ e. absurd (cc); each = λ _. l.words.each (drawn_worded office.phase drawn) };
-      results = record { none = λ e. absurd (cc); given = λ _. sym (round_results-along office (round_results office) Ran) };
+      round = record {
+        few_rounds = l.round.few_rounds;
+        numbered = λ _. l.round.numbered busy;
+        idle_choices = λ e. absurd (cc);
+        idle_withdrawn = λ e. absurd (cc);
+      };
+      words = record {
+        none = λ e. absurd (cc);
+        each = λ _. l.words.each (drawn_worded office.phase drawn);
+      };
+      results = record {
+        none = λ e. absurd (cc);
+        given = λ _. sym (round_results-along office (round_results office) Ran);
+      };
       moves = moves_stay office new refl (over-under_way office Ran busy refl) l.moves;
     } in
     record {
       leads = results-lead office entries rest
-          ∙ ap (λ results. record office { results = results; phase = Ran }) (ap (λ kept. with_all kept entries) (l.results.none (drawn_unran office.phase drawn)) ∙ with_all-entries (round_results office));
-      apart = results-apart office entries rest l.register.homes (l.register.homes, l.register.homes);
+          ∙ ap (λ results. record office { results = results; phase = Ran })
+          (ap (λ kept. with_all kept entries) (l.results.none (drawn_unran office.phase drawn))
+          ∙ with_all-entries (round_results office));
+      apart = results-apart office entries rest l.register.homes
+          (l.register.homes, l.register.homes);
       fits = results-fit office office entries rest
           (λ q e. (and_parts (knows_person office q) (not (has_withdrawn office q))
-          (sym (contains_key-round_results office q) ∙ ap is_some (get-entries (round_results office) q) ∙ e)).0)
+          (sym (contains_key-round_results office q)
+          ∙ ap is_some (get-entries (round_results office) q) ∙ e)).0)
           (tt, tt);
       lawful = lawful;
     }

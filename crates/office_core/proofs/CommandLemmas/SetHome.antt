@@ -15,13 +15,20 @@ use Rattle.office_core.proofs.OfficeLemmas.Homes.{moved-lawful}
 use Rattle.office_core.proofs.OfficeLemmas.People.{nobody_has}
 use Rattle.office_core.proofs.OfficeLemmas.Untouched.{prepared, idle_preparing}
 
-pub set_home-leads : (office : Office) (person room : Text) → IsLawful office → first_refusal (checks office person room) ≡ None
+pub set_home-leads : (office : Office) (person room : Text) → IsLawful office
+    → first_refusal (checks office person room) ≡ None
     → LeadsOn office (next office person room) (changes_of office person room)
 set_home-leads office person room l h =
     let n = none_applies (checks office person room) h in
     let may = may_live office room n.1.1.1 in
     let before = prepared office.phase (idle_preparing office.phase (not-false _ n.0)) in
-    let lawful : IsLawful (next office person room) = moved-lawful office person (Some room) l before
+    let lawful : IsLawful (next office person room) =
+    moved-lawful office person (Some room) l before
     (λ q r e f. absurd (nobody_has (λ p. p.home) office.people room may.1 q (f ∙ sym e)))
     (λ r e. ap (λ (o : Option Text). map.get office.rooms (unwrap_or o room)) (sym e) ∙ may.0) in
-    record { leads = refl; apart = (l.register.homes, lawful.register.homes); fits = (tt, tt); lawful = lawful }
+    record {
+      leads = refl;
+      apart = (l.register.homes, lawful.register.homes);
+      fits = (tt, tt);
+      lawful = lawful;
+    }

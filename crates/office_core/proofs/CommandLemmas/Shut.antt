@@ -1,5 +1,6 @@
 -- A shut room keeps the laws.
-use Rattle.std.proofs.Common.{◌≡◌, true, false, [], ◌∷◌, ◌++◌, Option, Some, None, refl, ap, ◌∙◌, subst}
+use Rattle.std.proofs.Common.{◌≡◌, true, false, [], ◌∷◌, ◌++◌, Option, Some, None, refl, ap, ◌∙◌}
+use Rattle.std.proofs.Common.{subst}
 use Rattle.std.proofs.lemmas.Bool.{not-false}
 use Rattle.std.specs.FinMap as map
 use Rattle.room_types.specs.Texts.{Text}
@@ -16,18 +17,22 @@ use Rattle.office_core.specs.declared.change.Change.TheVariants.{PutRoom}
 use Rattle.office_core.proofs.OfficeLemmas.Homes.{moved-lawful, rooms_stay, phase_stays, left_empty}
 use Rattle.office_core.proofs.OfficeLemmas.People.{nobody_has, holder_has}
 use Rattle.office_core.proofs.OfficeLemmas.Register.{room_shut}
-use Rattle.office_core.proofs.OfficeLemmas.Untouched.{prepared, undrawn, results_undrawn, moves_stay}
+use Rattle.office_core.proofs.OfficeLemmas.Untouched.{prepared, undrawn, results_undrawn}
+use Rattle.office_core.proofs.OfficeLemmas.Untouched.{moves_stay}
 use Rattle.office_core.proofs.OfficeLemmas.Lists.{room_known}
 
 -- a known room that nobody lives in may be shut
-shut-lawful : (office : Office) (room : Text) → IsLawful office → has_words office.phase ≡ false → map.contains_key office.rooms room ≡ true
-    → ((q : Text) → home_of office q ≡ Some room → ⊥) → IsLawful (record office { rooms = map.insert office.rooms room true })
+shut-lawful : (office : Office) (room : Text) → IsLawful office → has_words office.phase ≡ false
+    → map.contains_key office.rooms room ≡ true
+    → ((q : Text) → home_of office q ≡ Some room → ⊥)
+    → IsLawful (record office { rooms = map.insert office.rooms room true })
 shut-lawful office room l before known empty =
     let u = undrawn office l before in
     let new : Office = record office { rooms = map.insert office.rooms room true } in
     record {
       register = room_shut office.rooms office.people l.register room known empty;
-      lists = room_known office.rooms office.people office.choices office.withdrawn l.lists room true;
+      lists = room_known office.rooms office.people office.choices office.withdrawn l.lists room
+          true;
       round = l.round;
       words = l.words;
       results = results_undrawn new u.has_no_results u.no_results;
@@ -38,20 +43,32 @@ abbrev after : Office → Text → Option Text → Office
 after office room o = record (without_tenant office o) { rooms = map.insert office.rooms room true }
 
 -- by who the tenant is, if anybody
-shut-leads_by : (office : Office) (room : Text) (o : Option Text) → IsLawful office → has_words office.phase ≡ false → map.contains_key office.rooms room ≡ true
-    → tenant office room ≡ o → LeadsOn office (after office room o) (leaving o ++ PutRoom room true ∷ [])
+shut-leads_by : (office : Office) (room : Text) (o : Option Text) → IsLawful office
+    → has_words office.phase ≡ false → map.contains_key office.rooms room ≡ true
+    → tenant office room ≡ o → LeadsOn office (after office room o)
+    (leaving o ++ PutRoom room true ∷ [])
 shut-leads_by office room None l before known free =
-    let lawful = shut-lawful office room l before known (λ q e. nobody_has (λ p. p.home) office.people room free q e) in
-    record { leads = refl; apart = (l.register.homes, lawful.register.homes); fits = (refl, tt); lawful = lawful }
+    let lawful = shut-lawful office room l before known
+    (λ q e. nobody_has (λ p. p.home) office.people room free q e) in
+    record {
+      leads = refl;
+      apart = (l.register.homes, lawful.register.homes);
+      fits = (refl, tt);
+      lawful = lawful;
+    }
 shut-leads_by office room (Some person) l before known taken =
     let left : Office = with_home office person None in
     let rooms : left.rooms ≡ office.rooms = rooms_stay office person None in
-    let lives : home_of office person ≡ Some room = holder_has (λ p. p.home) office.people room person taken in
-    let left_lawful : IsLawful left = moved-lawful office person None l before (λ q r e f. cc) (λ r e. cc) in
+    let lives : home_of office person ≡ Some room =
+    holder_has (λ p. p.home) office.people room person taken in
+    let left_lawful : IsLawful left =
+    moved-lawful office person None l before (λ q r e f. cc) (λ r e. cc) in
     let shut_lawful : IsLawful (record left { rooms = map.insert left.rooms room true }) =
-    shut-lawful left room left_lawful (ap has_words (phase_stays office person None) ∙ before) (ap (λ m. map.contains_key m room) rooms ∙ known)
+    shut-lawful left room left_lawful (ap has_words (phase_stays office person None) ∙ before)
+    (ap (λ m. map.contains_key m room) rooms ∙ known)
     (left_empty office person room l.register.homes lives) in
-    let lawful : IsLawful (after office room (Some person)) = subst (λ m. IsLawful (record left { rooms = map.insert m room true })) rooms shut_lawful in
+    let lawful : IsLawful (after office room (Some person)) =
+    subst (λ m. IsLawful (record left { rooms = map.insert m room true })) rooms shut_lawful in
     record {
       leads = ap (λ m. record left { rooms = map.insert m room true }) rooms;
       apart = (l.register.homes, (left_lawful.register.homes, lawful.register.homes));
@@ -59,7 +76,10 @@ shut-leads_by office room (Some person) l before known taken =
       lawful = lawful;
     }
 
-pub shut-leads : (office : Office) (room : Text) → IsLawful office → first_refusal (checks office room) ≡ None → LeadsOn office (next office room) (changes_of office room)
+pub shut-leads : (office : Office) (room : Text) → IsLawful office
+    → first_refusal (checks office room) ≡ None
+    → LeadsOn office (next office room) (changes_of office room)
 shut-leads office room l h =
     let n = none_applies (checks office room) h in
-    shut-leads_by office room (tenant office room) l (prepared office.phase (not-false _ n.0)) (not-false _ n.1.0) refl
+    shut-leads_by office room (tenant office room) l (prepared office.phase (not-false _ n.0))
+    (not-false _ n.1.0) refl

@@ -1,5 +1,6 @@
 -- Words that are put, one person at a time.
-use Rattle.std.proofs.Common.{◌≡◌, ℕ, ◌+◌, ◌<◌, Bool, true, false, ◌||◌, List, [], ◌∷◌, ◌++◌, length, drop, get_or, Option, Some, cond, refl, ap, ◌∙◌, arith}
+use Rattle.std.proofs.Common.{◌≡◌, ℕ, ◌+◌, ◌<◌, Bool, true, false, ◌||◌, List, [], ◌∷◌, ◌++◌}
+use Rattle.std.proofs.Common.{length, drop, get_or, Option, Some, cond, refl, ap, ◌∙◌, arith}
 use Rattle.std.proofs.lemmas.Bool.{or_right}
 use Rattle.std.proofs.lemmas.List.{drop_more}
 use Rattle.std.specs.List.{list_any}
@@ -18,33 +19,49 @@ use Rattle.office_core.specs.declared.change.Change.{Change}
 use Rattle.office_core.specs.declared.change.Change.TheVariants.{PutWord}
 use Rattle.office_core.specs.declared.office.Office.{Office}
 
-pub words_put_more : (people : List Text) (words : List ℕ) (i : ℕ) (d : Text) (e : ℕ) → i < length people → i < length words
-    → words_put (drop i people) (drop i words) ≡ PutWord (get_or people i d) (get_or words i e) ∷ words_put (drop (i + 1) people) (drop (i + 1) words)
+pub words_put_more : (people : List Text) (words : List ℕ) (i : ℕ) (d : Text) (e : ℕ)
+    → i < length people → i < length words
+    → words_put (drop i people) (drop i words)
+    ≡ PutWord (get_or people i d) (get_or words i e) ∷ words_put (drop (i + 1) people)
+    (drop (i + 1) words)
 words_put_more people words i d e h k =
     ap (λ p. words_put p (drop i words)) (drop_more people i d h)
     ∙ ap (λ w. words_put (get_or people i d ∷ drop (i + 1) people) w) (drop_more words i e k)
 
 -- where the changes lead
 pub words_put-lead : (office : Office) (people : List Text) (words : List ℕ) (rest : List Change)
-    → applied_all office (words_put people words ++ rest) ≡ applied_all (record office { words = with_words office.words people words }) rest
-words_put-lead office (person ∷ people) (word ∷ words) rest = words_put-lead (record office { words = map.insert office.words person word }) people words rest
+    → applied_all office (words_put people words ++ rest)
+    ≡ applied_all (record office { words = with_words office.words people words }) rest
+words_put-lead office (person ∷ people) (word ∷ words) rest =
+    words_put-lead (record office { words = map.insert office.words person word }) people words rest
 words_put-lead office [] words rest = refl
 words_put-lead office (person ∷ people) [] rest = refl
 
-pub words_put-apart : (office : Office) (people : List Text) (words : List ℕ) (rest : List Change) → HomesDiffer office
-    → StaysApart (record office { words = with_words office.words people words }) rest → StaysApart office (words_put people words ++ rest)
-words_put-apart office (person ∷ people) (word ∷ words) rest h s = (h, words_put-apart (record office { words = map.insert office.words person word }) people words rest h s)
+pub words_put-apart : (office : Office) (people : List Text) (words : List ℕ) (rest : List Change)
+    → HomesDiffer office
+    → StaysApart (record office { words = with_words office.words people words }) rest
+    → StaysApart office (words_put people words ++ rest)
+words_put-apart office (person ∷ people) (word ∷ words) rest h s = (
+  h,
+  words_put-apart (record office { words = map.insert office.words person word }) people words
+      rest h s,
+)
 words_put-apart office [] words rest h s = s
 words_put-apart office (person ∷ people) [] rest h s = s
 
 -- each of the people with a word is known
-pub words_put-fit : (first office : Office) (people : List Text) (words : List ℕ) (rest : List Change)
+pub words_put-fit : (first office : Office) (people : List Text) (words : List ℕ)
+    (rest : List Change)
     → ((q : Text) → list_any (eq_by_cmp text_cmp q) people ≡ true → knows_person office q ≡ true)
-    → AllFit first (record office { words = with_words office.words people words }) rest → AllFit first office (words_put people words ++ rest)
+    → AllFit first (record office { words = with_words office.words people words }) rest
+    → AllFit first office (words_put people words ++ rest)
 words_put-fit first office (person ∷ people) (word ∷ words) rest known s = (
-  known person (ap (λ o. is_eq o || list_any (eq_by_cmp text_cmp person) people) (tied_itself nat_list_cmp_total person)),
-  words_put-fit first (record office { words = map.insert office.words person word }) people words rest
-      (λ q e. known q (or_right (eq_by_cmp text_cmp q person) (list_any (eq_by_cmp text_cmp q) people) e)) s,
+  known person (ap (λ o. is_eq o || list_any (eq_by_cmp text_cmp person) people)
+      (tied_itself nat_list_cmp_total person)),
+  words_put-fit first (record office { words = map.insert office.words person word }) people words
+      rest
+      (λ q e. known q (or_right (eq_by_cmp text_cmp q person)
+      (list_any (eq_by_cmp text_cmp q) people) e)) s,
 )
 words_put-fit first office [] words rest known s = s
 words_put-fit first office (person ∷ people) [] rest known s = s
@@ -55,17 +72,23 @@ or_swap true false c = refl
 or_swap false true c = refl
 or_swap false false c = refl
 
-some_or : {X : Type 0} (b : Bool) (x : X) (o : Option X) → is_some (cond b (Some x) o) ≡ (b || is_some o)
+some_or : {X : Type 0} (b : Bool) (x : X) (o : Option X)
+    → is_some (cond b (Some x) o) ≡ (b || is_some o)
 some_or true x o = refl
 some_or false x o = refl
 
 -- who has a word then
-pub with_words-has : (kept : TextMap ℕ) (people : List Text) (words : List ℕ) (p : Text) → length words ≡ length people
-    → map.contains_key (with_words kept people words) p ≡ (list_any (eq_by_cmp text_cmp p) people || map.contains_key kept p)
+pub with_words-has : (kept : TextMap ℕ) (people : List Text) (words : List ℕ) (p : Text)
+    → length words ≡ length people
+    → map.contains_key (with_words kept people words) p
+    ≡ (list_any (eq_by_cmp text_cmp p) people || map.contains_key kept p)
 with_words-has kept (person ∷ people) (word ∷ words) p e =
     let same : length words ≡ length people = omega (arith, e) in
     with_words-has (map.insert kept person word) people words p same
-    ∙ ap (λ b. list_any (eq_by_cmp text_cmp p) people || b) (ap is_some (get-insert nat_list_cmp_total kept person word p) ∙ some_or (eq_by_cmp text_cmp p person) word (map.get kept p))
-    ∙ or_swap (list_any (eq_by_cmp text_cmp p) people) (eq_by_cmp text_cmp p person) (map.contains_key kept p)
+    ∙ ap (λ b. list_any (eq_by_cmp text_cmp p) people || b)
+    (ap is_some (get-insert nat_list_cmp_total kept person word p)
+    ∙ some_or (eq_by_cmp text_cmp p person) word (map.get kept p))
+    ∙ or_swap (list_any (eq_by_cmp text_cmp p) people) (eq_by_cmp text_cmp p person)
+    (map.contains_key kept p)
 with_words-has kept [] words p e = refl
 with_words-has kept (person ∷ people) [] p e = absurd (omega (arith, e))

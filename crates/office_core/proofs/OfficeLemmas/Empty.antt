@@ -1,5 +1,6 @@
 -- The empty office is lawful.
-use Rattle.std.proofs.Common.{◌≡◌, ◌≤◌, true, false, Option, Some, None, [], refl, ap, ◌∙◌, sym, subst, arith}
+use Rattle.std.proofs.Common.{◌≡◌, ◌≤◌, true, false, Option, Some, None, [], refl, ap, ◌∙◌, sym}
+use Rattle.std.proofs.Common.{subst, arith}
 use Rattle.std.specs.Prelude.{unwrap_or}
 use Rattle.std.specs.Option.{option_and_then, option_map, is_some}
 use Rattle.std.specs.Ordering.{nat_cmp}
@@ -11,7 +12,8 @@ use Rattle.office_core.specs.Office.{empty_office, had_by}
 use Rattle.office_core.specs.declared.office.moves.RoundMoves.{RoundMoves}
 use Rattle.office_core.specs.declared.office.person.Person.{Person}
 
-nothing_had : (which : Person → Option Text) (p : Text) → had_by which (map.empty {R = text_cmp}) p ≡ None
+nothing_had : (which : Person → Option Text) (p : Text)
+    → had_by which (map.empty {R = text_cmp}) p ≡ None
 nothing_had which p = ap (option_and_then which) (get-empty text_cmp p)
 
 pub none_some : {A : Type 0} (o : Option A) (x : A) → o ≡ None → o ≡ Some x → ⊥
@@ -21,7 +23,8 @@ pub none_known : {A : Type 0} (o : Option A) → o ≡ None → is_some o ≡ tr
 none_known o n s = let none : is_some o ≡ false = ap is_some n in cc
 
 -- no lists and withdrawals
-pub no_lists : (rooms : TextMap _) (people : TextMap Person) → AreLists rooms people map.empty map.empty
+pub no_lists : (rooms : TextMap _) (people : TextMap Person)
+    → AreLists rooms people map.empty map.empty
 no_lists rooms people = record {
   choosers = λ p h. absurd (none_known _ (get-empty text_cmp p) h);
   listed = λ p codes e. absurd (none_some _ codes (get-empty text_cmp p) e);
@@ -40,12 +43,20 @@ empty_lawful = record {
     few_people = subst (λ n. n ≤ 2000) (sym (len-empty text_cmp _)) (omega arith);
   };
   lists = no_lists map.empty map.empty;
-  round = record { few_rounds = omega arith; numbered = λ e. absurd (cc); idle_choices = λ _. refl; idle_withdrawn = λ _. refl };
+  round = record {
+    few_rounds = omega arith;
+    numbered = λ e. absurd (cc);
+    idle_choices = λ _. refl;
+    idle_withdrawn = λ _. refl;
+  };
   words = record { none = λ _. refl; each = λ e. absurd (cc) };
   results = record { none = λ _. refl; given = λ e. absurd (cc) };
   moves = record {
     over = λ round h. absurd (none_known _ (get-empty nat_cmp round) h);
     none_empty = λ round kept e. absurd (none_some _ kept (get-empty nat_cmp round) e);
-    arrived = λ round p moved e. absurd (none_some _ moved (ap (λ (o : Option RoundMoves). map.get (unwrap_or (option_map (λ (kept : RoundMoves). kept.by_person) o) map.empty) p) (get-empty nat_cmp round) ∙ get-empty text_cmp p) e);
+    arrived = λ round p moved e. absurd
+        (none_some _ moved (ap (λ (o : Option RoundMoves). map.get
+        (unwrap_or (option_map (λ (kept : RoundMoves). kept.by_person) o) map.empty) p)
+        (get-empty nat_cmp round) ∙ get-empty text_cmp p) e);
   };
 }

@@ -3,11 +3,13 @@ use Rattle.std.proofs.Common.{◌≡◌, ℕ, true, false, refl, ap, ◌∙◌, 
 use Rattle.std.specs.FinMap as map
 use Rattle.room_types.specs.Texts.{TextMap}
 use Rattle.room_types.specs.declared.phase.Phase.{Phase}
-use Rattle.room_types.specs.declared.phase.Phase.TheVariants.{Idle, Opened, Closed, Drawn, Ran, Published}
+use Rattle.room_types.specs.declared.phase.Phase.TheVariants.{Idle, Opened, Closed, Drawn, Ran}
+use Rattle.room_types.specs.declared.phase.Phase.TheVariants.{Published}
 use Rattle.office_core.specs.Office.Invariants.{IsLawful, AreWords, AreResults, AreMoves}
 use Rattle.office_core.specs.Office.Moves.{moves_of}
 use Rattle.office_core.specs.Office.{is_over}
-use Rattle.office_core.specs.Office.Phases.{is_idle, is_open, is_closed, is_drawn, is_ran, is_published, is_preparing, has_words, has_results}
+use Rattle.office_core.specs.Office.Phases.{is_idle, is_open, is_closed, is_drawn, is_ran}
+use Rattle.office_core.specs.Office.Phases.{is_published, is_preparing, has_words, has_results}
 use Rattle.office_core.specs.declared.office.Office.{Office}
 use Rattle.office_core.specs.declared.office.person.Person.{Person}
 
@@ -138,7 +140,8 @@ pub record IsUndrawn (office : Office) : Type 0 where
   pub no_words : office.words ≡ map.empty
   pub no_results : office.results ≡ map.empty
 
-pub undrawn : (office : Office) → IsLawful office → has_words office.phase ≡ false → IsUndrawn office
+pub undrawn : (office : Office) → IsLawful office → has_words office.phase ≡ false
+    → IsUndrawn office
 undrawn office l h = record {
   has_no_words = h;
   has_no_results = undrawn_unran office.phase h;
@@ -146,16 +149,25 @@ undrawn office l h = record {
   no_results = l.results.none (undrawn_unran office.phase h);
 }
 
-pub words_undrawn : (phase : Phase) (people : TextMap Person) (withdrawn : TextMap (Unit {0})) (words : TextMap ℕ) → has_words phase ≡ false → words ≡ map.empty → AreWords phase people withdrawn words
-words_undrawn phase people withdrawn words before none = record { none = λ _. none; each = λ h. absurd (cc) }
+pub words_undrawn : (phase : Phase) (people : TextMap Person) (withdrawn : TextMap (Unit {0}))
+    (words : TextMap ℕ) → has_words phase ≡ false → words ≡ map.empty
+    → AreWords phase people withdrawn words
+words_undrawn phase people withdrawn words before none =
+    record { none = λ _. none; each = λ h. absurd (cc) }
 
-pub results_undrawn : (office : Office) → has_results office.phase ≡ false → office.results ≡ map.empty → AreResults office
+pub results_undrawn : (office : Office) → has_results office.phase ≡ false
+    → office.results ≡ map.empty → AreResults office
 results_undrawn office before none = record { none = λ _. none; given = λ h. absurd (cc) }
 
 -- the moves stay, and no round that is over comes back
-pub moves_stay : (old new : Office) → new.moves ≡ old.moves → ((round : ℕ) → is_over old round ≡ true → is_over new round ≡ true) → AreMoves old → AreMoves new
+pub moves_stay : (old new : Office) → new.moves ≡ old.moves
+    → ((round : ℕ) → is_over old round ≡ true → is_over new round ≡ true) → AreMoves old
+    → AreMoves new
 moves_stay old new same over m = record {
-  over = λ round h. over round (m.over round (ap (λ moves. map.contains_key moves round) (sym same) ∙ h));
-  none_empty = λ round kept e. m.none_empty round kept (ap (λ moves. map.get moves round) (sym same) ∙ e);
-  arrived = λ round p moved e. m.arrived round p moved (ap (λ moves. map.get (moves_of moves round) p) (sym same) ∙ e);
+  over = λ round h. over round (m.over round
+      (ap (λ moves. map.contains_key moves round) (sym same) ∙ h));
+  none_empty =
+      λ round kept e. m.none_empty round kept (ap (λ moves. map.get moves round) (sym same) ∙ e);
+  arrived = λ round p moved e. m.arrived round p moved
+      (ap (λ moves. map.get (moves_of moves round) p) (sym same) ∙ e);
 }

@@ -1,12 +1,14 @@
 -- What is known once no check refuses.
-use Rattle.std.proofs.Common.{◌≡◌, Bool, true, false, not, List, [], ◌∷◌, ◌++◌, Option, Some, None, cond, refl, ap, ◌∙◌, sym}
+use Rattle.std.proofs.Common.{◌≡◌, Bool, true, false, not, List, [], ◌∷◌, ◌++◌, Option, Some, None}
+use Rattle.std.proofs.Common.{cond, refl, ap, ◌∙◌, sym}
 use Rattle.std.specs.Option.{is_some, unwrap_or}
 use Rattle.std.specs.List.{flat_map, All}
 use Rattle.std.proofs.lemmas.Bool.{not-false}
 use Rattle.std.proofs.lemmas.List.Elements.{All-nil, All-cons}
 use Rattle.std.specs.FinMap as map
 use Rattle.room_types.specs.Texts.{Text}
-use Rattle.office_core.specs.Refusal.Checks.{Check, first_refusal, room_checks, home_checks, home_checks_if_any}
+use Rattle.office_core.specs.Refusal.Checks.{Check, first_refusal, room_checks, home_checks}
+use Rattle.office_core.specs.Refusal.Checks.{home_checks_if_any}
 use Rattle.office_core.specs.Office.{knows_room, tenant}
 use Rattle.office_core.specs.declared.office.Office.{Office}
 use Rattle.office_core.proofs.Truths.{none_if_not_some}
@@ -19,7 +21,8 @@ NoneApplies (check ∷ others) = (check.0 ≡ false) × NoneApplies others
 pub none_applies : (list : List Check) → first_refusal list ≡ None → NoneApplies list
 none_applies [] h = tt
 none_applies (check ∷ others) h =
-    elim (check.0) as (λ b. cond b (Some check.1) (first_refusal others) ≡ None → (b ≡ false) × NoneApplies others) [
+    elim (check.0) as (λ b. cond b (Some check.1) (first_refusal others) ≡ None
+    → (b ≡ false) × NoneApplies others) [
       | true ↦ λ e. cc
       | false ↦ λ e. (refl, none_applies others e)
     ] h
@@ -30,21 +33,33 @@ open_room None known unshut = cc
 open_room (Some shut) known unshut = ap (λ b. Some b) unshut
 
 -- a room that may be a home is open, and nobody has it
-pub may_live : (office : Office) (room : Text) → NoneApplies (home_checks office room) → (map.get office.rooms room ≡ Some false) × (tenant office room ≡ None)
-may_live office room n = (open_room (map.get office.rooms room) n.0 n.1.0, none_if_not_some (tenant office room) n.1.1.0)
+pub may_live : (office : Office) (room : Text) → NoneApplies (home_checks office room)
+    → (map.get office.rooms room ≡ Some false) × (tenant office room ≡ None)
+may_live office room n =
+    (open_room (map.get office.rooms room) n.0 n.1.0, none_if_not_some (tenant office room) n.1.1.0)
 
 -- the same for a home that may be none
-pub may_live_if_any : (office : Office) (home : Option Text) (others : List Check) → NoneApplies (home_checks_if_any office home ++ others)
-    → ((room : Text) → home ≡ Some room → (map.get office.rooms room ≡ Some false) × (tenant office room ≡ None)) × NoneApplies others
+pub may_live_if_any : (office : Office) (home : Option Text) (others : List Check)
+    → NoneApplies (home_checks_if_any office home ++ others)
+    → ((room : Text) → home ≡ Some room
+    → (map.get office.rooms room ≡ Some false) × (tenant office room ≡ None))
+    × NoneApplies others
 may_live_if_any office None others n = ((λ room e. cc), n)
 may_live_if_any office (Some home) others n =
     let may = may_live office home (n.0, (n.1.0, (n.1.1.0, tt))) in (
       (λ room e.
-          let same : home ≡ room = cc in
-          (ap (λ r. map.get office.rooms r) (sym same) ∙ may.0, ap (λ r. tenant office r) (sym same) ∙ may.1)),
+          let same : home ≡ room = cc in (
+            ap (λ r. map.get office.rooms r) (sym same) ∙ may.0,
+            ap (λ r. tenant office r) (sym same)
+                ∙ may.1,
+          )),
       n.1.1.1,
     )
 
-pub known_all : (office : Office) (codes : List Text) → NoneApplies (flat_map (room_checks office) codes) → All (λ code. knows_room office code ≡ true) codes
+pub known_all : (office : Office) (codes : List Text)
+    → NoneApplies (flat_map (room_checks office) codes)
+    → All (λ code. knows_room office code ≡ true) codes
 known_all office [] n = All-nil (λ c. knows_room office c ≡ true)
-known_all office (code ∷ codes) n = All-cons (λ c. knows_room office c ≡ true) code codes (not-false (knows_room office code) n.0) (known_all office codes n.1.1)
+known_all office (code ∷ codes) n =
+    All-cons (λ c. knows_room office c ≡ true) code codes (not-false (knows_room office code) n.0)
+    (known_all office codes n.1.1)

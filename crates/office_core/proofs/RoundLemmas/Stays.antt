@@ -7,6 +7,14 @@ use Rattle.office_core.specs.declared.office.Assigned.{Assigned}
 use Rattle.office_core.specs.declared.office.Office.{Office}
 use Rattle.office_core.proofs.RoundLemmas.Results.{same_round}
 
-pub round_results-along : (office : Office) (results : TextMap Assigned) (phase : Phase) → round_results (record office { results = results; phase = phase }) ≡ round_results office
+pub round_results-along : (office : Office) (results : TextMap Assigned) (phase : Phase)
+    → round_results (record office { results = results; phase = phase }) ≡ round_results office
 round_results-along office results phase =
-    (same_round (record office { results = results; phase = phase }) office (record { rooms = refl; people = refl; choices = refl; withdrawn = refl; words = refl })).results
+    (same_round (record office { results = results; phase = phase }) office
+    (record {
+      rooms = refl;
+      people = refl;
+      choices = refl;
+      withdrawn = refl;
+      words = refl;
+    })).results

@@ -17,7 +17,8 @@ pub traded : (office : Office) → IsLawful office → IsWellTraded office (resu
 traded office l = record {
   assignment = record {
     known = λ p room part e. given_numbered office (lawful-IsMarket office l) p room part e;
-    differ = λ p q room part_p part_q ep eq. given_once office (lawful-IsMarket office l) p q room part_p part_q ep eq;
+    differ = λ p q room part_p part_q ep eq. given_once office
+        (lawful-IsMarket office l) p q room part_p part_q ep eq;
   };
   rational = rational office (lawful-IsMarket office l);
   efficient = efficient office (lawful-IsMarket office l);
@@ -25,23 +26,35 @@ traded office l = record {
 }
 
 -- so is whatever gives each participant the same
-traded_too : (office : Office) (f g : Text → Option Text) → IsWellTraded office f → ((p : Text) → is_participant office p ≡ true → g p ≡ f p) → IsWellTraded office g
+traded_too : (office : Office) (f g : Text → Option Text) → IsWellTraded office f
+    → ((p : Text) → is_participant office p ≡ true → g p ≡ f p) → IsWellTraded office g
 traded_too office f g w same = record {
   assignment = record {
     known = λ p room part e. w.assignment.known p room part (sym (same p part) ∙ e);
-    differ = λ p q room part_p part_q ep eq. w.assignment.differ p q room part_p part_q (sym (same p part_p) ∙ ep) (sym (same q part_q) ∙ eq);
+    differ = λ p q room part_p part_q ep eq. w.assignment.differ p q room part_p part_q
+        (sym (same p part_p) ∙ ep) (sym (same q part_q) ∙ eq);
   };
-  rational = λ p part. subst (λ room. round_rank office p room ≤ round_rank office p (home_of office p)) (sym (same p part)) (w.rational p part);
+  rational = λ p part. subst (λ room. round_rank office p room ≤ round_rank office p
+      (home_of office p)) (sym (same p part)) (w.rational p part);
   efficient = λ gives assigned better p part.
-      w.efficient gives assigned (λ q takes. subst (λ room. round_rank office q (gives q) ≤ round_rank office q room) (same q takes) (better q takes)) p part
+      w.efficient gives assigned (λ q takes. subst
+      (λ room. round_rank office q (gives q) ≤ round_rank office q room) (same q takes)
+      (better q takes)) p part
       ∙ sym (same p part);
   apart = λ group gives trade better p h.
-      w.apart group gives trade (λ q hq. subst (λ room. round_rank office q (gives q) ≤ round_rank office q room) (same q (trade.participants q hq)) (better q hq)) p h
+      w.apart group gives trade (λ q hq. subst
+      (λ room. round_rank office q (gives q) ≤ round_rank office q room)
+      (same q (trade.participants q hq)) (better q hq)) p h
       ∙ sym (same p (trade.participants p h));
 }
 
-pub recorded : (office : Office) → IsLawful office → has_results office.phase ≡ true → (p : Text) → is_participant office p ≡ true → recorded_result office p ≡ result_of office p
-recorded office l there p part = recorded_is office l.register (lawful-IsMarket office l) (l.results.given there) p part
+pub recorded : (office : Office) → IsLawful office → has_results office.phase ≡ true → (p : Text)
+    → is_participant office p ≡ true → recorded_result office p ≡ result_of office p
+recorded office l there p part =
+    recorded_is office l.register (lawful-IsMarket office l) (l.results.given there) p part
 
-pub recorded_traded : (office : Office) → IsLawful office → has_results office.phase ≡ true → IsWellTraded office (recorded_result office)
-recorded_traded office l there = traded_too office (result_of office) (recorded_result office) (traded office l) (recorded office l there)
+pub recorded_traded : (office : Office) → IsLawful office → has_results office.phase ≡ true
+    → IsWellTraded office (recorded_result office)
+recorded_traded office l there =
+    traded_too office (result_of office) (recorded_result office) (traded office l)
+    (recorded office l there)

@@ -9,7 +9,8 @@ use Rattle.office_core.specs.Office.Phases.{is_preparing}
 use Rattle.office_core.specs.declared.office.Office.{Office}
 use Rattle.office_core.specs.declared.change.Change.{Change}
 use Rattle.office_core.specs.declared.change.Change.TheVariants.{PutPerson}
-use Rattle.office_core.specs.declared.refusal.Refusal.TheVariants.{BadPhase, DuplicatePerson, KeyInUse, LimitReached}
+use Rattle.office_core.specs.declared.refusal.Refusal.TheVariants.{BadPhase, DuplicatePerson}
+use Rattle.office_core.specs.declared.refusal.Refusal.TheVariants.{KeyInUse, LimitReached}
 use Rattle.office_core.specs.declared.reply.Reply.{Reply}
 use Rattle.office_core.specs.declared.reply.Reply.TheVariants as reply
 
@@ -23,7 +24,10 @@ checks office person name key home =
 
 abbrev pub next : Office → Text → Text → Text → Option Text → Office
 next office person name key home =
-    record office { people = map.insert office.people person (record { name = name; key = key; home = home }) }
+    record office {
+      people = map.insert office.people person
+          (record { name = name; key = key; home = home });
+    }
 
 abbrev pub reply_to : Office → Text → Reply
 reply_to office person = reply.Done

@@ -9,7 +9,8 @@ use Rattle.office_core.specs.Office.Phases.{is_preparing}
 use Rattle.office_core.specs.declared.office.Office.{Office}
 use Rattle.office_core.specs.declared.change.Change.{Change}
 use Rattle.office_core.specs.declared.change.Change.TheVariants.{PutRoom}
-use Rattle.office_core.specs.declared.refusal.Refusal.TheVariants.{BadPhase, DuplicateRoom, LimitReached}
+use Rattle.office_core.specs.declared.refusal.Refusal.TheVariants.{BadPhase, DuplicateRoom}
+use Rattle.office_core.specs.declared.refusal.Refusal.TheVariants.{LimitReached}
 use Rattle.office_core.specs.declared.reply.Reply.{Reply}
 use Rattle.office_core.specs.declared.reply.Reply.TheVariants as reply
 

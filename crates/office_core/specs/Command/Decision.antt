@@ -1,5 +1,6 @@
 -- What it is to decide a command by its refusals.
-use Rattle.std.specs.Prelude.{◌≡◌, Bool, true, not, List, Option, None, Some, ◌⊎◌, MatchResult, Result}
+use Rattle.std.specs.Prelude.{◌≡◌, Bool, true, not, List, Option, None, Some, ◌⊎◌, MatchResult}
+use Rattle.std.specs.Prelude.{Result}
 use Rattle.office_core.specs.Empty.{is_empty}
 use Rattle.office_core.specs.Refusal.Checks.{Check, first_refusal, names_room}
 use Rattle.office_core.specs.declared.change.Change.{Change}
@@ -8,7 +9,8 @@ use Rattle.office_core.specs.declared.refusal.Refusal.{Refusal}
 use Rattle.office_core.specs.declared.refusal.Refusal.TheVariants.{OutOfMemory}
 use Rattle.office_core.specs.declared.reply.Reply.{Reply}
 
--- whether memory is taken: for the room that the first refusal names, and where none applies for the changes, if any
+-- whether memory is taken: for the room that the first refusal names, and where none applies for
+-- the changes, if any
 abbrev pub refusal_takes_memory : List Change → Option Refusal → Bool
 refusal_takes_memory changes None = not (is_empty changes)
 refusal_takes_memory changes (Some refusal) = names_room refusal
@@ -20,12 +22,14 @@ IsRefusal changes checks refusal =
     ⊎ ((refusal ≡ OutOfMemory) × (refusal_takes_memory changes (first_refusal checks) ≡ true))
 
 -- no check refuses, and the decision has the reply and the changes
-pub record IsDecision (checks : List Check) (reply : Reply) (changes : List Change) (decision : Decision) : Type 0 where
+pub record IsDecision (checks : List Check) (reply : Reply) (changes : List Change)
+    (decision : Decision) : Type 0 where
   pub accepted : first_refusal checks ≡ None
   pub replied : decision.reply ≡ reply
   pub changed : decision.changes.items ≡ changes
 
--- the reply and the changes where no check refuses, and else the first refusal that applies; or out of memory
+-- the reply and the changes where no check refuses, and else the first refusal that applies; or out
+-- of memory
 abbrev pub Decides : List Check → Reply → List Change → Result Decision Refusal → Type 0
 Decides checks reply changes result =
     MatchResult result (IsDecision checks reply changes) (IsRefusal changes checks)

@@ -1,10 +1,12 @@
 -- Each participant gets a word: the first word the first participant, by identifier, and so on.
-use Rattle.std.specs.Prelude.{ℕ, eqb, not, List, [], ◌∷◌, ◌++◌, length}
+use Rattle.std.specs.Prelude.{ℕ, eqb, not, List, [], ◌∷◌, ◌++◌, length, map as map_list}
+use Rattle.std.specs.List.{zip}
 use Rattle.std.specs.FinMap as map
 use Rattle.room_types.specs.Texts.{Text, TextMap}
 use Rattle.room_types.specs.declared.phase.Phase.TheVariants.{Drawn}
 use Rattle.office_core.specs.Refusal.Checks.{Check}
 use Rattle.office_core.specs.Office.{participants}
+use Rattle.office_core.specs.Puts.{with_all}
 use Rattle.office_core.specs.Office.Phases.{is_closed}
 use Rattle.office_core.specs.declared.office.Office.{Office}
 use Rattle.office_core.specs.declared.change.Change.{Change}
@@ -23,21 +25,18 @@ checks office words =
 
 -- each person gets the word at the same place
 abbrev pub with_words : TextMap ℕ → List Text → List ℕ → TextMap ℕ
-with_words kept (person ∷ people) (word ∷ words) = with_words (map.insert kept person word) people words
-with_words kept [] words = kept
-with_words kept (person ∷ people) [] = kept
+with_words kept people words = with_all kept (zip people words)
 
 abbrev pub next : Office → List ℕ → Office
-next office words = record office { words = with_words map.empty (participants office) words; phase = Drawn }
+next office words =
+    record office { words = with_words map.empty (participants office) words; phase = Drawn }
 
 abbrev pub reply_to : Office → List ℕ → Reply
 reply_to office words = reply.Drawn (length (participants office))
 
 -- a change for each word
 abbrev pub words_put : List Text → List ℕ → List Change
-words_put (person ∷ people) (word ∷ words) = PutWord person word ∷ words_put people words
-words_put [] words = []
-words_put (person ∷ people) [] = []
+words_put people words = map_list (λ e. PutWord e.0 e.1) (zip people words)
 
 abbrev pub changes_of : Office → List ℕ → List Change
 changes_of office words = words_put (participants office) words ++ PutRound office.number Drawn ∷ []

@@ -29,4 +29,5 @@ abbrev pub result_put : Text × Assigned → Change
 result_put entry = PutResult entry.0 entry.1.room
 
 abbrev pub changes_of : Office → List Change
-changes_of office = map result_put (maps.entries (round_results office)) ++ PutRound office.number Ran ∷ []
+changes_of office =
+    map result_put (maps.entries (round_results office)) ++ PutRound office.number Ran ∷ []

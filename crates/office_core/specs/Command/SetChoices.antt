@@ -9,7 +9,8 @@ use Rattle.office_core.specs.Office.Phases.{is_open}
 use Rattle.office_core.specs.declared.office.Office.{Office}
 use Rattle.office_core.specs.declared.change.Change.{Change}
 use Rattle.office_core.specs.declared.change.Change.TheVariants.{PutChoices}
-use Rattle.office_core.specs.declared.refusal.Refusal.TheVariants.{BadPhase, UnknownPerson, Withdrawn}
+use Rattle.office_core.specs.declared.refusal.Refusal.TheVariants.{BadPhase, UnknownPerson}
+use Rattle.office_core.specs.declared.refusal.Refusal.TheVariants.{Withdrawn}
 use Rattle.office_core.specs.declared.reply.Reply.{Reply}
 use Rattle.office_core.specs.declared.reply.Reply.TheVariants as reply
 

@@ -8,7 +8,8 @@ use Rattle.office_core.specs.Office.Phases.{is_published}
 use Rattle.office_core.specs.Round.Settlement.{movers, settled_moves, settled_people, with_moves}
 use Rattle.office_core.specs.declared.office.Office.{Office}
 use Rattle.office_core.specs.declared.change.Change.{Change}
-use Rattle.office_core.specs.declared.change.Change.TheVariants.{PutHome, AddMove, ClearRound, PutRound}
+use Rattle.office_core.specs.declared.change.Change.TheVariants.{PutHome, AddMove, ClearRound}
+use Rattle.office_core.specs.declared.change.Change.TheVariants.{PutRound}
 use Rattle.office_core.specs.declared.refusal.Refusal.TheVariants.{BadPhase}
 use Rattle.office_core.specs.declared.reply.Reply.{Reply}
 use Rattle.office_core.specs.declared.reply.Reply.TheVariants as reply

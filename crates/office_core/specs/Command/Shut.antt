@@ -24,7 +24,8 @@ without_tenant office None = office
 without_tenant office (Some person) = with_home office person None
 
 abbrev pub next : Office → Text → Office
-next office room = record (without_tenant office (tenant office room)) { rooms = map.insert office.rooms room true }
+next office room = record (without_tenant office (tenant office room))
+    { rooms = map.insert office.rooms room true }
 
 abbrev pub reply_to : Office → Text → Reply
 reply_to office room = reply.Shut (tenant office room)

@@ -19,7 +19,8 @@ use Rattle.office_core.specs.declared.office.person.Person.{Person}
 -- no two people have the same
 abbrev pub Unshared : (Person → Option Text) → TextMap Person → Type 0
 Unshared which people =
-    (p q text : Text) → had_by which people p ≡ Some text → had_by which people q ≡ Some text → p ≡ q
+    (p q text : Text) → had_by which people p ≡ Some text → had_by which people q ≡ Some text
+    → p ≡ q
 
 -- no room is the home of two people
 abbrev pub HomesDiffer : Office → Type 0
@@ -29,12 +30,13 @@ HomesDiffer office = Unshared (λ p. p.home) office.people
 pub record IsRegister (rooms : TextMap Bool) (people : TextMap Person) : Type 0 where
   pub keys : Unshared (λ p. Some p.key) people
   pub homes : Unshared (λ p. p.home) people
-  pub homes_open : (p room : Text) → had_by (λ p. p.home) people p ≡ Some room → map.get rooms room ≡ Some false
+  pub homes_open : (p room : Text) → had_by (λ p. p.home) people p ≡ Some room
+      → map.get rooms room ≡ Some false
   pub few_rooms : map.len rooms ≤ room_limit
   pub few_people : map.len people ≤ people_limit
 
--- lists and withdrawals: of known people alone, and lists of known rooms, at most forty and none twice, that are not
--- empty
+-- lists and withdrawals: of known people alone, and lists of known rooms, at most forty and none
+-- twice, that are not empty
 pub record AreLists (rooms : TextMap Bool) (people : TextMap Person) (choices : TextMap (List Text))
     (withdrawn : TextMap (Unit {0})) : Type 0 where
   pub choosers : (p : Text) → map.contains_key choices p ≡ true → map.contains_key people p ≡ true
@@ -42,7 +44,8 @@ pub record AreLists (rooms : TextMap Bool) (people : TextMap Person) (choices : 
       → All (λ code. map.contains_key rooms code ≡ true) codes
   pub none_empty : (p : Text) → map.get choices p ≡ Some [] → ⊥
   pub chosen : (p : Text) (codes : List Text) → map.get choices p ≡ Some codes → IsChoices codes
-  pub withdrawers : (p : Text) → map.contains_key withdrawn p ≡ true → map.contains_key people p ≡ true
+  pub withdrawers : (p : Text) → map.contains_key withdrawn p ≡ true
+      → map.contains_key people p ≡ true
 
 -- the round: its number, and nothing that is left over between rounds
 pub record IsRound (number : ℕ) (phase : Phase) (choices : TextMap (List Text))
@@ -59,7 +62,8 @@ pub record AreWords (phase : Phase) (people : TextMap Person) (withdrawn : TextM
   pub each : has_words phase ≡ true → (p : Text)
       → map.contains_key words p ≡ (map.contains_key people p && not (map.contains_key withdrawn p))
 
--- results: none before the run, and from the run on those of top trading cycles for the round's problem
+-- results: none before the run, and from the run on those of top trading cycles for the round's
+-- problem
 pub record AreResults (office : Office) : Type 0 where
   pub none : has_results office.phase ≡ false → office.results ≡ map.empty
   pub given : has_results office.phase ≡ true → office.results ≡ round_results office
@@ -69,7 +73,8 @@ pub record AreMoves (office : Office) : Type 0 where
   pub over : (round : ℕ) → map.contains_key office.moves round ≡ true → is_over office round ≡ true
   pub none_empty : (round : ℕ) (kept : RoundMoves) → map.get office.moves round ≡ Some kept
       → kept.by_person ≡ map.empty → ⊥
-  pub arrived : (round : ℕ) (p : Text) (moved : Moved) → map.get (moves_of office.moves round) p ≡ Some moved
+  pub arrived : (round : ℕ) (p : Text) (moved : Moved)
+      → map.get (moves_of office.moves round) p ≡ Some moved
       → is_some moved.to ≡ true
 
 -- all laws: what holds of an office before and after each command

@@ -15,7 +15,8 @@ RoundMap X = FinMap nat_cmp X
 
 -- the moves of a round, by person
 abbrev pub moves_of : RoundMap RoundMoves → ℕ → TextMap Moved
-moves_of moves round = unwrap_or (option_map (λ (kept : RoundMoves). kept.by_person) (map.get moves round)) map.empty
+moves_of moves round =
+    unwrap_or (option_map (λ (kept : RoundMoves). kept.by_person) (map.get moves round)) map.empty
 
 -- one more move
 abbrev pub with_move : RoundMap RoundMoves → Move → RoundMap RoundMoves

@@ -1,7 +1,8 @@
 -- Tests on phases.
 use Rattle.std.specs.Prelude.{Bool, true, false, ◌||◌}
 use Rattle.room_types.specs.declared.phase.Phase.{Phase}
-use Rattle.room_types.specs.declared.phase.Phase.TheVariants.{Idle, Opened, Closed, Drawn, Ran, Published}
+use Rattle.room_types.specs.declared.phase.Phase.TheVariants.{Idle, Opened, Closed, Drawn, Ran}
+use Rattle.room_types.specs.declared.phase.Phase.TheVariants.{Published}
 
 -- no round is under way
 abbrev pub is_idle : Phase → Bool

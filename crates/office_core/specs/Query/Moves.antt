@@ -14,10 +14,17 @@ use Rattle.office_core.specs.declared.reply.Reply.TheVariants as reply
 
 abbrev pub move_row : ℕ → Text × Moved → Move
 move_row round entry =
-    record { round = round; person = entry.0; from = entry.1.from; to = entry.1.to; wave = entry.1.wave }
+    record {
+      round = round;
+      person = entry.0;
+      from = entry.1.from;
+      to = entry.1.to;
+      wave = entry.1.wave;
+    }
 
 abbrev pub move_rows : Office → ℕ → List Move
 move_rows office round = map (move_row round) (maps.entries (moves_of office.moves round))
 
 abbrev pub told : Office → ℕ → Result Reply Refusal
-told office round = if is_over office round then Ok (reply.Moves (move_rows office round)) else Err NoSuchRound
+told office round =
+    if is_over office round then Ok (reply.Moves (move_rows office round)) else Err NoSuchRound

@@ -17,4 +17,5 @@ abbrev pub order_rows : Office → List OrderRow
 order_rows office = map (order_row office) (round_people office)
 
 abbrev pub told : Office → Result Reply Refusal
-told office = if has_words office.phase then Ok (reply.Order (order_rows office)) else Err (BadPhase office.phase)
+told office = if has_words office.phase then Ok (reply.Order (order_rows office)) else Err
+    (BadPhase office.phase)

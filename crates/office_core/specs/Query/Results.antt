@@ -18,4 +18,5 @@ abbrev pub result_rows : Office → List ResultRow
 result_rows office = map result_row (maps.entries office.results)
 
 abbrev pub told : Office → Result Reply Refusal
-told office = if has_results office.phase then Ok (reply.Results (result_rows office)) else Err (BadPhase office.phase)
+told office = if has_results office.phase then Ok (reply.Results (result_rows office)) else Err
+    (BadPhase office.phase)

@@ -17,7 +17,11 @@ state_of shut tenant = if shut then Shut else (if is_some tenant then Occupied e
 
 abbrev pub room_row : Office → Text × Bool → RoomRow
 room_row office entry =
-    record { room = entry.0; state = state_of entry.1 (tenant office entry.0); tenant = tenant office entry.0 }
+    record {
+      room = entry.0;
+      state = state_of entry.1 (tenant office entry.0);
+      tenant = tenant office entry.0;
+    }
 
 abbrev pub room_rows : Office → List RoomRow
 room_rows office = map (room_row office) (maps.entries office.rooms)

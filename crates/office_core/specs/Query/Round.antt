@@ -7,4 +7,5 @@ use Rattle.office_core.specs.declared.reply.Reply.{Reply}
 use Rattle.office_core.specs.declared.reply.Reply.TheVariants as reply
 
 abbrev pub told : Office → Result Reply Refusal
-told office = Ok (reply.Round office.number office.phase (map.len office.people) (map.len office.withdrawn))
+told office =
+    Ok (reply.Round office.number office.phase (map.len office.people) (map.len office.withdrawn))

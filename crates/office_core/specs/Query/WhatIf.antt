@@ -8,7 +8,8 @@ use Rattle.office_core.specs.Office.Phases.{has_results}
 use Rattle.office_core.specs.Round.{result_by, round_rank}
 use Rattle.office_core.specs.declared.office.Office.{Office}
 use Rattle.office_core.specs.declared.refusal.Refusal.{Refusal}
-use Rattle.office_core.specs.declared.refusal.Refusal.TheVariants.{BadPhase, UnknownPerson, NotInRound}
+use Rattle.office_core.specs.declared.refusal.Refusal.TheVariants.{BadPhase, UnknownPerson}
+use Rattle.office_core.specs.declared.refusal.Refusal.TheVariants.{NotInRound}
 use Rattle.office_core.specs.declared.reply.Reply.{Reply}
 use Rattle.office_core.specs.declared.reply.Reply.TheVariants as reply
 
@@ -31,4 +32,5 @@ told_unless (Some refusal) reply = Err refusal
 
 abbrev pub told : Office → Text → List Text → Result Reply Refusal
 told office person choices =
-    told_unless (first_refusal (checks office person choices)) (reply.WouldGet (result_by office person choices))
+    told_unless (first_refusal (checks office person choices))
+    (reply.WouldGet (result_by office person choices))

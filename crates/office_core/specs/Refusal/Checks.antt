@@ -1,5 +1,6 @@
 -- The refusals that a command or a query may have, in their order: the first that applies counts.
-use Rattle.std.specs.Prelude.{Bool, true, false, not, List, [], ◌∷◌, ◌++◌, Option, None, Some, if◌then◌else◌}
+use Rattle.std.specs.Prelude.{Bool, true, false, not, List, [], ◌∷◌, ◌++◌, Option, None, Some}
+use Rattle.std.specs.Prelude.{if◌then◌else◌}
 use Rattle.room_types.specs.Texts.{Text}
 use Rattle.office_core.specs.Office.{knows_room, is_shut, is_taken}
 use Rattle.office_core.specs.declared.office.Office.{Office}

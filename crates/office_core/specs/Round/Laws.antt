@@ -1,7 +1,6 @@
 -- What holds of the round's problem and of its results.
-use Rattle.std.specs.Prelude.{◌≡◌, ◌≤◌, Bool, true, false, List, [], ◌∷◌, Option, Some, is_some}
-use Rattle.std.specs.FinMap as map
-use Rattle.room_types.specs.Texts.{Text, TextMap}
+use Rattle.std.specs.Prelude.{◌≡◌, ◌≤◌, Bool, true, false, Option, Some, is_some}
+use Rattle.room_types.specs.Texts.{Text}
 use Rattle.office_core.specs.Office.{home_of}
 use Rattle.office_core.specs.Office.Phases.{has_results}
 use Rattle.office_core.specs.Round.{is_participant, round_people, round_rooms}
@@ -92,8 +91,3 @@ pub record HaveSameRound (one other : Office) : Type 0 where
   pub rooms : round_rooms one ≡ round_rooms other
   pub market : round_market one ≡ round_market other
   pub results : round_results one ≡ round_results other
-
--- a map with these entries put into it, one by one
-abbrev pub with_all : {X : Type 0} → TextMap X → List (Text × X) → TextMap X
-with_all m [] = m
-with_all m (e ∷ es) = with_all (map.insert m e.0 e.1) es

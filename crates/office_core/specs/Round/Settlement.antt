@@ -1,7 +1,7 @@
 -- What the settlement of a round comes to: who moves, in which wave, and who lives where then.
 use Rattle.std.specs.Prelude.{ℕ, Bool, true, false, not, List, [], ◌∷◌, Option, None, Some}
 use Rattle.std.specs.Prelude.{if◌then◌else◌, map as map_list}
-use Rattle.std.specs.List.{filter}
+use Rattle.std.specs.List.{filter, fold}
 use Rattle.std.specs.FinMap as map
 use Rattle.room_types.specs.Texts.{Text, TextMap}
 use Rattle.room_types.specs.declared.moves.Move.{Move}
@@ -44,16 +44,17 @@ settled_moves office = moves_with office.number (movers office) (waves_of (mover
 
 -- the moves, recorded in turn
 abbrev pub with_moves : RoundMap RoundMoves → List Move → RoundMap RoundMoves
-with_moves kept [] = kept
-with_moves kept (move ∷ moves) = with_moves (with_move kept move) moves
+with_moves = fold with_move
 
 -- a participant lives in the room of the result, and anybody else where they lived
 abbrev pub settled_person : Office → Text × Person → Text × Person
 settled_person office entry = (
   entry.0,
-  if is_participant office entry.0 then record entry.1 { home = recorded_result office entry.0 } else entry.1,
+  if is_participant office entry.0 then record entry.1 { home = recorded_result office entry.0 }
+      else entry.1,
 )
 
 -- the people after the day of moving
 abbrev pub settled_people : Office → TextMap Person
-settled_people office = map.from_entries (map_list (settled_person office) (map.entries office.people))
+settled_people office =
+    map.from_entries (map_list (settled_person office) (map.entries office.people))

@@ -1,5 +1,5 @@
 //! What is read from an office.
-ghost use Rattle.std.specs.Prelude.{◌≡◌, IfOk, length};
+ghost use Rattle.std.specs.Prelude.{◌≡◌, IfOk, IsSome, OnErr, length};
 ghost use Rattle.std.specs.Option.{option_copied};
 ghost use Rattle.office_core.specs.Office.{tenant, owner, home_of, recorded_result, is_shut, lives_in};
 ghost use Rattle.office_core.specs.Office.{has_withdrawn, participants, is_over, is_under_way, is_shown};
@@ -111,11 +111,12 @@ impl Office {
     }
 }
 
-/// A copy of a text that was found, if any.
+/// A copy of a text that was found, if any. None takes no memory.
 pub(crate) fn copy_found<G: Grammar>(
     found: Option<&Text<G>>,
 ) -> Result<Option<Text<G>>, OutOfMemory>
-    ensures { IfOk result (λ copy. copy ≡ option_copied found.entry) }
+    ensures copy { IfOk result (λ copy. copy ≡ option_copied found.entry) }
+    ensures memory { OnErr result (IsSome found.entry) }
 {
     match found {
         Some(text) => Ok(Some(text.copy()?)),

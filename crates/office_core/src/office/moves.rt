@@ -1,7 +1,8 @@
 //! The moves of all rounds.
-ghost use Rattle.std.specs.Prelude.{◌≡◌, OnOk, OnErr, IfOk};
+ghost use Rattle.std.specs.Prelude.{◌≡◌, OnOk, OnErr, IfOk, ℕ};
 ghost use Rattle.std.specs.Option.{option_copied};
 ghost use Rattle.std.specs.FinMap as map;
+ghost use Rattle.std.specs.Map.Iter.{ShowsInOrder, deref_pair};
 ghost use Rattle.office_core.specs.Office.Moves.{with_move};
 
 use room_types::grammars::PersonIds;
@@ -9,6 +10,7 @@ use room_types::rows::copy_optional;
 use room_types::{Copied, Move, OutOfMemory, PersonId, RoomCode, Table, Wave};
 use std::alloc::{AllocError, Global};
 use std::collections::BTreeMap;
+use std::collections::btree_map::Iter;
 use std::marker::Model;
 
 /// What is kept of a move beside the round and the person.
@@ -93,6 +95,14 @@ impl<V> Rounds<V> {
         ensures { option_copied result ≡ map.get self.now round }
     {
         self.tree.get(&round)
+    }
+
+    /// The values by ascending round.
+    pub fn iter(&self) -> Iter<'_, u16, V>
+        ensures rest { result ≡ map.entries self.now }
+        ensures runs { ShowsInOrder (deref_pair {K = ℕ} {X = V}) }
+    {
+        self.tree.iter()
     }
 }
 

@@ -1,5 +1,5 @@
 //! The participants in the drawn order.
-ghost use Rattle.std.specs.Prelude.{◌≡◌, IfOk, map};
+ghost use Rattle.std.specs.Prelude.{◌≡◌, ◌<◌, IfOk, OnErr, length, map};
 ghost use Rattle.office_core.specs.Query.Answer.{Tells};
 ghost use Rattle.office_core.specs.Query.Order.{told, order_row};
 
@@ -12,6 +12,7 @@ use room_types::{Listing, OutOfMemory, PersonId};
 use std::alloc::Global;
 
 /// The participants in the drawn order, with their words. Refused with `BadPhase` where there are no words.
+#[tactic(auto, using(crate::proofs::Rows::some_ordered))]
 pub fn order(alloc: Global, office: &Office) -> Result<Reply, Refusal>
     ensures { Tells (told office.now) result }
 {
@@ -29,9 +30,10 @@ fn order_rows(
     office: &Office,
     people: &[PersonId],
 ) -> Result<Vec<OrderRow>, OutOfMemory>
-    ensures { IfOk result (λ rows. rows.items ≡ map (order_row office.now) people.now) }
+    ensures rows { IfOk result (λ rows. rows.items ≡ map (order_row office.now) people.now) }
+    ensures memory { OnErr result (0 < length people.now) }
 {
-    let mut rows = Vec::with_capacity(alloc, people.len())?;
+    let mut rows = Vec::new(alloc);
     for person in people {
         rows.push(OrderRow {
             word: word_of(office, person),

@@ -10,7 +10,7 @@ use crate::office::phases::has_results;
 use crate::refusal::Refusal;
 use crate::refusal::rooms::may_list_all;
 use crate::reply::Reply;
-use crate::round::what_if as room_by;
+use crate::round::result_by;
 use room_types::{Choices, PersonId};
 use std::alloc::Global;
 
@@ -28,7 +28,7 @@ pub fn what_if(
     ensures no_gain { IfOk result (GainsNothing office.now person.now) }
 {
     may_ask(office, person, choices)?;
-    let room = room_by(alloc, office, person, choices)?;
+    let room = result_by(alloc, office, person, choices)?;
     Ok(Reply::WouldGet(room))
 }
 

@@ -13,7 +13,8 @@ ghost use Rattle.office_core.specs.Office.{participants, recorded_result};
 ghost use Rattle.office_core.specs.Office.Phases.{has_results};
 ghost use Rattle.office_core.specs.Round.{is_participant, result_by, result_of, round_market, round_results};
 ghost use Rattle.office_core.specs.Round.Laws.{HaveSameEntries, HaveSameRound, IsWellTraded, KeepsResults};
-ghost use Rattle.office_core.specs.Round.Laws.{ends_round, with_all};
+ghost use Rattle.office_core.specs.Round.Laws.{ends_round};
+ghost use Rattle.office_core.specs.Puts.{with_all};
 ghost use Rattle.office_core.specs.Round.Lists.{IsOwnListBest, NoGroupGains, NobodyIsBossy, with_choices_of};
 
 /// In a lawful office the round's problem is well formed, and what top trading cycles gives is an

@@ -41,7 +41,7 @@ fn home_number(
 }
 
 /// The rooms that a person's list comes to, by their numbers: those before the own room that have one.
-pub(crate) fn numbered(
+pub(crate) fn numbers_of(
     alloc: Global,
     numbers: &Table<RoomCodes, usize>,
     home: Option<&RoomCode>,
@@ -109,7 +109,7 @@ fn recorded_list(
     ensures differ { OnOk result (first_repeated [] (choices_of office.now person.now) ≡ None) }
 {
     match office.choices.get(person) {
-        Some(choices) => numbered(alloc, numbers, office.home_of(person), choices.as_slice()),
+        Some(choices) => numbers_of(alloc, numbers, office.home_of(person), choices.as_slice()),
         None => Ok(Vec::new(alloc)),
     }
 }

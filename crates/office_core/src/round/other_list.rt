@@ -4,7 +4,7 @@ ghost use Rattle.office_core.specs.Office.Invariants.{HomesDiffer};
 ghost use Rattle.office_core.specs.Round.{is_participant, number_in, result_of, result_by, round_rank};
 
 use crate::office::Office;
-use crate::round::lists::numbered;
+use crate::round::lists::numbers_of;
 use crate::round::problem::{round_problem, want_of_memory};
 use crate::round::results::room_named;
 use room_types::{Choices, OutOfMemory, PersonId, RoomCode};
@@ -13,7 +13,7 @@ use trade_line::what_if::run_with_list;
 
 /// The room that a participant would get by this list in place of the recorded one, where the order and all other
 /// lists stay (none for no room). By the recorded list it never ranks above the result. It is refused only for memory.
-pub fn what_if(
+pub fn result_by(
     alloc: Global,
     office: &Office,
     person: &PersonId,
@@ -23,13 +23,14 @@ pub fn what_if(
     requires participant { is_participant office.now person.now ≡ true }
     ensures room { IfOk result (λ room. room ≡ result_by office.now person.now choices.now) }
     ensures no_gain { IfOk result (λ room.
-        round_rank office.now person.now (result_of office.now person.now) ≤ round_rank office.now person.now room) }
+        round_rank office.now person.now (result_of office.now person.now)
+        ≤ round_rank office.now person.now room) }
 {
     let round = round_problem(alloc, office)?;
     let Some(number) = number_of(&round.people, person) else {
         unreachable!()
     };
-    let list = numbered(
+    let list = numbers_of(
         alloc,
         &round.numbers,
         office.home_of(person),

@@ -1,5 +1,5 @@
 //! Who takes part, in the drawn order.
-ghost use Rattle.std.specs.Prelude.{◌≡◌, IfOk};
+ghost use Rattle.std.specs.Prelude.{◌≡◌, ◌<◌, IfOk, OnErr, length};
 ghost use Rattle.office_core.specs.Round.{lots_of, round_people, word_of};
 
 use crate::office::Office;
@@ -7,9 +7,11 @@ use draw_order::order;
 use room_types::{OutOfMemory, PersonId, Word};
 use std::alloc::Global;
 
-/// The participants in the drawn order.
+/// The participants in the drawn order. Nobody takes no memory.
+#[tactic(auto, using(crate::proofs::RoundLemmas::People::as_many_as_lots))]
 pub(crate) fn round_people(alloc: Global, office: &Office) -> Result<Vec<PersonId>, OutOfMemory>
-    ensures { IfOk result (λ people. people.items ≡ round_people office.now) }
+    ensures people { IfOk result (λ people. people.items ≡ round_people office.now) }
+    ensures memory { OnErr result (0 < length (round_people office.now)) }
 {
     let lots = lots(alloc, office)?;
     order(alloc, &lots)
@@ -17,7 +19,8 @@ pub(crate) fn round_people(alloc: Global, office: &Office) -> Result<Vec<PersonI
 
 // The participants by identifier, with their words.
 fn lots(alloc: Global, office: &Office) -> Result<Vec<(PersonId, Word)>, OutOfMemory>
-    ensures { IfOk result (λ lots. lots.items ≡ lots_of office.now) }
+    ensures lots { IfOk result (λ lots. lots.items ≡ lots_of office.now) }
+    ensures memory { OnErr result (0 < length (lots_of office.now)) }
 {
     let mut lots = Vec::new(alloc);
     for (id, _) in office.people.iter() {

@@ -1,9 +1,10 @@
 //! A reader and a writer as one stream.
-use crate::Watched;
+use super::{Faulty, kind, new_device, wanted_at};
 use crate::send::send;
 use crate::stream::Pair;
+use crate::{Stream, Watched};
 use std::io;
-use std::io::Write;
+use std::io::{Read, Write};
 
 #[test]
 fn passes_on_what_a_stream_gives(rt: HostRuntime) -> io::Result<()> {
@@ -38,4 +39,62 @@ fn sends_texts(rt: HostRuntime) -> io::Result<()> {
     assert_eq!(rt; send(&mut full, b"room"), Err(3));
     assert_eq!(rt; output.into_inner().as_slice(), b"room H1".as_slice());
     Ok(())
+}
+
+fn faulty_pair() -> Pair<Faulty, Faulty> {
+    Pair {
+        reader: new_device(),
+        writer: new_device(),
+    }
+}
+
+// That these are ten calls of the reader, with three bytes each, ten of the writer, with two, and ten flushes.
+fn are_all_passed_on(
+    input: Pair<Faulty, Faulty>,
+    output: Pair<Faulty, Faulty>,
+    flushed: Pair<Faulty, Faulty>,
+) -> bool {
+    let read = (input.reader.calls, input.reader.lent) == (10, 30) && input.writer.calls == 0;
+    let written = (output.writer.calls, output.writer.lent) == (10, 20) && output.reader.calls == 0;
+    let cleared = flushed.writer.calls == 10 && flushed.reader.calls == 0;
+    read && written && cleared
+}
+
+// Each call of a pair is one of its reader or of its writer alone, also after a failure, and has its answer.
+#[test]
+fn pairs_pass_calls_on(rt: HostRuntime) {
+    let mut input = faulty_pair();
+    let mut output = faulty_pair();
+    let mut flushed = faulty_pair();
+    for call in 1..=10 {
+        let wanted = wanted_at(call);
+        assert_eq!(rt; kind(input.read(&mut [0u8; 3])), wanted);
+        assert_eq!(rt; kind(output.write(b"ab")), wanted);
+        assert_eq!(rt; kind(flushed.flush()), wanted);
+    }
+    assert!(rt; are_all_passed_on(input, output, flushed));
+}
+
+// The same of the calls of a stream that is watched.
+#[test]
+fn watched_pairs_pass_calls_on(rt: HostRuntime) {
+    let mut input = Watched::new(faulty_pair());
+    let mut output = Watched::new(faulty_pair());
+    let mut flushed = Watched::new(faulty_pair());
+    for call in 1..=10 {
+        let wanted = wanted_at(call);
+        assert_eq!(rt; kind(input.read_some(&mut [0u8; 3])), wanted);
+        assert_eq!(rt; kind(output.write_some(b"ab")), wanted);
+        assert_eq!(rt; kind(flushed.flush_all()), wanted);
+    }
+    assert!(rt; input.failed() && input.reads() == 10);
+    assert!(rt; output.failed() && output.taken() == 18);
+    assert!(rt; flushed.failed() && flushed.flushes() == 10);
+    assert!(rt;
+        are_all_passed_on(
+            input.into_inner(),
+            output.into_inner(),
+            flushed.into_inner()
+        )
+    );
 }

@@ -1,6 +1,8 @@
 //! Worked values: how a type reads a text, what the value is printed as, or why there is none.
 use crate::grammars::{Keys, Labels, Names, PersonIds, RoomCodes};
-use crate::{Choices, Grammar, RoomCode, Text, TypeFault, Word};
+use crate::{
+    Choices, Grammar, ListKind, OutOfMemory, Phase, RoomCode, State, Text, TypeFault, Word,
+};
 use std::alloc::{AllocError, Global};
 use std::process::Abort;
 
@@ -126,6 +128,29 @@ fn worked_values(rt: HostRuntime) -> Result<(), AllocError> {
         let told = told(rt.alloc(), kind, text)?;
         assert_eq!(rt; told.as_str(), wanted, "{kind} {text}");
     }
+    Ok(())
+}
+
+#[test]
+fn words_for_values(rt: HostRuntime) -> Result<(), AllocError> {
+    let alloc = rt.alloc();
+    let kinds = format!(in alloc;
+        "{} {} {}",
+        ListKind::Rooms,
+        ListKind::People,
+        ListKind::Choices
+    )?;
+    assert_eq!(rt; kinds.as_str(), "rooms people choices");
+    let states = format!(in alloc; "{} {} {}", State::Free, State::Occupied, State::Shut)?;
+    assert_eq!(rt; states.as_str(), "free occupied shut");
+    let first = format!(in alloc; "{} {} {}", Phase::Idle, Phase::Opened, Phase::Closed)?;
+    assert_eq!(rt; first.as_str(), "idle open closed");
+    let last = format!(in alloc; "{} {} {}", Phase::Drawn, Phase::Ran, Phase::Published)?;
+    assert_eq!(rt; last.as_str(), "drawn ran published");
+    assert_eq!(rt;
+        format!(in alloc; "{}", OutOfMemory {})?.as_str(),
+        "memory was refused"
+    );
     Ok(())
 }
 

@@ -2,7 +2,9 @@
 ghost use Rattle.std.specs.Prelude.{◌≡◌, ◌&&◌, ◌||◌};
 ghost use Rattle.std.specs.Io.{ReadsAtMost, WritesAtMost};
 ghost use Rattle.std.specs.Io.KnownBytes.{Keeps, ReadConsumes, WriteAppends};
-ghost use Rattle.room_types.specs.Watched.{watched_inner, watched_failed, watched_reads, watched_taken, watched_flushes, watched_pending, counted, has_taken, is_failure, is_failed_write, taken_after};
+ghost use Rattle.room_types.specs.Watched.{watched_inner, watched_failed, watched_reads, watched_taken, watched_flushes, watched_pending};
+ghost use Rattle.room_types.specs.Watched.{watched_ended, watched_late};
+ghost use Rattle.room_types.specs.Watched.{counted, has_taken, is_end, is_failure, is_failed_write, taken_after};
 
 use crate::stream::Stream;
 use crate::watched::Watched;
@@ -21,13 +23,23 @@ impl<T: Stream> Watched<T> {
         ensures taken { watched_taken self.new ≡ watched_taken self.old }
         ensures flushes { watched_flushes self.new ≡ watched_flushes self.old }
         ensures pending { watched_pending self.new ≡ watched_pending self.old }
+        ensures ended { watched_ended self.new ≡ watched_ended self.old || is_end buf.new result }
+        ensures late { watched_late self.new
+            ≡ watched_late self.old || watched_failed self.old || watched_ended self.old }
     {
+        self.late = self.late || self.failed || self.ended;
         self.reads = self.reads.saturating_add(1);
         let result = self.inner.read_some(buf);
-        if result.is_err() {
-            self.failed = true;
+        match result {
+            Ok(n) => {
+                self.ended = self.ended || (n == 0 && !buf.is_empty());
+                Ok(n)
+            }
+            Err(e) => {
+                self.failed = true;
+                Err(e)
+            }
         }
-        result
     }
 
     /// A write, which keeps what is left to read.
@@ -43,7 +55,10 @@ impl<T: Stream> Watched<T> {
         ensures taken { watched_taken self.new ≡ taken_after (watched_taken self.old) result }
         ensures flushes { watched_flushes self.new ≡ watched_flushes self.old }
         ensures pending { watched_pending self.new ≡ has_taken result || watched_pending self.old }
+        ensures ended { watched_ended self.new ≡ watched_ended self.old }
+        ensures late { watched_late self.new ≡ watched_late self.old || watched_failed self.old }
     {
+        self.late = self.late || self.failed;
         let result = self.inner.write_some(buf);
         match result {
             Ok(n) => {
@@ -74,7 +89,10 @@ impl<T: Stream> Watched<T> {
         ensures taken { watched_taken self.new ≡ watched_taken self.old }
         ensures flushes { watched_flushes self.new ≡ counted (watched_flushes self.old) 1 }
         ensures pending { watched_pending self.new ≡ is_failure result && watched_pending self.old }
+        ensures ended { watched_ended self.new ≡ watched_ended self.old }
+        ensures late { watched_late self.new ≡ watched_late self.old || watched_failed self.old }
     {
+        self.late = self.late || self.failed;
         self.flushes = self.flushes.saturating_add(1);
         match self.inner.flush_all() {
             Ok(()) => {

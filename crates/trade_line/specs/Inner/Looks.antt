@@ -30,7 +30,8 @@ abbrev pub StayInLine : Market → List Bool → List ℕ → List ℕ → Type 
 StayInLine m asked c [] = Unit {0}
 StayInLine m asked c (a ∷ r) = StayBehind m asked c a r
 
--- between two turns: the entries before each cursor are gone, whoever waits for a room stays at it, and the cursor of whoever
+-- between two turns: the entries before each cursor are gone, whoever waits for a room stays at it,
+-- and the cursor of whoever
 -- was served stands at what they were given
 pub record AreCursors (m : Market) (s : State) (c : List ℕ) : Type 0 where
   pub cursors_len : length c ≡ m.people
@@ -52,7 +53,8 @@ spent m line c p = cond (among line p) 0 (cond (nat_lt (cursor c p) (length (lis
 abbrev pub spent_sum : Market → List ℕ → List ℕ → ℕ
 spent_sum m line c = sum_below m.people (spent m line c)
 
--- a turn of a for the room leads from s to t: nobody joins the line, cursors stay right where a stays at the room, and none of
+-- a turn of a for the room leads from s to t: nobody joins the line, cursors stay right where a
+-- stays at the room, and none of
 -- those who leave has the cursor at the end of the list
 pub record KeepsCursors (m : Market) (a : ℕ) (room : ℕ) (s t : State) : Type 0 where
   pub inside : (p : ℕ) → among t.line p ≡ true → among s.line p ≡ true
@@ -61,7 +63,8 @@ pub record KeepsCursors (m : Market) (a : ℕ) (room : ℕ) (s t : State) : Type
       (c : List ℕ) → AreCursors m s c → StaysAt m c a (Some room)
       → (p : ℕ) → among s.line p ≡ true → among t.line p ≡ false → cursor c p < length (list_of m p)
 
--- a turn that leads from s to t and moves the cursors from c to d reads `read` entries: those that a cursor passes, and the
+-- a turn that leads from s to t and moves the cursors from c to d reads `read` entries: those that
+-- a cursor passes, and the
 -- one at which it stays; none where it is at the end, and its person leaves
 pub record TurnReads (m : Market) (s : State) (c : List ℕ) (t : State) (d : List ℕ) (read : ℕ) : Type 0 where
   pub cursors : AreCursors m t d

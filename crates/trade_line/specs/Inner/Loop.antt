@@ -37,7 +37,9 @@ pub record Closed (m : Market) (tenant : ℕ) (room : ℕ) (s t : State) : Type 
   pub ring : Ring m tenant room s
   pub line_is : t.line ≡ ring.after ++ ring.asks.fresh
   pub stage : stage_at t ≡ leave m (stage_at s) (among (ring.person ∷ ring.others))
-  pub given_ring : (p : ℕ) → among (ring.person ∷ ring.others) p ≡ true → given_to t p ≡ wish m (stage_at s) p
-  pub given_kept : (p : ℕ) → among (ring.person ∷ ring.others) p ≡ false → given_to t p ≡ given_to s p
+  pub given_ring : (p : ℕ) → among (ring.person ∷ ring.others) p ≡ true
+      → given_to t p ≡ wish m (stage_at s) p
+  pub given_kept : (p : ℕ) → among (ring.person ∷ ring.others) p ≡ false
+      → given_to t p ≡ given_to s p
   pub asked_kept : t.asked ≡ s.asked
   pub fits : Fits m t

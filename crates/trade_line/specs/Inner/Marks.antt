@@ -6,9 +6,11 @@ use Rattle.trade_line.specs.Market.{Market, list_of}
 pub record Marked (list : List ℕ) (old : List ℕ) (last : List ℕ) (person : ℕ) (n : ℕ) : Type 0 where
   pub same_len : length last ≡ length old
   pub marked : (k : ℕ) → k < n → slice_index_or last (slice_index_or list k 0) 0 ≡ person
-  pub only : (r : ℕ) → r < length last → slice_index_or last r 0 ≡ person → (k : ℕ) × (k < n) × (slice_index_or list k 0 ≡ r)
+  pub only : (r : ℕ) → r < length last → slice_index_or last r 0 ≡ person
+      → (k : ℕ) × (k < n) × (slice_index_or list k 0 ≡ r)
   pub distinct : (j k : ℕ) → j < k → k < n → slice_index_or list j 0 ≢ slice_index_or list k 0
-  pub kept : (r : ℕ) → r < length old → (slice_index_or last r 0 ≡ slice_index_or old r 0) ⊎ (slice_index_or last r 0 ≡ person)
+  pub kept : (r : ℕ) → r < length old
+      → (slice_index_or last r 0 ≡ slice_index_or old r 0) ⊎ (slice_index_or last r 0 ≡ person)
 
 -- the lists of the first n people have no room twice, and nobody after them has marked a room
 pub record AreDistinct (m : Market) (last : List ℕ) (n : ℕ) : Type 0 where

@@ -22,7 +22,8 @@ last_of a (b ∷ r) = last_of b r
 -- those behind a wait, each for the home of the one before
 abbrev pub WaitsBehind : Market → Stage → ℕ → List ℕ → Type 0
 WaitsBehind m s a [] = Unit {0}
-WaitsBehind m s a (b ∷ r) = ((h : ℕ) × (home m a ≡ Some h) × (wish m s b ≡ Some h)) × WaitsBehind m s b r
+WaitsBehind m s a (b ∷ r) = ((h : ℕ) × (home m a ≡ Some h) × (wish m s b ≡ Some h))
+    × WaitsBehind m s b r
 
 abbrev pub Waits : Market → Stage → List ℕ → Type 0
 Waits m s [] = Unit {0}

@@ -18,4 +18,5 @@ pub record IsTrade (m : Market) (s : Stage) (group : ℕ → Bool) : Type 0 wher
 -- f gives everybody who remains what a series of such removals gives
 pub data Leads (m : Market) (f : ℕ → Option ℕ) : Stage → Type 0 where
   done : {s : Stage} → ((p : ℕ) → s.people p ≡ false) → Leads m f s
-  trade : {s : Stage} (group : ℕ → Bool) → IsTrade m s group → ((p : ℕ) → group p ≡ true → f p ≡ wish m s p) → Leads m f (leave m s group) → Leads m f s
+  trade : {s : Stage} (group : ℕ → Bool) → IsTrade m s group
+      → ((p : ℕ) → group p ≡ true → f p ≡ wish m s p) → Leads m f (leave m s group) → Leads m f s

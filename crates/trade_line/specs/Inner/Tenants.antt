@@ -10,5 +10,7 @@ pub record IsTenants (m : Market) (tenants : List (Option ℕ)) : Type 0 where
 
 -- the same of the first n people alone, who all have different homes
 pub record AreHoused (homes : List (Option ℕ)) (tenants : List (Option ℕ)) (n : ℕ) : Type 0 where
-  pub housed : (r : ℕ) → r < length tenants → slice_index_or tenants r None ≡ first_below n (λ p. is_room r (slice_index_or homes p None))
-  pub differ : (p q r : ℕ) → p < n → q < n → slice_index_or homes p None ≡ Some r → slice_index_or homes q None ≡ Some r → p ≡ q
+  pub housed : (r : ℕ) → r < length tenants
+      → slice_index_or tenants r None ≡ first_below n (λ p. is_room r (slice_index_or homes p None))
+  pub differ : (p q r : ℕ) → p < n → q < n → slice_index_or homes p None ≡ Some r
+      → slice_index_or homes q None ≡ Some r → p ≡ q

@@ -3,8 +3,8 @@ use Rattle.std.proofs.lemmas.List.{take_all}
 use Rattle.room_types.proofs.StreamLemmas.{or_true, Puts-kept}
 use Rattle.office_cli.proofs.carry_out.say.Goals as goal
 
-pub returns-in-Err-flush : goal.returns-in-Err-flush
-returns-in-Err-flush g c =
+pub returns-in-Err-flush-clause-says : goal.returns-in-Err-flush-clause-says
+returns-in-Err-flush-clause-says g c =
     let text = c.args.text.now in
     let whole : take (length text) text ≡ text = take_all (length text) text (omega arith) in
     let sent = rw c.as_bytes.ensures.value at c.in-Ok.ensures.sent in

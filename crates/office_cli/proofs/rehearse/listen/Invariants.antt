@@ -1,6 +1,7 @@
 use Rattle.std.proofs.Common.{◌≡◌, ◌*◌, ◌^◌, ◌≤◌, length}
 use Rattle.room_types.specs.Streams.{output_of}
-use Rattle.room_types.specs.Watched.{watched_inner, watched_failed, watched_reads}
+use Rattle.room_types.specs.Watched.{watched_inner, watched_failed, watched_reads, watched_ended, StopsAtEnd, StopsAtFailure}
+use Rattle.office_cli.specs.Lines.{line_limit}
 use Rattle.office_cli.specs.Sessions.{Listened, state}
 use Rattle.office_cli.proofs.rehearse.listen.Given as goal
 
@@ -18,5 +19,9 @@ invariant-reads g l =
       bound : l.session.sent ≤ l.counter * 2 ^ 76;
       count : watched_reads l.input ≡ l.counter;
       failed : watched_failed l.input ≡ watched_failed l.fn.input;
+      ended : watched_ended l.input ≡ watched_ended l.fn.input;
+      begun : length l.session.partial_line.items ≤ line_limit;
+      no_late_read : StopsAtEnd l.fn.input l.input;
+      no_late_write : StopsAtFailure l.fn.output l.output;
       ready : g.H.Handler.is_ready l.handler;
     }

@@ -4,11 +4,11 @@ use Rattle.std.proofs.Math.Seq.{take-add}
 use Rattle.std.proofs.lemmas.List.{length-drop, length-take}
 use Rattle.room_types.specs.Watched.{counted}
 use Rattle.room_types.specs.Streams.{count_after}
-use Rattle.room_types.proofs.StreamLemmas.{Puts-nil, Puts-none, count_after-counted, take_rest, kept_by_write}
+use Rattle.room_types.proofs.StreamLemmas.{Puts-nil, Puts-none, count_after-counted, take_rest, kept_by_write, or_known}
 use Rattle.room_types.proofs.send.send.Goals as goal
 
 pub loop-sent-init : goal.loop-sent-init
-loop-sent-init g c = record { within = omega arith; written = Puts-nil _; flushes = refl; failed = refl }
+loop-sent-init g c = record { within = omega arith; written = Puts-nil _; flushes = refl; failed = refl; stops = λ e. refl }
 
 pub loop-sent-preserved : goal.loop-sent-preserved
 loop-sent-preserved g c =
@@ -30,6 +30,7 @@ loop-sent-preserved g c =
       };
       flushes = clauses.flushes ∙ c.loop-sent.invariant.flushes;
       failed = clauses.failed ∙ kept_by_write _ _ n some ∙ c.loop-sent.invariant.failed;
+      stops = λ e. clauses.late ∙ or_known _ _ (c.loop-sent.invariant.failed ∙ e) ∙ c.loop-sent.invariant.stops e;
     }
 
 pub returns-in-Ok-eq0-clause-front : goal.returns-in-Ok-eq0-clause-front

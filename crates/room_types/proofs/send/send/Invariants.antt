@@ -1,5 +1,5 @@
 use Rattle.std.proofs.Common.{length, ◌-◌, ◌≡◌, ◌≤◌, take}
-use Rattle.room_types.specs.Watched.{watched_failed, watched_flushes}
+use Rattle.room_types.specs.Watched.{watched_failed, watched_flushes, StopsAtFailure}
 use Rattle.room_types.specs.Streams.{Puts, output_of}
 use Rattle.room_types.proofs.send.send.Given as goal
 
@@ -12,6 +12,7 @@ invariant-loop-sent g l =
       written : Puts (output_of contents l.fn.output) (output_of contents l.output) (take l.sent l.text);
       flushes : watched_flushes l.output ≡ watched_flushes l.fn.output;
       failed : watched_failed l.output ≡ watched_failed l.fn.output;
+      stops : StopsAtFailure l.fn.output l.output;
     }
 
 abbrev pub decreases-loop-sent : goal.decreases-loop-sent

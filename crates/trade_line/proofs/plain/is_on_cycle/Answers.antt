@@ -1,5 +1,6 @@
 use Rattle.std.proofs.Common.{◌≡◌, ◌==◌, suc, false, sym, ◌∙◌, ap, subst, arith, add-one, ne_eqb, refl}
-use Rattle.trade_line.specs.Below.{some_below, times}
+use Rattle.std.specs.Fn.{iterate}
+use Rattle.trade_line.specs.Below.{some_below}
 use Rattle.trade_line.specs.TopTradingCycles.{successor, remaining_count}
 use Rattle.trade_line.specs.Inner.Plain.{remains}
 use Rattle.trade_line.proofs.Count.{times_after}
@@ -27,14 +28,14 @@ returns-then-at-person c =
 
 pub loop-turn-preserved : goal.loop-turn-preserved
 loop-turn-preserved c =
-    let next : c.successor-at.result ≡ times (suc c.loop-turn.turn) (successor c.args.problem.now (remains c.args.stage.now)) c.args.person =
+    let next : c.successor-at.result ≡ iterate (successor c.args.problem.now (remains c.args.stage.now)) (suc c.loop-turn.turn) c.args.person =
     c.successor-at.ensures.successor ∙ ap (successor c.args.problem.now (remains c.args.stage.now)) c.loop-turn.invariant.reached
     ∙ sym (times_after (successor c.args.problem.now (remains c.args.stage.now)) c.loop-turn.turn c.args.person) in
-    let away : (times (suc c.loop-turn.turn) (successor c.args.problem.now (remains c.args.stage.now)) c.args.person == c.args.person) ≡ false =
+    let away : (iterate (successor c.args.problem.now (remains c.args.stage.now)) (suc c.loop-turn.turn) c.args.person == c.args.person) ≡ false =
     ne_eqb _ _ (λ e. c.if-at-person.false (next ∙ e)) in record {
-      reached = next ∙ ap (λ k. times k (successor c.args.problem.now (remains c.args.stage.now)) c.args.person) (sym (add-one c.loop-turn.turn));
+      reached = next ∙ ap (λ k. iterate (successor c.args.problem.now (remains c.args.stage.now)) k c.args.person) (sym (add-one c.loop-turn.turn));
       stands = c.successor-at.ensures.remains;
-      not_yet = some_more c.loop-turn.turn (λ k. times (suc k) (successor c.args.problem.now (remains c.args.stage.now)) c.args.person == c.args.person) c.loop-turn.invariant.not_yet away;
+      not_yet = some_more c.loop-turn.turn (λ k. iterate (successor c.args.problem.now (remains c.args.stage.now)) (suc k) c.args.person == c.args.person) c.loop-turn.invariant.not_yet away;
     }
 
 pub returns : goal.returns
@@ -42,4 +43,4 @@ returns c =
     let at : c.loop-turn.turn ≡ remaining_count c.args.problem.now (remains c.args.stage.now) = omega (arith, c.loop-turn-test.false, c.loop-turn.auto.turn-end, c.count-turn-end.ensures) in
     sym (cycle_none c.args.problem.now (remains c.args.stage.now) c.args.person
     (read_mark c.args.stage.now.people.items c.args.person c.index.result.now (omega (arith, c.requires.person, c.requires.marks.people_len)) c.index.ensures ∙ c.if-not-index.false)
-    (subst (λ n. some_below n (λ k. times (suc k) (successor c.args.problem.now (remains c.args.stage.now)) c.args.person == c.args.person) ≡ false) at c.loop-turn.invariant.not_yet))
+    (subst (λ n. some_below n (λ k. iterate (successor c.args.problem.now (remains c.args.stage.now)) (suc k) c.args.person == c.args.person) ≡ false) at c.loop-turn.invariant.not_yet))

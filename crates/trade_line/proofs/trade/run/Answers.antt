@@ -6,7 +6,7 @@ use Rattle.trade_line.specs.TradeApart.{HasNoBetterTradeApart}
 use Rattle.trade_line.specs.Looks.{all_needed}
 use Rattle.trade_line.specs.Inner.State.{state_of}
 use Rattle.trade_line.proofs.Whole.{underway_asks, underway_start, underway_end, all_same}
-use Rattle.trade_line.proofs.Cursors.{read_start, read_all, needed_listed}
+use Rattle.trade_line.proofs.ReadSums.{read_start, read_all, needed_listed}
 use Rattle.trade_line.proofs.Given.{given_assignment, given_rational, given_efficient, given_apart}
 use Rattle.trade_line.proofs.trade.run.Goals as goal
 

@@ -2,7 +2,9 @@ use Rattle.std.proofs.Common.{◌<◌, ◌∙◌, ap, arith, Some, refl}
 use Rattle.trade_line.specs.Rank.{rank}
 use Rattle.trade_line.specs.Inner.State.{state_of}
 use Rattle.trade_line.proofs.States.{front_known, wish_found, marked_asks, marked_onward, floored_onward}
-use Rattle.trade_line.proofs.Cursors.{ask_finds, granted_tells, others_wait, turn_found, turn_found_none, front_in, tail_gone}
+use Rattle.trade_line.proofs.Asking.{ask_finds}
+use Rattle.trade_line.proofs.Cursors.{granted_tells, others_wait, front_in, tail_gone}
+use Rattle.trade_line.proofs.ReadSums.{turn_found, turn_found_none}
 use Rattle.trade_line.proofs.trade.turn.Goals as goal
 
 pub mark-requires : goal.mark-requires

@@ -21,7 +21,8 @@ returns-then-byte-eq10-clause-halted g c =
 pub returns-then-len-ge-LINE_LIMIT-clause-halted : goal.returns-then-len-ge-LINE_LIMIT-clause-halted
 returns-then-len-ge-LINE_LIMIT-clause-halted g c =
     let other : eqb c.args.byte 10 ≡ false = search (rules, tests) in
-    too_long _ _ c.args.byte other (omega (arith, c.args.self.now.partial_line.ok.0, c.len.ensures, c.if-len-ge-LINE_LIMIT.true))
+    let line = c.args.self.now.partial_line in
+    too_long _ _ c.args.byte other (omega (arith, line.ok.0, c.len.ensures, c.if-len-ge-LINE_LIMIT.true, c.args.self.now.short))
 
 pub returns-in-Ok-clause-heard : goal.returns-in-Ok-clause-heard
 returns-in-Ok-clause-heard g c =
@@ -29,4 +30,6 @@ returns-in-Ok-clause-heard g c =
     rw c.in-Ok.ensures.items (longer_heard _ _ _ _ _ _ c.args.byte other)
 
 pub returns-in-Err-clause-halted : goal.returns-in-Err-clause-halted
-returns-in-Err-clause-halted g c = no_room _ _ c.args.byte
+returns-in-Err-clause-halted g c =
+    let other : eqb c.args.byte 10 ≡ false = search (rules, tests) in
+    no_room _ _ c.args.byte other (omega (arith, c.args.self.now.partial_line.ok.0, c.len.ensures, c.if-len-ge-LINE_LIMIT.false))

@@ -1,5 +1,6 @@
 use Rattle.std.proofs.Common.{◌+◌, ◌*◌, ◌^◌, ◌≤◌, take}
 use Rattle.room_types.specs.Streams.{output_of}
+use Rattle.room_types.specs.Watched.{StopsAtFailure}
 use Rattle.office_cli.specs.Sessions.{Heard, state}
 use Rattle.office_cli.proofs.session.Session.take_piece.Given as goal
 
@@ -12,5 +13,6 @@ invariant-loop-byte g l =
           (state l.fn.handler (output_of contents l.fn.output) l.fn.self)
           (state l.handler (output_of contents l.output) l.self) (take l.byte-index l.piece);
       bound : l.self.sent ≤ l.fn.self.sent + l.byte-index * 2 ^ 64;
+      stops : StopsAtFailure l.fn.output l.output;
       ready : g.H.Handler.is_ready l.handler;
     }

@@ -7,5 +7,7 @@ pub loop-change-preserved : goal.loop-change-preserved
 loop-change-preserved c =
     c.in_ok-apply.ensures.ok
     ∙ ap (λ office. applied office c.change-item.result) c.loop-change.invariant
-    ∙ ap (λ change. applied (applied_all c.args.office.now (take c.loop-change.change-index c.args.changes.now)) change) c.change-item.is
-    ∙ sym (applied_all-more c.args.office.now c.args.changes.now c.loop-change.change-index c.change-item.result c.loop-change-test.true)
+    ∙ ap (λ change. applied (applied_all c.args.office.now
+    (take c.loop-change.change-index c.args.changes.now)) change) c.change-item.is
+    ∙ sym (applied_all-more c.args.office.now c.args.changes.now c.loop-change.change-index
+    c.change-item.result c.loop-change-test.true)

@@ -4,4 +4,5 @@ use Rattle.office_core.proofs.command.draw.words_put.Given as goal
 
 -- the changes so far and those for who is left are all
 abbrev pub invariant-loop-i : goal.invariant-loop-i
-invariant-loop-i l = l.changes.items ++ words_put (drop l.i l.people) (drop l.i l.words) ≡ words_put l.people l.words
+invariant-loop-i l =
+    l.changes.items ++ words_put (drop l.i l.people) (drop l.i l.words) ≡ words_put l.people l.words

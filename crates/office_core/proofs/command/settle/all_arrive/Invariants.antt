@@ -4,4 +4,5 @@ use Rattle.office_core.proofs.command.settle.all_arrive.Given as goal
 
 -- the changes before, and those of who has come so far
 abbrev pub invariant-loop-mover : goal.invariant-loop-mover
-invariant-loop-mover l = l.changes.items ≡ l.fn.changes.items ++ map arriving (take l.mover-index l.movers)
+invariant-loop-mover l =
+    l.changes.items ≡ l.fn.changes.items ++ map arriving (take l.mover-index l.movers)

@@ -7,5 +7,12 @@ loop-id-init c = record {
   can = search rules;
   ends = search rules;
   counted = search rules;
-  fits = omega (arith, c.iter-id-items.ensures.fits, len-entries c.args.self.now.people, ap length c.iter-id-items.ensures.rest, ap length c.into_iter-id-iterator.ensures.into_iter_gives);
+  fits = omega (
+    arith,
+    c.iter-id-items.ensures.fits,
+    len-entries c.args.self.now.people,
+    ap length
+        c.iter-id-items.ensures.rest,
+    ap length c.into_iter-id-iterator.ensures.into_iter_gives,
+  );
 }

@@ -8,6 +8,7 @@ abbrev pub invariant-loop-id : goal.invariant-loop-id
 invariant-loop-id l = record {
   can : (goal.iterator-loop-id).can_next l.id-iterator;
   ends : (goal.iterator-loop-id).is_finite l.id-iterator;
-  counted : l.count + length (map (λ e. e.0) (filter (λ e. not (has_withdrawn l.self e.0)) l.id-iterator)) ≡ length (participants l.self);
+  counted : l.count + length (map (λ e. e.0)
+      (filter (λ e. not (has_withdrawn l.self e.0)) l.id-iterator)) ≡ length (participants l.self);
   fits : l.count + length l.id-iterator < 2 ^ 63;
 }

@@ -8,5 +8,6 @@ abbrev pub invariant-loop-id : goal.invariant-loop-id
 invariant-loop-id l = record {
   can : (goal.iterator-loop-id).can_next l.id-iterator;
   ends : (goal.iterator-loop-id).is_finite l.id-iterator;
-  found : l.people.items ++ map (λ e. e.0) (filter (λ e. not (has_withdrawn l.self e.0)) l.id-iterator) ≡ participants l.self;
+  found : l.people.items ++ map (λ e. e.0)
+      (filter (λ e. not (has_withdrawn l.self e.0)) l.id-iterator) ≡ participants l.self;
 }

@@ -8,5 +8,6 @@ abbrev pub invariant-loop-id : goal.invariant-loop-id
 invariant-loop-id l = record {
   can : (goal.iterator-loop-id).can_next l.id-iterator;
   ends : (goal.iterator-loop-id).is_finite l.id-iterator;
-  first : first_person (lives_in l.room) (map.entries l.self.people) ≡ first_person (lives_in l.room) l.id-iterator;
+  first : first_person (lives_in l.room) (map.entries l.self.people)
+      ≡ first_person (lives_in l.room) l.id-iterator;
 }

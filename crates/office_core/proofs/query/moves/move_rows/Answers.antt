@@ -7,4 +7,6 @@ use Rattle.office_core.proofs.query.moves.move_rows.Goals as goal
 pub returns-in_default-clause-rows : goal.returns-in_default-clause-rows
 returns-in_default-clause-rows c =
     c.new-rows.ensures.items
-    ∙ sym (ap (λ es. map (move_row c.args.round) es) (no_moves c.args.office.now.moves c.args.round (sym c.get.ensures ∙ ap option_copied c.in_default.is)))
+    ∙ sym (ap (λ es. map (move_row c.args.round) es)
+    (no_moves c.args.office.now.moves c.args.round
+    (sym c.get.ensures ∙ ap option_copied c.in_default.is)))

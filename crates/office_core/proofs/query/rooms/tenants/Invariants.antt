@@ -9,5 +9,6 @@ abbrev pub invariant-loop-id : goal.invariant-loop-id
 invariant-loop-id l = record {
   can : (goal.iterator-loop-id).can_next l.id-iterator;
   ends : (goal.iterator-loop-id).is_finite l.id-iterator;
-  found : (room : List ℕ) → option_or (map.get l.tenants room) (first_person (lives_in room) l.id-iterator) ≡ tenant l.office room;
+  found : (room : List ℕ) → option_or (map.get l.tenants room)
+      (first_person (lives_in room) l.id-iterator) ≡ tenant l.office room;
 }

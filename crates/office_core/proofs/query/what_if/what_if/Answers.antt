@@ -11,5 +11,8 @@ returns-clause-no_gain c =
     let office = c.args.office.now in
     let person = c.args.person.now in
     let n = none_applies (checks office person c.args.choices.now) c.in_ok-may_ask.ensures in
-    let part : is_participant office person ≡ true = (λ i. not-false _ n.1.0 i && not (n.1.1.0 i)) in
-    subst (λ room. round_rank office person room ≤ round_rank office person c.in_ok-room.room) (sym (recorded office c.requires (not-false _ n.0) person part)) c.in_ok-room.ensures.no_gain
+    let part : is_participant office person ≡ true =
+    (λ i. not-false _ n.1.0 i && not (n.1.1.0 i)) in
+    subst (λ room. round_rank office person room ≤ round_rank office person c.in_ok-room.room)
+    (sym (recorded office c.requires (not-false _ n.0) person part))
+    c.in_ok-room.ensures.no_gain

@@ -5,4 +5,6 @@ use Rattle.office_core.proofs.refusal.rooms.may_list_all.Given as goal
 
 -- the first refusal is that of the rooms that are left
 abbrev pub invariant-loop-room : goal.invariant-loop-room
-invariant-loop-room l = first_refusal (flat_map (room_checks l.office) l.rooms) ≡ first_refusal (flat_map (room_checks l.office) (drop l.room-index l.rooms))
+invariant-loop-room l =
+    first_refusal (flat_map (room_checks l.office) l.rooms)
+    ≡ first_refusal (flat_map (room_checks l.office) (drop l.room-index l.rooms))

@@ -5,4 +5,6 @@ use Rattle.office_core.specs.Office.{home_of}
 use Rattle.office_core.proofs.round.lists.homes.Given as goal
 
 abbrev pub invariant-loop-person : goal.invariant-loop-person
-invariant-loop-person l = l.homes.items ≡ map (λ p. option_and_then (maps.get l.numbers) (home_of l.office p)) (take l.person-index l.people)
+invariant-loop-person l =
+    l.homes.items ≡ map (λ p. option_and_then (maps.get l.numbers) (home_of l.office p))
+    (take l.person-index l.people)

@@ -9,5 +9,7 @@ abbrev pub invariant-loop-id : goal.invariant-loop-id
 invariant-loop-id l = record {
   can : (goal.iterator-loop-id).can_next l.id-iterator;
   ends : (goal.iterator-loop-id).is_finite l.id-iterator;
-  found : l.lots.items ++ map (λ p. (p, word_of l.office p)) (map (λ e. e.0) (filter (λ e. not (has_withdrawn l.office e.0)) l.id-iterator)) ≡ lots_of l.office;
+  found : l.lots.items ++ map (λ p. (p, word_of l.office p))
+      (map (λ e. e.0) (filter (λ e. not (has_withdrawn l.office e.0)) l.id-iterator))
+      ≡ lots_of l.office;
 }

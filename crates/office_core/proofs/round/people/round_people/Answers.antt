@@ -4,6 +4,9 @@ use Rattle.draw_order.specs.Draw.{drawn_order}
 use Rattle.office_core.specs.Round.{round_people}
 use Rattle.office_core.proofs.round.people.round_people.Goals as goal
 
-pub returns : goal.returns
+pub returns-clause-people : goal.returns-clause-people
 unfolding round_people
-returns c = IfOk-weaker c.order.result _ _ (λ people is. is ∙ ap drawn_order (c.deref.ensures.value ∙ c.in_ok-lots.ensures)) c.order.ensures.computed
+returns-clause-people c =
+    IfOk-weaker c.order.result _ _
+    (λ people is. is ∙ ap drawn_order (c.deref.ensures.value ∙ c.in_ok-lots.ensures.lots))
+    c.order.ensures.computed

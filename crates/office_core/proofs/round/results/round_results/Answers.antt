@@ -8,8 +8,11 @@ use Rattle.office_core.proofs.RoundLemmas.People.{people_differ}
 use Rattle.office_core.proofs.RoundLemmas.Results.{results-same}
 use Rattle.office_core.proofs.round.results.round_results.Goals as goal
 
-pub named-requires : goal.named-requires
-named-requires c = subst (λ names. AllPairs ◌≢◌ names) (sym (c.deref.ensures.value ∙ c.in_ok-round.ensures.problem.people)) (people_differ c.args.office.now)
+pub results_by_person-requires : goal.results_by_person-requires
+results_by_person-requires c =
+    subst (λ names. AllPairs ◌≢◌ names)
+    (sym (c.deref.ensures.value ∙ c.in_ok-round.ensures.problem.people))
+    (people_differ c.args.office.now)
 
 pub returns : goal.returns
 returns c =
@@ -17,7 +20,9 @@ returns c =
     let ok : IsMarket (round_market office) = c.in_ok-round.ensures.well_formed in
     let about = c.in_ok-round.ensures.problem in
     record {
-      results = IfOk-weaker c.named.result _ _ (λ results told.
-          results-same office results c.deref.result.now c.deref-2.result.now c.in_ok-outcome.outcome.rooms ok
-          (c.deref.ensures.value ∙ about.people) (c.deref-2.ensures.value ∙ about.rooms) (c.in_ok-outcome.ensures ∙ ap ttc about.market) told) c.named.ensures;
+      results = IfOk-weaker c.results_by_person.result _ _ (λ results told.
+          results-same office results c.deref.result.now c.deref-2.result.now
+          c.in_ok-outcome.outcome.rooms ok
+          (c.deref.ensures.value ∙ about.people) (c.deref-2.ensures.value ∙ about.rooms)
+          (c.in_ok-outcome.ensures ∙ ap ttc about.market) told) c.results_by_person.ensures;
     }

@@ -10,5 +10,7 @@ abbrev pub invariant-loop-id : goal.invariant-loop-id
 invariant-loop-id l = record {
   can : (goal.iterator-loop-id).can_next l.id-iterator;
   ends : (goal.iterator-loop-id).is_finite l.id-iterator;
-  found : (room : List ℕ) → (map.contains_key l.homes room || list_any (λ e. has_withdrawn l.office e.0 && lives_in room e.1) l.id-iterator) ≡ is_kept_back l.office room;
+  found : (room : List ℕ) → (map.contains_key l.homes room
+      || list_any (λ e. has_withdrawn l.office e.0 && lives_in room e.1) l.id-iterator)
+      ≡ is_kept_back l.office room;
 }

@@ -9,6 +9,8 @@ abbrev pub invariant-loop-id : goal.invariant-loop-id
 invariant-loop-id l = record {
   can : (goal.iterator-loop-id).can_next l.id-iterator;
   ends : (goal.iterator-loop-id).is_finite l.id-iterator;
-  found : l.movers.items ++ map (λ p. (p, home_of l.office p, recorded_result l.office p)) (filter (moves_out l.office) (map (λ e. e.0) (filter (λ e. not (has_withdrawn l.office e.0)) l.id-iterator)))
+  found : l.movers.items ++ map (λ p. (p, home_of l.office p, recorded_result l.office p))
+      (filter (moves_out l.office) (map (λ e. e.0)
+      (filter (λ e. not (has_withdrawn l.office e.0)) l.id-iterator)))
       ≡ movers l.office;
 }

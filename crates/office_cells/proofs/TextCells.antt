@@ -1,0 +1,34 @@
+-- Cells of phases and words.
+use Rattle.std.proofs.Common.{◌≡◌, ℕ, ◌^◌, ◌<◌, true, not, List, Option, Some, None, sym, ap, ◌∙◌}
+use Rattle.std.specs.Prelude.{nat_eq, unwrap_or, refl}
+use Rattle.std.specs.Str.{IsUtf8}
+use Rattle.std.specs.Cmp.Lexicographic.{pointwise, nat_list_eq_equiv}
+use Rattle.sqlite_value.specs.declared.value.Value.{Value}
+use Rattle.sqlite_value.specs.declared.value.Value.TheVariants.{Text}
+use Rattle.room_types.specs.Phases.{phase_text}
+use Rattle.room_types.specs.declared.phase.Phase.{Phase}
+use Rattle.room_types.specs.declared.phase.Phase.TheVariants.{Idle, Opened, Closed, Drawn, Ran, Published}
+use Rattle.room_types.specs.Words.{word_of, word_text}
+use Rattle.room_types.proofs.WordTexts.{word_read}
+
+pub phase_utf8 : (phase : Phase) → IsUtf8 (phase_text phase)
+unfolding lib.Utf8.encode
+phase_utf8 Idle = (phase_text Idle, (refl, refl))
+phase_utf8 Opened = (phase_text Opened, (refl, refl))
+phase_utf8 Closed = (phase_text Closed, (refl, refl))
+phase_utf8 Drawn = (phase_text Drawn, (refl, refl))
+phase_utf8 Ran = (phase_text Ran, (refl, refl))
+phase_utf8 Published = (phase_text Published, (refl, refl))
+
+pub same_bytes : (v : Value) (t u : List ℕ) → v ≡ Text t → v ≡ Text u → t ≡ u
+same_bytes v t u e f = cc
+
+pub unread : (text : List ℕ) (n : ℕ) → n < 2 ^ 64 → text ≡ word_text n → word_of text ≡ None → ⊥
+unread text n h is none = let some = ap word_of is ∙ word_read n h in cc
+
+pub shown_same : (shown text : List ℕ) (n m : ℕ) → n < 2 ^ 64 → text ≡ word_text n → word_of text ≡ Some m → shown ≡ word_text m → true ≡ not (pointwise nat_eq shown text) → ⊥
+shown_same shown text n m h is read told differ =
+    let number : n ≡ m = ap (λ (o : Option ℕ). unwrap_or o n) (sym (word_read n h) ∙ ap word_of (sym is) ∙ read) in
+    let same : shown ≡ text = told ∙ ap word_text (sym number) ∙ sym is in
+    let equal : pointwise nat_eq shown text ≡ true = ap (λ t. pointwise nat_eq t text) same ∙ nat_list_eq_equiv.refl text in
+    cc

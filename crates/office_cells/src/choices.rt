@@ -1,0 +1,35 @@
+//! Rows of recorded lists.
+use crate::cells::{count_in, text_in};
+use crate::records::Record;
+use office_rows::ChoiceRecord;
+use room_types::OutOfMemory;
+use sqlite::Row;
+use std::alloc::Global;
+
+impl Record for ChoiceRecord {
+    ghost use Rattle.office_cells.specs.Columns.{choice_columns, three};
+    ghost use Rattle.office_cells.specs.Forms.{IsChoiceRow};
+
+    ghost is_form = { IsChoiceRow };
+
+    ghost front = { three };
+
+    ghost columns = { choice_columns };
+
+    fn from_row(alloc: Global, row: &Row) -> Result<Option<ChoiceRecord>, OutOfMemory> {
+        let Some(person) = text_in(alloc, row, 0)? else {
+            return Ok(None);
+        };
+        let Some(place) = count_in(row, 1)? else {
+            return Ok(None);
+        };
+        let Some(room) = text_in(alloc, row, 2)? else {
+            return Ok(None);
+        };
+        Ok(Some(ChoiceRecord {
+            person,
+            place,
+            room,
+        }))
+    }
+}

@@ -1,0 +1,42 @@
+//! Rows of moves.
+use crate::cells::{optional_text_in, short_in, text_in, wave_in};
+use crate::records::Record;
+use room_types::{Move, OutOfMemory};
+use sqlite::Row;
+use std::alloc::Global;
+
+impl Record for Move {
+    ghost use Rattle.office_cells.specs.Columns.{move_columns, five};
+    ghost use Rattle.office_cells.specs.Forms.{IsMoveRow};
+
+    ghost is_form = { IsMoveRow };
+
+    ghost front = { five };
+
+    ghost columns = { move_columns };
+
+    fn from_row(alloc: Global, row: &Row) -> Result<Option<Move>, OutOfMemory> {
+        let Some(round) = short_in(row, 0)? else {
+            return Ok(None);
+        };
+        let Some(person) = text_in(alloc, row, 1)? else {
+            return Ok(None);
+        };
+        let Some(from) = optional_text_in(alloc, row, 2)? else {
+            return Ok(None);
+        };
+        let Some(to) = optional_text_in(alloc, row, 3)? else {
+            return Ok(None);
+        };
+        let Some(wave) = wave_in(row, 4)? else {
+            return Ok(None);
+        };
+        Ok(Some(Move {
+            round,
+            person,
+            from,
+            to,
+            wave,
+        }))
+    }
+}

@@ -1,0 +1,43 @@
+//! Rows of people.
+use crate::cells::{flag_in, optional_text_in, text_in};
+use crate::records::Record;
+use office_core::Person;
+use office_rows::PersonRecord;
+use room_types::OutOfMemory;
+use sqlite::Row;
+use std::alloc::Global;
+
+impl Record for PersonRecord {
+    ghost use Rattle.office_cells.specs.Columns.{person_columns, five};
+    ghost use Rattle.office_cells.specs.Forms.{IsPersonRow};
+
+    ghost is_form = { IsPersonRow };
+
+    ghost front = { five };
+
+    ghost columns = { person_columns };
+
+    fn from_row(alloc: Global, row: &Row) -> Result<Option<PersonRecord>, OutOfMemory> {
+        let Some(id) = text_in(alloc, row, 0)? else {
+            return Ok(None);
+        };
+        let Some(name) = text_in(alloc, row, 1)? else {
+            return Ok(None);
+        };
+        let Some(key) = text_in(alloc, row, 2)? else {
+            return Ok(None);
+        };
+        let Some(home) = optional_text_in(alloc, row, 3)? else {
+            return Ok(None);
+        };
+        let Some(withdrawn) = flag_in(row, 4)? else {
+            return Ok(None);
+        };
+        let person = Person { name, key, home };
+        Ok(Some(PersonRecord {
+            id,
+            person,
+            withdrawn,
+        }))
+    }
+}

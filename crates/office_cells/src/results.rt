@@ -1,0 +1,28 @@
+//! Rows of results.
+use crate::cells::{optional_text_in, text_in};
+use crate::records::Record;
+use office_core::Assigned;
+use room_types::{OutOfMemory, PersonId};
+use sqlite::Row;
+use std::alloc::Global;
+
+impl Record for (PersonId, Assigned) {
+    ghost use Rattle.office_cells.specs.Columns.{result_columns, two};
+    ghost use Rattle.office_cells.specs.Forms.{IsResultRow};
+
+    ghost is_form = { IsResultRow };
+
+    ghost front = { two };
+
+    ghost columns = { result_columns };
+
+    fn from_row(alloc: Global, row: &Row) -> Result<Option<(PersonId, Assigned)>, OutOfMemory> {
+        let Some(person) = text_in(alloc, row, 0)? else {
+            return Ok(None);
+        };
+        let Some(room) = optional_text_in(alloc, row, 1)? else {
+            return Ok(None);
+        };
+        Ok(Some((person, Assigned { room })))
+    }
+}

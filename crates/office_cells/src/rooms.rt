@@ -1,0 +1,27 @@
+//! Rows of rooms.
+use crate::cells::{flag_in, text_in};
+use crate::records::Record;
+use room_types::{OutOfMemory, RoomCode};
+use sqlite::Row;
+use std::alloc::Global;
+
+impl Record for (RoomCode, bool) {
+    ghost use Rattle.office_cells.specs.Columns.{room_columns, two};
+    ghost use Rattle.office_cells.specs.Forms.{IsRoomRow};
+
+    ghost is_form = { IsRoomRow };
+
+    ghost front = { two };
+
+    ghost columns = { room_columns };
+
+    fn from_row(alloc: Global, row: &Row) -> Result<Option<(RoomCode, bool)>, OutOfMemory> {
+        let Some(code) = text_in(alloc, row, 0)? else {
+            return Ok(None);
+        };
+        let Some(shut) = flag_in(row, 1)? else {
+            return Ok(None);
+        };
+        Ok(Some((code, shut)))
+    }
+}

@@ -1,0 +1,55 @@
+//! Rows of words.
+ghost use Rattle.std.specs.Prelude.{◌≡◌, IfOk, IfSome, MatchOption};
+ghost use Rattle.sqlite_value.specs.Order.{column};
+ghost use Rattle.sqlite_value.specs.declared.value.Value.TheVariants.{Text as text_value};
+ghost use Rattle.room_types.specs.Words.{word_text};
+ghost use Rattle.office_cells.specs.Cells.{IsWord};
+
+use crate::cells::{string_in, text_in};
+use crate::records::Record;
+use room_types::{OutOfMemory, PersonId, Word};
+use sqlite::Row;
+use std::alloc::Global;
+
+// A column as a word. Its digits are in lower case, as they are printed.
+fn word_in(alloc: Global, row: &Row, at: usize) -> Result<Option<Word>, OutOfMemory>
+    ensures told { IfOk result (λ found. MatchOption found (¬ IsWord (column row.now at))
+        (λ w. column row.now at ≡ text_value (word_text w))) }
+    ensures formed { IfOk result (λ found. IfSome found (λ _. IsWord (column row.now at))) }
+{
+    let Some(text) = string_in(row, at)? else {
+        return Ok(None);
+    };
+    let word = match Word::read(text.as_str()) {
+        Ok(word) => word,
+        Err(_) => return Ok(None),
+    };
+    let Ok(digits) = format!(in alloc; "{word}") else {
+        return Err(OutOfMemory {});
+    };
+    if digits.as_str() != text.as_str() {
+        return Ok(None);
+    }
+    Ok(Some(word))
+}
+
+impl Record for (PersonId, Word) {
+    ghost use Rattle.office_cells.specs.Columns.{word_columns, two};
+    ghost use Rattle.office_cells.specs.Forms.{IsWordRow};
+
+    ghost is_form = { IsWordRow };
+
+    ghost front = { two };
+
+    ghost columns = { word_columns };
+
+    fn from_row(alloc: Global, row: &Row) -> Result<Option<(PersonId, Word)>, OutOfMemory> {
+        let Some(person) = text_in(alloc, row, 0)? else {
+            return Ok(None);
+        };
+        let Some(word) = word_in(alloc, row, 1)? else {
+            return Ok(None);
+        };
+        Ok(Some((person, word)))
+    }
+}

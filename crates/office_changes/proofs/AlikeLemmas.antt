@@ -1,0 +1,117 @@
+-- Tables that differ in the order of one of them.
+use Rattle.std.proofs.Common.{◌≡◌, List, IsPermutation, subst}
+use Rattle.std.specs.Prelude.{ℕ, Bool}
+use Rattle.std.proofs.lemmas.List.Sorted.{IsPermutation-refl, IsPermutation-trans}
+use Rattle.room_types.specs.Texts.{Text}
+use Rattle.room_types.specs.declared.moves.Move.{Move}
+use Rattle.office_core.specs.declared.office.Assigned.{Assigned}
+use Rattle.office_rows.specs.Tables.{Tables}
+use Rattle.office_rows.specs.declared.records.ChoiceRecord.{ChoiceRecord}
+use Rattle.office_rows.specs.declared.records.PersonRecord.{PersonRecord}
+use Rattle.office_changes.specs.Alike.{AreAlike}
+
+pub alike-refl : (tables : Tables) → AreAlike tables tables
+alike-refl t = record {
+  rooms = IsPermutation-refl t.rooms;
+  people = IsPermutation-refl t.people;
+  rounds = IsPermutation-refl t.rounds;
+  choices = IsPermutation-refl t.choices;
+  words = IsPermutation-refl t.words;
+  results = IsPermutation-refl t.results;
+  moves = IsPermutation-refl t.moves;
+  lists = IsPermutation-refl t.lists;
+}
+
+pub alike-trans : (a b c : Tables) → AreAlike a b → AreAlike b c → AreAlike a c
+alike-trans a b c h k = record {
+  rooms = IsPermutation-trans _ _ _ h.rooms k.rooms;
+  people = IsPermutation-trans _ _ _ h.people k.people;
+  rounds = IsPermutation-trans _ _ _ h.rounds k.rounds;
+  choices = IsPermutation-trans _ _ _ h.choices k.choices;
+  words = IsPermutation-trans _ _ _ h.words k.words;
+  results = IsPermutation-trans _ _ _ h.results k.results;
+  moves = IsPermutation-trans _ _ _ h.moves k.moves;
+  lists = IsPermutation-trans _ _ _ h.lists k.lists;
+}
+
+module _ (t : Tables) where
+  pub rooms_alike : (xs ys : List (Text × Bool)) → IsPermutation xs ys
+      → AreAlike (record t { rooms = xs }) (record t { rooms = ys })
+  rooms_alike xs ys same = let still = alike-refl t in record {
+    rooms = same;
+    people = still.people;
+    rounds = still.rounds;
+    choices = still.choices;
+    words = still.words;
+    results = still.results;
+    moves = still.moves;
+    lists = still.lists;
+  }
+
+  pub people_alike : (xs ys : List PersonRecord) → IsPermutation xs ys
+      → AreAlike (record t { people = xs }) (record t { people = ys })
+  people_alike xs ys same = let still = alike-refl t in record {
+    rooms = still.rooms;
+    people = same;
+    rounds = still.rounds;
+    choices = still.choices;
+    words = still.words;
+    results = still.results;
+    moves = still.moves;
+    lists = still.lists;
+  }
+
+  pub choices_alike : (xs ys : List ChoiceRecord) → IsPermutation xs ys
+      → AreAlike (record t { choices = xs }) (record t { choices = ys })
+  choices_alike xs ys same = let still = alike-refl t in record {
+    rooms = still.rooms;
+    people = still.people;
+    rounds = still.rounds;
+    choices = same;
+    words = still.words;
+    results = still.results;
+    moves = still.moves;
+    lists = still.lists;
+  }
+
+  pub words_alike : (xs ys : List (Text × ℕ)) → IsPermutation xs ys
+      → AreAlike (record t { words = xs }) (record t { words = ys })
+  words_alike xs ys same = let still = alike-refl t in record {
+    rooms = still.rooms;
+    people = still.people;
+    rounds = still.rounds;
+    choices = still.choices;
+    words = same;
+    results = still.results;
+    moves = still.moves;
+    lists = still.lists;
+  }
+
+  pub results_alike : (xs ys : List (Text × Assigned)) → IsPermutation xs ys
+      → AreAlike (record t { results = xs }) (record t { results = ys })
+  results_alike xs ys same = let still = alike-refl t in record {
+    rooms = still.rooms;
+    people = still.people;
+    rounds = still.rounds;
+    choices = still.choices;
+    words = still.words;
+    results = same;
+    moves = still.moves;
+    lists = still.lists;
+  }
+
+  pub moves_alike : (xs ys : List Move) → IsPermutation xs ys
+      → AreAlike (record t { moves = xs }) (record t { moves = ys })
+  moves_alike xs ys same = let still = alike-refl t in record {
+    rooms = still.rooms;
+    people = still.people;
+    rounds = still.rounds;
+    choices = still.choices;
+    words = still.words;
+    results = still.results;
+    moves = same;
+    lists = still.lists;
+  }
+
+pub alike-same : (a b : Tables) → a ≡ b → AreAlike a b
+alike-same a b e = subst (AreAlike a) e (alike-refl a)

@@ -1,0 +1,142 @@
+-- What the calls of each change make of the rows of an office.
+use Rattle.std.proofs.Common.{◌≡◌, ◌<◌, ◌^◌, ℕ, Bool, true, false, List, Option, ◌∙◌, arith}
+use Rattle.sqlite.specs.State.{State, HasCleanDisk}
+use Rattle.sqlite_value.specs.declared.value.Value.TheVariants as value
+use Rattle.room_types.specs.Grammars.{is_person_id, is_room_code, is_key, is_name}
+use Rattle.room_types.specs.Texts.{Text}
+use Rattle.room_types.specs.declared.moves.Move.{Move}
+use Rattle.room_types.specs.declared.phase.Phase.{Phase}
+use Rattle.office_core.specs.Office.{knows_room}
+use Rattle.office_core.specs.declared.change.Change.TheVariants.{PutRoom, PutPerson, DropPerson, PutHome, PutWithdrawn}
+use Rattle.office_core.specs.declared.change.Change.TheVariants.{PutChoices, PutWord, PutResult, AddMove}
+use Rattle.office_core.specs.declared.change.Change.TheVariants.{PutRound, ClearRound}
+use Rattle.office_core.specs.declared.office.Office.{Office}
+use Rattle.office_core.specs.declared.office.person.Person.{Person}
+use Rattle.office_cells.specs.Cells.{IsTextOf, IsOptionalTextOf, text_or_null}
+use Rattle.office_cells.specs.Columns.{move_columns}
+use Rattle.office_cells.specs.Forms.{IsMoveRow}
+use Rattle.office_tables.specs.Edits.{with_room, with_shut, with_person, without_person, with_home, with_withdrawn}
+use Rattle.office_tables.specs.Edits.{without_withdrawn, with_round, without_choices_of, without_choices}
+use Rattle.office_tables.specs.Edits.{with_word, without_word_of, without_words, with_result, without_result_of}
+use Rattle.office_tables.specs.Edits.{without_results, with_move}
+use Rattle.office_tables.specs.Makes.{Makes}
+use Rattle.office_tables.specs.Steps.{StaysInside}
+use Rattle.office_changes.specs.Carries.{Turns, CarriesOne, CarriesAlways}
+use Rattle.office_changes.specs.Choosing.{with_choices}
+use Rattle.office_changes.proofs.CarryLemmas.{carries, turns, turns_then}
+use Rattle.office_changes.proofs.ChangeRows.{room_added, room_shut, person_put, person_gone, home_put, withdrawn_put}
+use Rattle.office_changes.proofs.ChangeRows.{choices_put, word_put, result_put, move_added, round_put, round_cleared}
+use Rattle.office_changes.proofs.SpelledLemmas.{room_spelled, shut_spelled, person_spelled, without_person_spelled}
+use Rattle.office_changes.proofs.SpelledLemmas.{home_spelled, withdrawn_spelled, without_withdrawn_spelled}
+use Rattle.office_changes.proofs.SpelledLemmas.{without_choices_of_spelled, without_choices_spelled, word_spelled}
+use Rattle.office_changes.proofs.SpelledLemmas.{without_word_of_spelled, without_words_spelled, result_spelled}
+use Rattle.office_changes.proofs.SpelledLemmas.{without_result_of_spelled, without_results_spelled}
+use Rattle.office_changes.proofs.SpelledLemmas.{move_spelled, round_spelled}
+
+early : (mid new : State) → StaysInside mid new → HasCleanDisk new → HasCleanDisk mid
+early mid new inside clean = omega (arith, inside.survives.clean)
+
+-- ---- one statement
+
+module _ (old new : State) where
+  pub carries_new_room : (first : Office) (room : Text) (shut : Bool) → knows_room first room ≡ false
+      → IsTextOf is_room_code (value.Text room) → Makes old new (with_room room shut)
+      → CarriesOne first old new (PutRoom room shut)
+  carries_new_room first room shut unknown code m =
+      carries first old new _ (with_room room shut) (λ office fits. room_added office room shut (fits ∙ unknown))
+      (turns old new _ (λ t h. room_spelled t h room shut code) m)
+
+  pub carries_known_room : (first : Office) (room : Text) (shut : Bool) → knows_room first room ≡ true
+      → Makes old new (with_shut room shut) → CarriesOne first old new (PutRoom room shut)
+  carries_known_room first room shut known m =
+      carries first old new _ (with_shut room shut) (λ office fits. room_shut office room shut (fits ∙ known))
+      (turns old new _ (λ t h. shut_spelled t h room shut) m)
+
+  pub carries_gone : (person : Text) → Makes old new (without_person person) → CarriesAlways old new (DropPerson person)
+  carries_gone person m first =
+      carries first old new _ (without_person person) (λ office fits. person_gone office person)
+      (turns old new _ (λ t h. without_person_spelled t h person) m)
+
+  pub carries_home : (person : Text) (home : Option Text) → IsOptionalTextOf is_room_code (text_or_null home)
+      → Makes old new (with_home person home) → CarriesAlways old new (PutHome person home)
+  carries_home person home cell m first =
+      carries first old new _ (with_home person home) (λ office fits. home_put office person home)
+      (turns old new _ (λ t h. home_spelled t h person home cell) m)
+
+  pub carries_withdrawn : (person : Text) → Makes old new (with_withdrawn person)
+      → CarriesAlways old new (PutWithdrawn person)
+  carries_withdrawn person m first =
+      carries first old new _ (with_withdrawn person) (λ office fits. withdrawn_put office person)
+      (turns old new _ (λ t h. withdrawn_spelled t h person) m)
+
+  pub carries_move : (move : Move) → IsMoveRow (move_columns move) → Makes old new (with_move move)
+      → CarriesAlways old new (AddMove move)
+  carries_move move form m first =
+      carries first old new _ (with_move move) (λ office fits. move_added office move fits)
+      (turns old new _ (λ t h. move_spelled t h move form) m)
+
+  pub carries_round : (number : ℕ) (phase : Phase) → number < 2 ^ 16 → Makes old new (with_round number phase)
+      → CarriesAlways old new (PutRound number phase)
+  carries_round number phase low m first =
+      carries first old new _ (with_round number phase) (λ office fits. round_put office number phase)
+      (turns old new _ (λ t h. round_spelled t h number phase low) m)
+
+-- ---- two statements
+
+module _ (old mid new : State) (inside : StaysInside mid new) where
+  pub carries_person : (person name key : Text) (home : Option Text) → IsTextOf is_person_id (value.Text person)
+      → IsTextOf is_name (value.Text name) → IsTextOf is_key (value.Text key)
+      → IsOptionalTextOf is_room_code (text_or_null home) → Makes old mid (without_person person)
+      → Makes mid new (with_person person (record { name = name; key = key; home = home }))
+      → CarriesAlways old new (PutPerson person name key home)
+  carries_person person name key home is_id is_its_name is_its_key lives m n first =
+      let v : Person = record { name = name; key = key; home = home } in
+      carries first old new _ (λ t. with_person person v (without_person person t))
+      (λ office fits. person_put office person name key home fits)
+      (turns_then old mid new _ _ (early mid new inside)
+      (turns old mid _ (λ t h. without_person_spelled t h person) m)
+      (turns mid new _ (λ t h. person_spelled t h person v is_id is_its_name is_its_key lives) n))
+
+  pub carries_choices : (person : Text) (rooms : List Text) → Makes old mid (without_choices_of person)
+      → Turns mid new (with_choices person 0 rooms) → CarriesAlways old new (PutChoices person rooms)
+  carries_choices person rooms m n first =
+      carries first old new _ (λ t. with_choices person 0 rooms (without_choices_of person t))
+      (λ office fits. choices_put office person rooms)
+      (turns_then old mid new _ _ (early mid new inside)
+      (turns old mid _ (λ t h. without_choices_of_spelled t h person) m) n)
+
+  pub carries_word : (person : Text) (word : ℕ) → IsTextOf is_person_id (value.Text person) → word < 2 ^ 64
+      → Makes old mid (without_word_of person) → Makes mid new (with_word person word)
+      → CarriesAlways old new (PutWord person word)
+  carries_word person word is_id low m n first =
+      carries first old new _ (λ t. with_word person word (without_word_of person t))
+      (λ office fits. word_put office person word)
+      (turns_then old mid new _ _ (early mid new inside)
+      (turns old mid _ (λ t h. without_word_of_spelled t h person) m)
+      (turns mid new _ (λ t h. word_spelled t h person word is_id low) n))
+
+  pub carries_result : (person : Text) (room : Option Text) → IsTextOf is_person_id (value.Text person)
+      → IsOptionalTextOf is_room_code (text_or_null room) → Makes old mid (without_result_of person)
+      → Makes mid new (with_result person room) → CarriesAlways old new (PutResult person room)
+  carries_result person room is_id code m n first =
+      carries first old new _ (λ t. with_result person room (without_result_of person t))
+      (λ office fits. result_put office person room)
+      (turns_then old mid new _ _ (early mid new inside)
+      (turns old mid _ (λ t h. without_result_of_spelled t h person) m)
+      (turns mid new _ (λ t h. result_spelled t h person room is_id code) n))
+
+-- ---- the end of a round: four statements
+
+pub carries_cleared : (a b c d e : State) → StaysInside b c → StaysInside c d → StaysInside d e
+    → Makes a b without_choices → Makes b c without_withdrawn → Makes c d without_words → Makes d e without_results
+    → CarriesAlways a e ClearRound
+carries_cleared a b c d e bc cd de lists withdrawals words results first =
+    carries first a e ClearRound (λ t. without_results (without_words (without_withdrawn (without_choices t))))
+    (λ office fits. round_cleared office)
+    (turns_then a d e _ _ (early d e de)
+    (turns_then a c d _ _ (early c d cd)
+    (turns_then a b c _ _ (early b c bc)
+    (turns a b _ (λ t h. without_choices_spelled t h) lists)
+    (turns b c _ (λ t h. without_withdrawn_spelled t h) withdrawals))
+    (turns c d _ (λ t h. without_words_spelled t h) words))
+    (turns d e _ (λ t h. without_results_spelled t h) results))

@@ -1,0 +1,262 @@
+-- The rows of an office after each change, by what its statements make of the rows before.
+use Rattle.std.proofs.Common.{◌≡◌, ℕ, ◌+◌, Bool, true, false, List, [], ◌∷◌, ◌++◌, map, map-id}
+use Rattle.std.proofs.Common.{Option, Some, None, cond}
+use Rattle.std.proofs.Common.{refl, sym, ap, ◌∙◌, subst, IsPermutation}
+use Rattle.std.specs.List.{AllByRecursion, flat_map}
+use Rattle.std.specs.Option.{is_some}
+use Rattle.std.specs.Ordering.{eq_by_cmp}
+use Rattle.std.specs.Cmp.Lexicographic.{nat_list_cmp_total}
+use Rattle.std.specs.FinMap as maps
+use Rattle.std.specs.FinMap.{get-insert, get-empty}
+use Rattle.std.proofs.lemmas.List.Sorted.{IsPermutation-sym, IsPermutation-middle}
+use Rattle.std.proofs.lemmas.Map.Text.{is_eq-slice_cmp}
+use Rattle.sqlite_keyed.specs.Lists.{update_where, delete_where}
+use Rattle.sqlite_keyed.proofs.ListLemmas.{map-map, map_same, IsPermutation-same}
+use Rattle.room_types.specs.Texts.{Text, TextMap, text_cmp, text_eq}
+use Rattle.room_types.specs.declared.moves.Move.{Move}
+use Rattle.room_types.specs.declared.phase.Phase.{Phase}
+use Rattle.room_types.proofs.Trees.{entries-empty}
+use Rattle.office_core.specs.Change.{applied}
+use Rattle.office_core.specs.Office.Moves.{moves_of}
+use Rattle.office_core.specs.Office.{knows_room, has_withdrawn}
+use Rattle.office_core.specs.declared.change.Change.TheVariants.{PutRoom, PutPerson, DropPerson, PutHome, PutWithdrawn}
+use Rattle.office_core.specs.declared.change.Change.TheVariants.{PutChoices, PutWord, PutResult, AddMove}
+use Rattle.office_core.specs.declared.change.Change.TheVariants.{PutRound, ClearRound}
+use Rattle.office_core.specs.declared.office.Office.{Office}
+use Rattle.office_core.specs.declared.office.person.Person.{Person}
+use Rattle.office_core.proofs.Truths.{none_if_not_some}
+use Rattle.office_rows.specs.Rows.{person_row, person_rows, choices_from, list_rows}
+use Rattle.office_rows.specs.Tables.{Tables, rows_of}
+use Rattle.office_rows.specs.declared.records.ChoiceRecord.{ChoiceRecord}
+use Rattle.office_rows.specs.declared.records.PersonRecord.{PersonRecord}
+use Rattle.office_rows.proofs.Moving.{rows_more}
+use Rattle.office_changes.specs.Alike.{AreAlike}
+use Rattle.office_changes.specs.Choosing.{with_choices}
+use Rattle.office_tables.specs.Edits.{with_room, with_shut, with_person, without_person, with_home, with_withdrawn}
+use Rattle.office_tables.specs.Edits.{without_withdrawn, with_round, with_choice, without_choices_of, without_choices}
+use Rattle.office_tables.specs.Edits.{with_word, without_word_of, without_words, with_result, without_result_of}
+use Rattle.office_tables.specs.Edits.{without_results, with_move, taking_part}
+use Rattle.office_changes.proofs.AlikeLemmas.{alike-refl, rooms_alike, people_alike, choices_alike, words_alike}
+use Rattle.office_changes.proofs.AlikeLemmas.{results_alike, moves_alike, alike-trans}
+use Rattle.office_changes.proofs.EntryLemmas.{rows_put, rows_gone, row_put, row_gone, row_added}
+use Rattle.office_changes.proofs.EntryLemmas.{row_unknown, row_changed}
+
+some_if : {A : Type 0} (o : Option A) → is_some o ≡ true → (x : A) × (o ≡ Some x)
+some_if None e = cc
+some_if (Some x) e = (x, refl)
+
+-- the test of a statement tells the rows of one key
+tells : (a b : Text) → text_eq a b ≡ eq_by_cmp text_cmp a b
+tells a b = sym (is_eq-slice_cmp a b)
+
+-- ---- tables whose rows are the entries themselves
+
+module _ {X : Type 0} (m : TextMap X) (k : Text) where
+  abbrev is_its : Text × X → Bool
+  is_its r = text_eq r.0 k
+
+  entry_put : (v : X) → IsPermutation (maps.entries (maps.insert m k v)) ((k, v) ∷ delete_where is_its (maps.entries m))
+  entry_put v =
+      subst (λ l. IsPermutation l ((k, v) ∷ delete_where is_its (maps.entries m)))
+      (map-id (maps.entries (maps.insert m k v)))
+      (subst (λ l. IsPermutation (map (λ e. e) (maps.entries (maps.insert m k v))) ((k, v) ∷ delete_where is_its l))
+      (map-id (maps.entries m))
+      (row_put (λ e. e) (λ r. r.0) (λ e. refl) k is_its (λ r. tells r.0 k) m v))
+
+  entry_added : (v : X) → maps.contains_key m k ≡ false
+      → IsPermutation (maps.entries (maps.insert m k v)) ((k, v) ∷ maps.entries m)
+  entry_added v new =
+      subst (λ l. IsPermutation l ((k, v) ∷ maps.entries m)) (map-id (maps.entries (maps.insert m k v)))
+      (subst (λ l. IsPermutation (map (λ e. e) (maps.entries (maps.insert m k v))) ((k, v) ∷ l))
+      (map-id (maps.entries m))
+      (row_added (λ e. e) (λ r. r.0) (λ e. refl) k is_its (λ r. tells r.0 k) m v (none_if_not_some (maps.get m k) new)))
+
+  entry_changed : (v : X) → maps.contains_key m k ≡ true
+      → maps.entries (maps.insert m k v) ≡ update_where is_its (λ r. (r.0, v)) (maps.entries m)
+  entry_changed v known =
+      let kept = some_if (maps.get m k) known in
+      sym (map-id (maps.entries (maps.insert m k v)))
+      ∙ row_changed (λ e. e) (λ r. r.0) (λ e. refl) k is_its (λ r. tells r.0 k) (λ r. (r.0, v)) m v kept.0 kept.1 refl
+      ∙ ap (update_where is_its (λ r. (r.0, v))) (map-id (maps.entries m))
+
+-- ---- rooms
+
+module _ (office : Office) (room : Text) (shut : Bool) where
+  -- a room that is not known
+  pub room_added : knows_room office room ≡ false
+      → AreAlike (rows_of (applied office (PutRoom room shut))) (with_room room shut (rows_of office))
+  unfolding rows_of with_room
+  room_added new = rooms_alike (rows_of office) _ _ (entry_added office.rooms room shut new)
+
+  -- one that is
+  pub room_shut : knows_room office room ≡ true
+      → AreAlike (rows_of (applied office (PutRoom room shut))) (with_shut room shut (rows_of office))
+  unfolding rows_of with_shut
+  room_shut known =
+      rooms_alike (rows_of office) _ _ (IsPermutation-same _ _ (entry_changed office.rooms room shut known))
+
+-- ---- people
+
+module _ (office : Office) (person : Text) where
+  abbrev shown : Text × Person → PersonRecord
+  shown e = person_row office.withdrawn e
+
+  abbrev is_that : PersonRecord → Bool
+  is_that r = text_eq r.id person
+
+  pub person_put : (name key : Text) (home : Option Text) → has_withdrawn office person ≡ false
+      → AreAlike (rows_of (applied office (PutPerson person name key home)))
+      (with_person person (record { name = name; key = key; home = home }) (without_person person (rows_of office)))
+  unfolding rows_of with_person without_person
+  person_put name key home here =
+      let v : Person = record { name = name; key = key; home = home } in
+      let head : shown (person, v) ≡ record { id = person; person = v; withdrawn = false } =
+      ap (λ b. record { id = person; person = v; withdrawn = b }) here in
+      people_alike (rows_of office) _ _
+      (subst (λ r. IsPermutation (person_rows (maps.insert office.people person v) office.withdrawn)
+      (r ∷ delete_where is_that (person_rows office.people office.withdrawn))) head
+      (row_put shown (λ (r : PersonRecord). r.id) (λ e. refl) person is_that (λ r. tells r.id person) office.people v))
+
+  pub person_gone : AreAlike (rows_of (applied office (DropPerson person))) (without_person person (rows_of office))
+  unfolding rows_of without_person
+  person_gone =
+      people_alike (rows_of office) _ _ (IsPermutation-same _ _
+      (row_gone shown (λ (r : PersonRecord). r.id) (λ e. refl) person is_that (λ r. tells r.id person) office.people))
+
+  pub home_put : (home : Option Text)
+      → AreAlike (rows_of (applied office (PutHome person home))) (with_home person home (rows_of office))
+  unfolding rows_of with_home
+  home_put home =
+      let f : PersonRecord → PersonRecord = λ r. record r { person = record r.person { home = home } } in
+      elim (maps.get office.people person) as (λ o. maps.get office.people person ≡ o
+      → AreAlike (rows_of (elim o as (λ _. Office) [
+        | None ↦ office
+        | Some kept ↦ record office { people = maps.insert office.people person (record kept { home = home }) }
+      ])) (with_home person home (rows_of office))) [
+        | None ↦ λ unknown.
+            people_alike (rows_of office) _ _ (IsPermutation-same _ _
+            (row_unknown shown (λ (r : PersonRecord). r.id) (λ e. refl) person is_that
+            (λ r. tells r.id person) f office.people unknown))
+        | Some kept ↦ λ known.
+            people_alike (rows_of office) _ _ (IsPermutation-same _ _
+            (row_changed shown (λ (r : PersonRecord). r.id) (λ e. refl) person is_that
+            (λ r. tells r.id person) f office.people
+            (record kept { home = home }) kept known refl))
+      ] refl
+
+  -- the row of a person, once somebody has withdrawn
+  marked : (e : Text × Person)
+      → person_row (maps.insert office.withdrawn person tt) e
+      ≡ cond (text_eq e.0 person) (record (shown e) { withdrawn = true }) (shown e)
+  marked e =
+      ap (λ o. record { id = e.0; person = e.1; withdrawn = is_some o })
+      (get-insert nat_list_cmp_total office.withdrawn person tt e.0)
+      ∙ either (eq_by_cmp text_cmp e.0 person)
+      ∙ ap (λ b. cond b (record (shown e) { withdrawn = true }) (shown e)) (is_eq-slice_cmp e.0 person)
+    where
+      either : (b : Bool)
+          → record { id = e.0; person = e.1; withdrawn = is_some (cond b (Some tt) (maps.get office.withdrawn e.0)) }
+          ≡ cond b (record { id = e.0; person = e.1; withdrawn = true }) (person_row office.withdrawn e)
+      either true = refl
+      either false = refl
+
+  pub withdrawn_put : AreAlike (rows_of (applied office (PutWithdrawn person))) (with_withdrawn person (rows_of office))
+  unfolding rows_of with_withdrawn
+  withdrawn_put =
+      people_alike (rows_of office) _ _ (IsPermutation-same _ _
+      (map_same _ _ marked (maps.entries office.people)
+      ∙ sym (map-map (λ (r : PersonRecord). cond (is_that r) (record r { withdrawn = true }) r) shown
+      (maps.entries office.people))))
+
+-- ---- choices
+
+choices_keyed : (person : Text) (place : ℕ) (rooms : List Text)
+    → AllByRecursion (λ (r : ChoiceRecord). r.person ≡ person) (choices_from person place rooms)
+choices_keyed person place [] = tt
+choices_keyed person place (room ∷ rooms) = (refl, choices_keyed person (place + 1) rooms)
+
+choices_added : (person : Text) (place : ℕ) (rooms : List Text) (t : Tables)
+    → AreAlike (record t { choices = choices_from person place rooms ++ t.choices }) (with_choices person place rooms t)
+unfolding with_choice
+choices_added person place [] t = alike-refl t
+choices_added person place (room ∷ rooms) t =
+    let c : ChoiceRecord = record { person = person; place = place; room = room } in
+    let rest : List ChoiceRecord = choices_from person (place + 1) rooms in
+    alike-trans _ _ _
+    (choices_alike t (c ∷ (rest ++ t.choices)) (rest ++ c ∷ t.choices)
+    (IsPermutation-sym _ _ (IsPermutation-middle rest c t.choices)))
+    (choices_added person (place + 1) rooms (with_choice person place room t))
+
+module _ (office : Office) (person : Text) where
+  abbrev is_choice : ChoiceRecord → Bool
+  is_choice r = text_eq r.person person
+
+  -- a person's list is replaced
+  pub choices_put : (rooms : List Text)
+      → AreAlike (rows_of (applied office (PutChoices person rooms)))
+      (with_choices person 0 rooms (without_choices_of person (rows_of office)))
+  unfolding rows_of without_choices_of
+  choices_put [] =
+      choices_alike (rows_of office) _ _ (IsPermutation-same _ _
+      (rows_gone list_rows (λ (r : ChoiceRecord). r.person) (λ e. choices_keyed e.0 0 e.1) person is_choice
+      (λ r. tells r.person person) office.choices))
+  choices_put (room ∷ rooms) =
+      alike-trans _ _ _
+      (choices_alike (rows_of office) _ _
+      (rows_put list_rows (λ (r : ChoiceRecord). r.person) (λ e. choices_keyed e.0 0 e.1) person is_choice
+      (λ r. tells r.person person)
+      office.choices (room ∷ rooms)))
+      (choices_added person 0 (room ∷ rooms) (without_choices_of person (rows_of office)))
+
+-- ---- words, results and moves
+
+module _ (office : Office) (person : Text) where
+  pub word_put : (word : ℕ)
+      → AreAlike (rows_of (applied office (PutWord person word)))
+      (with_word person word (without_word_of person (rows_of office)))
+  unfolding rows_of with_word without_word_of
+  word_put word = words_alike (rows_of office) _ _ (entry_put office.words person word)
+
+  pub result_put : (room : Option Text)
+      → AreAlike (rows_of (applied office (PutResult person room)))
+      (with_result person room (without_result_of person (rows_of office)))
+  unfolding rows_of with_result without_result_of
+  result_put room = results_alike (rows_of office) _ _ (entry_put office.results person (record { room = room }))
+
+-- somebody moves who has not moved in the round
+pub move_added : (office : Office) (move : Move)
+    → maps.contains_key (moves_of office.moves move.round) move.person ≡ false
+    → AreAlike (rows_of (applied office (AddMove move))) (with_move move (rows_of office))
+unfolding rows_of with_move
+move_added office move new =
+    moves_alike (rows_of office) _ _ (IsPermutation-sym _ _ (rows_more office.moves move new))
+
+-- ---- the round
+
+pub round_put : (office : Office) (number : ℕ) (phase : Phase)
+    → AreAlike (rows_of (applied office (PutRound number phase))) (with_round number phase (rows_of office))
+unfolding rows_of with_round
+round_put office number phase = alike-refl (rows_of (applied office (PutRound number phase)))
+
+unmarked : (people : TextMap Person) (withdrawn : TextMap (Unit {0}))
+    → person_rows people maps.empty ≡ map taking_part (person_rows people withdrawn)
+unmarked people withdrawn =
+    map_same _ _ (λ e. ap (λ o. record { id = e.0; person = e.1; withdrawn = is_some o }) (get-empty text_cmp e.0))
+    (maps.entries people)
+    ∙ sym (map-map taking_part (person_row withdrawn) (maps.entries people))
+
+-- lists, withdrawals, words and results go
+pub round_cleared : (office : Office)
+    → AreAlike (rows_of (applied office ClearRound))
+    (without_results (without_words (without_withdrawn (without_choices (rows_of office)))))
+unfolding rows_of without_results without_words without_withdrawn without_choices
+round_cleared office = let still = alike-refl (rows_of office) in record {
+  rooms = still.rooms;
+  people = IsPermutation-same _ _ (unmarked office.people office.withdrawn);
+  rounds = still.rounds;
+  choices = IsPermutation-same _ _ (ap (flat_map list_rows) (entries-empty nat_list_cmp_total));
+  words = IsPermutation-same _ _ (entries-empty nat_list_cmp_total);
+  results = IsPermutation-same _ _ (entries-empty nat_list_cmp_total);
+  moves = still.moves;
+  lists = still.lists;
+}

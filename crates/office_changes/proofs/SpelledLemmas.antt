@@ -1,0 +1,251 @@
+-- What is written keeps the form of its table.
+use Rattle.std.proofs.Common.{ℕ, ◌<◌, ◌^◌, Bool, true, false, not, List, [], ◌∷◌, map, Option}
+use Rattle.std.proofs.Common.{cond, refl}
+use Rattle.std.specs.List.{All, AllByRecursion}
+use Rattle.std.proofs.lemmas.List.Elements.{All-nil, All-cons, recursion_from_All, All-from_recursion}
+use Rattle.std.proofs.lemmas.List.Sorted.{IsPermutation-sym}
+use Rattle.std.proofs.lemmas.Map.Views.{All-map-IsPermutation}
+use Rattle.sqlite_keyed.specs.Lists.{update_where, delete_where}
+use Rattle.sqlite_keyed.proofs.ListLemmas.{all-filter, all_map, all_unmap}
+use Rattle.sqlite_value.specs.Order.{Row}
+use Rattle.sqlite_value.specs.declared.value.Value.TheVariants as value
+use Rattle.room_types.specs.Grammars.{is_person_id, is_room_code, is_key, is_name}
+use Rattle.room_types.specs.Texts.{Text, text_eq}
+use Rattle.room_types.specs.declared.moves.Move.{Move}
+use Rattle.room_types.specs.declared.phase.Phase.{Phase}
+use Rattle.office_core.specs.declared.office.person.Person.{Person}
+use Rattle.office_cells.specs.Cells.{IsTextOf, IsOptionalTextOf, text_or_null}
+use Rattle.office_cells.specs.Columns.{room_columns, person_columns, round_shown, choice_columns, word_columns}
+use Rattle.office_cells.specs.Columns.{result_columns, move_columns}
+use Rattle.office_cells.specs.Forms.{IsRoomRow, IsPersonRow, IsRoundRow, IsChoiceRow, IsWordRow, IsResultRow, IsMoveRow}
+use Rattle.office_cells.specs.Spelled.{IsSpelled}
+use Rattle.office_rows.specs.Tables.{Tables}
+use Rattle.office_rows.specs.declared.records.ChoiceRecord.{ChoiceRecord}
+use Rattle.office_rows.specs.declared.records.PersonRecord.{PersonRecord}
+use Rattle.office_tables.specs.Edits.{with_room, with_shut, with_person, without_person, with_home, with_withdrawn}
+use Rattle.office_tables.specs.Edits.{without_withdrawn, with_round, with_choice, without_choices_of, without_choices}
+use Rattle.office_tables.specs.Edits.{with_word, without_word_of, without_words, with_result, without_result_of}
+use Rattle.office_tables.specs.Edits.{without_results, with_move}
+use Rattle.office_changes.specs.Alike.{AreAlike}
+
+module _ {X : Type 0} (columns : X → Row) (IsRow : Row → Type 0) where
+  abbrev Formed : List X → Type 0
+  Formed xs = All IsRow (map columns xs)
+
+  each : (xs : List X) → Formed xs → AllByRecursion (λ x. IsRow (columns x)) xs
+  each xs h = all_unmap IsRow columns xs (recursion_from_All IsRow (map columns xs) h)
+
+  every : (xs : List X) → AllByRecursion (λ x. IsRow (columns x)) xs → Formed xs
+  every xs h = All-from_recursion IsRow (map columns xs) (all_map IsRow columns xs h)
+
+  formed_left : (q : X → Bool) (xs : List X) → Formed xs → Formed (delete_where q xs)
+  formed_left q xs h = every (delete_where q xs) (all-filter (λ x. IsRow (columns x)) (λ x. not (q x)) xs (each xs h))
+
+  module _ (q : X → Bool) (f : X → X) (keeps : (x : X) → IsRow (columns x) → IsRow (columns (f x))) where
+    one_changed : (b : Bool) (x : X) → IsRow (columns x) → IsRow (columns (cond b (f x) x))
+    one_changed true x h = keeps x h
+    one_changed false x h = h
+
+    all_changed : (xs : List X) → AllByRecursion (λ x. IsRow (columns x)) xs
+        → AllByRecursion (λ x. IsRow (columns x)) (update_where q f xs)
+    all_changed [] h = tt
+    all_changed (x ∷ xs) h = (one_changed (q x) x h.0, all_changed xs h.1)
+
+    formed_changed : (xs : List X) → Formed xs → Formed (update_where q f xs)
+    formed_changed xs h = every (update_where q f xs) (all_changed xs (each xs h))
+
+-- the order of rows is no matter
+pub spelled_alike : (these those : Tables) → AreAlike these those → IsSpelled those → IsSpelled these
+spelled_alike these those same h = record {
+  rooms = All-map-IsPermutation room_columns IsRoomRow _ _ (IsPermutation-sym _ _ same.rooms) h.rooms;
+  people = All-map-IsPermutation person_columns IsPersonRow _ _ (IsPermutation-sym _ _ same.people) h.people;
+  rounds = All-map-IsPermutation round_shown IsRoundRow _ _ (IsPermutation-sym _ _ same.rounds) h.rounds;
+  choices = All-map-IsPermutation choice_columns IsChoiceRow _ _ (IsPermutation-sym _ _ same.choices) h.choices;
+  words = All-map-IsPermutation word_columns IsWordRow _ _ (IsPermutation-sym _ _ same.words) h.words;
+  results = All-map-IsPermutation result_columns IsResultRow _ _ (IsPermutation-sym _ _ same.results) h.results;
+  moves = All-map-IsPermutation move_columns IsMoveRow _ _ (IsPermutation-sym _ _ same.moves) h.moves;
+}
+
+module _ (t : Tables) (h : IsSpelled t) where
+  rooms_spelled : (xs : List (Text × Bool)) → All IsRoomRow (map room_columns xs) → IsSpelled (record t { rooms = xs })
+  rooms_spelled xs k = record {
+    rooms = k;
+    people = h.people;
+    rounds = h.rounds;
+    choices = h.choices;
+    words = h.words;
+    results = h.results;
+    moves = h.moves;
+  }
+
+  people_spelled : (xs : List PersonRecord) → All IsPersonRow (map person_columns xs)
+      → IsSpelled (record t { people = xs })
+  people_spelled xs k = record {
+    rooms = h.rooms;
+    people = k;
+    rounds = h.rounds;
+    choices = h.choices;
+    words = h.words;
+    results = h.results;
+    moves = h.moves;
+  }
+
+  pub room_spelled : (room : Text) (shut : Bool) → IsTextOf is_room_code (value.Text room)
+      → IsSpelled (with_room room shut t)
+  unfolding with_room
+  room_spelled room shut code =
+      rooms_spelled ((room, shut) ∷ t.rooms) (All-cons IsRoomRow _ _ (code, (shut, refl)) h.rooms)
+
+  pub shut_spelled : (room : Text) (shut : Bool) → IsSpelled (with_shut room shut t)
+  unfolding with_shut
+  shut_spelled room shut =
+      rooms_spelled _ (formed_changed room_columns IsRoomRow (λ r. text_eq r.0 room) (λ r. (r.0, shut))
+      (λ r was. (was.0, (shut, refl))) t.rooms h.rooms)
+
+  pub person_spelled : (id : Text) (person : Person) → IsTextOf is_person_id (value.Text id)
+      → IsTextOf is_name (value.Text person.name) → IsTextOf is_key (value.Text person.key)
+      → IsOptionalTextOf is_room_code (text_or_null person.home) → IsSpelled (with_person id person t)
+  unfolding with_person
+  person_spelled id person is_id name key home =
+      people_spelled _ (All-cons IsPersonRow _ _ (is_id, name, key, home, (false, refl)) h.people)
+
+  pub without_person_spelled : (id : Text) → IsSpelled (without_person id t)
+  unfolding without_person
+  without_person_spelled id =
+      people_spelled _ (formed_left person_columns IsPersonRow
+      (λ (r : PersonRecord). text_eq r.id id) t.people h.people)
+
+  pub home_spelled : (id : Text) (home : Option Text) → IsOptionalTextOf is_room_code (text_or_null home)
+      → IsSpelled (with_home id home t)
+  unfolding with_home
+  home_spelled id home lives =
+      people_spelled _ (formed_changed person_columns IsPersonRow (λ (r : PersonRecord). text_eq r.id id)
+      (λ r. record r { person = record r.person { home = home } })
+      (λ r was. (was.0, was.1, was.2, lives, was.4)) t.people h.people)
+
+  pub withdrawn_spelled : (id : Text) → IsSpelled (with_withdrawn id t)
+  unfolding with_withdrawn
+  withdrawn_spelled id =
+      people_spelled _ (formed_changed person_columns IsPersonRow (λ (r : PersonRecord). text_eq r.id id)
+      (λ r. record r { withdrawn = true }) (λ r was. (was.0, was.1, was.2, was.3, (true, refl))) t.people h.people)
+
+  pub without_withdrawn_spelled : IsSpelled (without_withdrawn t)
+  unfolding without_withdrawn
+  without_withdrawn_spelled =
+      people_spelled _ (formed_changed person_columns IsPersonRow (λ r. true) (λ r. record r { withdrawn = false })
+      (λ r was. (was.0, was.1, was.2, was.3, (false, refl))) t.people h.people)
+
+  choices_spelled : (xs : List ChoiceRecord) → All IsChoiceRow (map choice_columns xs)
+      → IsSpelled (record t { choices = xs })
+  choices_spelled xs k = record {
+    rooms = h.rooms;
+    people = h.people;
+    rounds = h.rounds;
+    choices = k;
+    words = h.words;
+    results = h.results;
+    moves = h.moves;
+  }
+
+  pub choice_spelled : (person : Text) (place : ℕ) (room : Text) → IsTextOf is_person_id (value.Text person)
+      → IsTextOf is_room_code (value.Text room) → IsSpelled (with_choice person place room t)
+  unfolding with_choice
+  choice_spelled person place room id code =
+      choices_spelled _ (All-cons IsChoiceRow _ _ (id, (place, refl), code) h.choices)
+
+  pub without_choices_of_spelled : (person : Text) → IsSpelled (without_choices_of person t)
+  unfolding without_choices_of
+  without_choices_of_spelled person =
+      choices_spelled _ (formed_left choice_columns IsChoiceRow
+      (λ (r : ChoiceRecord). text_eq r.person person) t.choices h.choices)
+
+  pub without_choices_spelled : IsSpelled (without_choices t)
+  unfolding without_choices
+  without_choices_spelled = choices_spelled [] (All-nil IsChoiceRow)
+
+  words_spelled : (xs : List (Text × ℕ)) → All IsWordRow (map word_columns xs) → IsSpelled (record t { words = xs })
+  words_spelled xs k = record {
+    rooms = h.rooms;
+    people = h.people;
+    rounds = h.rounds;
+    choices = h.choices;
+    words = k;
+    results = h.results;
+    moves = h.moves;
+  }
+
+  pub word_spelled : (person : Text) (word : ℕ) → IsTextOf is_person_id (value.Text person) → word < 2 ^ 64
+      → IsSpelled (with_word person word t)
+  unfolding with_word
+  word_spelled person word id low = words_spelled _ (All-cons IsWordRow _ _ (id, (word, refl, low)) h.words)
+
+  pub without_word_of_spelled : (person : Text) → IsSpelled (without_word_of person t)
+  unfolding without_word_of
+  without_word_of_spelled person =
+      words_spelled _ (formed_left word_columns IsWordRow (λ r. text_eq r.0 person) t.words h.words)
+
+  pub without_words_spelled : IsSpelled (without_words t)
+  unfolding without_words
+  without_words_spelled = words_spelled [] (All-nil IsWordRow)
+
+  pub result_spelled : (person : Text) (room : Option Text) → IsTextOf is_person_id (value.Text person)
+      → IsOptionalTextOf is_room_code (text_or_null room) → IsSpelled (with_result person room t)
+  unfolding with_result
+  result_spelled person room id code = record {
+    rooms = h.rooms;
+    people = h.people;
+    rounds = h.rounds;
+    choices = h.choices;
+    words = h.words;
+    results = All-cons IsResultRow _ _ (id, code) h.results;
+    moves = h.moves;
+  }
+
+  pub without_result_of_spelled : (person : Text) → IsSpelled (without_result_of person t)
+  unfolding without_result_of
+  without_result_of_spelled person = record {
+    rooms = h.rooms;
+    people = h.people;
+    rounds = h.rounds;
+    choices = h.choices;
+    words = h.words;
+    results = formed_left result_columns IsResultRow (λ r. text_eq r.0 person) t.results h.results;
+    moves = h.moves;
+  }
+
+  pub without_results_spelled : IsSpelled (without_results t)
+  unfolding without_results
+  without_results_spelled = record {
+    rooms = h.rooms;
+    people = h.people;
+    rounds = h.rounds;
+    choices = h.choices;
+    words = h.words;
+    results = All-nil IsResultRow;
+    moves = h.moves;
+  }
+
+  pub move_spelled : (move : Move) → IsMoveRow (move_columns move) → IsSpelled (with_move move t)
+  unfolding with_move
+  move_spelled move form = record {
+    rooms = h.rooms;
+    people = h.people;
+    rounds = h.rounds;
+    choices = h.choices;
+    words = h.words;
+    results = h.results;
+    moves = All-cons IsMoveRow _ _ form h.moves;
+  }
+
+  pub round_spelled : (number : ℕ) (phase : Phase) → number < 2 ^ 16 → IsSpelled (with_round number phase t)
+  unfolding with_round
+  round_spelled number phase low = record {
+    rooms = h.rooms;
+    people = h.people;
+    rounds = formed_changed round_shown IsRoundRow (λ r. true) (λ r. record { number = number; phase = phase })
+        (λ r was. (refl, (number, refl, low), (phase, refl))) t.rounds h.rounds;
+    choices = h.choices;
+    words = h.words;
+    results = h.results;
+    moves = h.moves;
+  }

@@ -1,0 +1,60 @@
+//! That what an office keeps has the form of a cell, as its types say. Nothing here does anything.
+ghost use Rattle.std.specs.Prelude.{IsUtf8, ◌<◌, ◌^◌, All};
+ghost use Rattle.sqlite_value.specs.declared.value.Value.TheVariants as value;
+ghost use Rattle.office_cells.specs.Cells.{IsTextOf, IsOptionalTextOf, IsWave, text_or_null, wave_value};
+ghost use Rattle.office_cells.specs.Columns.{move_columns};
+ghost use Rattle.office_cells.specs.Forms.{IsMoveRow};
+ghost use Rattle.room_types.specs.Grammars.{is_person_id, is_room_code, is_key, is_name};
+
+use room_types::text::{Grammar, Text};
+use room_types::{Move, Wave, Word};
+
+// A text is UTF-8.
+fn know_utf8(text: &str)
+    ensures { IsUtf8 text.now }
+{
+    let _text = text;
+}
+
+/// A text is in its grammar.
+pub(crate) fn know_text<G: Grammar>(text: &Text<G>)
+    ensures { IsTextOf G.is_text (value.Text text.now) }
+{
+    know_utf8(text.as_str());
+}
+
+/// And so is one that may be missing.
+pub(crate) fn know_optional<G: Grammar>(text: &Option<Text<G>>)
+    ensures { IsOptionalTextOf G.is_text (text_or_null text.now) }
+{
+    if let Some(text) = text {
+        know_text(text);
+    }
+}
+
+/// A word has 64 bits.
+pub(crate) fn know_word(word: Word)
+    ensures { word < 2 ^ 64 }
+{
+    let _value = word.value();
+}
+
+fn know_wave(wave: Wave)
+    ensures { IsWave (wave_value wave) }
+{
+    match wave {
+        Wave::Swap => {}
+        Wave::Nth(_number) => {}
+    }
+}
+
+/// The parts of a move have their forms.
+pub(crate) fn know_move(moved: &Move)
+    ensures { IsMoveRow (move_columns moved.now) }
+{
+    let _round = moved.round;
+    know_text(&moved.person);
+    know_optional(&moved.from);
+    know_optional(&moved.to);
+    know_wave(moved.wave);
+}

@@ -1,0 +1,51 @@
+//! Changes of the lists.
+ghost use Rattle.std.specs.Prelude.{◌≡◌, OnOk};
+ghost use Rattle.sqlite.specs.Held.{state};
+ghost use Rattle.office_core.specs.declared.change.Change.TheVariants.{PutChoices};
+ghost use Rattle.office_tables.specs.Steps.{StaysInside};
+ghost use Rattle.office_changes.specs.Carries.{CarriesAlways, Turns};
+ghost use Rattle.office_changes.specs.Choosing.{with_choices};
+
+use crate::cells::know_text;
+use office_tables::choices::{add_choice, drop_choices};
+use room_types::{Choices, PersonId};
+use sqlite::{Alter, Error, Transaction};
+
+/// A person's list is this one. Of an empty list no row is left.
+pub(crate) fn put_choices<S: Alter>(
+    tx: &mut Transaction<'_, S>,
+    person: &PersonId,
+    choices: &Choices,
+) -> Result<(), Error>
+    ensures same_reference { tx.new.conn.ghost_name ≡ tx.old.conn.ghost_name }
+    ensures made { OnOk result
+        (CarriesAlways (state S.Store tx.old.conn.now) (state S.Store tx.new.conn.now)
+        (PutChoices person.now choices.now)) }
+    ensures inside { StaysInside (state S.Store tx.old.conn.now) (state S.Store tx.new.conn.now) }
+{
+    drop_choices(tx, person)?;
+    add_choices(tx, person, choices)
+}
+
+// A row for each room, the best at place 0.
+fn add_choices<S: Alter>(
+    tx: &mut Transaction<'_, S>,
+    person: &PersonId,
+    choices: &Choices,
+) -> Result<(), Error>
+    ensures same_reference { tx.new.conn.ghost_name ≡ tx.old.conn.ghost_name }
+    ensures made { OnOk result
+        (Turns (state S.Store tx.old.conn.now) (state S.Store tx.new.conn.now)
+        (with_choices person.now 0 choices.now)) }
+    ensures inside { StaysInside (state S.Store tx.old.conn.now) (state S.Store tx.new.conn.now) }
+{
+    know_text(person);
+    let rooms = choices.as_slice();
+    let mut place = 0;
+    for room in rooms {
+        know_text(room);
+        add_choice(tx, person, place, room)?;
+        place += 1;
+    }
+    Ok(())
+}

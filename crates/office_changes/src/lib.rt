@@ -1,0 +1,16 @@
+//! The changes of an office as statements over its tables, all those of a command in one transaction.
+#![tactic(auto)]
+
+mod cells;
+mod choices;
+mod people;
+mod results;
+mod rooms;
+mod round;
+mod store;
+mod words;
+
+pub use crate::store::store_all;
+
+#[cfg(test)]
+mod tests;

@@ -1,0 +1,77 @@
+//! Changes of the people.
+ghost use Rattle.std.specs.Prelude.{◌≡◌, OnOk};
+ghost use Rattle.sqlite.specs.Held.{state};
+ghost use Rattle.office_core.specs.declared.change.Change.TheVariants.{PutPerson, DropPerson, PutHome, PutWithdrawn};
+ghost use Rattle.office_tables.specs.Steps.{StaysInside};
+ghost use Rattle.office_changes.specs.Carries.{CarriesAlways};
+
+use crate::cells::{know_optional, know_text};
+use office_tables::people::{add_person, drop_person, set_home, set_withdrawn};
+use room_types::{Key, Name, PersonId, RoomCode};
+use sqlite::{Alter, Error, Transaction};
+
+/// A person is there, in place of one of the same identifier.
+pub(crate) fn put_person<S: Alter>(
+    tx: &mut Transaction<'_, S>,
+    person: &PersonId,
+    name: &Name,
+    key: &Key,
+    home: &Option<RoomCode>,
+) -> Result<(), Error>
+    ensures same_reference { tx.new.conn.ghost_name ≡ tx.old.conn.ghost_name }
+    ensures made { OnOk result
+        (CarriesAlways (state S.Store tx.old.conn.now) (state S.Store tx.new.conn.now)
+        (PutPerson person.now name.now key.now home.now)) }
+    ensures inside { StaysInside (state S.Store tx.old.conn.now) (state S.Store tx.new.conn.now) }
+{
+    know_text(person);
+    know_text(name);
+    know_text(key);
+    know_optional(home);
+    drop_person(tx, person)?;
+    add_person(tx, person, name, key, home)
+}
+
+/// A person is no longer there.
+pub(crate) fn remove_person<S: Alter>(
+    tx: &mut Transaction<'_, S>,
+    person: &PersonId,
+) -> Result<(), Error>
+    ensures same_reference { tx.new.conn.ghost_name ≡ tx.old.conn.ghost_name }
+    ensures made { OnOk result
+        (CarriesAlways (state S.Store tx.old.conn.now) (state S.Store tx.new.conn.now)
+        (DropPerson person.now)) }
+    ensures inside { StaysInside (state S.Store tx.old.conn.now) (state S.Store tx.new.conn.now) }
+{
+    drop_person(tx, person)
+}
+
+/// A person, if known, lives there, or nowhere.
+pub(crate) fn put_home<S: Alter>(
+    tx: &mut Transaction<'_, S>,
+    person: &PersonId,
+    home: &Option<RoomCode>,
+) -> Result<(), Error>
+    ensures same_reference { tx.new.conn.ghost_name ≡ tx.old.conn.ghost_name }
+    ensures made { OnOk result
+        (CarriesAlways (state S.Store tx.old.conn.now) (state S.Store tx.new.conn.now)
+        (PutHome person.now home.now)) }
+    ensures inside { StaysInside (state S.Store tx.old.conn.now) (state S.Store tx.new.conn.now) }
+{
+    know_optional(home);
+    set_home(tx, person, home)
+}
+
+/// A person has withdrawn from the round.
+pub(crate) fn put_withdrawn<S: Alter>(
+    tx: &mut Transaction<'_, S>,
+    person: &PersonId,
+) -> Result<(), Error>
+    ensures same_reference { tx.new.conn.ghost_name ≡ tx.old.conn.ghost_name }
+    ensures made { OnOk result
+        (CarriesAlways (state S.Store tx.old.conn.now) (state S.Store tx.new.conn.now)
+        (PutWithdrawn person.now)) }
+    ensures inside { StaysInside (state S.Store tx.old.conn.now) (state S.Store tx.new.conn.now) }
+{
+    set_withdrawn(tx, person)
+}

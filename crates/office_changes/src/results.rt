@@ -1,0 +1,42 @@
+//! Changes of the results and the moves.
+ghost use Rattle.std.specs.Prelude.{◌≡◌, OnOk};
+ghost use Rattle.sqlite.specs.Held.{state};
+ghost use Rattle.office_core.specs.declared.change.Change.TheVariants.{PutResult, AddMove};
+ghost use Rattle.office_tables.specs.Steps.{StaysInside};
+ghost use Rattle.office_changes.specs.Carries.{CarriesAlways};
+
+use crate::cells::{know_move, know_optional, know_text};
+use office_tables::moves::add_move;
+use office_tables::results::{add_result, drop_result};
+use room_types::{Move, PersonId, RoomCode};
+use sqlite::{Alter, Error, Transaction};
+
+/// A person gets this room, or none, in place of any result before.
+pub(crate) fn put_result<S: Alter>(
+    tx: &mut Transaction<'_, S>,
+    person: &PersonId,
+    room: &Option<RoomCode>,
+) -> Result<(), Error>
+    ensures same_reference { tx.new.conn.ghost_name ≡ tx.old.conn.ghost_name }
+    ensures made { OnOk result
+        (CarriesAlways (state S.Store tx.old.conn.now) (state S.Store tx.new.conn.now)
+        (PutResult person.now room.now)) }
+    ensures inside { StaysInside (state S.Store tx.old.conn.now) (state S.Store tx.new.conn.now) }
+{
+    know_text(person);
+    know_optional(room);
+    drop_result(tx, person)?;
+    add_result(tx, person, room)
+}
+
+/// A person has moved.
+pub(crate) fn record_move<S: Alter>(tx: &mut Transaction<'_, S>, moved: &Move) -> Result<(), Error>
+    ensures same_reference { tx.new.conn.ghost_name ≡ tx.old.conn.ghost_name }
+    ensures made { OnOk result
+        (CarriesAlways (state S.Store tx.old.conn.now) (state S.Store tx.new.conn.now)
+        (AddMove moved.now)) }
+    ensures inside { StaysInside (state S.Store tx.old.conn.now) (state S.Store tx.new.conn.now) }
+{
+    know_move(moved);
+    add_move(tx, moved)
+}

@@ -1,0 +1,43 @@
+//! Changes of the round.
+ghost use Rattle.std.specs.Prelude.{◌≡◌, OnOk};
+ghost use Rattle.sqlite.specs.Held.{state};
+ghost use Rattle.office_core.specs.declared.change.Change.TheVariants.{PutRound, ClearRound};
+ghost use Rattle.office_tables.specs.Steps.{StaysInside};
+ghost use Rattle.office_changes.specs.Carries.{CarriesAlways};
+
+use office_tables::choices::clear_choices;
+use office_tables::people::clear_withdrawn;
+use office_tables::results::clear_results;
+use office_tables::rounds::set_round;
+use office_tables::words::clear_words;
+use room_types::Phase;
+use sqlite::{Alter, Error, Transaction};
+
+/// The round has this number and phase.
+pub(crate) fn put_round<S: Alter>(
+    tx: &mut Transaction<'_, S>,
+    number: u16,
+    phase: Phase,
+) -> Result<(), Error>
+    ensures same_reference { tx.new.conn.ghost_name ≡ tx.old.conn.ghost_name }
+    ensures made { OnOk result
+        (CarriesAlways (state S.Store tx.old.conn.now) (state S.Store tx.new.conn.now)
+        (PutRound number phase)) }
+    ensures inside { StaysInside (state S.Store tx.old.conn.now) (state S.Store tx.new.conn.now) }
+{
+    set_round(tx, number, phase)
+}
+
+/// Lists, withdrawals, words and results go.
+pub(crate) fn clear_round<S: Alter>(tx: &mut Transaction<'_, S>) -> Result<(), Error>
+    ensures same_reference { tx.new.conn.ghost_name ≡ tx.old.conn.ghost_name }
+    ensures made { OnOk result
+        (CarriesAlways (state S.Store tx.old.conn.now) (state S.Store tx.new.conn.now)
+        (ClearRound)) }
+    ensures inside { StaysInside (state S.Store tx.old.conn.now) (state S.Store tx.new.conn.now) }
+{
+    clear_choices(tx)?;
+    clear_withdrawn(tx)?;
+    clear_words(tx)?;
+    clear_results(tx)
+}

@@ -1,0 +1,94 @@
+//! The changes of a command, all of them stored in one transaction.
+ghost use Rattle.std.specs.Prelude.{◌≡◌, false, OnOk, OnErr};
+ghost use Rattle.sqlite.specs.Held.{state};
+ghost use Rattle.office_tables.specs.Steps.{IsHonest, Follows, StaysInside};
+ghost use Rattle.office_changes.specs.Carries.{CarriesOne, Carries};
+
+use crate::choices::put_choices;
+use crate::people::{put_home, put_person, put_withdrawn, remove_person};
+use crate::results::{put_result, record_move};
+use crate::rooms::put_room;
+use crate::round::{clear_round, put_round};
+use crate::words::put_word;
+use office_core::{Change, Office};
+use sqlite::{Alter, Connection, Error, Transaction};
+use std::alloc::Global;
+
+/// Stores changes of an office whose rows the tables are: all of them in one transaction, or none.
+///
+/// Where it succeeds, the tables are the rows of the office after the changes, if these fit. Where it fails, for a
+/// fault of the disk, want of memory, or a change that the tables refuse, they are as they were.
+pub fn store_all<S: Alter>(
+    alloc: Global,
+    conn: &mut Connection<S>,
+    office: &Office,
+    changes: &[Change],
+) -> Result<(), Error>
+    requires { conn.old.in_transaction ≡ false }
+    ensures outside { conn.new.in_transaction ≡ false }
+    ensures follows { Follows (state S.Store conn.old) (state S.Store conn.new) }
+    ensures stored { OnOk result
+        (Carries office.now (state S.Store conn.old) (state S.Store conn.new) changes.now) }
+    ensures undone { OnErr result
+        (IsHonest (state S.Store conn.new)
+        → (state S.Store conn.new).now ≡ (state S.Store conn.old).now) }
+{
+    let outside = conn.is_autocommit();
+    prove!(outside);
+    let mut tx = conn.transaction();
+    make_all(alloc, &mut tx, office, changes)?;
+    tx.commit()?;
+    Ok(())
+}
+
+// Makes the changes in turn.
+fn make_all<S: Alter>(
+    alloc: Global,
+    tx: &mut Transaction<'_, S>,
+    first: &Office,
+    changes: &[Change],
+) -> Result<(), Error>
+    ensures same_reference { tx.new.conn.ghost_name ≡ tx.old.conn.ghost_name }
+    ensures made { OnOk result
+        (Carries first.now (state S.Store tx.old.conn.now) (state S.Store tx.new.conn.now)
+        changes.now) }
+    ensures inside { StaysInside (state S.Store tx.old.conn.now) (state S.Store tx.new.conn.now) }
+{
+    for change in changes {
+        make(alloc, tx, first, change)?;
+    }
+    Ok(())
+}
+
+// Makes one change.
+fn make<S: Alter>(
+    alloc: Global,
+    tx: &mut Transaction<'_, S>,
+    first: &Office,
+    change: &Change,
+) -> Result<(), Error>
+    ensures same_reference { tx.new.conn.ghost_name ≡ tx.old.conn.ghost_name }
+    ensures made { OnOk result
+        (CarriesOne first.now (state S.Store tx.old.conn.now) (state S.Store tx.new.conn.now)
+        change.now) }
+    ensures inside { StaysInside (state S.Store tx.old.conn.now) (state S.Store tx.new.conn.now) }
+{
+    match change {
+        Change::PutRoom { room, shut } => put_room(tx, first, room, *shut),
+        Change::PutPerson {
+            person,
+            name,
+            key,
+            home,
+        } => put_person(tx, person, name, key, home),
+        Change::DropPerson { person } => remove_person(tx, person),
+        Change::PutHome { person, home } => put_home(tx, person, home),
+        Change::PutWithdrawn { person } => put_withdrawn(tx, person),
+        Change::PutChoices { person, choices } => put_choices(tx, person, choices),
+        Change::PutWord { person, word } => put_word(alloc, tx, person, *word),
+        Change::PutResult { person, room } => put_result(tx, person, room),
+        Change::AddMove(moved) => record_move(tx, moved),
+        Change::PutRound { number, phase } => put_round(tx, *number, *phase),
+        Change::ClearRound => clear_round(tx),
+    }
+}

@@ -1,0 +1,31 @@
+//! Changes of the words.
+ghost use Rattle.std.specs.Prelude.{◌≡◌, OnOk};
+ghost use Rattle.sqlite.specs.Held.{state};
+ghost use Rattle.office_core.specs.declared.change.Change.TheVariants.{PutWord};
+ghost use Rattle.office_tables.specs.Steps.{StaysInside};
+ghost use Rattle.office_changes.specs.Carries.{CarriesAlways};
+
+use crate::cells::{know_text, know_word};
+use office_tables::words::{add_word, drop_word};
+use room_types::{PersonId, Word};
+use sqlite::{Alter, Error, Transaction};
+use std::alloc::Global;
+
+/// A person drew this word, in place of any before.
+pub(crate) fn put_word<S: Alter>(
+    alloc: Global,
+    tx: &mut Transaction<'_, S>,
+    person: &PersonId,
+    word: Word,
+) -> Result<(), Error>
+    ensures same_reference { tx.new.conn.ghost_name ≡ tx.old.conn.ghost_name }
+    ensures made { OnOk result
+        (CarriesAlways (state S.Store tx.old.conn.now) (state S.Store tx.new.conn.now)
+        (PutWord person.now word)) }
+    ensures inside { StaysInside (state S.Store tx.old.conn.now) (state S.Store tx.new.conn.now) }
+{
+    know_text(person);
+    know_word(word);
+    drop_word(tx, person)?;
+    add_word(alloc, tx, person, word)
+}

@@ -1,0 +1,3 @@
+-- Lemmas on the tests that show whether an office is lawful.
+pub mod Differing
+pub mod LawTests

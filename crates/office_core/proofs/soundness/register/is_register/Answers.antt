@@ -1,0 +1,30 @@
+use Rattle.std.proofs.Common.{Some, sym, ◌∙◌, arith}
+use Rattle.std.proofs.lemmas.Bool.Decides.{Decides-at}
+use Rattle.std.proofs.lemmas.Result.{IfOk-weaker}
+use Rattle.office_core.proofs.SoundnessLemmas.Differing.{differ-decides}
+use Rattle.office_core.proofs.SoundnessLemmas.LawTests.{never, as_well, false_true, homes_open-decides}
+use Rattle.office_core.proofs.soundness.register.is_register.Goals as goal
+
+pub returns-then-not-are_homes_open-clause-lawful : goal.returns-then-not-are_homes_open-clause-lawful
+returns-then-not-are_homes_open-clause-lawful c =
+    let office = c.args.office.now in
+    never (λ l. false_true _ (sym c.are_homes_open.ensures ∙ c.if-not-are_homes_open.true) ((homes_open-decides office.rooms office.people).1 l.homes_open))
+
+pub returns-then-not-branch-clause-lawful : goal.returns-then-not-branch-clause-lawful
+returns-then-not-branch-clause-lawful c =
+    never (λ l. false_true _ (sym c.in_ok-do_keys_differ.ensures.differ ∙ c.if-not-branch.true) ((differ-decides (λ p. Some p.key) c.args.office.now.people).1 l.keys))
+
+pub returns-clause-lawful : goal.returns-clause-lawful
+returns-clause-lawful c =
+    let office = c.args.office.now in
+    IfOk-weaker c.do_homes_differ.result _ _ (λ b e.
+    as_well b
+    (λ homes. record {
+      keys = (differ-decides (λ p. Some p.key) office.people).0 (sym c.in_ok-do_keys_differ.ensures.differ ∙ c.if-not-branch.false);
+      homes = homes;
+      homes_open = (homes_open-decides office.rooms office.people).0 (sym c.are_homes_open.ensures ∙ c.if-not-are_homes_open.false);
+      few_rooms = omega (arith, c.len.ensures, c.if-len-gt-ROOM_LIMIT.false);
+      few_people = omega (arith, c.len-2.ensures, c.if-len-gt-PEOPLE_LIMIT.false);
+    })
+    (λ l. l.homes)
+    (Decides-at b _ e (differ-decides (λ p. p.home) office.people))) c.do_homes_differ.ensures.differ

@@ -1,0 +1,50 @@
+//! Whether what was read is a lawful office.
+mod lists;
+mod moves;
+mod register;
+mod results;
+mod round;
+#[cfg(test)]
+mod tests;
+mod words;
+
+ghost use Rattle.std.specs.Prelude.{◌≡◌, ◌<◌, ◌⊎◌, true, length, IfOk, OnErr};
+ghost use Rattle.std.specs.Bool.{Decides};
+ghost use Rattle.std.specs.FinMap as map;
+ghost use Rattle.office_core.specs.Office.Invariants.{IsLawful};
+ghost use Rattle.office_core.specs.Office.Phases.{has_results};
+
+use crate::office::Office;
+use crate::soundness::lists::are_lists;
+use crate::soundness::moves::are_moves;
+use crate::soundness::register::is_register;
+use crate::soundness::results::are_results;
+use crate::soundness::round::is_round;
+use crate::soundness::words::are_words;
+use room_types::OutOfMemory;
+use std::alloc::Global;
+
+/// Whether the office obeys its laws, in n log n steps and those of a run of the round. It is refused for memory alone,
+/// which is taken where there are people, whose keys and homes are noted, or results, which are found again.
+pub fn sound(alloc: Global, office: &Office) -> Result<bool, OutOfMemory>
+    ensures lawful { IfOk result (λ lawful. Decides lawful (IsLawful office.now)) }
+    ensures memory { OnErr result ((0 < length (map.entries office.now.people))
+        ⊎ (has_results office.now.phase ≡ true)) }
+{
+    if !is_register(alloc, office)? {
+        return Ok(false);
+    }
+    if !are_lists(office) {
+        return Ok(false);
+    }
+    if !is_round(office) {
+        return Ok(false);
+    }
+    if !are_words(office) {
+        return Ok(false);
+    }
+    if !are_moves(office) {
+        return Ok(false);
+    }
+    are_results(alloc, office)
+}

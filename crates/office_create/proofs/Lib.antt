@@ -1,0 +1,2 @@
+mod CreateFacts
+mod EmptyLemmas

@@ -1,0 +1,83 @@
+//! Making an office in a database.
+ghost use Rattle.std.specs.Prelude.{◌≡◌, false, Err, OnOk, OnErr, IfErr};
+ghost use Rattle.sqlite.specs.Held.{state};
+ghost use Rattle.sqlite.specs.State.{HasCleanDisk};
+ghost use Rattle.office_core.specs.Office.{empty_office};
+ghost use Rattle.office_create.specs.Created.{Starts};
+ghost use Rattle.office_create.specs.Names.{NameIsTaken};
+ghost use Rattle.office_tables.specs.Schema.{no_schema};
+ghost use Rattle.office_tables.specs.Steps.{Follows, IsHonest, StaysInside};
+ghost use Rattle.office_tables.specs.Tables.{HoldsOffice};
+
+use crate::names::{is_blank, is_taken};
+use crate::tables::make_tables;
+use office_tables::rounds::add_round;
+use room_types::Phase;
+use sqlite::{Alter, Connection, Error, Transaction};
+
+/// Why no office was made.
+#[derive(Clone, Copy, Debug, PartialEq, Eq, Drop)]
+pub enum CreateFault {
+    /// The database or memory refused, or something that is no table of an office is declared.
+    Unavailable,
+    /// A table, an index or a view has the name of a table of an office.
+    AlreadyThere,
+}
+
+/// Makes the tables of an office with nothing in it, all of them or none, in a database where nothing is declared.
+///
+/// # Errors
+///
+/// `AlreadyThere` exactly where one of the names is taken, and else `Unavailable`. The rows are then as they were.
+pub fn create<S: Alter>(conn: &mut Connection<S>) -> Result<(), CreateFault>
+    requires { conn.old.in_transaction ≡ false }
+    ensures outside { conn.new.in_transaction ≡ false }
+    ensures follows { Follows (state S.Store conn.old) (state S.Store conn.new) }
+    ensures made { OnOk result (HasCleanDisk (state S.Store conn.new)
+        → HoldsOffice (state S.Store conn.new).now empty_office) }
+    ensures blank { OnOk result ((state S.Store conn.old).now.schema ≡ no_schema) }
+    ensures undone { OnErr result (IsHonest (state S.Store conn.new)
+        → (state S.Store conn.new).now ≡ (state S.Store conn.old).now) }
+    ensures taken { IfErr result (λ fault. fault ≡ CreateFault.AlreadyThere
+        → NameIsTaken (state S.Store conn.old).now) }
+    ensures told { NameIsTaken (state S.Store conn.old).now
+        → (result ≡ Err CreateFault.AlreadyThere) × (conn.new ≡ conn.old) }
+{
+    if is_taken(conn.schema()) {
+        return Err(CreateFault::AlreadyThere);
+    }
+    if !is_blank(conn.schema()) {
+        return Err(CreateFault::Unavailable);
+    }
+    match start_office(conn) {
+        Ok(()) => Ok(()),
+        Err(_) => Err(CreateFault::Unavailable),
+    }
+}
+
+// All in one transaction.
+fn start_office<S: Alter>(conn: &mut Connection<S>) -> Result<(), Error>
+    requires { conn.old.in_transaction ≡ false }
+    ensures outside { conn.new.in_transaction ≡ false }
+    ensures follows { Follows (state S.Store conn.old) (state S.Store conn.new) }
+    ensures made { OnOk result (Starts (state S.Store conn.old) (state S.Store conn.new)) }
+    ensures undone { OnErr result (IsHonest (state S.Store conn.new)
+        → (state S.Store conn.new).now ≡ (state S.Store conn.old).now) }
+{
+    let outside = conn.is_autocommit();
+    prove!(outside);
+    let mut tx = conn.transaction();
+    start(&mut tx)?;
+    tx.commit()?;
+    Ok(())
+}
+
+// The tables, and the row of a round that has not begun.
+fn start<S: Alter>(tx: &mut Transaction<'_, S>) -> Result<(), Error>
+    ensures same_reference { tx.new.conn.ghost_name ≡ tx.old.conn.ghost_name }
+    ensures made { OnOk result (Starts (state S.Store tx.old.conn.now) (state S.Store tx.new.conn.now)) }
+    ensures inside { StaysInside (state S.Store tx.old.conn.now) (state S.Store tx.new.conn.now) }
+{
+    make_tables(tx)?;
+    add_round(tx, 0, Phase::Idle)
+}

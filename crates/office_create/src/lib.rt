@@ -1,0 +1,10 @@
+//! An office with nothing in it, made in a database where nothing is declared.
+#![tactic(auto)]
+
+pub mod creation;
+mod names;
+mod tables;
+#[cfg(test)]
+mod tests;
+
+pub use crate::creation::{CreateFault, create};

@@ -1,0 +1,30 @@
+//! What is declared in a database.
+ghost use Rattle.std.specs.Prelude.{◌≡◌, IsTrue};
+ghost use Rattle.office_create.specs.Names.{is_taken};
+ghost use Rattle.office_tables.specs.Schema.{no_schema};
+
+use sqlite_catalog::layout::is_used;
+use sqlite_schema::schema::Schema;
+
+/// Whether a table, an index or a view has the name of a table of an office.
+pub(crate) fn is_taken(schema: &Schema) -> bool
+    ensures { result ≡ is_taken schema.now }
+{
+    is_used(schema, b"room")
+        || is_used(schema, b"person")
+        || is_used(schema, b"round")
+        || is_used(schema, b"choice")
+        || is_used(schema, b"word")
+        || is_used(schema, b"result")
+        || is_used(schema, b"move")
+        || is_used(schema, b"list")
+}
+
+/// Whether nothing is declared.
+pub(crate) fn is_blank(schema: &Schema) -> bool
+    ensures { IsTrue result → schema.now ≡ no_schema }
+{
+    schema.tables.as_slice().is_empty()
+        && schema.indexes.as_slice().is_empty()
+        && schema.views.as_slice().is_empty()
+}

@@ -1,0 +1,23 @@
+use Rattle.std.proofs.Common.{◌≡◌, ℕ, ◌<◌, ◌+◌, sym, ap, ◌∙◌, subst, refl, arith}
+use Rattle.sqlite.specs.Effect.{Database}
+use Rattle.sqlite.specs.Held.{state}
+use Rattle.office_load.specs.Numbers.{AreNumbered, tree_of}
+use Rattle.office_load.proofs.FollowLemmas.{follows-refl, honest_before, reads_then}
+use Rattle.office_load.proofs.Numbering.{next_place, numbered_if_read}
+use Rattle.office_load.proofs.numbers.numbers_rise.Goals as goal
+
+pub loop-place-preserved : goal.loop-place-preserved
+loop-place-preserved g c =
+    let start = state g.S.Store c.args.conn.now in
+    let before = state g.S.Store c.loop-place.conn in
+    let after = state g.S.Store c.rowids.new.conn in
+    record {
+      outside = c.rowids.ensures.outside;
+      reads = reads_then start before after c.loop-place.invariant.reads c.rowids.ensures.reads;
+      risen = λ honest has.
+          let early = honest_before before after c.rowids.ensures.reads.follows honest in
+          let same = c.loop-place.invariant.reads.same early has in
+          let here = numbered_if_read _ _ (c.in_ok-rows.ensures.shown honest.0 (ap (λ (d : Database). d.schema) same ∙ has)) (subst AreNumbered c.as_slice.ensures.value (c.if-not-rise.ensures refl)) in
+          next_place (λ k. AreNumbered (start.now.trees (tree_of k))) c.loop-place.place (c.loop-place.invariant.risen early has)
+          (subst (λ (d : Database). AreNumbered (d.trees (tree_of c.loop-place.place))) same here);
+    }

@@ -1,0 +1,26 @@
+use Rattle.std.proofs.Common.{◌≡◌, [], not, sym, ap, ◌∙◌, subst}
+use Rattle.sqlite.specs.Held.{state}
+use Rattle.sqlite.specs.Given.{IsPlain}
+use Rattle.sqlite.specs.Listing.{understood}
+use Rattle.sqlite.specs.State.{Shown}
+use Rattle.office_tables.specs.Schema.{office_schema}
+use Rattle.office_load.specs.Numbers.{only_rowid, rowid_text, tree_of}
+use Rattle.office_load.proofs.Listings.{shows_table}
+use Rattle.office_load.proofs.QueryMeanings.{rowids_listed}
+use Rattle.office_load.proofs.StateLemmas.{reads_shown, reads_failed}
+use Rattle.office_load.proofs.numbers.rowids.Goals as goal
+
+pub returns-in_err-rows-clause-reads : goal.returns-in_err-rows-clause-reads
+returns-in_err-rows-clause-reads g c =
+    reads_failed c.text_of.result.now [] _ _ _ c.query_all.ensures.survives _ (c.is_autocommit-outside.ensures.settled (c.is_autocommit-outside.ensures.value ∙ ap not c.requires.outside)) c.in_err-rows.ensures.err
+
+pub returns-clause-reads : goal.returns-clause-reads
+returns-clause-reads g c =
+    let plain = (rowids_listed c.args.place c.requires.known).plain in
+    reads_shown c.text_of.result.now [] _ _ _ c.query_all.ensures.survives _ (subst (λ t. IsPlain (understood office_schema t)) (sym c.text_of.ensures) plain) c.in_ok-rows.ensures.ok
+
+pub returns-clause-shown : goal.returns-clause-shown
+returns-clause-shown g c clean has =
+    let old = state g.S.Store c.args.conn.now in
+    let shown = subst (λ t. Shown t [] old (state g.S.Store c.query_all.new.self) c.in_ok-rows.rows.items) c.text_of.ensures (c.in_ok-rows.ensures.ok clean) in
+    shows_table (rowid_text c.args.place) (tree_of c.args.place) only_rowid _ (rowids_listed c.args.place c.requires.known) old _ _ has shown

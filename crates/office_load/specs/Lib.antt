@@ -1,0 +1,4 @@
+pub mod Listing
+pub mod Numbers
+pub mod Queries
+pub mod Reading

@@ -1,0 +1,28 @@
+-- The one row of the round.
+use Rattle.std.proofs.Common.{◌≡◌, ◌≢◌, List, [], ◌∷◌, length, Option, Some, None, refl, sym, ap, ◌∙◌, arith}
+use Rattle.std.specs.Prelude.{unwrap_or, slice_index_or}
+use Rattle.std.proofs.lemmas.List.Sorted.{IsPermutation-refl, length_permutation}
+use Rattle.office_rows.specs.Rows.{only_row}
+use Rattle.office_rows.specs.Reads.{Reads, IsAny}
+use Rattle.office_rows.specs.declared.records.RoundRecord.{RoundRecord}
+use Rattle.room_types.proofs.MapEntries.{moved_all}
+
+pub one_row : (rows : List RoundRecord) (d : RoundRecord) → length rows ≡ 1 → Reads IsAny only_row rows (Some (slice_index_or rows 0 d))
+one_row [] d e = absurd (omega (arith, e))
+one_row (r ∷ []) d e = record {
+  told = (tt, IsPermutation-refl (r ∷ []));
+  only = λ m sound same. ap (λ x. Some x) (moved_all (λ x. x ≡ m) (m ∷ []) (r ∷ []) same (refl, tt)).0;
+}
+one_row (r ∷ s ∷ rows) d e = absurd (omega (arith, e))
+
+pub other_rows : (rows : List RoundRecord) → length rows ≢ 1 → Reads IsAny only_row rows None
+other_rows rows other = record {
+  told = tt;
+  only = λ m sound same. absurd (other (length_permutation (m ∷ []) rows same));
+}
+
+pub missed : {M : Type 0} (found : Option M) (m : M) → found ≡ None → found ≡ Some m → ⊥
+missed found m none some = cc
+
+pub found_is : {M : Type 0} (found : Option M) (m n : M) → found ≡ Some m → found ≡ Some n → m ≡ n
+found_is found m n e f = ap (λ o. unwrap_or o m) (sym e ∙ f)

@@ -1,0 +1,8 @@
+use Rattle.std.proofs.Common.{◌≡◌, drop}
+use Rattle.std.specs.FinMap as map
+use Rattle.office_rows.specs.Inner.Gathered.{gathered}
+use Rattle.office_rows.proofs.choices.gather.Given as goal
+
+-- what the rows give is what those that are left add to the lists
+abbrev pub invariant-loop-row : goal.invariant-loop-row
+invariant-loop-row l = gathered map.empty l.rows ≡ gathered l.lists (drop l.row-index l.rows)

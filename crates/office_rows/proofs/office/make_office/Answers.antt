@@ -1,0 +1,57 @@
+use Rattle.std.proofs.Common.{Some, sym, subst, IsPermutation}
+use Rattle.office_rows.specs.Rows.{only_row}
+use Rattle.office_rows.specs.declared.records.RoundRecord.{RoundRecord}
+use Rattle.office_rows.specs.Tables.{rows_of}
+use Rattle.office_rows.proofs.Rounds.{missed, found_is}
+use Rattle.office_rows.proofs.office.make_office.Goals as goal
+
+pub returns-in_default-2 : goal.returns-in_default-2
+unfolding rows_of
+returns-in_default-2 c = record {
+  told = tt;
+  only = λ office lawful has.
+      absurd (missed _ _ c.in_default-2.is (c.in_ok-people.ensures.reads.only (record { people = office.people; withdrawn = office.withdrawn }) (record { withdrawers = lawful.lists.withdrawers }) has.people));
+}
+
+pub returns-in_default-read_round : goal.returns-in_default-read_round
+unfolding rows_of
+returns-in_default-read_round c = record {
+  told = tt;
+  only = λ office lawful has.
+      let round : RoundRecord = record { number = office.number; phase = office.phase } in
+      absurd (missed _ _ c.in_default-read_round.is (c.read_round.ensures.only round tt (subst (λ l. IsPermutation (only_row round) l) (sym c.as_slice.ensures.value) has.rounds)));
+}
+
+pub returns : goal.returns
+unfolding rows_of
+returns c = record {
+  told = record {
+    rooms = (rw c.in-Some.is at c.in_ok-rooms.ensures.reads.told).1;
+    people = (rw c.in-Some-2.is at c.in_ok-people.ensures.reads.told).1;
+    rounds = subst (λ l. IsPermutation (only_row c.in-Some-read_round.round) l) c.as_slice.ensures.value (rw c.in-Some-read_round.is at c.read_round.ensures.told).1;
+    choices = (rw c.in-Some-3.is at c.in_ok-choices.ensures.reads.told).1;
+    words = (rw c.in-Some-4.is at c.in_ok-words.ensures.reads.told).1;
+    results = (rw c.in-Some-5.is at c.in_ok-results.ensures.reads.told).1;
+    moves = (rw c.in-Some-6.is at c.in_ok-moves.ensures.reads.told).1;
+  };
+  only = λ office lawful has.
+      let rooms = found_is _ _ _ c.in-Some.is (c.in_ok-rooms.ensures.reads.only office.rooms tt has.rooms) in
+      let people = found_is _ _ _ c.in-Some-2.is (c.in_ok-people.ensures.reads.only (record { people = office.people; withdrawn = office.withdrawn }) (record { withdrawers = lawful.lists.withdrawers }) has.people) in
+      let now : RoundRecord = record { number = office.number; phase = office.phase } in
+      let round = found_is _ _ _ c.in-Some-read_round.is (c.read_round.ensures.only now tt (subst (λ l. IsPermutation (only_row now) l) (sym c.as_slice.ensures.value) has.rounds)) in
+      let choices = found_is _ _ _ c.in-Some-3.is (c.in_ok-choices.ensures.reads.only office.choices (record { none_empty = lawful.lists.none_empty; chosen = lawful.lists.chosen }) has.choices) in
+      let words = found_is _ _ _ c.in-Some-4.is (c.in_ok-words.ensures.reads.only office.words tt has.words) in
+      let results = found_is _ _ _ c.in-Some-5.is (c.in_ok-results.ensures.reads.only office.results tt has.results) in
+      let moves = found_is _ _ _ c.in-Some-6.is (c.in_ok-moves.ensures.reads.only office.moves (record { none_empty = lawful.moves.none_empty }) has.moves) in
+      λ i. Some (record {
+        rooms = rooms i;
+        people = (people i).people;
+        choices = choices i;
+        withdrawn = (people i).withdrawn;
+        words = words i;
+        results = results i;
+        moves = moves i;
+        number = (round i).number;
+        phase = (round i).phase;
+      });
+}

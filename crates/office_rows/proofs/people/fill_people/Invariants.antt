@@ -1,0 +1,12 @@
+use Rattle.std.proofs.Common.{◌≡◌, ◌≤◌, length, reverse, vec_len}
+use Rattle.office_rows.specs.Inner.Peopled.{nobody, peopled}
+use Rattle.office_rows.proofs.people.fill_people.Given as goal
+
+abbrev pub invariant-loop-row : goal.invariant-loop-row
+invariant-loop-row l = record {
+  left : peopled nobody (reverse l.fn.rows.items) ≡ peopled (record { people = l.people; withdrawn = l.withdrawn }) (reverse l.rows.items);
+  fewer : length l.rows.items ≤ length l.fn.rows.items;
+}
+
+abbrev pub decreases-loop-row : goal.decreases-loop-row
+decreases-loop-row l = vec_len l.rows

@@ -1,0 +1,6 @@
+-- Words that only the contracts of private functions use.
+pub mod Filled
+pub mod Gathered
+pub mod Makes
+pub mod Peopled
+pub mod Recorded

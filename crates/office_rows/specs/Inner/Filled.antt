@@ -1,0 +1,9 @@
+-- Entries put into a map one by one.
+use Rattle.std.specs.Prelude.{List, [], ◌∷◌, Option, Some, None, if◌then◌else◌}
+use Rattle.std.specs.FinMap as map
+use Rattle.room_types.specs.Texts.{Text, TextMap}
+
+-- the map with the entries, where their keys are new
+abbrev pub filled : {X : Type 0} → TextMap X → List (Text × X) → Option (TextMap X)
+filled m [] = Some m
+filled m (e ∷ es) = if map.contains_key m e.0 then None else filled (map.insert m e.0 e.1) es

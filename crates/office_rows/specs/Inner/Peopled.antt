@@ -1,0 +1,23 @@
+-- People put into their maps one by one.
+use Rattle.std.specs.Prelude.{List, [], ◌∷◌, Option, Some, None, if◌then◌else◌}
+use Rattle.std.specs.FinMap as maps
+use Rattle.room_types.specs.Texts.{TextMap}
+use Rattle.office_rows.specs.declared.people.People.{People}
+use Rattle.office_rows.specs.declared.records.PersonRecord.{PersonRecord}
+
+abbrev pub nobody : People
+nobody = record { people = maps.empty; withdrawn = maps.empty }
+
+-- who has withdrawn, after one more person
+abbrev pub marked : TextMap (Unit {0}) → PersonRecord → TextMap (Unit {0})
+marked withdrawn row = if row.withdrawn then maps.insert withdrawn row.id tt else withdrawn
+
+abbrev pub with_person : People → PersonRecord → People
+with_person p row =
+    record { people = maps.insert p.people row.id row.person; withdrawn = marked p.withdrawn row }
+
+-- the people with those of the rows, where their identifiers are new
+abbrev pub peopled : People → List PersonRecord → Option People
+peopled p [] = Some p
+peopled p (row ∷ rows) =
+    if maps.contains_key p.people row.id then None else peopled (with_person p row) rows

@@ -1,0 +1,6 @@
+pub mod Inner
+pub mod People
+pub mod Reads
+pub mod ReadsOffice
+pub mod Rows
+pub mod Tables

@@ -1,0 +1,25 @@
+-- What a reader of the rows of all tables finds.
+use Rattle.std.specs.Prelude.{◌≡◌, Option, Some}
+use Rattle.std.specs.Option.{IfSome}
+use Rattle.std.specs.List.Sorted.{IsPermutation}
+use Rattle.office_core.specs.Office.Invariants.{IsLawful}
+use Rattle.office_core.specs.declared.office.Office.{Office}
+use Rattle.office_rows.specs.Tables.{Tables, rows_of}
+use Rattle.office_rows.specs.declared.records.OfficeRecords.{OfficeRecords}
+
+-- the records of each table are its rows, in some order; kept lists have no record here
+pub record AreRecordsOf (tables : Tables) (records : OfficeRecords) : Type 0 where
+  pub rooms : IsPermutation tables.rooms records.rooms.items
+  pub people : IsPermutation tables.people records.people.items
+  pub rounds : IsPermutation tables.rounds records.rounds.items
+  pub choices : IsPermutation tables.choices records.choices.items
+  pub words : IsPermutation tables.words records.words.items
+  pub results : IsPermutation tables.results records.results.items
+  pub moves : IsPermutation tables.moves records.moves.items
+
+-- What is found is a lawful office with these rows, and the only one. Nothing is found only where no lawful office has
+-- them.
+pub record ReadsOffice (records : OfficeRecords) (found : Option Office) : Type 0 where
+  pub told : IfSome found (λ office. IsLawful office × AreRecordsOf (rows_of office) records)
+  pub only : (office : Office) → IsLawful office → AreRecordsOf (rows_of office) records
+      → found ≡ Some office

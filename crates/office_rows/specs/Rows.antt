@@ -1,0 +1,71 @@
+-- The rows of each part of an office.
+use Rattle.std.specs.Prelude.{◌≡◌, true, ℕ, ◌+◌, List, [], ◌∷◌, map, Some}
+use Rattle.std.specs.List.{flat_map}
+use Rattle.std.specs.FinMap as maps
+use Rattle.room_types.specs.Choices.{IsChoices}
+use Rattle.room_types.specs.Texts.{Text, TextMap}
+use Rattle.room_types.specs.declared.moves.Move.{Move}
+use Rattle.office_core.specs.Office.Moves.{RoundMap}
+use Rattle.office_core.specs.declared.office.moves.Moved.{Moved}
+use Rattle.office_core.specs.declared.office.moves.RoundMoves.{RoundMoves}
+use Rattle.office_core.specs.declared.office.person.Person.{Person}
+use Rattle.office_rows.specs.declared.records.ChoiceRecord.{ChoiceRecord}
+use Rattle.office_rows.specs.declared.records.PersonRecord.{PersonRecord}
+use Rattle.office_rows.specs.declared.records.RoundRecord.{RoundRecord}
+
+-- the row of a person
+abbrev pub person_row : TextMap (Unit {0}) → Text × Person → PersonRecord
+person_row withdrawn e =
+    record { id = e.0; person = e.1; withdrawn = maps.contains_key withdrawn e.0 }
+
+-- a row for each person
+abbrev pub person_rows : TextMap Person → TextMap (Unit {0}) → List PersonRecord
+person_rows people withdrawn = map (person_row withdrawn) (maps.entries people)
+
+-- the one row of the round
+abbrev pub only_row : RoundRecord → List RoundRecord
+only_row round = round ∷ []
+
+-- the rows of a person's list, from this place on
+abbrev pub choices_from : Text → ℕ → List Text → List ChoiceRecord
+choices_from person place [] = []
+choices_from person place (code ∷ codes) =
+    record { person = person; place = place; room = code } ∷ choices_from person (place + 1) codes
+
+-- the rows of a person's list
+abbrev pub list_rows : Text × List Text → List ChoiceRecord
+list_rows e = choices_from e.0 0 e.1
+
+-- the rows of all lists
+abbrev pub choice_rows : TextMap (List Text) → List ChoiceRecord
+choice_rows lists = flat_map list_rows (maps.entries lists)
+
+-- the row of a move
+abbrev pub move_row : ℕ → Text × Moved → Move
+move_row round e =
+    record { round = round; person = e.0; from = e.1.from; to = e.1.to; wave = e.1.wave }
+
+-- the rows of a round's moves
+abbrev pub round_rows : ℕ × RoundMoves → List Move
+round_rows e = map (move_row e.0) (maps.entries e.1.by_person)
+
+-- a row for each move of all rounds
+abbrev pub move_rows : RoundMap RoundMoves → List Move
+move_rows moves = flat_map round_rows (maps.entries moves)
+
+-- What rows can tell: who of the known people has withdrawn, which lists are not empty, and which rounds have moves.
+
+-- who has withdrawn is known
+pub record AreKeptPeople (people : TextMap Person) (withdrawn : TextMap (Unit {0})) : Type 0 where
+  pub withdrawers : (p : Text) → maps.contains_key withdrawn p ≡ true
+      → maps.contains_key people p ≡ true
+
+-- no list is empty, and each has at most forty rooms and none twice
+pub record AreKeptLists (lists : TextMap (List Text)) : Type 0 where
+  pub none_empty : (p : Text) → maps.get lists p ≡ Some [] → ⊥
+  pub chosen : (p : Text) (codes : List Text) → maps.get lists p ≡ Some codes → IsChoices codes
+
+-- no round is recorded without moves
+pub record AreKeptMoves (moves : RoundMap RoundMoves) : Type 0 where
+  pub none_empty : (round : ℕ) (kept : RoundMoves) → maps.get moves round ≡ Some kept
+      → kept.by_person ≡ maps.empty → ⊥

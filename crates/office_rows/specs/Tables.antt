@@ -1,0 +1,43 @@
+-- The tables of an office, as typed rows.
+use Rattle.std.specs.Prelude.{ℕ, Bool, List, []}
+use Rattle.std.specs.FinMap as maps
+use Rattle.room_types.specs.Texts.{Text}
+use Rattle.room_types.specs.declared.moves.Move.{Move}
+use Rattle.office_core.specs.declared.office.Assigned.{Assigned}
+use Rattle.office_core.specs.declared.office.Office.{Office}
+use Rattle.office_rows.specs.Rows.{only_row, person_rows, choice_rows, move_rows}
+use Rattle.office_rows.specs.declared.records.ChoiceRecord.{ChoiceRecord}
+use Rattle.office_rows.specs.declared.records.PersonRecord.{PersonRecord}
+use Rattle.office_rows.specs.declared.records.RoundRecord.{RoundRecord}
+
+-- a list that was handed in under a label: its kind, its bytes, and how many records it added
+pub record KeptList : Type 0 where
+  pub label : Text
+  pub kind : List ℕ
+  pub body : List ℕ
+  pub added : ℕ
+
+-- the rows of each table, in no order
+pub record Tables : Type 0 where
+  pub rooms : List (Text × Bool)
+  pub people : List PersonRecord
+  pub rounds : List RoundRecord
+  pub choices : List ChoiceRecord
+  pub words : List (Text × ℕ)
+  pub results : List (Text × Assigned)
+  pub moves : List Move
+  pub lists : List KeptList
+
+-- The rows of an office: one for each room, person, listed room, word, result and move, and one for the round. No lists
+-- are kept yet.
+unfoldable pub rows_of : Office → Tables
+rows_of office = record {
+  rooms = maps.entries office.rooms;
+  people = person_rows office.people office.withdrawn;
+  rounds = only_row (record { number = office.number; phase = office.phase });
+  choices = choice_rows office.choices;
+  words = maps.entries office.words;
+  results = maps.entries office.results;
+  moves = move_rows office.moves;
+  lists = [];
+}

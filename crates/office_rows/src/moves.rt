@@ -1,0 +1,45 @@
+//! The moves of all rounds, from their rows.
+ghost use Rattle.std.specs.Prelude.{◌≡◌, ◌<◌, IfOk, OnErr, length, reverse};
+ghost use Rattle.std.specs.FinMap as map;
+ghost use Rattle.office_core.specs.Office.Moves.{moves_of};
+ghost use Rattle.office_rows.specs.Rows.{AreKeptMoves, move_rows};
+ghost use Rattle.office_rows.specs.Inner.Recorded.{recorded_moves};
+ghost use Rattle.office_rows.specs.Reads.{Reads};
+
+use office_core::{RoundMoves, Rounds};
+use room_types::{Move, OutOfMemory};
+use std::alloc::Global;
+
+/// The moves with these rows, in whatever order the rows come: none where a person moves twice in a round.
+pub fn read_moves(alloc: Global, rows: Vec<Move>) -> Result<Option<Rounds<RoundMoves>>, OutOfMemory>
+    ensures reads { IfOk result (λ found. Reads AreKeptMoves move_rows rows.items found) }
+    ensures memory { OnErr result (0 < length rows.items) }
+{
+    fill_moves(alloc, rows)
+}
+
+// The moves are recorded from the last one on.
+fn fill_moves(alloc: Global, rows: Vec<Move>) -> Result<Option<Rounds<RoundMoves>>, OutOfMemory>
+    ensures fills { IfOk result (λ found. found ≡ recorded_moves map.empty (reverse rows.items)) }
+    ensures memory { OnErr result (0 < length rows.items) }
+{
+    let mut rows = rows;
+    let mut moves: Rounds<RoundMoves> = Rounds::new(alloc);
+    while let Some(row) = rows.pop() {
+        if has_moved(&moves, &row) {
+            return Ok(None);
+        }
+        moves.add(&row)?;
+    }
+    Ok(Some(moves))
+}
+
+// Whether a move of this person in this round is recorded.
+fn has_moved(moves: &Rounds<RoundMoves>, row: &Move) -> bool
+    ensures { result ≡ map.contains_key (moves_of moves.now row.now.round) row.now.person }
+{
+    match moves.get(row.round) {
+        Some(kept) => kept.by_person.contains_key(&row.person),
+        None => false,
+    }
+}

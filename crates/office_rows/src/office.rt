@@ -1,0 +1,67 @@
+//! An office, from the rows of all its tables.
+ghost use Rattle.std.specs.Prelude.{◌≡◌, IfOk};
+ghost use Rattle.office_rows.specs.Inner.Makes.{Makes};
+ghost use Rattle.office_rows.specs.ReadsOffice.{ReadsOffice};
+
+use crate::choices::read_choices;
+use crate::moves::read_moves;
+use crate::people::read_people;
+use crate::records::OfficeRecords;
+use crate::round::read_round;
+use crate::tables::read_table;
+use office_core::{Office, sound};
+use room_types::OutOfMemory;
+use std::alloc::Global;
+
+/// The lawful office with these rows, in whatever order they come: none where no lawful office has them, and else the
+/// only one that has. It takes n log n steps and those of a run of the round, and is refused only for memory.
+pub fn read_office(alloc: Global, records: OfficeRecords) -> Result<Option<Office>, OutOfMemory>
+    ensures { IfOk result (λ found. ReadsOffice records found) }
+{
+    let Some(office) = make_office(alloc, records)? else {
+        return Ok(None);
+    };
+    if !sound(alloc, &office)? {
+        return Ok(None);
+    }
+    Ok(Some(office))
+}
+
+// The maps with these rows, whether they are lawful or not.
+#[tactic(auto, unfolding(crate::specs::Tables::rows_of))]
+fn make_office(alloc: Global, records: OfficeRecords) -> Result<Option<Office>, OutOfMemory>
+    ensures { IfOk result (λ made. Makes records made) }
+{
+    let Some(rooms) = read_table(alloc, records.rooms)? else {
+        return Ok(None);
+    };
+    let Some(people) = read_people(alloc, records.people)? else {
+        return Ok(None);
+    };
+    let Some(round) = read_round(records.rounds.as_slice()) else {
+        return Ok(None);
+    };
+    let Some(choices) = read_choices(alloc, records.choices)? else {
+        return Ok(None);
+    };
+    let Some(words) = read_table(alloc, records.words)? else {
+        return Ok(None);
+    };
+    let Some(results) = read_table(alloc, records.results)? else {
+        return Ok(None);
+    };
+    let Some(moves) = read_moves(alloc, records.moves)? else {
+        return Ok(None);
+    };
+    Ok(Some(Office {
+        rooms,
+        people: people.people,
+        choices,
+        withdrawn: people.withdrawn,
+        words,
+        results,
+        moves,
+        number: round.number,
+        phase: round.phase,
+    }))
+}

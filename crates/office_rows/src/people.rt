@@ -1,0 +1,54 @@
+//! People and withdrawals, from rows of both.
+ghost use Rattle.std.specs.Prelude.{◌≡◌, ◌<◌, IfOk, OnErr, OnOk, length, reverse};
+ghost use Rattle.office_rows.specs.Inner.Peopled.{marked, nobody, peopled};
+ghost use Rattle.office_rows.specs.People.{AreKept, people_rows};
+ghost use Rattle.office_rows.specs.Reads.{Reads};
+
+use crate::records::PersonRecord;
+use office_core::Person;
+use room_types::grammars::PersonIds;
+use room_types::{OutOfMemory, Table};
+use std::alloc::Global;
+
+/// The people, and who of them has withdrawn from the round.
+#[derive(Drop)]
+pub struct People {
+    pub people: Table<PersonIds, Person>,
+    pub withdrawn: Table<PersonIds, ()>,
+}
+
+/// The people with these rows, in whatever order the rows come: none where an identifier stands twice.
+pub fn read_people(alloc: Global, rows: Vec<PersonRecord>) -> Result<Option<People>, OutOfMemory>
+    ensures reads { IfOk result (λ found. Reads AreKept people_rows rows.items found) }
+    ensures memory { OnErr result (0 < length rows.items) }
+{
+    fill_people(alloc, rows)
+}
+
+// The rows are put into the maps from the last one on.
+fn fill_people(alloc: Global, rows: Vec<PersonRecord>) -> Result<Option<People>, OutOfMemory>
+    ensures fills { IfOk result (λ found. found ≡ peopled nobody (reverse rows.items)) }
+    ensures memory { OnErr result (0 < length rows.items) }
+{
+    let mut rows = rows;
+    let mut people: Table<PersonIds, Person> = Table::new(alloc);
+    let mut withdrawn: Table<PersonIds, ()> = Table::new(alloc);
+    while let Some(row) = rows.pop() {
+        if people.contains_key(&row.id) {
+            return Ok(None);
+        }
+        mark(&mut withdrawn, &row)?;
+        people.insert(row.id, row.person)?;
+    }
+    Ok(Some(People { people, withdrawn }))
+}
+
+// Notes a person who has withdrawn from the round.
+fn mark(withdrawn: &mut Table<PersonIds, ()>, row: &PersonRecord) -> Result<(), OutOfMemory>
+    ensures { OnOk result (withdrawn.new ≡ marked withdrawn.old row.now) }
+{
+    if row.withdrawn {
+        withdrawn.insert(row.id.copy()?, ())?;
+    }
+    Ok(())
+}

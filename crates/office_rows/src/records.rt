@@ -1,0 +1,41 @@
+//! The records of the tables of an office.
+use office_core::{Assigned, Person};
+use room_types::{Move, PersonId, Phase, RoomCode, Word};
+
+/// A record of a person.
+#[derive(Drop)]
+pub struct PersonRecord {
+    pub id: PersonId,
+    pub person: Person,
+    /// Whether the person has withdrawn from the round.
+    pub withdrawn: bool,
+}
+
+/// A record of a recorded list: the room that a person listed at this place, from 0. Records compare by person, and
+/// then by place.
+#[derive(Debug, PartialEq, Eq, PartialOrd, Ord, Drop)]
+pub struct ChoiceRecord {
+    pub person: PersonId,
+    pub place: u64,
+    pub room: RoomCode,
+}
+
+/// The record of the round.
+#[derive(Clone, Copy, Debug, Drop)]
+pub struct RoundRecord {
+    pub number: u16,
+    pub phase: Phase,
+}
+
+/// The records of the tables of an office, those of each table in any order.
+#[derive(Drop)]
+pub struct OfficeRecords {
+    /// Each room, and whether it is shut.
+    pub rooms: Vec<(RoomCode, bool)>,
+    pub people: Vec<PersonRecord>,
+    pub rounds: Vec<RoundRecord>,
+    pub choices: Vec<ChoiceRecord>,
+    pub words: Vec<(PersonId, Word)>,
+    pub results: Vec<(PersonId, Assigned)>,
+    pub moves: Vec<Move>,
+}

@@ -1,0 +1,125 @@
+-- One request at a desk.
+use Rattle.std.proofs.Common.{◌≡◌, List, Option, Some, None, IfSome, MatchOption, inl, inr, refl, sym, ap, ◌∙◌, subst}
+use Rattle.sqlite_trees.specs.declared.store.Store.{Ghosts}
+use Rattle.sqlite.specs.Held.{Held, state}
+use Rattle.office_core.specs.Change.{LeadsOn, AllFit, applied_all}
+use Rattle.office_core.specs.Command.{accepts, next, reply_to, changes_of, checks}
+use Rattle.office_core.specs.Command.Decision.{IsDecision}
+use Rattle.office_core.specs.Office.Invariants.{IsLawful}
+use Rattle.office_core.specs.declared.change.Change.{Change}
+use Rattle.office_core.specs.declared.command.Command.{Command}
+use Rattle.office_core.specs.declared.command.decision.Decision.{Decision}
+use Rattle.office_core.specs.declared.office.Office.{Office}
+use Rattle.office_core.specs.declared.reply.Reply.{Reply as CoreReply}
+use Rattle.office_cells.specs.Spelled.{IsSpelled}
+use Rattle.office_rows.specs.Tables.{rows_of}
+use Rattle.office_tables.specs.Steps.{Follows, IsHonest}
+use Rattle.office_tables.specs.Tables.{HoldsOffice}
+use Rattle.office_changes.specs.Carries.{Carries}
+use Rattle.office_store.specs.Desk.{DeskState, HandlesAt, IsTold, Shows}
+use Rattle.office_store.specs.Requests.{Handles, answer_but, answer_to, office_but}
+use Rattle.office_store.specs.declared.requests.Answer.{Answer}
+use Rattle.office_store.specs.declared.requests.Answer.TheVariants.{Reply, Unavailable}
+use Rattle.office_store.specs.declared.requests.Request.{Request}
+use Rattle.office_store.specs.declared.requests.Request.TheVariants as request
+use Rattle.office_load.proofs.FollowLemmas.{follows-refl, follows_then}
+
+-- the office that is kept after changes in turn, if one is
+kept_after : (taken after : Option Office) (office : Office) (changes : List Change) → taken ≡ Some office
+    → MatchOption taken (after ≡ None) (λ o. IfSome after (λ n. n ≡ applied_all o changes)) → IfSome after (λ n. n ≡ applied_all office changes)
+kept_after None after office changes e h = absurd (cc)
+kept_after (Some o) None office changes e h = tt
+kept_after (Some o) (Some n) office changes e h =
+    let same : o ≡ office = ap (λ p. elim p as (λ _. Office) [ None ↦ o | Some x ↦ x ]) e in
+    h ∙ ap (λ x. applied_all x changes) same
+
+-- a command that no check refuses
+accepted_answer : (office : Office) (command : Command) (reply : CoreReply) → accepts office command ≡ None → reply ≡ reply_to office command
+    → Reply reply ≡ answer_to office (request.Office command)
+accepted_answer office command reply accepted replied =
+    ap (λ r. Reply r) replied ∙ ap (λ refusal. answer_but refusal (reply_to office command)) (sym accepted)
+
+accepted_handles : (office : Office) (command : Command) (reply : CoreReply) → accepts office command ≡ None → reply ≡ reply_to office command
+    → Handles office (request.Office command) (Reply reply) (next office command)
+accepted_handles office command reply accepted replied =
+    inl (accepted_answer office command reply accepted replied, ap (λ refusal. office_but refusal office (next office command)) (sym accepted))
+
+-- what is kept stays kept
+told_after : (old mid : Option Office) (request : Request) (answer : Answer) → IfSome old (λ kept. mid ≡ Some kept) → IsTold mid request answer → IsTold old request answer
+told_after None mid request answer kept told = elim told [
+  | inl some ↦ inl (some.0, some.1, tt, some.3)
+  | inr none ↦ inr none
+]
+told_after (Some o) mid request answer kept told = subst (λ k. IsTold k request answer) kept told
+
+module _ {S : Type 0} (g : Ghosts S) where
+  -- the office that is shown is the one that is kept
+  pub kept_is : (desk : DeskState S) (kept office : Office) → desk.kept ≡ Some kept → Shows g desk office → kept ≡ office
+  kept_is desk kept office is shows = subst (λ k. IfSome k (λ o. o ≡ office)) is shows.kept
+
+  -- the tables are as they were, and so is what is kept
+  pub shows_still : (old new : Held S) (kept : Option Office) (office : Office) → IsHonest (state g new) → (state g new).now ≡ (state g old).now
+      → Shows g (record { conn = old; kept = kept }) office → Shows g (record { conn = new; kept = kept }) office
+  shows_still old new kept office honest same shows = record {
+    is_open = honest.1;
+    tables = subst (λ db. HoldsOffice db office) (sym same) shows.tables;
+    spelled = shows.spelled;
+    lawful = shows.lawful;
+    kept = shows.kept;
+  }
+
+  -- nothing is changed
+  pub unavailable : (old new : DeskState S) (request : Request) → Follows (state g old.conn) (state g new.conn)
+      → (IsHonest (state g new.conn) → (office : Office) → Shows g old office → Shows g new office) → HandlesAt g old request Unavailable new
+  unavailable old new request follows still = record {
+    follows = follows;
+    told = inr refl;
+    steps = λ honest office shows. (office, inr (refl, refl), still honest office shows);
+  }
+
+  -- what is answered by the office that is kept, and changes nothing
+  pub answered : (desk : DeskState S) (kept : Office) (request : Request) (answer : Answer) → desk.kept ≡ Some kept → IsLawful kept → Handles kept request answer kept → HandlesAt g desk request answer desk
+  answered desk kept request answer is lawful handled = record {
+    follows = follows-refl (state g desk.conn);
+    told = elim handled [
+      | inl done ↦ inl (kept, lawful, subst (λ k. IfSome k (λ o. o ≡ kept)) (sym is) refl, done.0)
+      | inr want ↦ inr want.0
+    ];
+    steps = λ honest office shows. (office, subst (λ o. Handles o request answer o) (kept_is desk kept office is shows) handled, shows);
+  }
+
+  -- after what lets the desk show the same
+  pub handles_after : (old mid new : DeskState S) (request : Request) (answer : Answer) → Follows (state g old.conn) (state g mid.conn) → IfSome old.kept (λ kept. mid.kept ≡ Some kept)
+      → (IsHonest (state g mid.conn) → (office : Office) → Shows g old office → Shows g mid office) → HandlesAt g mid request answer new → HandlesAt g old request answer new
+  handles_after old mid new request answer follows kept still h = record {
+    follows = follows_then _ _ _ follows h.follows;
+    told = told_after old.kept mid.kept request answer kept h.told;
+    steps = λ honest office shows. h.steps honest office (still (h.follows.clean honest.0, h.follows.was_open honest.0 honest.1) office shows);
+  }
+
+  -- a command that is accepted: its changes are in the tables, and in the office that is kept, if one is
+  pub carried_out : (old new : Held S) (kept : Office) (command : Command) (decision : Decision) (changes : List Change) (taken after : Option Office)
+      → IsDecision (checks kept command) (reply_to kept command) (changes_of kept command) decision → LeadsOn kept (next kept command) decision.changes.items
+      → IsLawful kept → changes ≡ decision.changes.items → Follows (state g old) (state g new) → Carries kept (state g old) (state g new) changes
+      → taken ≡ Some kept → MatchOption taken (after ≡ None) (λ o. IfSome after (λ n. n ≡ applied_all o changes))
+      → HandlesAt g (record { conn = old; kept = Some kept }) (request.Office command) (Reply decision.reply) (record { conn = new; kept = after })
+  carried_out old new kept command decision changes taken after d leads lawful same follows stored took done = record {
+    follows = follows;
+    told = inl (kept, lawful, refl, accepted_answer kept command decision.reply d.accepted d.replied);
+    steps = λ honest office shows.
+        let is : kept ≡ office = shows.kept in
+        let goes : applied_all kept changes ≡ next kept command = ap (applied_all kept) same ∙ leads.leads in
+        let fits : AllFit kept kept changes = subst (AllFit kept kept) (sym same) leads.fits in
+        let spelled = subst (λ o. IsSpelled (rows_of o)) (sym is) shows.spelled in
+        let shown = stored.shown kept honest.0 fits spelled (subst (HoldsOffice (state g old).now) (sym is) shows.tables) in (
+          next kept command,
+          subst (λ o. Handles o (request.Office command) (Reply decision.reply) (next kept command)) is (accepted_handles kept command decision.reply d.accepted d.replied),
+          record {
+            is_open = honest.1;
+            tables = subst (HoldsOffice (state g new).now) goes shown.0;
+            spelled = subst (λ o. IsSpelled (rows_of o)) goes shown.1;
+            lawful = leads.lawful;
+            kept = subst (λ n. IfSome after (λ o. o ≡ n)) goes (kept_after taken after kept changes took done);
+          },
+        );
+  }

@@ -1,0 +1,54 @@
+-- What a desk shows, and what it does with a request.
+use Rattle.std.specs.Prelude.{◌≡◌, ◌⊎◌, false, Option, IsTrue, IfSome, refl}
+use Rattle.std.specs.Coded.{Coded, code_by, coded×, coded_option}
+use Rattle.sqlite_trees.specs.declared.store.Store.{Ghosts}
+use Rattle.sqlite.specs.Held.{Held, held_code, state}
+use Rattle.office_core.specs.Office.Invariants.{IsLawful}
+use Rattle.office_core.specs.contracts.office.Office as office
+use Rattle.office_core.specs.declared.office.Office.{Office}
+use Rattle.office_cells.specs.Spelled.{IsSpelled}
+use Rattle.office_rows.specs.Tables.{rows_of}
+use Rattle.office_tables.specs.Steps.{Follows, IsHonest}
+use Rattle.office_tables.specs.Tables.{HoldsOffice}
+use Rattle.office_store.specs.Requests.{Handles, answer_to}
+use Rattle.office_store.specs.declared.requests.Answer.{Answer}
+use Rattle.office_store.specs.declared.requests.Answer.TheVariants.{Unavailable}
+use Rattle.office_store.specs.declared.requests.Request.{Request}
+
+-- the connection, and the office that is kept beside it, if one is
+pub record DeskState (S : Type 0) : Type 0 where
+  pub conn : Held S
+  pub kept : Option Office
+
+abbrev pub desk_code : {S : Type 0} → Coded S → Coded (DeskState S)
+desk_code {S} store =
+    code_by (Held S × Option Office) (coded× (held_code store) (coded_option office.the_row.coded))
+    (λ desk. (desk.conn, desk.kept)) (λ p. record { conn = p.0; kept = p.1 }) (λ _. refl)
+
+-- no transaction is under way, and an office that is kept is lawful
+pub record IsSettled {S : Type 0} (conn : Held S) (kept : Option Office) : Type 0 where
+  pub outside : conn.in_transaction ≡ false
+  pub lawful : IfSome kept (λ office. IsLawful office)
+
+-- The connection is open, and the tables are the rows of this office. It is lawful, its texts and numbers are of their
+-- types, and it is the one that is kept, if one is.
+pub record Shows {S : Type 0} (g : Ghosts S) (desk : DeskState S) (office : Office) : Type 0 where
+  pub is_open : IsTrue (state g desk.conn).is_open
+  pub tables : HoldsOffice (state g desk.conn).now office
+  pub spelled : IsSpelled (rows_of office)
+  pub lawful : IsLawful office
+  pub kept : IfSome desk.kept (λ kept. kept ≡ office)
+
+-- Whatever the disk does: the answer is that of a lawful office, of the one that was kept if one was, or `Unavailable`.
+abbrev pub IsTold : Option Office → Request → Answer → Type 0
+IsTold kept request answer =
+    ((office : Office) × IsLawful office × IfSome kept (λ o. o ≡ office) × (answer ≡ answer_to office request))
+    ⊎ (answer ≡ Unavailable)
+
+-- A request at a desk. Where the disk is honest, the office that is shown has handled it, and the next one is shown.
+pub record HandlesAt {S : Type 0} (g : Ghosts S) (old : DeskState S) (request : Request) (answer : Answer)
+    (new : DeskState S) : Type 0 where
+  pub follows : Follows (state g old.conn) (state g new.conn)
+  pub told : IsTold old.kept request answer
+  pub steps : IsHonest (state g new.conn) → (office : Office) → Shows g old office
+      → (next : Office) × Handles office request answer next × Shows g new next

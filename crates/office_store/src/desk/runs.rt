@@ -1,0 +1,52 @@
+//! Runs of requests at a desk.
+ghost use Rattle.std.specs.Prelude.{◌≡◌, IfOk, MatchResult, OnErr};
+ghost use Rattle.sqlite.specs.Held.{state};
+ghost use Rattle.sqlite.specs.Steps.{over_memory};
+ghost use Rattle.office_core.specs.declared.office.Office.{Office as AnyOffice};
+ghost use Rattle.office_tables.specs.Steps.{Follows, IsHonest};
+ghost use Rattle.office_store.specs.Desk.{Shows};
+ghost use Rattle.office_store.specs.LawfulSteps.{HandlesLawfully};
+ghost use Rattle.office_store.specs.Requests.{IsRun};
+
+use crate::desk::Desk;
+use crate::handling::handle_all;
+use crate::requests::{Answer, Request};
+use sqlite::{Alter, MemStore};
+use std::alloc::{AllocError, Global};
+
+impl<S: Alter> Desk<S> {
+    /// Answers each request in turn. Memory for all answers is taken first; where it is refused, no request was
+    /// handled. Where the disk is honest, the answers are those of a run of the office that the desk shows, and then it
+    /// shows the last office of that run.
+    pub fn handle_all(
+        &mut self,
+        alloc: Global,
+        requests: &[Request],
+    ) -> Result<Vec<Answer>, AllocError>
+        ensures follows { Follows (state S.Store self.old.conn) (state S.Store self.new.conn) }
+        ensures runs { IsHonest (state S.Store self.new.conn) → (office : AnyOffice)
+            → Shows S.Store self.old office → IfOk result (λ answers. (last : AnyOffice)
+            × IsRun HandlesLawfully office requests.now answers.items last
+            × Shows S.Store self.new last) }
+        ensures refused { OnErr result (self.new ≡ self.old) }
+    {
+        handle_all(alloc, self, requests)
+    }
+}
+
+/// Answers each request in turn, over a database in memory. The answers are those of a run of the office that the desk
+/// shows, and the tables hold the last office of that run. Where memory for the answers is refused, no request was
+/// handled.
+pub fn handle_all_in_memory(
+    desk: &mut Desk<MemStore>,
+    alloc: Global,
+    requests: &[Request],
+) -> Result<Vec<Answer>, AllocError>
+    ensures { (office : AnyOffice) → Shows over_memory desk.old office → MatchResult result
+        (λ answers. (last : AnyOffice)
+        × IsRun HandlesLawfully office requests.now answers.items last
+        × Shows over_memory desk.new last)
+        (λ _. desk.new ≡ desk.old) }
+{
+    handle_all(alloc, desk, requests)
+}

@@ -1,0 +1,10 @@
+pub mod CommandLemmas
+pub mod EffectLemmas
+pub mod Facts
+pub mod HoldLemmas
+pub mod InsideLemmas
+pub mod ListLemmas
+pub mod MakeLemmas
+pub mod OneTable
+pub mod StatementLemmas
+pub mod ValueLemmas

@@ -1,0 +1,104 @@
+-- The texts of the statements, and what a text is once its names are resolved.
+use Rattle.std.specs.Prelude.{List, [], codes, ℕ, pos, negsuc, None, false}
+use Rattle.sqlite_sql.specs.Term.{Term, lit, col, op2}
+use Rattle.sqlite_sql.specs.Query.{Query, inner, end}
+use Rattle.sqlite_sql.specs.declared.ops.BinaryOp.TheVariants.{Compare}
+use Rattle.sqlite_sql.specs.declared.ops.CompareOp.TheVariants.{Eq}
+use Rattle.sqlite_value.specs.declared.keys.Collation.TheVariants.{Binary}
+use Rattle.sqlite_value.specs.declared.keys.Key.{Key}
+use Rattle.sqlite_value.specs.declared.value.Value.TheVariants.{Int}
+use Rattle.sqlite_schema.specs.declared.program.Program.{Program}
+
+-- what is shown of the rows of one table that pass the tests, in this order
+abbrev pub over : ℕ → List Term → List Term → List (Term × Key) → Query
+over tree filter project order = record {
+  from = inner tree end;
+  filter = filter;
+  group = None;
+  project = project;
+  distinct = false;
+  collations = [];
+  order = order;
+  limit = lit (Int (negsuc 0));
+  offset = lit (Int (pos 0));
+}
+
+abbrev pub alone : Query → Program
+alone q = record { lets = []; body = q }
+
+-- the column at this place is the parameter
+abbrev pub by_parameter : ℕ → ℕ → Term
+by_parameter place parameter = op2 (Compare Eq Binary) (col 1 place) (col 0 parameter)
+
+-- ---- the table room
+
+abbrev pub add_room_text : List ℕ
+add_room_text = codes "INSERT INTO room(code, shut) VALUES (?1, ?2)"
+
+abbrev pub set_shut_text : List ℕ
+set_shut_text = codes "UPDATE room SET shut = ?2 WHERE code = ?1"
+
+-- ---- the table person
+
+abbrev pub add_person_text : List ℕ
+add_person_text =
+    codes "INSERT INTO person(id, name, passkey, home, withdrawn) VALUES (?1, ?2, ?3, ?4, 0)"
+
+abbrev pub drop_person_text : List ℕ
+drop_person_text = codes "DELETE FROM person WHERE id = ?1"
+
+abbrev pub set_home_text : List ℕ
+set_home_text = codes "UPDATE person SET home = ?2 WHERE id = ?1"
+
+abbrev pub set_withdrawn_text : List ℕ
+set_withdrawn_text = codes "UPDATE person SET withdrawn = 1 WHERE id = ?1"
+
+abbrev pub clear_withdrawn_text : List ℕ
+clear_withdrawn_text = codes "UPDATE person SET withdrawn = 0"
+
+-- ---- the table round
+
+abbrev pub add_round_text : List ℕ
+add_round_text = codes "INSERT INTO round(one, version, number, phase) VALUES (1, 1, ?1, ?2)"
+
+abbrev pub set_round_text : List ℕ
+set_round_text = codes "UPDATE round SET number = ?1, phase = ?2"
+
+-- ---- the table choice
+
+abbrev pub add_choice_text : List ℕ
+add_choice_text = codes "INSERT INTO choice(person, place, room) VALUES (?1, ?2, ?3)"
+
+abbrev pub drop_choices_text : List ℕ
+drop_choices_text = codes "DELETE FROM choice WHERE person = ?1"
+
+abbrev pub clear_choices_text : List ℕ
+clear_choices_text = codes "DELETE FROM choice"
+
+-- ---- the table word
+
+abbrev pub add_word_text : List ℕ
+add_word_text = codes "INSERT INTO word(person, hex) VALUES (?1, ?2)"
+
+abbrev pub drop_word_text : List ℕ
+drop_word_text = codes "DELETE FROM word WHERE person = ?1"
+
+abbrev pub clear_words_text : List ℕ
+clear_words_text = codes "DELETE FROM word"
+
+-- ---- the table result
+
+abbrev pub add_result_text : List ℕ
+add_result_text = codes "INSERT INTO result(person, room) VALUES (?1, ?2)"
+
+abbrev pub drop_result_text : List ℕ
+drop_result_text = codes "DELETE FROM result WHERE person = ?1"
+
+abbrev pub clear_results_text : List ℕ
+clear_results_text = codes "DELETE FROM result"
+
+-- ---- the table move
+
+abbrev pub add_move_text : List ℕ
+add_move_text =
+    codes "INSERT INTO move(round, person, from_room, to_room, wave) VALUES (?1, ?2, ?3, ?4, ?5)"

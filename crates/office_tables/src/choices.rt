@@ -1,0 +1,54 @@
+//! The table of recorded lists.
+ghost use Rattle.std.specs.Prelude.{◌≡◌, OnOk};
+ghost use Rattle.sqlite.specs.Held.{state};
+ghost use Rattle.office_tables.specs.Edits.{with_choice, without_choices_of, without_choices};
+ghost use Rattle.office_tables.specs.Makes.{Makes};
+ghost use Rattle.office_tables.specs.Steps.{StaysInside};
+
+use crate::running::run;
+use room_types::{PersonId, RoomCode};
+use sqlite::{Alter, Error, Transaction, params};
+
+/// Adds the room at a place of a person's list, from 0. Refused where the list has this place or this room, or the
+/// person or the room is unknown.
+pub fn add_choice<S: Alter>(
+    tx: &mut Transaction<'_, S>,
+    person: &PersonId,
+    place: u32,
+    room: &RoomCode,
+) -> Result<(), Error>
+    ensures same_reference { tx.new.conn.ghost_name ≡ tx.old.conn.ghost_name }
+    ensures made { OnOk result (Makes (state S.Store tx.old.conn.now) (state S.Store tx.new.conn.now)
+        (with_choice person.now place room.now)) }
+    ensures inside { StaysInside (state S.Store tx.old.conn.now) (state S.Store tx.new.conn.now) }
+{
+    run(
+        tx,
+        "INSERT INTO choice(person, place, room) VALUES (?1, ?2, ?3)",
+        params![person.as_str(), place, room.as_str()],
+    )
+}
+
+/// Takes a person's list out.
+pub fn drop_choices<S: Alter>(tx: &mut Transaction<'_, S>, person: &PersonId) -> Result<(), Error>
+    ensures same_reference { tx.new.conn.ghost_name ≡ tx.old.conn.ghost_name }
+    ensures made { OnOk result (Makes (state S.Store tx.old.conn.now) (state S.Store tx.new.conn.now)
+        (without_choices_of person.now)) }
+    ensures inside { StaysInside (state S.Store tx.old.conn.now) (state S.Store tx.new.conn.now) }
+{
+    run(
+        tx,
+        "DELETE FROM choice WHERE person = ?1",
+        params![person.as_str()],
+    )
+}
+
+/// Takes all lists out.
+pub fn clear_choices<S: Alter>(tx: &mut Transaction<'_, S>) -> Result<(), Error>
+    ensures same_reference { tx.new.conn.ghost_name ≡ tx.old.conn.ghost_name }
+    ensures made { OnOk result (Makes (state S.Store tx.old.conn.now) (state S.Store tx.new.conn.now)
+        (without_choices)) }
+    ensures inside { StaysInside (state S.Store tx.old.conn.now) (state S.Store tx.new.conn.now) }
+{
+    run(tx, "DELETE FROM choice", &[])
+}

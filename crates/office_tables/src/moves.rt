@@ -1,0 +1,31 @@
+//! The table of moves.
+ghost use Rattle.std.specs.Prelude.{◌≡◌, OnOk};
+ghost use Rattle.sqlite.specs.Held.{state};
+ghost use Rattle.office_tables.specs.Edits.{with_move};
+ghost use Rattle.office_tables.specs.Makes.{Makes};
+ghost use Rattle.office_tables.specs.Steps.{StaysInside};
+
+use crate::cells::{code_of, number_of};
+use crate::running::run;
+use room_types::Move;
+use sqlite::{Alter, Error, Transaction, params};
+
+/// Adds a move. Refused where the person has one in this round.
+pub fn add_move<S: Alter>(tx: &mut Transaction<'_, S>, row: &Move) -> Result<(), Error>
+    ensures same_reference { tx.new.conn.ghost_name ≡ tx.old.conn.ghost_name }
+    ensures made { OnOk result (Makes (state S.Store tx.old.conn.now) (state S.Store tx.new.conn.now)
+        (with_move row.now)) }
+    ensures inside { StaysInside (state S.Store tx.old.conn.now) (state S.Store tx.new.conn.now) }
+{
+    run(
+        tx,
+        "INSERT INTO move(round, person, from_room, to_room, wave) VALUES (?1, ?2, ?3, ?4, ?5)",
+        params![
+            u32::from(row.round),
+            row.person.as_str(),
+            code_of(&row.from),
+            code_of(&row.to),
+            number_of(row.wave)
+        ],
+    )
+}

@@ -1,0 +1,85 @@
+//! The table of people.
+ghost use Rattle.std.specs.Prelude.{◌≡◌, OnOk};
+ghost use Rattle.sqlite.specs.Held.{state};
+ghost use Rattle.office_tables.specs.Edits.{with_person, without_person, with_home, with_withdrawn, without_withdrawn};
+ghost use Rattle.office_tables.specs.Makes.{Makes};
+ghost use Rattle.office_tables.specs.Steps.{StaysInside};
+
+use crate::cells::code_of;
+use crate::running::run;
+use room_types::{Key, Name, PersonId, RoomCode};
+use sqlite::{Alter, Error, Transaction, params};
+
+/// Adds a person, who has not withdrawn. Refused where the person is there, or the key or the home is another's, or
+/// the home is no room.
+pub fn add_person<S: Alter>(
+    tx: &mut Transaction<'_, S>,
+    id: &PersonId,
+    name: &Name,
+    key: &Key,
+    home: &Option<RoomCode>,
+) -> Result<(), Error>
+    ensures same_reference { tx.new.conn.ghost_name ≡ tx.old.conn.ghost_name }
+    ensures made { OnOk result (Makes (state S.Store tx.old.conn.now) (state S.Store tx.new.conn.now)
+        (with_person id.now (record { name = name.now; key = key.now; home = home.now }))) }
+    ensures inside { StaysInside (state S.Store tx.old.conn.now) (state S.Store tx.new.conn.now) }
+{
+    run(
+        tx,
+        "INSERT INTO person(id, name, passkey, home, withdrawn) VALUES (?1, ?2, ?3, ?4, 0)",
+        params![id.as_str(), name.as_str(), key.as_str(), code_of(home)],
+    )
+}
+
+/// Takes a person out. Refused where other tables name the person.
+pub fn drop_person<S: Alter>(tx: &mut Transaction<'_, S>, id: &PersonId) -> Result<(), Error>
+    ensures same_reference { tx.new.conn.ghost_name ≡ tx.old.conn.ghost_name }
+    ensures made { OnOk result (Makes (state S.Store tx.old.conn.now) (state S.Store tx.new.conn.now)
+        (without_person id.now)) }
+    ensures inside { StaysInside (state S.Store tx.old.conn.now) (state S.Store tx.new.conn.now) }
+{
+    run(tx, "DELETE FROM person WHERE id = ?1", params![id.as_str()])
+}
+
+/// Gives a person another home, or none. Of an unknown person it changes nothing. Refused where the home is
+/// another's, or no room.
+pub fn set_home<S: Alter>(
+    tx: &mut Transaction<'_, S>,
+    id: &PersonId,
+    home: &Option<RoomCode>,
+) -> Result<(), Error>
+    ensures same_reference { tx.new.conn.ghost_name ≡ tx.old.conn.ghost_name }
+    ensures made { OnOk result (Makes (state S.Store tx.old.conn.now) (state S.Store tx.new.conn.now)
+        (with_home id.now home.now)) }
+    ensures inside { StaysInside (state S.Store tx.old.conn.now) (state S.Store tx.new.conn.now) }
+{
+    run(
+        tx,
+        "UPDATE person SET home = ?2 WHERE id = ?1",
+        params![id.as_str(), code_of(home)],
+    )
+}
+
+/// Notes that a person has withdrawn. Of an unknown person it changes nothing.
+pub fn set_withdrawn<S: Alter>(tx: &mut Transaction<'_, S>, id: &PersonId) -> Result<(), Error>
+    ensures same_reference { tx.new.conn.ghost_name ≡ tx.old.conn.ghost_name }
+    ensures made { OnOk result (Makes (state S.Store tx.old.conn.now) (state S.Store tx.new.conn.now)
+        (with_withdrawn id.now)) }
+    ensures inside { StaysInside (state S.Store tx.old.conn.now) (state S.Store tx.new.conn.now) }
+{
+    run(
+        tx,
+        "UPDATE person SET withdrawn = 1 WHERE id = ?1",
+        params![id.as_str()],
+    )
+}
+
+/// Notes of everybody that they have not withdrawn.
+pub fn clear_withdrawn<S: Alter>(tx: &mut Transaction<'_, S>) -> Result<(), Error>
+    ensures same_reference { tx.new.conn.ghost_name ≡ tx.old.conn.ghost_name }
+    ensures made { OnOk result (Makes (state S.Store tx.old.conn.now) (state S.Store tx.new.conn.now)
+        (without_withdrawn)) }
+    ensures inside { StaysInside (state S.Store tx.old.conn.now) (state S.Store tx.new.conn.now) }
+{
+    run(tx, "UPDATE person SET withdrawn = 0", &[])
+}

@@ -1,0 +1,54 @@
+//! The table of results.
+ghost use Rattle.std.specs.Prelude.{◌≡◌, OnOk};
+ghost use Rattle.sqlite.specs.Held.{state};
+ghost use Rattle.office_tables.specs.Edits.{with_result, without_result_of, without_results};
+ghost use Rattle.office_tables.specs.Makes.{Makes};
+ghost use Rattle.office_tables.specs.Steps.{StaysInside};
+
+use crate::cells::code_of;
+use crate::running::run;
+use room_types::{PersonId, RoomCode};
+use sqlite::{Alter, Error, Transaction, params};
+
+/// Adds the room that a person gets, or none. Refused where the person has a result or is unknown, or the room is
+/// another's result or is unknown.
+pub fn add_result<S: Alter>(
+    tx: &mut Transaction<'_, S>,
+    person: &PersonId,
+    room: &Option<RoomCode>,
+) -> Result<(), Error>
+    ensures same_reference { tx.new.conn.ghost_name ≡ tx.old.conn.ghost_name }
+    ensures made { OnOk result (Makes (state S.Store tx.old.conn.now) (state S.Store tx.new.conn.now)
+        (with_result person.now room.now)) }
+    ensures inside { StaysInside (state S.Store tx.old.conn.now) (state S.Store tx.new.conn.now) }
+{
+    run(
+        tx,
+        "INSERT INTO result(person, room) VALUES (?1, ?2)",
+        params![person.as_str(), code_of(room)],
+    )
+}
+
+/// Takes a person's result out.
+pub fn drop_result<S: Alter>(tx: &mut Transaction<'_, S>, person: &PersonId) -> Result<(), Error>
+    ensures same_reference { tx.new.conn.ghost_name ≡ tx.old.conn.ghost_name }
+    ensures made { OnOk result (Makes (state S.Store tx.old.conn.now) (state S.Store tx.new.conn.now)
+        (without_result_of person.now)) }
+    ensures inside { StaysInside (state S.Store tx.old.conn.now) (state S.Store tx.new.conn.now) }
+{
+    run(
+        tx,
+        "DELETE FROM result WHERE person = ?1",
+        params![person.as_str()],
+    )
+}
+
+/// Takes all results out.
+pub fn clear_results<S: Alter>(tx: &mut Transaction<'_, S>) -> Result<(), Error>
+    ensures same_reference { tx.new.conn.ghost_name ≡ tx.old.conn.ghost_name }
+    ensures made { OnOk result (Makes (state S.Store tx.old.conn.now) (state S.Store tx.new.conn.now)
+        (without_results)) }
+    ensures inside { StaysInside (state S.Store tx.old.conn.now) (state S.Store tx.new.conn.now) }
+{
+    run(tx, "DELETE FROM result", &[])
+}

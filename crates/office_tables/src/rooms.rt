@@ -1,0 +1,46 @@
+//! The table of rooms.
+ghost use Rattle.std.specs.Prelude.{◌≡◌, OnOk};
+ghost use Rattle.sqlite.specs.Held.{state};
+ghost use Rattle.office_tables.specs.Edits.{with_room, with_shut};
+ghost use Rattle.office_tables.specs.Makes.{Makes};
+ghost use Rattle.office_tables.specs.Steps.{StaysInside};
+
+use crate::running::run;
+use room_types::RoomCode;
+use sqlite::{Alter, Error, Transaction, params};
+
+/// Adds a room, shut or not. Refused where the room is there.
+pub fn add_room<S: Alter>(
+    tx: &mut Transaction<'_, S>,
+    room: &RoomCode,
+    shut: bool,
+) -> Result<(), Error>
+    ensures same_reference { tx.new.conn.ghost_name ≡ tx.old.conn.ghost_name }
+    ensures made { OnOk result (Makes (state S.Store tx.old.conn.now) (state S.Store tx.new.conn.now)
+        (with_room room.now shut)) }
+    ensures inside { StaysInside (state S.Store tx.old.conn.now) (state S.Store tx.new.conn.now) }
+{
+    run(
+        tx,
+        "INSERT INTO room(code, shut) VALUES (?1, ?2)",
+        params![room.as_str(), shut],
+    )
+}
+
+/// Says of a room whether it is shut. Of an unknown room it changes nothing.
+pub fn set_shut<S: Alter>(
+    tx: &mut Transaction<'_, S>,
+    room: &RoomCode,
+    shut: bool,
+) -> Result<(), Error>
+    ensures same_reference { tx.new.conn.ghost_name ≡ tx.old.conn.ghost_name }
+    ensures made { OnOk result (Makes (state S.Store tx.old.conn.now) (state S.Store tx.new.conn.now)
+        (with_shut room.now shut)) }
+    ensures inside { StaysInside (state S.Store tx.old.conn.now) (state S.Store tx.new.conn.now) }
+{
+    run(
+        tx,
+        "UPDATE room SET shut = ?2 WHERE code = ?1",
+        params![room.as_str(), shut],
+    )
+}

@@ -1,0 +1,46 @@
+//! The table of the round, which has one row.
+ghost use Rattle.std.specs.Prelude.{◌≡◌, OnOk};
+ghost use Rattle.sqlite.specs.Held.{state};
+ghost use Rattle.office_tables.specs.Edits.{with_first_round, with_round};
+ghost use Rattle.office_tables.specs.Makes.{Makes};
+ghost use Rattle.office_tables.specs.Steps.{StaysInside};
+
+use crate::running::run;
+use room_types::Phase;
+use sqlite::{Alter, Error, Transaction, params};
+
+/// Adds the row of the round, with the version of these tables. Refused where there is one.
+pub fn add_round<S: Alter>(
+    tx: &mut Transaction<'_, S>,
+    number: u16,
+    phase: Phase,
+) -> Result<(), Error>
+    ensures same_reference { tx.new.conn.ghost_name ≡ tx.old.conn.ghost_name }
+    ensures made { OnOk result (Makes (state S.Store tx.old.conn.now) (state S.Store tx.new.conn.now)
+        (with_first_round number phase)) }
+    ensures inside { StaysInside (state S.Store tx.old.conn.now) (state S.Store tx.new.conn.now) }
+{
+    run(
+        tx,
+        "INSERT INTO round(one, version, number, phase) VALUES (1, 1, ?1, ?2)",
+        params![u32::from(number), phase.as_str()],
+    )
+}
+
+/// Sets the number and the phase of the round.
+pub fn set_round<S: Alter>(
+    tx: &mut Transaction<'_, S>,
+    number: u16,
+    phase: Phase,
+) -> Result<(), Error>
+    ensures same_reference { tx.new.conn.ghost_name ≡ tx.old.conn.ghost_name }
+    ensures made { OnOk result (Makes (state S.Store tx.old.conn.now) (state S.Store tx.new.conn.now)
+        (with_round number phase)) }
+    ensures inside { StaysInside (state S.Store tx.old.conn.now) (state S.Store tx.new.conn.now) }
+{
+    run(
+        tx,
+        "UPDATE round SET number = ?1, phase = ?2",
+        params![u32::from(number), phase.as_str()],
+    )
+}

@@ -1,0 +1,55 @@
+//! The table of the words of a draw.
+ghost use Rattle.std.specs.Prelude.{◌≡◌, OnOk};
+ghost use Rattle.sqlite.specs.Held.{state};
+ghost use Rattle.office_tables.specs.Edits.{with_word, without_word_of, without_words};
+ghost use Rattle.office_tables.specs.Makes.{Makes};
+ghost use Rattle.office_tables.specs.Steps.{StaysInside};
+
+use crate::running::run;
+use room_types::{PersonId, Word};
+use sqlite::{Alter, Error, Transaction, params};
+use std::alloc::Global;
+
+/// Adds the word that a person drew. Refused where the person has one or is unknown.
+pub fn add_word<S: Alter>(
+    alloc: Global,
+    tx: &mut Transaction<'_, S>,
+    person: &PersonId,
+    word: Word,
+) -> Result<(), Error>
+    ensures same_reference { tx.new.conn.ghost_name ≡ tx.old.conn.ghost_name }
+    ensures made { OnOk result (Makes (state S.Store tx.old.conn.now) (state S.Store tx.new.conn.now)
+        (with_word person.now word)) }
+    ensures inside { StaysInside (state S.Store tx.old.conn.now) (state S.Store tx.new.conn.now) }
+{
+    let hex = format!(in alloc; "{word}")?;
+    run(
+        tx,
+        "INSERT INTO word(person, hex) VALUES (?1, ?2)",
+        params![person.as_str(), hex.as_str()],
+    )
+}
+
+/// Takes a person's word out.
+pub fn drop_word<S: Alter>(tx: &mut Transaction<'_, S>, person: &PersonId) -> Result<(), Error>
+    ensures same_reference { tx.new.conn.ghost_name ≡ tx.old.conn.ghost_name }
+    ensures made { OnOk result (Makes (state S.Store tx.old.conn.now) (state S.Store tx.new.conn.now)
+        (without_word_of person.now)) }
+    ensures inside { StaysInside (state S.Store tx.old.conn.now) (state S.Store tx.new.conn.now) }
+{
+    run(
+        tx,
+        "DELETE FROM word WHERE person = ?1",
+        params![person.as_str()],
+    )
+}
+
+/// Takes all words out.
+pub fn clear_words<S: Alter>(tx: &mut Transaction<'_, S>) -> Result<(), Error>
+    ensures same_reference { tx.new.conn.ghost_name ≡ tx.old.conn.ghost_name }
+    ensures made { OnOk result (Makes (state S.Store tx.old.conn.now) (state S.Store tx.new.conn.now)
+        (without_words)) }
+    ensures inside { StaysInside (state S.Store tx.old.conn.now) (state S.Store tx.new.conn.now) }
+{
+    run(tx, "DELETE FROM word", &[])
+}
