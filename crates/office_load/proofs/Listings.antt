@@ -22,7 +22,7 @@ pub shows_table : (text : List ℕ) (tree : ℕ) (project : List Term) (names : 
     → IsPermutation (map (listed project) (old.now.trees tree)) rows
 shows_table text tree project names lists old new rows has h =
     let read = reads_as text [] old new office_schema has _ lists.is lists.plain lists.unlisted rows h in
-    let same = answer_over tree [] project [] old.now [] rows read in
+    let same = answer_over tree [] project lists.order old.now [] rows read in
     let all : filter (λ (r : Row). true) (old.now.trees tree) ≡ old.now.trees tree = filter_all _ (old.now.trees tree) (each_true (old.now.trees tree)) in
     subst (λ (l : List Row). IsPermutation (map (listed project) l) rows) all same
 

@@ -1,6 +1,8 @@
 -- What the queries mean among the tables of an office.
-use Rattle.std.proofs.Common.{ℕ, zero, suc, ◌<◌, List, [], ◌∷◌, codes, slice_index_or, refl, arith}
-use Rattle.sqlite_sql.specs.Term.{col}
+use Rattle.std.proofs.Common.{ℕ, zero, suc, false, ◌<◌, List, [], ◌∷◌, codes, slice_index_or, refl, arith}
+use Rattle.sqlite_sql.specs.Term.{Term, col}
+use Rattle.sqlite_value.specs.declared.keys.Key.{Key}
+use Rattle.sqlite_value.specs.declared.keys.Collation.TheVariants.{Binary}
 use Rattle.sqlite.specs.Listing.{understood}
 use Rattle.sqlite_tied.specs.Compute.{everything}
 use Rattle.office_load.specs.Listing.{ListsTable}
@@ -9,47 +11,51 @@ use Rattle.office_load.specs.Queries as text
 
 pub rooms_listed : ListsTable text.rooms_text 0 (col 1 1 ∷ col 1 2 ∷ []) (codes "code" ∷ codes "shut" ∷ [])
 unfolding understood everything
-rooms_listed = record { is = refl; plain = (refl, refl); unlisted = refl }
+rooms_listed = record { order = []; is = refl; plain = (refl, refl); unlisted = refl }
 
 pub people_listed : ListsTable text.people_text 2 (col 1 1 ∷ col 1 2 ∷ col 1 3 ∷ col 1 4 ∷ col 1 5 ∷ [])
     (codes "id" ∷ codes "name" ∷ codes "passkey" ∷ codes "home" ∷ codes "withdrawn" ∷ [])
 unfolding understood everything
-people_listed = record { is = refl; plain = (refl, refl); unlisted = refl }
+people_listed = record { order = []; is = refl; plain = (refl, refl); unlisted = refl }
 
 pub rounds_listed : ListsTable text.rounds_text 6 (col 1 2 ∷ col 1 3 ∷ col 1 4 ∷ []) (codes "version" ∷ codes "number" ∷ codes "phase" ∷ [])
 unfolding understood everything
-rounds_listed = record { is = refl; plain = (refl, refl); unlisted = refl }
+rounds_listed = record { order = []; is = refl; plain = (refl, refl); unlisted = refl }
 
 pub choices_listed : ListsTable text.choices_text 7 (col 1 1 ∷ col 1 2 ∷ col 1 3 ∷ []) (codes "person" ∷ codes "place" ∷ codes "room" ∷ [])
 unfolding understood everything
-choices_listed = record { is = refl; plain = (refl, refl); unlisted = refl }
+choices_listed = record { order = []; is = refl; plain = (refl, refl); unlisted = refl }
 
 pub words_listed : ListsTable text.words_text 10 (col 1 1 ∷ col 1 2 ∷ []) (codes "person" ∷ codes "hex" ∷ [])
 unfolding understood everything
-words_listed = record { is = refl; plain = (refl, refl); unlisted = refl }
+words_listed = record { order = []; is = refl; plain = (refl, refl); unlisted = refl }
 
 pub results_listed : ListsTable text.results_text 12 (col 1 1 ∷ col 1 2 ∷ []) (codes "person" ∷ codes "room" ∷ [])
 unfolding understood everything
-results_listed = record { is = refl; plain = (refl, refl); unlisted = refl }
+results_listed = record { order = []; is = refl; plain = (refl, refl); unlisted = refl }
 
 pub moves_listed : ListsTable text.moves_text 15 (col 1 1 ∷ col 1 2 ∷ col 1 3 ∷ col 1 4 ∷ col 1 5 ∷ [])
     (codes "round" ∷ codes "person" ∷ codes "from_room" ∷ codes "to_room" ∷ codes "wave" ∷ [])
 unfolding understood everything
-moves_listed = record { is = refl; plain = (refl, refl); unlisted = refl }
+moves_listed = record { order = []; is = refl; plain = (refl, refl); unlisted = refl }
 
 -- the round's key has a name of its own
 abbrev pub rowid_names : ℕ → List (List ℕ)
 rowid_names place = slice_index_or ((codes "rowid" ∷ []) ∷ (codes "rowid" ∷ []) ∷ (codes "one" ∷ []) ∷ []) place (codes "rowid" ∷ [])
 
+-- ascending
+abbrev by_rowid : List (Term × Key)
+by_rowid = (col 1 0, record { collation = Binary; descending = false }) ∷ []
+
 -- the query over the rowids of each of the tables
 pub rowids_listed : (place : ℕ) → place < 8 → ListsTable (rowid_text place) (tree_of place) only_rowid (rowid_names place)
 unfolding understood everything
-rowids_listed zero low = record { is = refl; plain = (refl, refl); unlisted = refl }
-rowids_listed (suc zero) low = record { is = refl; plain = (refl, refl); unlisted = refl }
-rowids_listed (suc (suc zero)) low = record { is = refl; plain = (refl, refl); unlisted = refl }
-rowids_listed (suc (suc (suc zero))) low = record { is = refl; plain = (refl, refl); unlisted = refl }
-rowids_listed (suc (suc (suc (suc zero)))) low = record { is = refl; plain = (refl, refl); unlisted = refl }
-rowids_listed (suc (suc (suc (suc (suc zero))))) low = record { is = refl; plain = (refl, refl); unlisted = refl }
-rowids_listed (suc (suc (suc (suc (suc (suc zero)))))) low = record { is = refl; plain = (refl, refl); unlisted = refl }
-rowids_listed (suc (suc (suc (suc (suc (suc (suc zero))))))) low = record { is = refl; plain = (refl, refl); unlisted = refl }
+rowids_listed zero low = record { order = by_rowid; is = refl; plain = (refl, refl); unlisted = refl }
+rowids_listed (suc zero) low = record { order = by_rowid; is = refl; plain = (refl, refl); unlisted = refl }
+rowids_listed (suc (suc zero)) low = record { order = by_rowid; is = refl; plain = (refl, refl); unlisted = refl }
+rowids_listed (suc (suc (suc zero))) low = record { order = by_rowid; is = refl; plain = (refl, refl); unlisted = refl }
+rowids_listed (suc (suc (suc (suc zero)))) low = record { order = by_rowid; is = refl; plain = (refl, refl); unlisted = refl }
+rowids_listed (suc (suc (suc (suc (suc zero))))) low = record { order = by_rowid; is = refl; plain = (refl, refl); unlisted = refl }
+rowids_listed (suc (suc (suc (suc (suc (suc zero)))))) low = record { order = by_rowid; is = refl; plain = (refl, refl); unlisted = refl }
+rowids_listed (suc (suc (suc (suc (suc (suc (suc zero))))))) low = record { order = by_rowid; is = refl; plain = (refl, refl); unlisted = refl }
 rowids_listed (suc (suc (suc (suc (suc (suc (suc (suc place)))))))) low = absurd (omega (arith, low))

@@ -3,6 +3,7 @@ use Rattle.std.specs.Prelude.{◌≡◌, ℕ, ℤ, false, List, [], ◌∷◌, m
 use Rattle.std.specs.List.{All}
 use Rattle.std.specs.List.Sorted.{IsPermutation}
 use Rattle.sqlite_value.specs.Order.{Row}
+use Rattle.sqlite_value.specs.declared.keys.Key.{Key}
 use Rattle.sqlite_sql.specs.Term.{Term, eval_all}
 use Rattle.sqlite_schema.specs.declared.command.Command.TheVariants.{Select}
 use Rattle.sqlite.specs.Given.{IsPlain}
@@ -16,11 +17,12 @@ use Rattle.office_tables.specs.Texts.{over, alone}
 abbrev pub listed : List Term → Row → Row
 listed project row = eval_all project ([] ∷ row ∷ [])
 
--- among the tables of an office the text is the query that lists these columns of a table
+-- among the tables of an office the text is the query that lists these columns of a table, in some order
 pub record ListsTable (text : List ℕ) (tree : ℕ) (project : List Term)
     (names : List (List ℕ)) : Type 0 where
+  pub order : List (Term × Key)
   pub is : command_of (understood office_schema text)
-      ≡ Select (alone (over tree [] project [])) names
+      ≡ Select (alone (over tree [] project order)) names
   pub plain : IsPlain (understood office_schema text)
   pub unlisted : reads_listing office_schema text ≡ false
 

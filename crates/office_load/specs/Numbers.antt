@@ -19,10 +19,10 @@ pub record AreNumbered (rows : List Row) : Type 0 where
 abbrev pub rowid_text : ℕ → List ℕ
 rowid_text place =
     slice_index_or
-    (codes "SELECT rowid FROM room" ∷ codes "SELECT rowid FROM person"
-    ∷ codes "SELECT rowid FROM round" ∷ codes "SELECT rowid FROM choice"
-    ∷ codes "SELECT rowid FROM word" ∷ codes "SELECT rowid FROM result"
-    ∷ codes "SELECT rowid FROM move" ∷ codes "SELECT rowid FROM list" ∷ [])
+    (codes "SELECT rowid FROM room ORDER BY rowid" ∷ codes "SELECT rowid FROM person ORDER BY rowid"
+    ∷ codes "SELECT rowid FROM round ORDER BY rowid" ∷ codes "SELECT rowid FROM choice ORDER BY rowid"
+    ∷ codes "SELECT rowid FROM word ORDER BY rowid" ∷ codes "SELECT rowid FROM result ORDER BY rowid"
+    ∷ codes "SELECT rowid FROM move ORDER BY rowid" ∷ codes "SELECT rowid FROM list ORDER BY rowid" ∷ [])
     place []
 
 -- where each of the tables is kept

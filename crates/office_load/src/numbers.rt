@@ -67,14 +67,14 @@ fn text_of(place: usize) -> &'static str
     ensures { result.now ≡ rowid_text place }
 {
     match place {
-        0 => "SELECT rowid FROM room",
-        1 => "SELECT rowid FROM person",
-        2 => "SELECT rowid FROM round",
-        3 => "SELECT rowid FROM choice",
-        4 => "SELECT rowid FROM word",
-        5 => "SELECT rowid FROM result",
-        6 => "SELECT rowid FROM move",
-        _ => "SELECT rowid FROM list",
+        0 => "SELECT rowid FROM room ORDER BY rowid",
+        1 => "SELECT rowid FROM person ORDER BY rowid",
+        2 => "SELECT rowid FROM round ORDER BY rowid",
+        3 => "SELECT rowid FROM choice ORDER BY rowid",
+        4 => "SELECT rowid FROM word ORDER BY rowid",
+        5 => "SELECT rowid FROM result ORDER BY rowid",
+        6 => "SELECT rowid FROM move ORDER BY rowid",
+        _ => "SELECT rowid FROM list ORDER BY rowid",
     }
 }
 

@@ -1,11 +1,12 @@
 //! Loading what the documented statements wrote, and what is no office.
-use crate::load;
+use crate::held;
 use room_types::Phase;
 use sqlite::{Connection, MemStore};
 use std::alloc::Global;
 use std::test::Fail;
 
-// An office after its second round is published: T1 moves from H1 to R1, and N1 has withdrawn.
+// An office after its second round is published: T1 moves from H1 to R1, and N1 has withdrawn. In the first round T1 got H1,
+// and somebody who is gone took part in a swap. The people do not stand in the order of their identifiers.
 const STATEMENTS: &str = "CREATE TABLE room(code TEXT PRIMARY KEY NOT NULL,
   shut INTEGER NOT NULL CHECK(shut IN (0, 1))) STRICT;
 CREATE TABLE person(id TEXT PRIMARY KEY NOT NULL, name TEXT NOT NULL,
@@ -31,7 +32,8 @@ INSERT INTO round VALUES (1, 1, 2, 'published');
 INSERT INTO choice VALUES ('T1', 0, 'R1');
 INSERT INTO word VALUES ('T1', '00000000000000ff');
 INSERT INTO result VALUES ('T1', 'R1');
-INSERT INTO move VALUES (1, 'T1', NULL, 'H1', 1);";
+INSERT INTO move VALUES (1, 'T1', NULL, 'H1', 1);
+INSERT INTO move VALUES (1, 'N9', 'H1', 'S1', NULL);";
 
 // Whether the tables are those of the office above.
 fn is_office(alloc: Global, conn: &mut Connection<MemStore>) -> Result<bool, Fail> {
@@ -39,7 +41,7 @@ fn is_office(alloc: Global, conn: &mut Connection<MemStore>) -> Result<bool, Fai
     if !outside {
         return Ok(false);
     }
-    let found = load(alloc, conn)?;
+    let found = held(alloc, conn)?;
     Ok(matches!(&found, Some(office) if office.rooms.len() == 3
         && office.people.len() == 2
         && office.withdrawn.len() == 1
