@@ -1,4 +1,4 @@
-//! Cells in their types. A cell of another form is none.
+//! Cells in their types. A cell of another form is none. Numbers take no memory.
 ghost use Rattle.std.specs.Prelude.{◌≡◌, ◌⊎◌, ℕ, pos, IfOk, IfSome, MatchOption, Option, string_bytes};
 ghost use Rattle.std.specs.Option.{option_map};
 ghost use Rattle.sqlite_value.specs.Order.{column};
@@ -9,6 +9,7 @@ ghost use Rattle.office_cells.specs.Cells.{wave_value};
 
 use room_types::{Grammar, OutOfMemory, Text, TypeFault, Wave};
 use sqlite::{Error, ErrorCode, Row};
+use sqlite_value::value::ValueRef;
 use std::alloc::Global;
 
 /// A column as a text.
@@ -43,9 +44,11 @@ pub fn text_in<G: Grammar>(
     row: &Row,
     at: usize,
 ) -> Result<Option<Text<G>>, OutOfMemory>
-    ensures told { IfOk result (λ found. MatchOption found (¬ IsTextOf G.is_text (column row.now at))
+    ensures told { IfOk result (λ found. MatchOption found
+        (¬ IsTextOf G.is_text (column row.now at))
         (λ t. column row.now at ≡ text_value t)) }
-    ensures formed { IfOk result (λ found. IfSome found (λ _. IsTextOf G.is_text (column row.now at))) }
+    ensures formed { IfOk result
+        (λ found. IfSome found (λ _. IsTextOf G.is_text (column row.now at))) }
 {
     let Some(text) = string_in(row, at)? else {
         return Ok(None);
@@ -66,7 +69,8 @@ pub fn optional_text_in<G: Grammar>(
     ensures told { IfOk result (λ found. MatchOption found
         (¬ IsOptionalTextOf G.is_text (column row.now at))
         (λ t. column row.now at ≡ text_or_null t)) }
-    ensures formed { IfOk result (λ found. IfSome found (λ _. IsOptionalTextOf G.is_text (column row.now at))) }
+    ensures formed { IfOk result
+        (λ found. IfSome found (λ _. IsOptionalTextOf G.is_text (column row.now at))) }
 {
     let Some(text) = optional_string_in(row, at)? else {
         return Ok(None);
@@ -82,71 +86,67 @@ pub fn optional_text_in<G: Grammar>(
 }
 
 /// A column as a number from 0.
-pub fn count_in(row: &Row, at: usize) -> Result<Option<u64>, OutOfMemory>
-    ensures told { IfOk result (λ found. MatchOption found (¬ IsCount (column row.now at))
-        (λ n. column row.now at ≡ Int (pos n))) }
-    ensures formed { IfOk result (λ found. IfSome found (λ _. IsCount (column row.now at))) }
+pub fn count_in(row: &Row, at: usize) -> Option<u64>
+    ensures told { MatchOption result (¬ IsCount (column row.now at))
+        (λ n. column row.now at ≡ Int (pos n)) }
+    ensures formed { IfSome result (λ _. IsCount (column row.now at)) }
 {
-    match row.get(at) {
-        Ok(number) => Ok(Some(number)),
-        Err(Error::SqliteFailure(ErrorCode::OutOfMemory)) => Err(OutOfMemory {}),
-        Err(_) => Ok(None),
+    match row.get_ref(at) {
+        Ok(ValueRef::Int(number)) => u64::try_from(number).ok(),
+        _ => None,
     }
 }
 
 // A column as a number from 0 or NULL. A row that ends before the column has NULL there.
-fn optional_count_in(row: &Row, at: usize) -> Result<Option<Option<u64>>, OutOfMemory>
-    ensures { IfOk result (λ found. MatchOption found
+fn optional_count_in(row: &Row, at: usize) -> Option<Option<u64>>
+    ensures { MatchOption result
         (¬ ((column row.now at ≡ Null) ⊎ IsCount (column row.now at)))
-        (λ n. column row.now at ≡ count_or_null n)) }
+        (λ n. column row.now at ≡ count_or_null n) }
 {
-    match row.get(at) {
-        Ok(number) => Ok(Some(number)),
-        Err(Error::SqliteFailure(ErrorCode::OutOfMemory)) => Err(OutOfMemory {}),
-        Err(Error::InvalidColumnIndex(_)) => Ok(Some(None)),
-        Err(_) => Ok(None),
+    match row.get_ref(at) {
+        Ok(ValueRef::Int(number)) => match u64::try_from(number) {
+            Ok(number) => Some(Some(number)),
+            Err(_) => None,
+        },
+        Ok(ValueRef::Null) | Err(_) => Some(None),
+        Ok(_) => None,
     }
 }
 
 /// A column as a flag: 0 or 1.
-pub fn flag_in(row: &Row, at: usize) -> Result<Option<bool>, OutOfMemory>
-    ensures told { IfOk result (λ found. MatchOption found (¬ IsFlag (column row.now at))
-        (λ b. column row.now at ≡ flag b)) }
-    ensures formed { IfOk result (λ found. IfSome found (λ _. IsFlag (column row.now at))) }
+pub fn flag_in(row: &Row, at: usize) -> Option<bool>
+    ensures told { MatchOption result (¬ IsFlag (column row.now at))
+        (λ b. column row.now at ≡ flag b) }
+    ensures formed { IfSome result (λ _. IsFlag (column row.now at)) }
 {
-    match count_in(row, at)? {
-        Some(0) => Ok(Some(false)),
-        Some(1) => Ok(Some(true)),
-        _ => Ok(None),
+    match count_in(row, at) {
+        Some(0) => Some(false),
+        Some(1) => Some(true),
+        _ => None,
     }
 }
 
 /// A column as a number of sixteen bits.
-pub fn short_in(row: &Row, at: usize) -> Result<Option<u16>, OutOfMemory>
-    ensures told { IfOk result (λ found. MatchOption found (¬ IsShort (column row.now at))
-        (λ n. column row.now at ≡ Int (pos n))) }
-    ensures formed { IfOk result (λ found. IfSome found (λ _. IsShort (column row.now at))) }
+pub fn short_in(row: &Row, at: usize) -> Option<u16>
+    ensures told { MatchOption result (¬ IsShort (column row.now at))
+        (λ n. column row.now at ≡ Int (pos n)) }
+    ensures formed { IfSome result (λ _. IsShort (column row.now at)) }
 {
-    let Some(number) = count_in(row, at)? else {
-        return Ok(None);
-    };
-    Ok(u16::try_from(number).ok())
+    let number = count_in(row, at)?;
+    u16::try_from(number).ok()
 }
 
 /// A column as a wave: NULL is a swap.
-pub fn wave_in(row: &Row, at: usize) -> Result<Option<Wave>, OutOfMemory>
-    ensures told { IfOk result (λ found. MatchOption found (¬ IsWave (column row.now at))
-        (λ w. column row.now at ≡ wave_value w)) }
-    ensures formed { IfOk result (λ found. IfSome found (λ _. IsWave (column row.now at))) }
+pub fn wave_in(row: &Row, at: usize) -> Option<Wave>
+    ensures told { MatchOption result (¬ IsWave (column row.now at))
+        (λ w. column row.now at ≡ wave_value w) }
+    ensures formed { IfSome result (λ _. IsWave (column row.now at)) }
 {
     let Some(number) = optional_count_in(row, at)? else {
-        return Ok(None);
-    };
-    let Some(number) = number else {
-        return Ok(Some(Wave::Swap));
+        return Some(Wave::Swap);
     };
     match u16::try_from(number) {
-        Ok(number) => Ok(Some(Wave::Nth(number))),
-        Err(_) => Ok(None),
+        Ok(number) => Some(Wave::Nth(number)),
+        Err(_) => None,
     }
 }

@@ -20,7 +20,7 @@ impl Record for ChoiceRecord {
         let Some(person) = text_in(alloc, row, 0)? else {
             return Ok(None);
         };
-        let Some(place) = count_in(row, 1)? else {
+        let Some(place) = count_in(row, 1) else {
             return Ok(None);
         };
         let Some(room) = text_in(alloc, row, 2)? else {

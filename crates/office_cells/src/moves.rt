@@ -16,7 +16,7 @@ impl Record for Move {
     ghost columns = { move_columns };
 
     fn from_row(alloc: Global, row: &Row) -> Result<Option<Move>, OutOfMemory> {
-        let Some(round) = short_in(row, 0)? else {
+        let Some(round) = short_in(row, 0) else {
             return Ok(None);
         };
         let Some(person) = text_in(alloc, row, 1)? else {
@@ -28,7 +28,7 @@ impl Record for Move {
         let Some(to) = optional_text_in(alloc, row, 3)? else {
             return Ok(None);
         };
-        let Some(wave) = wave_in(row, 4)? else {
+        let Some(wave) = wave_in(row, 4) else {
             return Ok(None);
         };
         Ok(Some(Move {

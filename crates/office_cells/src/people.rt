@@ -30,7 +30,7 @@ impl Record for PersonRecord {
         let Some(home) = optional_text_in(alloc, row, 3)? else {
             return Ok(None);
         };
-        let Some(withdrawn) = flag_in(row, 4)? else {
+        let Some(withdrawn) = flag_in(row, 4) else {
             return Ok(None);
         };
         let person = Person { name, key, home };

@@ -19,7 +19,7 @@ impl Record for (RoomCode, bool) {
         let Some(code) = text_in(alloc, row, 0)? else {
             return Ok(None);
         };
-        let Some(shut) = flag_in(row, 1)? else {
+        let Some(shut) = flag_in(row, 1) else {
             return Ok(None);
         };
         Ok(Some((code, shut)))

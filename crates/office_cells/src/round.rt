@@ -62,13 +62,13 @@ impl Record for RoundRecord {
     ghost columns = { round_shown };
 
     fn from_row(_alloc: Global, row: &Row) -> Result<Option<RoundRecord>, OutOfMemory> {
-        let Some(version) = short_in(row, 0)? else {
+        let Some(version) = short_in(row, 0) else {
             return Ok(None);
         };
         if version != 1 {
             return Ok(None);
         }
-        let Some(number) = short_in(row, 1)? else {
+        let Some(number) = short_in(row, 1) else {
             return Ok(None);
         };
         let Some(phase) = phase_in(row, 2)? else {

@@ -1,5 +1,5 @@
 -- From what statements make of the tables to what they make of the rows of an office.
-use Rattle.std.proofs.Common.{Result, Ok, Err, OnOk, ◌∙◌}
+use Rattle.std.proofs.Common.{◌∙◌}
 use Rattle.sqlite.specs.Effect.{Database}
 use Rattle.sqlite.specs.State.{State, HasCleanDisk}
 use Rattle.office_core.specs.Change.{applied, Fits}
@@ -16,10 +16,6 @@ use Rattle.office_changes.specs.Alike.{AreAlike}
 use Rattle.office_changes.specs.Carries.{Turns, CarriesOne}
 use Rattle.office_changes.proofs.SpelledLemmas.{spelled_alike}
 
-pub on_ok : {X E : Type 0} {P Q : Type 0} (r : Result X E) → (P → Q) → OnOk r P → OnOk r Q
-on_ok (Ok x) f h = f h
-on_ok (Err e) f h = tt
-
 -- a database that has some tables has all that are alike
 pub has_alike : (db : Database) (these those : Tables) → AreAlike these those → HasTables db those → HasTables db these
 has_alike db these those same h = record {
@@ -28,11 +24,11 @@ has_alike db these those same h = record {
     rooms = held_permuted room_columns (db.trees 0) _ _ same.rooms h.rows.rooms;
     people = held_permuted person_columns (db.trees 2) _ _ same.people h.rows.people;
     rounds = held_permuted round_columns (db.trees 6) _ _ same.rounds h.rows.rounds;
-    choices = held_permuted choice_columns (db.trees 7) _ _ same.choices h.rows.choices;
-    words = held_permuted word_columns (db.trees 10) _ _ same.words h.rows.words;
-    results = held_permuted result_columns (db.trees 12) _ _ same.results h.rows.results;
-    moves = held_permuted move_columns (db.trees 15) _ _ same.moves h.rows.moves;
-    lists = held_permuted list_columns (db.trees 17) _ _ same.lists h.rows.lists;
+    choices = held_permuted choice_columns (db.trees 16) _ _ same.choices h.rows.choices;
+    words = held_permuted word_columns (db.trees 7) _ _ same.words h.rows.words;
+    results = held_permuted result_columns (db.trees 9) _ _ same.results h.rows.results;
+    moves = held_permuted move_columns (db.trees 12) _ _ same.moves h.rows.moves;
+    lists = held_permuted list_columns (db.trees 14) _ _ same.lists h.rows.lists;
   };
 }
 

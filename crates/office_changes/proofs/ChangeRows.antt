@@ -16,6 +16,7 @@ use Rattle.room_types.specs.Texts.{Text, TextMap, text_cmp, text_eq}
 use Rattle.room_types.specs.declared.moves.Move.{Move}
 use Rattle.room_types.specs.declared.phase.Phase.{Phase}
 use Rattle.room_types.proofs.Trees.{entries-empty}
+use Rattle.room_types.proofs.Options.{none_if_not_some, some_of}
 use Rattle.office_core.specs.Change.{applied}
 use Rattle.office_core.specs.Office.Moves.{moves_of}
 use Rattle.office_core.specs.Office.{knows_room, has_withdrawn}
@@ -24,7 +25,6 @@ use Rattle.office_core.specs.declared.change.Change.TheVariants.{PutChoices, Put
 use Rattle.office_core.specs.declared.change.Change.TheVariants.{PutRound, ClearRound}
 use Rattle.office_core.specs.declared.office.Office.{Office}
 use Rattle.office_core.specs.declared.office.person.Person.{Person}
-use Rattle.office_core.proofs.Truths.{none_if_not_some}
 use Rattle.office_rows.specs.Rows.{person_row, person_rows, choices_from, list_rows}
 use Rattle.office_rows.specs.Tables.{Tables, rows_of}
 use Rattle.office_rows.specs.declared.records.ChoiceRecord.{ChoiceRecord}
@@ -38,12 +38,8 @@ use Rattle.office_tables.specs.Edits.{with_word, without_word_of, without_words,
 use Rattle.office_tables.specs.Edits.{without_results, with_move, taking_part}
 use Rattle.office_changes.proofs.AlikeLemmas.{alike-refl, rooms_alike, people_alike, choices_alike, words_alike}
 use Rattle.office_changes.proofs.AlikeLemmas.{results_alike, moves_alike, alike-trans}
-use Rattle.office_changes.proofs.EntryLemmas.{rows_put, rows_gone, row_put, row_gone, row_added}
-use Rattle.office_changes.proofs.EntryLemmas.{row_unknown, row_changed}
-
-some_if : {A : Type 0} (o : Option A) → is_some o ≡ true → (x : A) × (o ≡ Some x)
-some_if None e = cc
-some_if (Some x) e = (x, refl)
+use Rattle.office_changes.proofs.RowsChanged.{rows_put, rows_gone, row_put, row_gone, row_added}
+use Rattle.office_changes.proofs.RowsChanged.{row_unknown, row_changed}
 
 -- the test of a statement tells the rows of one key
 tells : (a b : Text) → text_eq a b ≡ eq_by_cmp text_cmp a b
@@ -74,7 +70,7 @@ module _ {X : Type 0} (m : TextMap X) (k : Text) where
   entry_changed : (v : X) → maps.contains_key m k ≡ true
       → maps.entries (maps.insert m k v) ≡ update_where is_its (λ r. (r.0, v)) (maps.entries m)
   entry_changed v known =
-      let kept = some_if (maps.get m k) known in
+      let kept = some_of (maps.get m k) known in
       sym (map-id (maps.entries (maps.insert m k v)))
       ∙ row_changed (λ e. e) (λ r. r.0) (λ e. refl) k is_its (λ r. tells r.0 k) (λ r. (r.0, v)) m v kept.0 kept.1 refl
       ∙ ap (update_where is_its (λ r. (r.0, v))) (map-id (maps.entries m))

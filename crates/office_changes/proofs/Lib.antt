@@ -2,6 +2,6 @@ pub mod AlikeLemmas
 pub mod CallLemmas
 pub mod CarryLemmas
 pub mod ChangeRows
-pub mod EntryLemmas
-pub mod InsideLemmas
+pub mod LoopLemmas
+pub mod RowsChanged
 pub mod SpelledLemmas

@@ -1,12 +1,2 @@
-pub mod CodeLemmas
-pub mod LineLemmas
-pub mod NameLemmas
 pub mod NumberLemmas
 pub mod ProgramLemmas
-pub mod RehearsalLemmas
-pub mod RoundLemmas
-pub mod RunLemmas
-pub mod SentenceLemmas
-pub mod SessionLemmas
-pub mod SimulationLemmas
-pub mod TextLemmas

@@ -12,9 +12,9 @@ use Rattle.clap.specs.Words.{is_simple_and_free}
 use Rattle.clap.proofs.OnLiterals.{clap_on_literals}
 use Rattle.office_cli.specs.Usage.{usage}
 use Rattle.office_cli.specs.Programs.{entered, entered_line, is_taken, program_of}
-use Rattle.office_cli.specs.Understanding.{Understands}
-use Rattle.office_cli.specs.declared.word_fault.WordFault.{WordFault}
-use Rattle.office_cli.specs.declared.word_fault.WordFault.TheVariants.{NotUnderstood, OutOfMemory}
+use Rattle.office_words.specs.Understanding.{Understands}
+use Rattle.office_words.specs.declared.word_fault.WordFault.{WordFault}
+use Rattle.office_words.specs.declared.word_fault.WordFault.TheVariants.{NotUnderstood, OutOfMemory}
 
 -- `clap` states the matches of this usage, and its faults
 pub usage_is_simple : is_simple usage ≡ true

@@ -1,39 +1,32 @@
 -- What the program does with the words after its name.
 use Rattle.std.specs.Prelude.{◌≡◌, ℕ, ◌<◌, ◌⊎◌, true, false, List, [], ◌∷◌, Option, Some, None, length, take, codes}
-use Rattle.room_types.specs.Watched.{counted}
 use Rattle.office_core.specs.Office.{empty_office}
 use Rattle.office_core.specs.declared.office.Office.{Office}
 use Rattle.office_store.specs.LawfulSteps.{HandlesLawfully}
-use Rattle.office_cli.specs.declared.ending.Ending.{Ending}
+use Rattle.office_lines.specs.declared.ending.Ending.{Ending}
 use Rattle.office_cli.specs.declared.usage.Program.{Program}
 use Rattle.office_cli.specs.declared.usage.Program.TheVariants.{Rehearse, Words}
-use Rattle.office_cli.specs.declared.word_fault.WordFault.{WordFault}
-use Rattle.office_cli.specs.declared.word_fault.WordFault.TheVariants.{NotUnderstood, OutOfMemory}
+use Rattle.office_words.specs.declared.word_fault.WordFault.{WordFault}
+use Rattle.office_words.specs.declared.word_fault.WordFault.TheVariants.{NotUnderstood, OutOfMemory}
 use Rattle.office_cli.specs.Programs.{program_of}
-use Rattle.office_cli.specs.Rehearsals.{Rehearses}
-use Rattle.room_types.specs.Streams.{Input, Output, Puts}
-use Rattle.office_cli.specs.OutputLines.{line_of}
+use Rattle.office_lines.specs.Rehearsals.{Rehearses}
+use Rattle.room_types.specs.Streams.{Input, Output}
+use Rattle.office_lines.specs.Saying.{Says, SaysUnavailable}
+use Rattle.office_texts.specs.OutputLines.{line_of}
 use Rattle.office_cli.specs.WordLines.{words_text}
 use Rattle.room_types.specs.Texts.{Text}
-
--- The text went out with no failure, one flush followed, and the exit status is the wanted one. Or the writer failed, and it is 3.
-abbrev pub Says : Text → ℕ → ℕ → Output → Output → Type 0
-Says text wanted status out out' =
-    ((status ≡ wanted) × Puts out out' text × (out'.flushes ≡ counted out.flushes 1) × (out'.pending ≡ false)
-    × (out'.failed ≡ out.failed))
-    ⊎ ((status ≡ 3) × (out'.failed ≡ true) × (sent : ℕ) × Puts out out' (take sent text))
 
 -- Words that are no line are told on standard error with status 2, and want of memory on standard output with status 3.
 abbrev pub Refuses : WordFault → ℕ → Output → Output → Output → Output → Type 0
 Refuses NotUnderstood status out out' error error' = Says (line_of (codes "rooms: not understood" ∷ [])) 2 status error error' × (out' ≡ out)
-Refuses OutOfMemory status out out' error error' = Says (line_of (codes "unavailable" ∷ [])) 3 status out out' × (error' ≡ error)
+Refuses OutOfMemory status out out' error error' = SaysUnavailable status out out' × (error' ≡ error)
 
 -- A desk in memory, which shows the empty office at first, hears standard input and answers on standard output. Or memory is
 -- wanting for the desk, and nothing is heard.
 abbrev pub RehearsesAnew : ℕ → Input → Input → Output → Output → Type 0
 RehearsesAnew status input input' out out' =
     ((ending : Ending) × (office : Office) × Rehearses HandlesLawfully ending status empty_office office input input' out out')
-    ⊎ (Says (line_of (codes "unavailable" ∷ [])) 3 status out out' × (input' ≡ input))
+    ⊎ (SaysUnavailable status out out' × (input' ≡ input))
 
 -- the line is done, or the words are refused that are none
 abbrev pub DoesLine : Option Program → ℕ → Input → Input → Output → Output → Output → Output → Type 0

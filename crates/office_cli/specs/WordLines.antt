@@ -7,7 +7,7 @@ use Rattle.rand_chacha.specs.ChaCha.{of_seed, next_word}
 use Rattle.draw_order.specs.Words.{next_words}
 use Rattle.room_types.specs.Texts.{Text}
 use Rattle.room_types.specs.Words.{word_text}
-use Rattle.office_cli.specs.OutputLines.{line_of}
+use Rattle.office_texts.specs.OutputLines.{line_of}
 
 -- what the generator of a seed gives: ChaCha in ten double rounds, from the start of stream 0
 abbrev pub stream_of_seed : List ℕ → Stream

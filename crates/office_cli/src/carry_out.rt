@@ -2,18 +2,18 @@
 ghost use Rattle.std.specs.Prelude.{◌≤◌, map};
 ghost use Rattle.room_types.specs.Watched.{IsFresh, StopsAtEnd, StopsAtFailure, watched_reads};
 ghost use Rattle.room_types.specs.Streams.{input_of, output_of};
-ghost use Rattle.office_cli.specs.Doing.{CarriesOut, RehearsesAnew, Refuses, Says};
-ghost use Rattle.office_cli.specs.Lines.{read_limit};
+ghost use Rattle.office_cli.specs.Doing.{CarriesOut, RehearsesAnew, Refuses};
+ghost use Rattle.office_lines.specs.Lines.{read_limit};
 
 use crate::program::program;
-use crate::rehearse::rehearse;
-use crate::texts::{ACCEPTED, NOT_UNDERSTOOD, UNAVAILABLE};
 use crate::usage::Program;
-use crate::word_fault::WordFault;
 use crate::word_lines::words_text;
+use office_lines::rehearse::rehearse;
+use office_lines::say::say;
 use office_store::Desk;
+use office_texts::{ACCEPTED, NOT_UNDERSTOOD, UNAVAILABLE};
+use office_words::WordFault;
 use room_types::Watched;
-use room_types::send::send;
 use std::alloc::Global;
 use std::io::{Read, Write};
 
@@ -85,21 +85,5 @@ pub fn refuse<W: Write, E: Write>(
     match fault {
         WordFault::NotUnderstood => say(error, "rooms: not understood\n", NOT_UNDERSTOOD),
         WordFault::OutOfMemory => say(output, "unavailable\n", UNAVAILABLE),
-    }
-}
-
-// Writes the text and flushes. The exit status is this one, unless the device fails.
-fn say<W: Write>(output: &mut Watched<W>, text: &str, status: u8) -> u8
-    requires fresh { IsFresh output.old }
-    ensures no_late_write { StopsAtFailure output.old output.new }
-    ensures says { Says text.now status result (output_of W.contents output.old)
-        (output_of W.contents output.new) }
-{
-    match send(output, text.as_bytes()) {
-        Ok(()) => match output.flush() {
-            Ok(()) => status,
-            Err(_) => UNAVAILABLE,
-        },
-        Err(_) => UNAVAILABLE,
     }
 }

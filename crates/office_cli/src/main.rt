@@ -4,29 +4,14 @@
 ghost use Rattle.std.specs.Prelude.{◌≡◌, ◌<◌, IfOk, OnErr, drop, length, map, string_bytes};
 
 pub mod carry_out;
-pub mod ending;
-pub mod hearing;
-pub mod limits;
-pub mod order_lines;
-pub mod output_lines;
+pub mod desk_faults;
 pub mod program;
-pub mod refusals;
-pub mod rehearse;
-pub mod replies;
-pub mod said;
 pub mod seeds;
-pub mod sentences;
-pub mod session;
-pub mod texts;
 pub mod usage;
-pub mod values;
-pub mod verbs;
-pub mod word_fault;
 pub mod word_lines;
-pub mod words;
 
 use crate::carry_out::refuse;
-use crate::word_fault::WordFault;
+use office_words::WordFault;
 use room_types::Watched;
 use std::alloc::{AllocError, Global};
 use std::process::ExitCode;

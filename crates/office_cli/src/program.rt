@@ -2,13 +2,13 @@
 ghost use Rattle.std.specs.Prelude.{◌≡◌, ◌≢◌, ◌<◌, IfErr, length, map, option_map};
 ghost use Rattle.clap.specs.Words.{first_of, found_of, kind_of, rows_of};
 ghost use Rattle.office_cli.specs.Programs.{entered_line, number_of, program_of, words_line};
-ghost use Rattle.office_cli.specs.Understanding.{Understands};
+ghost use Rattle.office_words.specs.Understanding.{Understands};
 
 use crate::seeds::seed_of;
 use crate::usage::{Program, WORDS_LIMIT, rooms_command};
-use crate::word_fault::WordFault;
 use clap::error::ErrorKind;
 use clap::{ArgMatches, Error};
+use office_words::WordFault;
 use std::alloc::Global;
 
 /// The line of the program that these words are. No words are the line `rehearse`, and take no memory. `NotUnderstood` is

@@ -9,6 +9,7 @@ mod register;
 mod rounds;
 mod scripts;
 mod seeds;
+mod single_lines;
 mod streams;
 mod words;
 mod years;

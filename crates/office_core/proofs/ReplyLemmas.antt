@@ -1,18 +1,95 @@
 -- The rows of what a query or a command is answered ascend.
 use Rattle.std.proofs.Common.{sym, subst}
-use Rattle.std.specs.Prelude.{Result, Ok, Err, IfOk}
-use Rattle.office_core.specs.Command.Decision.{Decides}
+use Rattle.std.specs.FinMap as maps
+use Rattle.std.specs.Prelude.{Result, Ok, Err, IfOk, Bool, true, false, Option, None, Some, if◌then◌else◌, refl}
+use Rattle.room_types.specs.TextMaps.{rows_ascend}
+use Rattle.room_types.specs.Texts.{Text}
 use Rattle.office_core.specs.Command.{checks, reply_to, changes_of}
-use Rattle.office_core.specs.Query.Answer.{Tells}
+use Rattle.office_core.specs.Command.Decision.{Decides}
+use Rattle.office_core.specs.Office.{is_over, owner}
+use Rattle.office_core.specs.Office.Phases.{has_results, has_words}
 use Rattle.office_core.specs.Query.{told}
+use Rattle.office_core.specs.Query.Answer.{Tells}
+use Rattle.office_core.specs.Query.Me.{told_owner, told_person}
+use Rattle.office_core.specs.Query.Moves.{move_rows}
+use Rattle.office_core.specs.Query.Order.{order_rows}
+use Rattle.office_core.specs.Query.People.{person_row}
+use Rattle.office_core.specs.Query.Results.{result_row, result_rows}
+use Rattle.office_core.specs.Query.Rooms.{room_row}
+use Rattle.office_core.specs.Query.WhatIf.{told_unless, checks as list_checks}
+use Rattle.office_core.specs.Refusal.Checks.{first_refusal}
 use Rattle.office_core.specs.Replies.{RowsAscend}
-use Rattle.office_core.specs.ReplyLaws.{told_ascends, reply_ascends}
+use Rattle.office_core.specs.Round.{result_by}
 use Rattle.office_core.specs.declared.command.Command.{Command}
+use Rattle.office_core.specs.declared.command.Command.TheVariants as command
 use Rattle.office_core.specs.declared.command.decision.Decision.{Decision}
 use Rattle.office_core.specs.declared.office.Office.{Office}
+use Rattle.office_core.specs.declared.office.person.Person.{Person}
 use Rattle.office_core.specs.declared.query.Query.{Query}
+use Rattle.office_core.specs.declared.query.Query.TheVariants as query
 use Rattle.office_core.specs.declared.refusal.Refusal.{Refusal}
+use Rattle.office_core.specs.declared.refusal.Refusal.TheVariants.{BadPhase, NoSuchRound}
 use Rattle.office_core.specs.declared.reply.Reply.{Reply}
+use Rattle.office_core.specs.declared.reply.Reply.TheVariants as reply
+
+if_ascends : (b : Bool) (given : Reply) (refusal : Refusal) → RowsAscend given
+    → IfOk (if b then Ok given else Err refusal) RowsAscend
+if_ascends true given refusal h = h
+if_ascends false given refusal h = tt
+
+unless_ascends : (refused : Option Refusal) (given : Reply) → RowsAscend given
+    → IfOk (told_unless refused given) RowsAscend
+unless_ascends None given h = h
+unless_ascends (Some refusal) given h = tt
+
+person_ascends : (office : Office) (person : Text) (kept : Option Person)
+    → IfOk (told_person office person kept) RowsAscend
+person_ascends office person None = tt
+person_ascends office person (Some kept) = tt
+
+owner_ascends : (office : Office) (person : Option Text)
+    → IfOk (told_owner office person) RowsAscend
+owner_ascends office None = tt
+owner_ascends office (Some person) = person_ascends office person (maps.get office.people person)
+
+-- in the reply to a query
+told_ascends : (office : Office) (asked : Query) → IfOk (told office asked) RowsAscend
+told_ascends office query.Rooms =
+    rows_ascend (room_row office) (λ row. row.room) (λ e. refl) office.rooms
+told_ascends office query.People =
+    rows_ascend person_row (λ row. row.person) (λ e. refl) office.people
+told_ascends office query.Round = tt
+told_ascends office query.Order =
+    if_ascends (has_words office.phase) (reply.Order (order_rows office)) (BadPhase office.phase) tt
+told_ascends office query.Results =
+    if_ascends (has_results office.phase) (reply.Results (result_rows office))
+    (BadPhase office.phase)
+    (rows_ascend result_row (λ row. row.person) (λ e. refl) office.results)
+told_ascends office (query.Moves number) =
+    if_ascends (is_over office number) (reply.Moves (move_rows office number)) NoSuchRound tt
+told_ascends office (query.Me key) = owner_ascends office (owner office key)
+told_ascends office (query.WhatIf person choices) =
+    unless_ascends (first_refusal (list_checks office person choices))
+    (reply.WouldGet (result_by office person choices)) tt
+
+-- in the reply to a command, which has none
+reply_ascends : (office : Office) (given : Command) → RowsAscend (reply_to office given)
+reply_ascends office (command.AddRoom room) = tt
+reply_ascends office (command.AddPerson person name key home) = tt
+reply_ascends office (command.SetHome person room) = tt
+reply_ascends office (command.Leave person) = tt
+reply_ascends office (command.Remove person) = tt
+reply_ascends office (command.Shut room) = tt
+reply_ascends office (command.Reopen room) = tt
+reply_ascends office command.OpenRound = tt
+reply_ascends office (command.SetChoices person choices) = tt
+reply_ascends office (command.Withdraw person) = tt
+reply_ascends office command.CloseRound = tt
+reply_ascends office (command.Draw words) = tt
+reply_ascends office command.Run = tt
+reply_ascends office command.Publish = tt
+reply_ascends office command.Settle = tt
+reply_ascends office command.Cancel = tt
 
 pub answer_ascends : (office : Office) (asked : Query) (result : Result Reply Refusal)
     → Tells (told office asked) result → IfOk result RowsAscend

@@ -7,6 +7,7 @@ pub mod Names
 pub mod People
 pub mod Problem
 pub mod Puts
+pub mod Ranks
 pub mod Recorded
 pub mod Results
 pub mod Rooms

@@ -1,25 +1,16 @@
 -- Facts on truth values, comparisons and options that lemmas of several subjects need.
-use Rattle.std.proofs.Common.{◌≡◌, true, false, Option, None, Some, refl, T}
+use Rattle.std.proofs.Common.{◌≡◌, true, Option, None, Some, refl}
 use Rattle.std.specs.declared.cmp.Ordering.{Ordering}
 use Rattle.std.specs.declared.cmp.Ordering.TheVariants.{Less, Equal, Greater}
-use Rattle.std.specs.Ordering.{is_eq, is_lt}
+use Rattle.std.specs.Ordering.{is_eq}
 use Rattle.std.specs.Cmp.Lexicographic.{nat_list_eq_equiv}
-use Rattle.std.specs.Option.{is_some, option_and_then}
+use Rattle.std.specs.Option.{option_and_then}
 use Rattle.room_types.specs.Texts.{Text, text_eq}
-
-pub none_if_not_some : {A : Type 0} (o : Option A) → is_some o ≡ false → o ≡ None
-none_if_not_some None e = refl
-none_if_not_some (Some x) e = cc
 
 pub then_some : {X Y : Type 0} (f : X → Option Y) (o : Option X) (y : Y)
     → option_and_then f o ≡ Some y → (x : X) × (o ≡ Some x) × (f x ≡ Some y)
 then_some f None y e = cc
 then_some f (Some x) y e = (x, refl, e)
-
-pub less_T : (o : Ordering) → T (is_lt o) → o ≡ Less
-less_T Less p = refl
-less_T Equal p = absurd p
-less_T Greater p = absurd p
 
 pub tied : (o : Ordering) → is_eq o ≡ true → o ≡ Equal
 tied Less e = cc

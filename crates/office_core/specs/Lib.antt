@@ -7,6 +7,5 @@ pub mod Puts
 pub mod Query
 pub mod Refusal
 pub mod Replies
-pub mod ReplyLaws
 pub mod Round
 pub mod Soundness

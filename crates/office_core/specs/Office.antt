@@ -3,7 +3,7 @@ pub mod Invariants
 pub mod Limits
 pub mod Moves
 pub mod Phases
-use Rattle.std.specs.Prelude.{ℕ, Bool, false, ◌&&◌, List, [], ◌∷◌, Option, None, Some}
+use Rattle.std.specs.Prelude.{ℕ, ◌+◌, Bool, true, false, ◌&&◌, List, [], ◌∷◌, Option, None, Some}
 use Rattle.std.specs.Prelude.{if◌then◌else◌, nat_le, eqb, not, map as map_list}
 use Rattle.std.specs.Option.{is_some, unwrap_or, option_and_then}
 use Rattle.std.specs.List.{filter}
@@ -29,6 +29,13 @@ empty_office = record {
   phase = Idle;
 }
 
+-- how many entries all tables have
+abbrev pub entry_count : Office → ℕ
+entry_count office =
+    map.len office.rooms + map.len office.people + map.len office.choices
+    + map.len office.withdrawn + map.len office.words + map.len office.results
+    + map.len office.moves
+
 abbrev pub knows_room : Office → Text → Bool
 knows_room office room = map.contains_key office.rooms room
 
@@ -46,6 +53,12 @@ had_by which people person = option_and_then which (map.get people person)
 abbrev pub is_text : Option Text → Text → Bool
 is_text None text = false
 is_text (Some other) text = text_eq other text
+
+-- whether two texts, or none, are the same
+abbrev pub is_same_text : Option Text → Option Text → Bool
+is_same_text None None = true
+is_same_text None (Some text) = false
+is_same_text (Some text) other = is_text other text
 
 -- the first person, by identifier, that passes the test
 abbrev pub first_person : (Person → Bool) → List (Text × Person) → Option Text

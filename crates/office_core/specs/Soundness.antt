@@ -6,8 +6,9 @@ use Rattle.std.specs.Option.{is_some}
 use Rattle.std.specs.FinMap as map
 use Rattle.room_types.specs.declared.choices.TheConstants.{CHOICE_LIMIT}
 use Rattle.room_types.specs.Repeats.{first_repeated}
-use Rattle.room_types.specs.Texts.{Text, TextMap, text_eq}
+use Rattle.room_types.specs.Texts.{Text, TextMap}
 use Rattle.office_core.specs.Empty.{is_empty}
+use Rattle.office_core.specs.Office.{is_same_text}
 use Rattle.office_core.specs.declared.office.moves.Moved.{Moved}
 use Rattle.office_core.specs.declared.office.moves.RoundMoves.{RoundMoves}
 use Rattle.office_core.specs.declared.office.Assigned.{Assigned}
@@ -45,12 +46,6 @@ abbrev pub is_kept_list : TextMap Bool → List Text → Bool
 is_kept_list rooms codes =
     is_choices codes
     && (not (is_empty codes) && list_all (λ code. map.contains_key rooms code) codes)
-
-abbrev pub is_same_text : Option Text → Option Text → Bool
-is_same_text None None = true
-is_same_text None (Some b) = false
-is_same_text (Some a) None = false
-is_same_text (Some a) (Some b) = text_eq a b
 
 -- whether a person has this result in the map
 abbrev pub is_given : TextMap Assigned → Text → Assigned → Bool

@@ -12,7 +12,7 @@ pub mod round;
 mod soundness;
 
 pub use crate::change::Change;
-pub use crate::change::apply::{apply, office_after};
+pub use crate::change::apply::apply;
 pub use crate::command::Command;
 pub use crate::command::decide::decide;
 pub use crate::command::decision::Decision;

@@ -1,7 +1,7 @@
 //! What the office keeps.
-ghost use Rattle.std.specs.Prelude.{◌≡◌, IfOk};
+ghost use Rattle.std.specs.Prelude.{◌≡◌, ◌<◌, IfOk, OnErr};
 ghost use Rattle.office_core.specs.Office.Invariants.{IsLawful};
-ghost use Rattle.office_core.specs.Office.{empty_office};
+ghost use Rattle.office_core.specs.Office.{empty_office, entry_count};
 
 pub mod limits;
 pub mod look;
@@ -77,9 +77,10 @@ impl Office {
         }
     }
 
-    /// An equal office.
+    /// An equal office. Where nothing is kept it takes no memory.
     pub fn copy(&self) -> Result<Office, OutOfMemory>
-        ensures { IfOk result (λ copy. copy ≡ self.now) }
+        ensures copy { IfOk result (λ copy. copy ≡ self.now) }
+        ensures memory { OnErr result (0 < entry_count self.now) }
     {
         Ok(Office {
             rooms: self.rooms.copy()?,

@@ -1,9 +1,11 @@
 //! What no line of input asks for, a home from the start and as many people as there may be, and a small round by
 //! the calls themselves.
+ghost use Rattle.std.specs.Prelude.{◌≡◌, IfOk};
+ghost use Rattle.office_core.specs.Change.{applied_all};
 ghost use Rattle.office_core.specs.Office.Invariants.{IsLawful};
 
 use crate::change::Change;
-use crate::change::apply::{apply, office_after};
+use crate::change::apply::apply;
 use crate::command::Command;
 use crate::command::add_person::add_person;
 use crate::command::decide::decide;
@@ -12,7 +14,7 @@ use crate::query::Query;
 use crate::query::answer::answer;
 use crate::refusal::Refusal;
 use crate::reply::Reply;
-use room_types::{Choices, Key, Listing, Name, PersonId, RoomCode, Word};
+use room_types::{Choices, Key, Listing, Name, OutOfMemory, PersonId, RoomCode, Word};
 use std::alloc::Global;
 use std::process::Abort;
 use std::test::Fail;
@@ -23,8 +25,19 @@ fn carry_out(alloc: Global, office: &mut Office, command: &Command) -> Result<()
     ensures { IsLawful office.new }
 {
     let decision = decide(alloc, office, command)?;
-    *office = office_after(office, &decision.changes)?;
+    *office = changed(office, &decision.changes)?;
     Ok(())
+}
+
+// A copy of the office, with the changes applied in turn.
+fn changed(office: &Office, changes: &[Change]) -> Result<Office, OutOfMemory>
+    ensures { IfOk result (λ next. next ≡ applied_all office.now changes.now) }
+{
+    let mut next = office.copy()?;
+    for change in changes {
+        apply(&mut next, change)?;
+    }
+    Ok(next)
 }
 
 // Carries the commands out in turn, each of which must be accepted.

@@ -1,5 +1,5 @@
 -- What CREATE TABLE makes of a schema that is written out.
-use Rattle.std.proofs.Common.{◌≡◌, ℕ, List, [], ◌∷◌, Ok, None, false, refl, sym, ap, ◌∙◌, subst}
+use Rattle.std.proofs.Common.{◌≡◌, ℕ, List, [], ◌∷◌, Ok, refl, ap, ◌∙◌, subst}
 use Rattle.sqlite_trees.specs.Tree.{Trees}
 use Rattle.sqlite_schema.specs.declared.schema.Schema.{Schema}
 use Rattle.sqlite_schema.specs.declared.schema.Table.{Table}
@@ -7,36 +7,18 @@ use Rattle.sqlite_schema.specs.declared.command.Command.TheVariants.{CreateTable
 use Rattle.sqlite_resolve.specs.Compile.{table_defined_by}
 use Rattle.sqlite_catalog.specs.Change.{created, next_tree, KeepsRows}
 use Rattle.sqlite_tied.specs.Compute.{everything}
-use Rattle.sqlite.specs.Does.{Tally, lacks_sequence}
 use Rattle.sqlite.specs.Effect.{Database}
 use Rattle.sqlite.specs.Listing.{understood}
-use Rattle.sqlite.specs.State.{State, Writes, Executes}
-use Rattle.sqlite.proofs.Callers.{IsPlain, command_of, statement_of, runs_as}
+use Rattle.sqlite.specs.State.{State, Executes}
+use Rattle.sqlite.proofs.Callers.{IsPlain, command_of, statement_of}
 use Rattle.office_tables.specs.Schema as it
-use Rattle.office_create.specs.Stages.{Adds, AtStage, stage, table_text}
+use Rattle.office_create.specs.Stages.{AtStage, stage, table_text}
+use Rattle.office_tables.specs.Declaring.{Adds}
+use Rattle.office_tables.proofs.ClearLemmas.{adds, choice_is, choice_plain, choice_added}
 use Rattle.std.specs.List.{AllByRecursion}
 use Rattle.std.proofs.Common.{◌++◌, ◌+◌, ◌<◌, zero, suc, arith}
-use Rattle.office_tables.proofs.StatementLemmas.{went, same_value}
 
-pub adds : (text : List ℕ) (table : Table) (schema : Schema) → (command_of (understood schema text) ≡ CreateTable) × (statement_of text (understood schema text) ≡ text) × (table_defined_by text ≡ Ok table)
-    → IsPlain (understood schema text) → lacks_sequence (created schema table) ≡ false → (old new : State) (count : ℕ) → old.now.schema ≡ schema → Executes text [] old new (Ok count) → Adds table old.now new.now
-adds text table schema is plain counted old new count has h =
-    let w = subst (λ t. Writes old new None CreateTable t [] count) is.1 (runs_as text [] old new schema has CreateTable is.0 plain count h) in
-    let all = went w.changed in
-    let first = went all.1 in
-    let made = first.1 in
-    let both : Ok made.table ≡ Ok table = sym made.defined ∙ is.2 in
-    let same : made.table ≡ table = cc in
-    let schema_is : first.0.schema ≡ created old.now.schema table = made.is ∙ ap (created old.now.schema) same in
-    let uncounted : lacks_sequence first.0.schema ≡ false = ap lacks_sequence (schema_is ∙ ap (λ s. created s table) has) ∙ counted in
-    let now : new.now ≡ first.0 = ap (λ (p : Tally × Database). p.1) (same_value all.2) ∙ same_value (rw uncounted at first.2) in
-    record {
-      schema = ap (λ (d : Database). d.schema) now ∙ schema_is;
-      empty = ap (λ (d : Database). d.trees (next_tree old.now.schema)) now ∙ made.empty;
-      others = subst (λ (d : Database). KeepsRows old.now.schema.tables old.now.trees d.trees) (sym now) made.others;
-    }
-
--- ---- the eight texts, each under the schema of those before it
+-- ---- the first seven texts, each under the schema of those before it
 
 room_is : (command_of (understood (stage 0) it.room_text) ≡ CreateTable) × (statement_of it.room_text (understood (stage 0) it.room_text) ≡ it.room_text) × (table_defined_by it.room_text ≡ Ok (it.room 0))
 unfolding understood everything
@@ -62,43 +44,35 @@ round_plain : IsPlain (understood (stage 2) it.round_text)
 unfolding understood everything
 round_plain = (refl, refl)
 
-choice_is : (command_of (understood (stage 3) it.choice_text) ≡ CreateTable) × (statement_of it.choice_text (understood (stage 3) it.choice_text) ≡ it.choice_text) × (table_defined_by it.choice_text ≡ Ok (it.choice 0))
-unfolding understood everything
-choice_is = (refl, refl, refl)
-
-choice_plain : IsPlain (understood (stage 3) it.choice_text)
-unfolding understood everything
-choice_plain = (refl, refl)
-
-word_is : (command_of (understood (stage 4) it.word_text) ≡ CreateTable) × (statement_of it.word_text (understood (stage 4) it.word_text) ≡ it.word_text) × (table_defined_by it.word_text ≡ Ok (it.word 0))
+word_is : (command_of (understood (stage 3) it.word_text) ≡ CreateTable) × (statement_of it.word_text (understood (stage 3) it.word_text) ≡ it.word_text) × (table_defined_by it.word_text ≡ Ok (it.word 0))
 unfolding understood everything
 word_is = (refl, refl, refl)
 
-word_plain : IsPlain (understood (stage 4) it.word_text)
+word_plain : IsPlain (understood (stage 3) it.word_text)
 unfolding understood everything
 word_plain = (refl, refl)
 
-result_is : (command_of (understood (stage 5) it.result_text) ≡ CreateTable) × (statement_of it.result_text (understood (stage 5) it.result_text) ≡ it.result_text) × (table_defined_by it.result_text ≡ Ok (it.result 0))
+result_is : (command_of (understood (stage 4) it.result_text) ≡ CreateTable) × (statement_of it.result_text (understood (stage 4) it.result_text) ≡ it.result_text) × (table_defined_by it.result_text ≡ Ok (it.result 0))
 unfolding understood everything
 result_is = (refl, refl, refl)
 
-result_plain : IsPlain (understood (stage 5) it.result_text)
+result_plain : IsPlain (understood (stage 4) it.result_text)
 unfolding understood everything
 result_plain = (refl, refl)
 
-move_is : (command_of (understood (stage 6) it.move_text) ≡ CreateTable) × (statement_of it.move_text (understood (stage 6) it.move_text) ≡ it.move_text) × (table_defined_by it.move_text ≡ Ok (it.move 0))
+move_is : (command_of (understood (stage 5) it.move_text) ≡ CreateTable) × (statement_of it.move_text (understood (stage 5) it.move_text) ≡ it.move_text) × (table_defined_by it.move_text ≡ Ok (it.move 0))
 unfolding understood everything
 move_is = (refl, refl, refl)
 
-move_plain : IsPlain (understood (stage 6) it.move_text)
+move_plain : IsPlain (understood (stage 5) it.move_text)
 unfolding understood everything
 move_plain = (refl, refl)
 
-list_is : (command_of (understood (stage 7) it.list_text) ≡ CreateTable) × (statement_of it.list_text (understood (stage 7) it.list_text) ≡ it.list_text) × (table_defined_by it.list_text ≡ Ok (it.list 0))
+list_is : (command_of (understood (stage 6) it.list_text) ≡ CreateTable) × (statement_of it.list_text (understood (stage 6) it.list_text) ≡ it.list_text) × (table_defined_by it.list_text ≡ Ok (it.list 0))
 unfolding understood everything
 list_is = (refl, refl, refl)
 
-list_plain : IsPlain (understood (stage 7) it.list_text)
+list_plain : IsPlain (understood (stage 6) it.list_text)
 unfolding understood everything
 list_plain = (refl, refl)
 
@@ -114,23 +88,19 @@ round_added : created (stage 2) (it.round 0) ≡ (stage 3)
 unfolding understood everything
 round_added = refl
 
-choice_added : created (stage 3) (it.choice 0) ≡ (stage 4)
-unfolding understood everything
-choice_added = refl
-
-word_added : created (stage 4) (it.word 0) ≡ (stage 5)
+word_added : created (stage 3) (it.word 0) ≡ (stage 4)
 unfolding understood everything
 word_added = refl
 
-result_added : created (stage 5) (it.result 0) ≡ (stage 6)
+result_added : created (stage 4) (it.result 0) ≡ (stage 5)
 unfolding understood everything
 result_added = refl
 
-move_added : created (stage 6) (it.move 0) ≡ (stage 7)
+move_added : created (stage 5) (it.move 0) ≡ (stage 6)
 unfolding understood everything
 move_added = refl
 
-list_added : created (stage 7) (it.list 0) ≡ it.office_schema
+list_added : created (stage 6) (it.list 0) ≡ (stage 7)
 unfolding understood everything
 list_added = refl
 
@@ -171,8 +141,8 @@ module _ (old new : State) (count : ℕ) where
       (λ was h. step (stage 0) (stage 1) (it.room 0) old.now new.now room_added was.0 was.1 (adds it.room_text (it.room 0) (stage 0) room_is room_plain refl old new count was.0 h))
       (λ was h. step (stage 1) (stage 2) (it.person 0) old.now new.now person_added was.0 was.1 (adds it.person_text (it.person 0) (stage 1) person_is person_plain refl old new count was.0 h))
       (λ was h. step (stage 2) (stage 3) (it.round 0) old.now new.now round_added was.0 was.1 (adds it.round_text (it.round 0) (stage 2) round_is round_plain refl old new count was.0 h))
-      (λ was h. step (stage 3) (stage 4) (it.choice 0) old.now new.now choice_added was.0 was.1 (adds it.choice_text (it.choice 0) (stage 3) choice_is choice_plain refl old new count was.0 h))
-      (λ was h. step (stage 4) (stage 5) (it.word 0) old.now new.now word_added was.0 was.1 (adds it.word_text (it.word 0) (stage 4) word_is word_plain refl old new count was.0 h))
-      (λ was h. step (stage 5) (stage 6) (it.result 0) old.now new.now result_added was.0 was.1 (adds it.result_text (it.result 0) (stage 5) result_is result_plain refl old new count was.0 h))
-      (λ was h. step (stage 6) (stage 7) (it.move 0) old.now new.now move_added was.0 was.1 (adds it.move_text (it.move 0) (stage 6) move_is move_plain refl old new count was.0 h))
-      (λ was h. step (stage 7) it.office_schema (it.list 0) old.now new.now list_added was.0 was.1 (adds it.list_text (it.list 0) (stage 7) list_is list_plain refl old new count was.0 h))
+      (λ was h. step (stage 3) (stage 4) (it.word 0) old.now new.now word_added was.0 was.1 (adds it.word_text (it.word 0) (stage 3) word_is word_plain refl old new count was.0 h))
+      (λ was h. step (stage 4) (stage 5) (it.result 0) old.now new.now result_added was.0 was.1 (adds it.result_text (it.result 0) (stage 4) result_is result_plain refl old new count was.0 h))
+      (λ was h. step (stage 5) (stage 6) (it.move 0) old.now new.now move_added was.0 was.1 (adds it.move_text (it.move 0) (stage 5) move_is move_plain refl old new count was.0 h))
+      (λ was h. step (stage 6) (stage 7) (it.list 0) old.now new.now list_added was.0 was.1 (adds it.list_text (it.list 0) (stage 6) list_is list_plain refl old new count was.0 h))
+      (λ was h. step (stage 7) it.office_schema (it.choice 0) old.now new.now choice_added was.0 was.1 (adds it.choice_text (it.choice 0) (stage 7) choice_is choice_plain refl old new count was.0 h))

@@ -75,7 +75,8 @@ fn start_office<S: Alter>(conn: &mut Connection<S>) -> Result<(), Error>
 // The tables, and the row of a round that has not begun.
 fn start<S: Alter>(tx: &mut Transaction<'_, S>) -> Result<(), Error>
     ensures same_reference { tx.new.conn.ghost_name ≡ tx.old.conn.ghost_name }
-    ensures made { OnOk result (Starts (state S.Store tx.old.conn.now) (state S.Store tx.new.conn.now)) }
+    ensures made { OnOk result
+        (Starts (state S.Store tx.old.conn.now) (state S.Store tx.new.conn.now)) }
     ensures inside { StaysInside (state S.Store tx.old.conn.now) (state S.Store tx.new.conn.now) }
 {
     make_tables(tx)?;

@@ -13,6 +13,7 @@ use Rattle.room_types.specs.Texts.{Text, text_eq}
 use Rattle.office_lists.specs.Waves.{Mover, NewRoomsDiffer, leaver, leavers, end_numbers, own_number, next, wave_of, waves_of, IsWave, AreWaves, HaveOneWaveEach}
 use Rattle.room_types.specs.declared.moves.Wave.{Wave}
 use Rattle.room_types.specs.declared.moves.Wave.TheVariants.{Swap}
+use Rattle.room_types.proofs.Options.{option_or-none}
 use Rattle.std.proofs.lemmas.List.FromFn.{fill_by_all}
 use Rattle.office_lists.specs.Followers.{AreApart, AreFollowers}
 use Rattle.office_lists.proofs.Following.{one_wave, some_wave}
@@ -21,7 +22,7 @@ use Rattle.office_lists.proofs.Chains.{next-within, AreNumberedTo, wave_at}
 position_at : {X : Type 0} (p : X → Bool) (xs : List X) (k n : ℕ) → position_or_len p xs ≡ k → length xs ≡ n → position p xs ≡ cond (ltb k n) (Some k) None
 position_at p xs k n at many = λ i. cond (ltb (at i) (many i)) (Some (at i)) None
 
-position-push : {X : Type 0} (p : X → Bool) (xs : List X) (y : X) → position p (xs ++ y ∷ []) ≡ option_or (position p xs) (cond (p y) (Some (length xs)) None)
+pub position-push : {X : Type 0} (p : X → Bool) (xs : List X) (y : X) → position p (xs ++ y ∷ []) ≡ option_or (position p xs) (cond (p y) (Some (length xs)) None)
 position-push p xs y =
     let n = position_or_len p xs in
     let many = length xs in
@@ -59,10 +60,6 @@ leaver-more entries i entry room in' is =
     ∙ position-push (has_left room) (take i entries) entry
     ∙ ap (λ n. option_or (leaver (take i entries) room) (cond (has_left room entry) (Some n) None)) many
 
-first_kept : (x : Option ℕ) → option_or x None ≡ x
-first_kept None = refl
-first_kept (Some x) = refl
-
 first_there : (x y : Option ℕ) → is_some x ≡ true → option_or x y ≡ x
 first_there None y e = cc
 first_there (Some x) y e = refl
@@ -77,7 +74,7 @@ module _ (entries : List Mover) (i : ℕ) (entry : Mover) (in' : i < length entr
   without_old_room none =
       leaver-more entries i entry room in' is
       ∙ ap (λ old. option_or (leaver (take i entries) room) (cond (option_map_or (λ old. text_eq old room) old false) (Some i) None)) none
-      ∙ first_kept (leaver (take i entries) room)
+      ∙ option_or-none (leaver (take i entries) room)
 
   module _ (old : Text) (has : entry.1 ≡ Some old) where
     more : leaver (take (i + 1) entries) room ≡ option_or (leaver (take i entries) room) (cond (text_eq old room) (Some i) None)
@@ -88,7 +85,7 @@ module _ (entries : List Mover) (i : ℕ) (entry : Mover) (in' : i < length entr
     known_old_room known =
         more ∙ elim (text_eq old room) as (λ b. text_eq old room ≡ b → option_or (leaver (take i entries) room) (cond b (Some i) None) ≡ leaver (take i entries) room) [
           | true ↦ λ e. first_there (leaver (take i entries) room) (Some i) (subst (λ r. is_some (leaver (take i entries) r) ≡ true) ((bytes_eq-Decides old room).0 e) known)
-          | false ↦ λ e. first_kept (leaver (take i entries) room)
+          | false ↦ λ e. option_or-none (leaver (take i entries) room)
         ] refl
 
     -- and the first one is that room's leaver
@@ -96,7 +93,7 @@ module _ (entries : List Mover) (i : ℕ) (entry : Mover) (in' : i < length entr
     new_old_room new =
         more ∙ elim (text_eq old room) as (λ b. text_eq old room ≡ b → option_or (leaver (take i entries) room) (cond b (Some i) None) ≡ cond b (Some i) (leaver (take i entries) room)) [
           | true ↦ λ e. first_missing (leaver (take i entries) room) (Some i) (subst (λ r. is_some (leaver (take i entries) r) ≡ false) ((bytes_eq-Decides old room).0 e) new)
-          | false ↦ λ e. first_kept (leaver (take i entries) room)
+          | false ↦ λ e. option_or-none (leaver (take i entries) room)
         ] refl
 
 -- what is known of an entry that has a leaver

@@ -1,5 +1,9 @@
 pub mod Cells
 pub mod Chains
+pub mod FieldLemmas
 pub mod Following
+pub mod Headers
 pub mod Leavers
 pub mod MoveDays
+pub mod Reaching
+pub mod RecordLemmas

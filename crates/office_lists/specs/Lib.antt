@@ -1,4 +1,6 @@
+pub mod Entries
 pub mod Followers
 pub mod MoveDay
+pub mod Records
 pub mod Tables
 pub mod Waves

@@ -2,7 +2,7 @@
 ghost use Rattle.std.specs.Prelude.{◌≡◌, ◌<◌, ◌≤◌, ℕ, List, Some, length, IfOk, OnErr};
 ghost use Rattle.std.specs.BTreeMap.{get_by};
 ghost use Rattle.room_types.specs.Texts.{Text, text_cmp};
-ghost use Rattle.office_lists.specs.Waves.{Mover, NewRoomsDiffer, AreWaves, HaveOneWaveEach, leaver, leavers as leavers_of, followed, waves_of};
+ghost use Rattle.office_lists.specs.Waves.{Mover as AnyMover, NewRoomsDiffer, AreWaves, HaveOneWaveEach, leaver, leavers as leavers_of, followed, waves_of};
 ghost use Rattle.office_lists.specs.Followers.{AreApart, AreFollowers, NumbersChain};
 
 use room_types::{OutOfMemory, PersonId, RoomCode, Wave};
@@ -16,12 +16,12 @@ pub const MOVE_LIMIT: usize = 2_000;
 const END_NUMBER: u16 = 1;
 
 /// A person who moves, the old room and the new room.
-pub type Entry = (PersonId, Option<RoomCode>, Option<RoomCode>);
+pub type Mover = (PersonId, Option<RoomCode>, Option<RoomCode>);
 
 /// The wave of each entry, in order: 1 where nobody leaves the new room, a swap where the movers pass their rooms
 /// round in a circle, and else the wave after that of the new room's leaver. The leaver of a room is the first entry
 /// whose old room it is. No entries take no memory. It takes n log n comparisons.
-pub fn waves(alloc: Global, entries: &[Entry]) -> Result<Vec<Wave>, OutOfMemory>
+pub fn waves(alloc: Global, entries: &[Mover]) -> Result<Vec<Wave>, OutOfMemory>
     requires few { length entries.now ≤ MOVE_LIMIT }
     requires new_rooms_differ { NewRoomsDiffer entries.now }
     ensures each { IfOk result (λ waves. AreWaves entries.now waves.items) }
@@ -43,7 +43,7 @@ pub fn waves(alloc: Global, entries: &[Entry]) -> Result<Vec<Wave>, OutOfMemory>
 }
 
 // For each entry, the leaver of its new room.
-fn leavers(alloc: Global, entries: &[Entry]) -> Result<Vec<Option<usize>>, OutOfMemory>
+fn leavers(alloc: Global, entries: &[Mover]) -> Result<Vec<Option<usize>>, OutOfMemory>
     ensures { IfOk result (λ leavers. leavers.items ≡ leavers_of entries.now) }
 {
     let by_room = leavers_by_room(alloc, entries)?;
@@ -59,7 +59,7 @@ fn leavers(alloc: Global, entries: &[Entry]) -> Result<Vec<Option<usize>>, OutOf
 }
 
 // For each old room, the first entry that leaves it.
-fn leavers_by_room(alloc: Global, entries: &[Entry]) -> Result<BTreeMap<&str, usize>, AllocError>
+fn leavers_by_room(alloc: Global, entries: &[Mover]) -> Result<BTreeMap<&str, usize>, AllocError>
     ensures { IfOk result (λ by_room. (room : Text)
         → get_by (λ key. text_cmp room key.now) by_room ≡ leaver entries.now room) }
 {
@@ -110,5 +110,5 @@ fn number_chain(waves: &mut [Wave], followers: &[Option<usize>], end: usize, fir
 /// The law that each entry has one wave, the one that `wave_of` of `specs/` computes, where the new rooms differ.
 /// It does nothing.
 pub fn one_wave_each()
-    ensures { (entries : List Mover) → NewRoomsDiffer entries → HaveOneWaveEach entries }
+    ensures { (entries : List AnyMover) → NewRoomsDiffer entries → HaveOneWaveEach entries }
 {}

@@ -1,12 +1,19 @@
-//! What the office writes out: tables of text, and who moves when.
+//! What the office reads and writes in whole: lists as CSV, tables of text, and who moves when.
 #![tactic(auto)]
 
+mod entries;
+mod fault;
+mod fields;
 pub mod leaving;
 pub mod move_day;
+mod reading;
 pub mod tables;
 #[cfg(test)]
 mod tests;
 
-pub use crate::leaving::{Entry, MOVE_LIMIT, one_wave_each, waves};
+pub use crate::entries::{ChoicesEntry, PersonEntry};
+pub use crate::fault::{Cause, ListFault};
+pub use crate::leaving::{MOVE_LIMIT, Mover, one_wave_each, waves};
 pub use crate::move_day::{move_day_text, one_move_day_list};
+pub use crate::reading::{RECORD_LIMIT, read_choices, read_people, read_rooms};
 pub use crate::tables::{or_none, people_text, results_text, rooms_text};

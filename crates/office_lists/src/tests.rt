@@ -1,10 +1,12 @@
 ghost use Rattle.std.specs.Prelude.{◌≡◌, Some};
 
-use crate::{Entry, move_day_text, people_text, results_text, rooms_text, waves};
+use crate::{Mover, move_day_text, people_text, results_text, rooms_text, waves};
 use room_types::{Grammar, Move, PersonRow, ResultRow, RoomRow, State, Text, Wave};
 use std::alloc::Global;
 use std::process::Abort;
 use std::test::Fail;
+
+mod lists;
 
 #[test]
 fn a_table_of_rooms(rt: HostRuntime) -> Result<(), Fail> {
@@ -134,7 +136,7 @@ fn waves_of_a_chain(rt: HostRuntime) -> Result<(), Fail> {
     Ok(())
 }
 
-fn entry(rt: &impl Abort, alloc: Global, person: &str, from: Option<&str>, to: &str) -> Entry
+fn entry(rt: &impl Abort, alloc: Global, person: &str, from: Option<&str>, to: &str) -> Mover
     ensures { result.2 ≡ Some to.now }
 {
     (

@@ -1,10 +1,10 @@
 -- Rows that are shown, under rowids that differ, are held.
-use Rattle.std.proofs.Common.{◌≡◌, ℕ, ℤ, ◌<◌, ◌+◌, List, [], ◌∷◌, map, length, IsTrue, refl, sym, ap, ap₂, ◌∙◌, subst, IsPermutation, arith}
-use Rattle.std.specs.List.{All, AllByRecursion}
+use Rattle.std.proofs.Common.{◌≡◌, ℤ, List, [], ◌∷◌, map, IsTrue, refl, sym, ap, ap₂, ◌∙◌, subst, IsPermutation, arith}
+use Rattle.std.specs.List.{AllByRecursion}
 use Rattle.std.proofs.lemmas.List.Sorted.{IsPermutation-sym}
 use Rattle.sqlite_value.specs.Order.{Row, column}
-use Rattle.sqlite_value.specs.declared.value.Value.TheVariants.{Null, Int}
-use Rattle.sqlite_sql.specs.Term.{Term, col}
+use Rattle.sqlite_value.specs.declared.value.Value.TheVariants.{Null}
+use Rattle.sqlite_sql.specs.Term.{Term}
 use Rattle.sqlite_trees.specs.Tree.{Trees, rowid}
 use Rattle.sqlite_trees.specs.View.{is_int}
 use Rattle.sqlite_trees.proofs.ListLemmas.{pull_back}
@@ -85,7 +85,7 @@ module _ {X : Type 0} (kept shown : X → Row) (IsForm : Row → Type 0) (projec
       }
 
 -- what is shown by all tables is what they hold
-pub all_held : (db : Database) (tables : Tables) → IsLaidOut db → HaveNumbers db.trees → db.trees 17 ≡ [] → tables.lists ≡ [] → AreShown db.trees tables → HasTables db tables
+pub all_held : (db : Database) (tables : Tables) → IsLaidOut db → HaveNumbers db.trees → db.trees 14 ≡ [] → tables.lists ≡ [] → AreShown db.trees tables → HasTables db tables
 all_held db tables laid numbers none no_lists h = record {
   schema = laid.schema;
   rows = record {
@@ -96,12 +96,12 @@ all_held db tables laid numbers none no_lists h = record {
     words = held columns.word_columns columns.word_columns _ _ (IsWhole 2) (λ row x w e. three_cells row w ∙ ap (λ l. column row 0 ∷ l) e) _ _ laid.words (numbers 4 (omega arith)) h.words;
     results = held columns.result_columns columns.result_columns _ _ (IsWhole 2) (λ row x w e. three_cells row w ∙ ap (λ l. column row 0 ∷ l) e) _ _ laid.results (numbers 5 (omega arith)) h.results;
     moves = held columns.move_columns columns.move_columns _ _ (IsWhole 5) (λ row x w e. six_cells row w ∙ ap (λ l. column row 0 ∷ l) e) _ _ laid.moves (numbers 6 (omega arith)) h.moves;
-    lists = subst (Holds columns.list_columns (db.trees 17)) (sym no_lists) (subst (λ rows. Holds columns.list_columns rows []) (sym none) (none_held columns.list_columns));
+    lists = subst (Holds columns.list_columns (db.trees 14)) (sym no_lists) (subst (λ rows. Holds columns.list_columns rows []) (sym none) (none_held columns.list_columns));
   };
 }
 
 -- no list is kept where the tables are an office's
-pub no_lists : (db : Database) (office : Office) → HoldsOffice db office → db.trees 17 ≡ []
+pub no_lists : (db : Database) (office : Office) → HoldsOffice db office → db.trees 14 ≡ []
 unfolding rows_of
 no_lists db office h =
     let none : map (λ (e : ℤ × KeptList). e.1) h.rows.lists.entries ≡ [] = none_from _ _ h.rows.lists.same refl in

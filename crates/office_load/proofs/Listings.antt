@@ -6,7 +6,7 @@ use Rattle.std.proofs.lemmas.List.Sorted.{IsPermutation-trans, IsPermutation-sym
 use Rattle.sqlite_value.specs.Order.{Row}
 use Rattle.sqlite_sql.specs.Term.{Term}
 use Rattle.sqlite_trees.proofs.ListLemmas.{pull_back}
-use Rattle.sqlite_keyed.proofs.ListLemmas.{map-map, filter_all}
+use Rattle.sqlite_keyed.proofs.ListLemmas.{map-map, filter_all, map_same}
 use Rattle.sqlite_keyed.proofs.RuleLemmas.{each_true}
 use Rattle.sqlite.specs.Effect.{Database}
 use Rattle.sqlite.specs.State.{State, Shown}
@@ -25,10 +25,6 @@ shows_table text tree project names lists old new rows has h =
     let same = answer_over tree [] project lists.order old.now [] rows read in
     let all : filter (λ (r : Row). true) (old.now.trees tree) ≡ old.now.trees tree = filter_all _ (old.now.trees tree) (each_true (old.now.trees tree)) in
     subst (λ (l : List Row). IsPermutation (map (listed project) l) rows) all same
-
-map_same : {A B : Type 0} (f g : A → B) → ((x : A) → f x ≡ g x) → (xs : List A) → map f xs ≡ map g xs
-map_same f g h [] = refl
-map_same f g h (x ∷ xs) = ap₂ (λ y ys. y ∷ ys) (h x) (map_same f g h xs)
 
 -- what is read shows the listed columns of all rows, and nothing is read only where some row has another form
 pub told_is : {X V : Type 0} (shown : X → Row) (IsForm : Row → Type 0) (front : Row → Row) (project : List Term) → ((row : Row) → front (listed project row) ≡ listed project row)

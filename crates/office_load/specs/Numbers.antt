@@ -27,7 +27,7 @@ rowid_text place =
 
 -- where each of the tables is kept
 abbrev pub tree_of : ℕ → ℕ
-tree_of place = slice_index_or (0 ∷ 2 ∷ 6 ∷ 7 ∷ 10 ∷ 12 ∷ 15 ∷ 17 ∷ []) place 0
+tree_of place = slice_index_or (0 ∷ 2 ∷ 6 ∷ 16 ∷ 7 ∷ 9 ∷ 12 ∷ 14 ∷ []) place 0
 
 abbrev pub only_rowid : List Term
 only_rowid = col 1 0 ∷ []
@@ -47,7 +47,7 @@ pub record IsLaidOut (db : Database) : Type 0 where
   pub rooms : AllByRecursion (IsWhole 2) (db.trees 0)
   pub people : AllByRecursion (IsWhole 5) (db.trees 2)
   pub rounds : AllByRecursion (λ row. IsWhole 4 row × (column row 1 ≡ Null)) (db.trees 6)
-  pub choices : AllByRecursion (IsWhole 3) (db.trees 7)
-  pub words : AllByRecursion (IsWhole 2) (db.trees 10)
-  pub results : AllByRecursion (IsWhole 2) (db.trees 12)
-  pub moves : AllByRecursion (IsWhole 5) (db.trees 15)
+  pub choices : AllByRecursion (IsWhole 3) (db.trees 16)
+  pub words : AllByRecursion (IsWhole 2) (db.trees 7)
+  pub results : AllByRecursion (IsWhole 2) (db.trees 9)
+  pub moves : AllByRecursion (IsWhole 5) (db.trees 12)

@@ -36,8 +36,8 @@ pub fn keeps_no_list<S: Alter>(conn: &mut Connection<S>) -> Result<bool, Error>
     ensures reads { OnlyReads (state S.Store conn.old) (state S.Store conn.new) }
     ensures none { IfOk result (λ none. HasCleanDisk (state S.Store conn.new)
         → (state S.Store conn.old).now.schema ≡ office_schema
-        → (IsTrue none → (state S.Store conn.old).now.trees 17 ≡ [])
-        × ((state S.Store conn.old).now.trees 17 ≡ [] → IsTrue none)) }
+        → (IsTrue none → (state S.Store conn.old).now.trees 14 ≡ [])
+        × ((state S.Store conn.old).now.trees 14 ≡ [] → IsTrue none)) }
 {
     let rows = rowids(conn, 7)?;
     Ok(rows.as_slice().is_empty())

@@ -14,9 +14,6 @@ CREATE TABLE person(id TEXT PRIMARY KEY NOT NULL, name TEXT NOT NULL,
   withdrawn INTEGER NOT NULL CHECK(withdrawn IN (0, 1))) STRICT;
 CREATE TABLE round(one INTEGER PRIMARY KEY CHECK(one = 1),
   version INTEGER NOT NULL, number INTEGER NOT NULL, phase TEXT NOT NULL) STRICT;
-CREATE TABLE choice(person TEXT NOT NULL REFERENCES person(id),
-  place INTEGER NOT NULL, room TEXT NOT NULL REFERENCES room(code),
-  PRIMARY KEY(person, place), UNIQUE(person, room)) STRICT;
 CREATE TABLE word(person TEXT PRIMARY KEY NOT NULL REFERENCES person(id),
   hex TEXT NOT NULL) STRICT;
 CREATE TABLE result(person TEXT PRIMARY KEY NOT NULL REFERENCES person(id),
@@ -25,6 +22,9 @@ CREATE TABLE move(round INTEGER NOT NULL, person TEXT NOT NULL,
   from_room TEXT, to_room TEXT, wave INTEGER, PRIMARY KEY(round, person)) STRICT;
 CREATE TABLE list(label TEXT PRIMARY KEY NOT NULL, kind TEXT NOT NULL,
   body BLOB NOT NULL, added INTEGER NOT NULL) STRICT;
+CREATE TABLE choice(person TEXT NOT NULL REFERENCES person(id),
+  place INTEGER NOT NULL, room TEXT NOT NULL REFERENCES room(code),
+  PRIMARY KEY(person, place), UNIQUE(person, room)) STRICT;
 INSERT INTO room VALUES ('H1', 0), ('R1', 0), ('S1', 1);
 INSERT INTO person VALUES ('T1', 'Tim Tan', 'aaaaaaaaaaaaaaaa', 'H1', 0);
 INSERT INTO person VALUES ('N1', 'Ann Lee', 'bbbbbbbbbbbbbbbb', NULL, 1);

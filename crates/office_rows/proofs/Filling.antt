@@ -1,6 +1,6 @@
 -- Filling a map undoes what lists its entries.
 use Rattle.std.proofs.Common.{◌≡◌, true, false, List, [], ◌∷◌, ◌++◌, map, Option, Some, None, cond, refl, sym, ap, ◌∙◌, subst, append-nil, IsPermutation}
-use Rattle.std.specs.Prelude.{unwrap_or, reverse}
+use Rattle.std.specs.Prelude.{reverse}
 use Rattle.std.specs.Option.{is_some}
 use Rattle.std.specs.Ordering.{eq_by_cmp}
 use Rattle.std.specs.Cmp.{eq_by_cmp_equiv}
@@ -10,21 +10,19 @@ use Rattle.std.specs.FinMap as maps
 use Rattle.std.specs.FinMap.{get-empty}
 use Rattle.std.proofs.lemmas.List.Sorted.{IsPermutation-refl, IsPermutation-sym, IsPermutation-trans, IsPermutation-middle, IsPermutation-append_left, IsPermutation-reverse}
 use Rattle.std.proofs.lemmas.Map.Keys.{IsDistinct-head, IsDistinct-tail}
+use Rattle.std.proofs.lemmas.Option.{same_Some}
 use Rattle.room_types.specs.Texts.{Text, TextMap, text_cmp}
 use Rattle.room_types.specs.TextMaps.{exact_texts, get-put_other}
 use Rattle.room_types.proofs.Trees.{entries-empty}
-use Rattle.office_core.proofs.Truths.{none_if_not_some}
 use Rattle.room_types.proofs.MapEntries.{each_always, insert-new, moved_keys, one_map}
+use Rattle.room_types.proofs.Options.{none_if_not_some}
 use Rattle.office_rows.specs.Inner.Filled.{filled}
 use Rattle.office_rows.specs.Reads.{Reads, IsAny}
 
 module _ {X : Type 0} where
-  same_some : (a b : TextMap X) → Some a ≡ Some b → a ≡ b
-  same_some a b e = ap (λ (o : Option (TextMap X)). unwrap_or o a) e
-
   pub filled-has : (es : List (Text × X)) (m final : TextMap X) → filled m es ≡ Some final → IsPermutation (maps.entries m ++ es) (maps.entries final)
   filled-has [] m final e =
-      subst (λ l. IsPermutation (maps.entries m ++ []) (maps.entries l)) (same_some m final e) (subst (λ l. IsPermutation l (maps.entries m)) (sym (append-nil (maps.entries m))) (IsPermutation-refl (maps.entries m)))
+      subst (λ l. IsPermutation (maps.entries m ++ []) (maps.entries l)) (same_Some m final e) (subst (λ l. IsPermutation l (maps.entries m)) (sym (append-nil (maps.entries m))) (IsPermutation-refl (maps.entries m)))
   filled-has (f ∷ es) m final e =
       elim (maps.contains_key m f.0) as (λ b. maps.contains_key m f.0 ≡ b → cond b None (filled (maps.insert m f.0 f.1) es) ≡ Some final → IsPermutation (maps.entries m ++ f ∷ es) (maps.entries final)) [
         | true ↦ λ t h. absurd (cc)

@@ -1,5 +1,5 @@
 -- Gathering undoes what makes rows of lists.
-use Rattle.std.proofs.Common.{◌≡◌, ℕ, ◌+◌, ◌<◌, true, false, List, [], ◌∷◌, ◌++◌, length, drop, get_or, Option, Some, None, cond, refl, sym, ap, ◌∙◌, subst, inl, inr, T, arith, append_assoc, append-nil, length-append, IsPermutation, IsSorted, OnErr, Result, Ok, Err}
+use Rattle.std.proofs.Common.{◌≡◌, ℕ, ◌+◌, ◌<◌, true, false, List, [], ◌∷◌, ◌++◌, length, drop, get_or, Option, Some, None, cond, refl, sym, ap, ◌∙◌, subst, inl, inr, T, arith, append_assoc, append-nil, length-append, IsPermutation, IsSorted}
 use Rattle.std.specs.Prelude.{unwrap_or, eqb}
 use Rattle.std.specs.Option.{IfSome}
 use Rattle.std.specs.declared.cmp.Ordering.TheVariants.{Less, Equal, Greater}
@@ -13,13 +13,13 @@ use Rattle.std.specs.List.{AllByRecursion, flat_map}
 use Rattle.std.specs.FinMap as map
 use Rattle.std.specs.FinMap.{find, put, entries_sorted, entries-insert, get-entries, get-empty, same_map}
 use Rattle.std.specs.FinMap.Entries.{below_all, by_order, is_sorted}
+use Rattle.std.proofs.lemmas.Option.{same_Some}
 use Rattle.room_types.specs.Choices.{IsChoices}
 use Rattle.room_types.specs.Texts.{Text, TextMap, text_cmp}
-use Rattle.room_types.specs.TextMaps.{exact_texts, text_cases, get-put_same, get-put_other, get-gone_other}
+use Rattle.room_types.specs.TextMaps.{exact_texts, text_cases, get-put_same, get-put_other, get-gone_other, less_from_test}
 use Rattle.room_types.proofs.Trees.{entries-empty}
 use Rattle.office_core.specs.Puts.{with_all}
 use Rattle.office_core.specs.Soundness.{is_choices}
-use Rattle.office_core.proofs.Truths.{less_T}
 use Rattle.office_core.proofs.SoundnessLemmas.LawTests.{choices_at, at_choices}
 use Rattle.room_types.proofs.MapEntries.{later, at_keys, at_entries, below_less, each_always, each_weaker, none_below}
 use Rattle.room_types.specs.TextMaps.{first_holds, second_holds}
@@ -91,7 +91,7 @@ AreNew lists es = AllByRecursion (λ e. map.get lists e.0 ≡ None) es
 still_new : (lists : Lists) (p : Text) (v : List Text) (es : List (Text × List Text)) → T (below_all text_cmp p es) → AreNew lists es → AreNew (map.insert lists p v) es
 still_new lists p v [] b h = tt
 still_new lists p v (e ∷ es) b h =
-    (get-put_other lists p v e.0 (later nat_list_cmp_total p e.0 (less_T _ (first_holds _ _ b))) ∙ h.0, still_new lists p v es (second_holds _ _ b) h.1)
+    (get-put_other lists p v e.0 (later nat_list_cmp_total p e.0 (less_from_test _ (first_holds _ _ b))) ∙ h.0, still_new lists p v es (second_holds _ _ b) h.1)
 
 gathered-all : (es : List (Text × List Text)) (lists : Lists) → T (is_sorted text_cmp es) → AllByRecursion (λ e. e.1 ≡ [] → ⊥) es → AreNew lists es
     → gathered lists (flat_map list_rows es) ≡ Some (with_all lists es)
@@ -163,12 +163,9 @@ module _ (p room : Text) where
       (subst (λ o. IsPermutation (row_at (unwrap_or o []) ∷ choice_rows lists) (rows_in (put text_cmp p (unwrap_or o [] ++ room ∷ []) (map.entries lists))))
       (sym (get-entries lists p)) (put-more (map.entries lists) (entries_sorted lists)))
 
-same_some : (a b : Lists) → Some a ≡ Some b → a ≡ b
-same_some a b e = ap (λ (o : Option Lists). unwrap_or o a) e
-
 pub gathered-has : (rows : List ChoiceRecord) (lists final : Lists) → gathered lists rows ≡ Some final → IsPermutation (choice_rows lists ++ rows) (choice_rows final)
 gathered-has [] lists final e =
-    subst (λ l. IsPermutation (choice_rows lists ++ []) (choice_rows l)) (same_some lists final e)
+    subst (λ l. IsPermutation (choice_rows lists ++ []) (choice_rows l)) (same_Some lists final e)
     (subst (λ l. IsPermutation l (choice_rows lists)) (sym (append-nil (choice_rows lists))) (IsPermutation-refl (choice_rows lists)))
 gathered-has (row ∷ rows) lists final e =
     let now : Lists = map.insert lists row.person (list_at lists row.person ++ row.room ∷ []) in
@@ -205,7 +202,7 @@ more_filled lists p room codes h q e =
     ]
 
 pub gathered-filled : (rows : List ChoiceRecord) (lists final : Lists) → gathered lists rows ≡ Some final → NoneEmpty lists → NoneEmpty final
-gathered-filled [] lists final e h = subst (λ m. NoneEmpty m) (same_some lists final e) h
+gathered-filled [] lists final e h = subst (λ m. NoneEmpty m) (same_Some lists final e) h
 gathered-filled (row ∷ rows) lists final e h =
     let now : Lists = map.insert lists row.person (list_at lists row.person ++ row.room ∷ []) in
     elim (eqb row.place (length (list_at lists row.person))) as (λ b. cond b (gathered now rows) None ≡ Some final → NoneEmpty final) [
@@ -217,21 +214,17 @@ gathered-filled (row ∷ rows) lists final e h =
 pub gathered-from : (rows : List ChoiceRecord) (lists : Lists) → gathered map.empty rows ≡ Some lists
     → 0 < length (map.entries lists) → 0 < length rows
 gathered-from [] lists e some =
-    let none : map.entries lists ≡ [] = ap (λ m. map.entries m) (sym (same_some map.empty lists e)) ∙ entries-empty nat_list_cmp_total in
+    let none : map.entries lists ≡ [] = ap (λ m. map.entries m) (sym (same_Some map.empty lists e)) ∙ entries-empty nat_list_cmp_total in
     subst (λ es. 0 < length es) none some
 gathered-from (row ∷ rows) lists e some = omega arith
 
 pub fewer_moved : (rows moved : List ChoiceRecord) → IsPermutation rows moved → 0 < length moved → 0 < length rows
 fewer_moved rows moved same some = subst (λ n. 0 < n) (length_permutation rows moved same) some
 
-pub refused : {A E P : Type 0} (r : Result A E) → P → OnErr r P
-refused (Ok x) p = tt
-refused (Err e) p = p
-
 -- ---- lists of choices
 
 chosen-told : (es : List (Text × List Text)) (made final : Lists) → chosen_from made es ≡ Some final → (final ≡ with_all made es) × AllByRecursion (λ e. is_choices e.1 ≡ true) es
-chosen-told [] made final e = (sym (same_some made final e), tt)
+chosen-told [] made final e = (sym (same_Some made final e), tt)
 chosen-told (f ∷ es) made final e =
     elim (is_choices f.1) as (λ b. is_choices f.1 ≡ b → cond b (chosen_from (map.insert made f.0 f.1) es) None ≡ Some final → (final ≡ with_all (map.insert made f.0 f.1) es) × AllByRecursion (λ g. is_choices g.1 ≡ true) (f ∷ es)) [
       | true ↦ λ t m. let rest = chosen-told es (map.insert made f.0 f.1) final m in (rest.0, (t, rest.1))
@@ -275,7 +268,7 @@ module _ (rows sorted : List ChoiceRecord) (moved : IsPermutation rows sorted) (
           )
     ] refl;
     only = λ m sound same.
-        let is : lists ≡ m = same_some lists m (sym some ∙ these m sound same) in
+        let is : lists ≡ m = same_Some lists m (sym some ∙ these m sound same) in
         ap (λ l. chosen_from map.empty (map.entries l)) is
         ∙ told-chosen (map.entries m) map.empty (at_entries nat_list_cmp_total exact_texts (λ p codes. is_choices codes ≡ true) m (λ p codes f. at_choices codes (sound.chosen p codes f)))
         ∙ ap (λ l. Some l) (with_all-entries m);

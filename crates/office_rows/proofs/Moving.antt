@@ -1,7 +1,7 @@
 -- Recording moves undoes what makes rows of moves.
 use Rattle.std.proofs.Common.{◌≡◌, ℕ, Bool, true, false, List, [], ◌∷◌, ◌++◌, map, Option, Some, None, cond, refl, sym, ap, ◌∙◌, subst, T, ◌&&◌, append-nil, IsPermutation}
 use Rattle.std.specs.Prelude.{unwrap_or, reverse}
-use Rattle.std.specs.Option.{is_some, option_map}
+use Rattle.std.specs.Option.{is_some}
 use Rattle.std.specs.declared.cmp.Ordering.TheVariants.{Less, Equal, Greater}
 use Rattle.std.specs.Ordering.{eq_by_cmp, is_eq, nat_cmp}
 use Rattle.std.specs.Cmp.{eq_by_cmp_equiv, nat_cmp_total, tied_itself}
@@ -12,29 +12,28 @@ use Rattle.std.specs.FinMap.{nat_cmp-IsAntisymmetric, find, put, entries_sorted,
 use Rattle.std.specs.FinMap.Entries.{below_all, by_order, is_sorted}
 use Rattle.std.proofs.lemmas.List.Sorted.{IsPermutation-refl, IsPermutation-sym, IsPermutation-trans, IsPermutation-middle, IsPermutation-append_left, IsPermutation-append_right, IsPermutation-map, IsPermutation-reverse}
 use Rattle.std.proofs.lemmas.Map.Keys.{IsDistinct-IsPermutation, IsDistinct-head, IsDistinct-tail}
+use Rattle.std.proofs.lemmas.Option.{same_Some}
+use Rattle.std.proofs.lemmas.Bool.{and_right}
 use Rattle.sqlite_trees.specs.Tree.{IsAscending}
 use Rattle.sqlite_trees.proofs.ListLemmas.{IsPermutation-flat_map}
-use Rattle.sqlite_keyed.proofs.ListLemmas.{all_weaker, all-append, all-flat_map, ascending-append}
+use Rattle.sqlite_keyed.proofs.ListLemmas.{all_weaker, all-append, all-flat_map, ascending-append, all_map, all_unmap}
 use Rattle.room_types.specs.Texts.{Text, TextMap, text_cmp}
-use Rattle.room_types.specs.TextMaps.{exact_texts, get-put_same, get-put_other}
+use Rattle.room_types.specs.TextMaps.{exact_texts, get-put_same, get-put_other, less_from_test}
 use Rattle.room_types.specs.declared.moves.Move.{Move}
 use Rattle.room_types.proofs.Trees.{entries-empty}
 use Rattle.office_core.specs.Office.Moves.{RoundMap, moves_of, with_move}
 use Rattle.office_core.specs.declared.office.moves.Moved.{Moved}
 use Rattle.office_core.specs.declared.office.moves.RoundMoves.{RoundMoves}
-use Rattle.office_core.proofs.Truths.{less_T, none_if_not_some}
+use Rattle.office_core.proofs.OfficeLemmas.Moves.{kept_moves}
 use Rattle.room_types.proofs.MapEntries.{at_keys, at_entries, below_less, insert-new, moved_all, none_below, same_finds}
 use Rattle.room_types.specs.TextMaps.{first_holds, second_holds}
+use Rattle.room_types.proofs.Options.{none_if_not_some}
 use Rattle.office_rows.specs.Rows.{move_row, round_rows, move_rows, AreKeptMoves}
 use Rattle.office_rows.specs.Inner.Recorded.{recorded_moves}
 use Rattle.office_rows.specs.Reads.{Reads}
-use Rattle.office_rows.proofs.Peopling.{mapped, unmapped}
 
 abbrev Moves : Type 0
 Moves = RoundMap RoundMoves
-
-abbrev pub kept_of : Option RoundMoves → TextMap Moved
-kept_of o = unwrap_or (option_map (λ (k : RoundMoves). k.by_person) o) maps.empty
 
 abbrev rest_of : Move → Moved
 rest_of row = record { from = row.from; to = row.to; wave = row.wave }
@@ -66,8 +65,8 @@ module _ (moves : Moves) (row : Move) (new : maps.contains_key (moves_of moves r
   one_more kept none = IsPermutation-map (move_row row.round) _ _ (insert-new nat_list_cmp_total exact_texts kept row.person (rest_of row) none)
 
   pub rows_more : IsPermutation (row ∷ move_rows moves) (move_rows (with_move moves row))
-  rows_more = elim (maps.get moves row.round) as (λ o. maps.get moves row.round ≡ o → maps.contains_key (kept_of o) row.person ≡ false
-      → IsPermutation (row ∷ move_rows moves) (move_rows (maps.insert moves row.round (with_row (kept_of o) row)))) [
+  rows_more = elim (maps.get moves row.round) as (λ o. maps.get moves row.round ≡ o → maps.contains_key (kept_moves o) row.person ≡ false
+      → IsPermutation (row ∷ move_rows moves) (move_rows (maps.insert moves row.round (with_row (kept_moves o) row)))) [
         | None ↦ λ none fresh.
             let v : RoundMoves = with_row maps.empty row in
             let head : IsPermutation (row ∷ []) (round_rows (row.round, v)) =
@@ -95,12 +94,9 @@ module _ (moves : Moves) (row : Move) (new : maps.contains_key (moves_of moves r
         ] (sym (get-insert nat_cmp_total moves row.round v round) ∙ f);
   }
 
-same_some : (a b : Moves) → Some a ≡ Some b → a ≡ b
-same_some a b e = ap (λ (o : Option Moves). unwrap_or o a) e
-
 recorded_moves-has : (rows : List Move) (m final : Moves) → AreKeptMoves m → recorded_moves m rows ≡ Some final → AreKeptMoves final × IsPermutation (move_rows m ++ rows) (move_rows final)
 recorded_moves-has [] m final sound e =
-    let same = same_some m final e in (
+    let same = same_Some m final e in (
       subst (λ q. AreKeptMoves q) same sound,
       subst (λ q. IsPermutation (move_rows m ++ []) (move_rows q)) same (subst (λ l. IsPermutation l (move_rows m)) (sym (append-nil (move_rows m))) (IsPermutation-refl (move_rows m))),
     )
@@ -130,13 +126,9 @@ unfolding IsDistinct
 distinct_from [] up = tt
 distinct_from (r ∷ rows) up = (up.0, distinct_from rows up.1)
 
-no_second : (b c : Bool) → c ≡ false → (b && c) ≡ false
-no_second true c e = e
-no_second false c e = refl
-
 round_apart : (k : ℕ) (e : Text × Moved) (es : List (Text × Moved)) → T (below_all text_cmp e.0 es) → AllByRecursion (Apart (move_row k e)) (map (move_row k) es)
 round_apart k e [] b = tt
-round_apart k e (f ∷ es) b = (no_second (eq_by_cmp nat_cmp k k) (eq_by_cmp text_cmp e.0 f.0) (ap is_eq (less_T _ (first_holds _ _ b))), round_apart k e es (second_holds _ _ b))
+round_apart k e (f ∷ es) b = (and_right (eq_by_cmp nat_cmp k k) (eq_by_cmp text_cmp e.0 f.0) (ap is_eq (less_from_test _ (first_holds _ _ b))), round_apart k e es (second_holds _ _ b))
 
 round_up : (k : ℕ) (es : List (Text × Moved)) → T (is_sorted text_cmp es) → IsAscending Apart (map (move_row k) es)
 round_up k [] s = tt
@@ -150,7 +142,7 @@ later_rounds : (k : ℕ) (es : List (ℕ × RoundMoves)) → T (below_all nat_cm
 later_rounds k [] b = tt
 later_rounds k (e ∷ es) b =
     all-append (λ (r : Move). nat_cmp k r.round ≡ Less) (round_rows e) (flat_map round_rows es)
-    (all_weaker (λ (r : Move). r.round ≡ e.0) (λ (r : Move). nat_cmp k r.round ≡ Less) (λ r same. ap (nat_cmp k) same ∙ less_T _ (first_holds _ _ b)) (round_rows e) (of_round e.0 (maps.entries e.1.by_person)))
+    (all_weaker (λ (r : Move). r.round ≡ e.0) (λ (r : Move). nat_cmp k r.round ≡ Less) (λ r same. ap (nat_cmp k) same ∙ less_from_test _ (first_holds _ _ b)) (round_rows e) (of_round e.0 (maps.entries e.1.by_person)))
     (later_rounds k es (second_holds _ _ b))
 
 all_up : (es : List (ℕ × RoundMoves)) → T (is_sorted nat_cmp es) → IsAscending Apart (flat_map round_rows es)
@@ -170,8 +162,8 @@ IsNew m r = maps.contains_key (moves_of m r.round) r.person ≡ false
 new_after : (m : Moves) (row r : Move) → Apart row r → IsNew m r → IsNew (with_move m row) r
 new_after m row r apart h =
     let v : RoundMoves = with_row (moves_of m row.round) row in
-    ap (λ o. maps.contains_key (kept_of o) r.person) (get-insert nat_cmp_total m row.round v r.round)
-    ∙ elim (nat_cmp r.round row.round) as (λ c. nat_cmp r.round row.round ≡ c → maps.contains_key (kept_of (cond (is_eq c) (Some v) (maps.get m r.round))) r.person ≡ false) [
+    ap (λ o. maps.contains_key (kept_moves o) r.person) (get-insert nat_cmp_total m row.round v r.round)
+    ∙ elim (nat_cmp r.round row.round) as (λ c. nat_cmp r.round row.round ≡ c → maps.contains_key (kept_moves (cond (is_eq c) (Some v) (maps.get m r.round))) r.person ≡ false) [
       | Less ↦ λ c. h
       | Equal ↦ λ c.
           let round : r.round ≡ row.round = nat_cmp-IsAntisymmetric r.round row.round c in
@@ -195,7 +187,7 @@ recorded_moves-all (row ∷ rows) m d h n =
 all_new : (rows : List Move) → AllByRecursion (IsNew maps.empty) rows
 all_new [] = tt
 all_new (r ∷ rows) =
-    (ap (λ o. maps.contains_key (kept_of o) r.person) (get-empty {X = RoundMoves} nat_cmp r.round) ∙ ap is_some (get-empty {X = Moved} text_cmp r.person), all_new rows)
+    (ap (λ o. maps.contains_key (kept_moves o) r.person) (get-empty {X = RoundMoves} nat_cmp r.round) ∙ ap is_some (get-empty {X = Moved} text_cmp r.person), all_new rows)
 
 -- ---- rows tell what the moves are
 
@@ -206,8 +198,8 @@ all_in : (m : Moves) → AllByRecursion (IsIn m) (move_rows m)
 all_in m =
     all-flat_map (IsIn m) round_rows (maps.entries m)
     (at_entries nat_cmp_total nat_cmp-IsAntisymmetric (λ round kept. AllByRecursion (IsIn m) (round_rows (round, kept))) m (λ round kept f.
-    mapped (IsIn m) (move_row round) (maps.entries kept.by_person)
-    (at_entries nat_list_cmp_total exact_texts (λ p moved. IsIn m (move_row round (p, moved))) kept.by_person (λ p moved g. ap (λ o. maps.get (kept_of o) p) f ∙ g))))
+    all_map (IsIn m) (move_row round) (maps.entries kept.by_person)
+    (at_entries nat_list_cmp_total exact_texts (λ p moved. IsIn m (move_row round (p, moved))) kept.by_person (λ p moved g. ap (λ o. maps.get (kept_moves o) p) f ∙ g))))
 
 split_all : {A : Type 0} (P : A → Type 0) (xs ys : List A) → AllByRecursion P (xs ++ ys) → AllByRecursion P xs × AllByRecursion P ys
 split_all P [] ys h = (tt, h)
@@ -220,11 +212,11 @@ all_apart P f (x ∷ xs) h = let parts = split_all P (f x) (flat_map f xs) h in 
 -- what holds of each row holds of each move
 at_moves : (P : Move → Type 0) (m : Moves) → AllByRecursion P (move_rows m) → (round : ℕ) (p : Text) (moved : Moved) → maps.get (moves_of m round) p ≡ Some moved → P (move_row round (p, moved))
 at_moves P m h round p moved f =
-    elim (maps.get m round) as (λ o. maps.get m round ≡ o → maps.get (kept_of o) p ≡ Some moved → P (move_row round (p, moved))) [
+    elim (maps.get m round) as (λ o. maps.get m round ≡ o → maps.get (kept_moves o) p ≡ Some moved → P (move_row round (p, moved))) [
       | None ↦ λ none g. let nothing = get-empty {X = Moved} text_cmp p in absurd (cc)
       | Some kept ↦ λ some g.
           at_keys nat_list_cmp_total exact_texts (λ q v. P (move_row round (q, v))) kept.by_person
-          (unmapped P (move_row round) (maps.entries kept.by_person)
+          (all_unmap P (move_row round) (maps.entries kept.by_person)
           (at_keys nat_cmp_total nat_cmp-IsAntisymmetric (λ r k. AllByRecursion P (round_rows (r, k))) m (all_apart P round_rows (maps.entries m) h) round kept some)) p moved g
     ] refl f
 
@@ -237,7 +229,7 @@ one_moves m n sound_m sound_n same =
     same_map nat_cmp_total nat_cmp-IsAntisymmetric m n (λ round.
     rounds (maps.get m round) (maps.get n round) (λ k f. sound_m.none_empty round k f) (λ k f. sound_n.none_empty round k f) (alike round))
   where
-    rounds : (a b : Option RoundMoves) → ((k : RoundMoves) → a ≡ Some k → k.by_person ≡ maps.empty → ⊥) → ((k : RoundMoves) → b ≡ Some k → k.by_person ≡ maps.empty → ⊥) → kept_of a ≡ kept_of b → a ≡ b
+    rounds : (a b : Option RoundMoves) → ((k : RoundMoves) → a ≡ Some k → k.by_person ≡ maps.empty → ⊥) → ((k : RoundMoves) → b ≡ Some k → k.by_person ≡ maps.empty → ⊥) → kept_moves a ≡ kept_moves b → a ≡ b
     rounds None None f g e = refl
     rounds None (Some k) f g e = absurd (g k refl (sym e))
     rounds (Some k) None f g e = absurd (f k refl e)

@@ -1,6 +1,6 @@
 -- Filling the maps of people undoes what makes rows of people.
-use Rattle.std.proofs.Common.{◌≡◌, Bool, true, false, List, [], ◌∷◌, ◌++◌, map, Option, Some, None, cond, refl, sym, ap, ◌∙◌, subst, inl, inr, append-nil, IsPermutation}
-use Rattle.std.specs.Prelude.{unwrap_or, reverse}
+use Rattle.std.proofs.Common.{◌≡◌, true, false, List, [], ◌∷◌, ◌++◌, map, Option, Some, None, cond, refl, sym, ap, ◌∙◌, subst, inl, inr, append-nil, IsPermutation}
+use Rattle.std.specs.Prelude.{reverse}
 use Rattle.std.specs.Option.{is_some}
 use Rattle.std.specs.Ordering.{eq_by_cmp}
 use Rattle.std.specs.Cmp.{eq_by_cmp_equiv}
@@ -10,13 +10,15 @@ use Rattle.std.specs.FinMap as maps
 use Rattle.std.specs.FinMap.{get-empty, same_map}
 use Rattle.std.proofs.lemmas.List.Sorted.{IsPermutation-refl, IsPermutation-sym, IsPermutation-trans, IsPermutation-middle, IsPermutation-append_left, IsPermutation-map, IsPermutation-reverse}
 use Rattle.std.proofs.lemmas.Map.Keys.{IsDistinct-head, IsDistinct-tail}
-use Rattle.sqlite_keyed.proofs.ListLemmas.{map-map}
+use Rattle.std.proofs.lemmas.Option.{same_Some}
+use Rattle.std.proofs.lemmas.Bool.{both_ways, false_from_ne_true}
+use Rattle.sqlite_keyed.proofs.ListLemmas.{map-map, all_map, all_unmap}
 use Rattle.room_types.specs.Texts.{Text, text_cmp}
 use Rattle.room_types.specs.TextMaps.{exact_texts, text_cases, get-put_other, contains_key-put, contains_key-put_same}
 use Rattle.room_types.proofs.Trees.{entries-empty}
 use Rattle.office_core.specs.declared.office.person.Person.{Person}
 use Rattle.room_types.proofs.MapEntries.{at_keys, at_entries, each_always, insert-new, moved_all, moved_keys, one_map}
-use Rattle.office_core.proofs.Truths.{none_if_not_some}
+use Rattle.room_types.proofs.Options.{none_if_not_some}
 use Rattle.office_rows.specs.Inner.Peopled.{marked, nobody, with_person, peopled}
 use Rattle.office_rows.specs.People.{AreKept, people_rows}
 use Rattle.office_rows.specs.Rows.{person_row}
@@ -24,25 +26,14 @@ use Rattle.office_rows.specs.Reads.{Reads}
 use Rattle.office_rows.specs.declared.people.People.{People}
 use Rattle.office_rows.specs.declared.records.PersonRecord.{PersonRecord}
 
-false_true : (b : Bool) → b ≡ false → b ≡ true → ⊥
-false_true b e f = cc
-
 pub map_each : {A B : Type 0} (f g : A → B) (xs : List A) → AllByRecursion (λ x. f x ≡ g x) xs → map f xs ≡ map g xs
 map_each f g [] h = refl
 map_each f g (x ∷ xs) h = λ i. h.0 i ∷ map_each f g xs h.1 i
 
-pub unmapped : {A B : Type 0} (P : B → Type 0) (f : A → B) (xs : List A) → AllByRecursion P (map f xs) → AllByRecursion (λ x. P (f x)) xs
-unmapped P f [] h = tt
-unmapped P f (x ∷ xs) h = (h.0, unmapped P f xs h.1)
-
-pub mapped : {A B : Type 0} (P : B → Type 0) (f : A → B) (xs : List A) → AllByRecursion (λ x. P (f x)) xs → AllByRecursion P (map f xs)
-mapped P f [] h = tt
-mapped P f (x ∷ xs) h = (h.0, mapped P f xs h.1)
-
 module _ (p : People) (row : PersonRecord) (known : AreKept p) (new : maps.contains_key p.people row.id ≡ false) where
   not_withdrawn : maps.contains_key p.withdrawn row.id ≡ false
   not_withdrawn = elim (maps.contains_key p.withdrawn row.id) as (λ b. maps.contains_key p.withdrawn row.id ≡ b → b ≡ false) [
-    | true ↦ λ t. absurd (false_true _ new (known.withdrawers row.id t))
+    | true ↦ λ t. absurd (both_ways _ new (known.withdrawers row.id t))
     | false ↦ λ t. refl
   ] refl
 
@@ -61,7 +52,7 @@ module _ (p : People) (row : PersonRecord) (known : AreKept p) (new : maps.conta
   others : AllByRecursion (λ (e : Text × Person). person_row p.withdrawn e ≡ person_row (marked p.withdrawn row) e) (maps.entries p.people)
   others = at_entries nat_list_cmp_total exact_texts (λ k v. person_row p.withdrawn (k, v) ≡ person_row (marked p.withdrawn row) (k, v)) p.people (λ k v f.
       elim (text_cases k row.id) as (λ _. person_row p.withdrawn (k, v) ≡ person_row (marked p.withdrawn row) (k, v)) [
-        | inl same ↦ absurd (false_true (maps.contains_key p.people k) (ap (λ q. maps.contains_key p.people q) same ∙ new) (ap is_some f))
+        | inl same ↦ absurd (both_ways (maps.contains_key p.people k) (ap (λ q. maps.contains_key p.people q) same ∙ new) (ap is_some f))
         | inr apart ↦ ap (λ b. record { id = k; person = v; withdrawn = b }) (sym (other_flag k apart))
       ])
 
@@ -81,12 +72,9 @@ module _ (p : People) (row : PersonRecord) (known : AreKept p) (new : maps.conta
     ];
   }
 
-same_some : (a b : People) → Some a ≡ Some b → a ≡ b
-same_some a b e = ap (λ (o : Option People). unwrap_or o a) e
-
 peopled-has : (rows : List PersonRecord) (p final : People) → AreKept p → peopled p rows ≡ Some final → AreKept final × IsPermutation (people_rows p ++ rows) (people_rows final)
 peopled-has [] p final known e =
-    let same = same_some p final e in (
+    let same = same_Some p final e in (
       subst (λ q. AreKept q) same known,
       subst (λ q. IsPermutation (people_rows p ++ []) (people_rows q)) same (subst (λ l. IsPermutation l (people_rows p)) (sym (append-nil (people_rows p))) (IsPermutation-refl (people_rows p))),
     )
@@ -143,15 +131,15 @@ one_people p q known_p known_q same =
     one_map nat_list_cmp_total exact_texts p.people q.people (subst (λ l. IsPermutation (maps.entries p.people) l) (listed q) (entries_moved p (people_rows q) same)) in
     let flags : (k : Text) (v : Person) → maps.get q.people k ≡ Some v → maps.contains_key p.withdrawn k ≡ maps.contains_key q.withdrawn k =
     at_keys nat_list_cmp_total exact_texts (λ k v. maps.contains_key p.withdrawn k ≡ maps.contains_key q.withdrawn k) q.people
-    (unmapped (λ (r : PersonRecord). maps.contains_key p.withdrawn r.id ≡ r.withdrawn) (person_row q.withdrawn) (maps.entries q.people)
+    (all_unmap (λ (r : PersonRecord). maps.contains_key p.withdrawn r.id ≡ r.withdrawn) (person_row q.withdrawn) (maps.entries q.people)
     (moved_all (λ (r : PersonRecord). maps.contains_key p.withdrawn r.id ≡ r.withdrawn) (people_rows p) (people_rows q) same
-    (mapped (λ (r : PersonRecord). maps.contains_key p.withdrawn r.id ≡ r.withdrawn) (person_row p.withdrawn) (maps.entries p.people) (each_always (λ (e : Text × Person). maps.contains_key p.withdrawn e.0 ≡ maps.contains_key p.withdrawn e.0) (λ e. refl) (maps.entries p.people))))) in
+    (all_map (λ (r : PersonRecord). maps.contains_key p.withdrawn r.id ≡ r.withdrawn) (person_row p.withdrawn) (maps.entries p.people) (each_always (λ (e : Text × Person). maps.contains_key p.withdrawn e.0 ≡ maps.contains_key p.withdrawn e.0) (λ e. refl) (maps.entries p.people))))) in
     let withdrawn : p.withdrawn ≡ q.withdrawn = same_map nat_list_cmp_total exact_texts p.withdrawn q.withdrawn (λ k.
     units (maps.get p.withdrawn k) (maps.get q.withdrawn k) (
     elim (maps.get q.people k) as (λ o. maps.get q.people k ≡ o → maps.contains_key p.withdrawn k ≡ maps.contains_key q.withdrawn k) [
       | None ↦ λ none.
-          unknown (maps.contains_key p.withdrawn k) (λ t. false_true (maps.contains_key q.people k) (ap is_some none) (ap (λ m. maps.contains_key m k) (sym people) ∙ known_p.withdrawers k t))
-          ∙ sym (unknown (maps.contains_key q.withdrawn k) (λ t. false_true (maps.contains_key q.people k) (ap is_some none) (known_q.withdrawers k t)))
+          false_from_ne_true (maps.contains_key p.withdrawn k) (λ t. both_ways (maps.contains_key q.people k) (ap is_some none) (ap (λ m. maps.contains_key m k) (sym people) ∙ known_p.withdrawers k t))
+          ∙ sym (false_from_ne_true (maps.contains_key q.withdrawn k) (λ t. both_ways (maps.contains_key q.people k) (ap is_some none) (known_q.withdrawers k t)))
       | Some v ↦ λ f. flags k v f
     ] refl
     )) in
@@ -163,12 +151,8 @@ one_people p q known_p known_q same =
     units (Some x) None e = cc
     units (Some x) (Some y) e = refl
 
-    unknown : (b : Bool) → (b ≡ true → ⊥) → b ≡ false
-    unknown true f = absurd (f refl)
-    unknown false f = refl
-
 nobody_known : AreKept nobody
-nobody_known = record { withdrawers = λ q h. absurd (false_true _ (ap is_some (get-empty {X = Unit {0}} text_cmp q)) h) }
+nobody_known = record { withdrawers = λ q h. absurd (both_ways _ (ap is_some (get-empty {X = Unit {0}} text_cmp q)) h) }
 
 no_rows : people_rows nobody ≡ []
 no_rows = ap (map (person_row maps.empty)) (entries-empty nat_list_cmp_total)

@@ -21,8 +21,5 @@ other_rows rows other = record {
   only = λ m sound same. absurd (other (length_permutation (m ∷ []) rows same));
 }
 
-pub missed : {M : Type 0} (found : Option M) (m : M) → found ≡ None → found ≡ Some m → ⊥
-missed found m none some = cc
-
 pub found_is : {M : Type 0} (found : Option M) (m n : M) → found ≡ Some m → found ≡ Some n → m ≡ n
 found_is found m n e f = ap (λ o. unwrap_or o m) (sym e ∙ f)

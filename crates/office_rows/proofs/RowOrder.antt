@@ -14,8 +14,7 @@ use Rattle.sqlite_trees.specs.Tree.{IsAscending}
 use Rattle.sqlite_keyed.proofs.ListLemmas.{all_weaker, all-append, ascending-append}
 use Rattle.sqlite_keyed.proofs.SortLemmas.{sorted_unique}
 use Rattle.room_types.specs.Texts.{Text, TextMap, text_cmp}
-use Rattle.room_types.specs.TextMaps.{first_holds, second_holds}
-use Rattle.office_core.proofs.Truths.{less_T}
+use Rattle.room_types.specs.TextMaps.{first_holds, second_holds, less_from_test}
 use Rattle.office_rows.specs.Inner.Gathered.{row_cmp}
 use Rattle.office_rows.specs.Rows.{choices_from, list_rows, choice_rows}
 use Rattle.office_rows.specs.declared.records.ChoiceRecord.{ChoiceRecord}
@@ -50,7 +49,7 @@ later_people : (x : Text) (es : List (Text × List Text)) → T (below_all text_
 later_people x [] b = tt
 later_people x (e ∷ es) b =
     all-append (λ (r : ChoiceRecord). text_cmp x r.person ≡ Less) (list_rows e) (flat_map list_rows es)
-    (all_weaker (λ (r : ChoiceRecord). r.person ≡ e.0) (λ (r : ChoiceRecord). text_cmp x r.person ≡ Less) (λ r same. ap (text_cmp x) same ∙ less_T _ (first_holds _ _ b)) (list_rows e) (of_person e.0 0 e.1))
+    (all_weaker (λ (r : ChoiceRecord). r.person ≡ e.0) (λ (r : ChoiceRecord). text_cmp x r.person ≡ Less) (λ r same. ap (text_cmp x) same ∙ less_from_test _ (first_holds _ _ b)) (list_rows e) (of_person e.0 0 e.1))
     (later_people x es (second_holds _ _ b))
 
 rows_up : (es : List (Text × List Text)) → T (is_sorted text_cmp es) → IsAscending Before (flat_map list_rows es)

@@ -15,6 +15,7 @@ use Rattle.office_cells.specs.Spelled.{IsSpelled}
 use Rattle.office_rows.specs.Tables.{rows_of}
 use Rattle.office_tables.specs.Steps.{Follows, IsHonest}
 use Rattle.office_tables.specs.Tables.{HoldsOffice}
+use Rattle.office_tables.proofs.StepLemmas.{follows-refl, follows_then}
 use Rattle.office_changes.specs.Carries.{Carries}
 use Rattle.office_store.specs.Desk.{DeskState, HandlesAt, IsTold, Shows}
 use Rattle.office_store.specs.Requests.{Handles, answer_but, answer_to, office_but}
@@ -22,7 +23,6 @@ use Rattle.office_store.specs.declared.requests.Answer.{Answer}
 use Rattle.office_store.specs.declared.requests.Answer.TheVariants.{Reply, Unavailable}
 use Rattle.office_store.specs.declared.requests.Request.{Request}
 use Rattle.office_store.specs.declared.requests.Request.TheVariants as request
-use Rattle.office_load.proofs.FollowLemmas.{follows-refl, follows_then}
 
 -- the office that is kept after changes in turn, if one is
 kept_after : (taken after : Option Office) (office : Office) (changes : List Change) → taken ≡ Some office

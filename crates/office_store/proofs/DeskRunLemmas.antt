@@ -1,5 +1,5 @@
 -- Runs of requests at a desk, and those of the office that it shows.
-use Rattle.std.proofs.Common.{◌≡◌, ℕ, ◌+◌, ◌-◌, ◌^◌, min, ◌≤◌, List, [], ◌∷◌, Result, Ok, Err, IfOk, OnErr, IsTrue, inl, inr, refl, sym, subst, arith}
+use Rattle.std.proofs.Common.{◌≡◌, List, [], ◌∷◌, Result, Ok, Err, IfOk, OnErr, IsTrue, inl, inr, refl, sym, subst, arith}
 use Rattle.sqlite_trees.specs.declared.memory.MemStore.{MemStore}
 use Rattle.sqlite_trees.specs.declared.store.Store.{Ghosts}
 use Rattle.sqlite.specs.Held.{Held, state}
@@ -9,12 +9,12 @@ use Rattle.office_core.specs.Office.Invariants.{IsLawful}
 use Rattle.office_core.specs.declared.office.Office.{Office}
 use Rattle.office_core.proofs.RoundLemmas.WellTraded.{recorded_traded}
 use Rattle.office_tables.specs.Steps.{Follows, IsHonest}
+use Rattle.office_tables.proofs.StepLemmas.{follows-refl, follows_then}
 use Rattle.office_store.specs.Desk.{DeskState, HandlesAt, Shows}
 use Rattle.office_store.specs.LawfulSteps.{HandlesLawfully}
 use Rattle.office_store.specs.Requests.{Handles, IsRun}
 use Rattle.office_store.specs.declared.requests.Request.{Request}
 use Rattle.office_store.specs.declared.requests.Answer.{Answer}
-use Rattle.office_load.proofs.FollowLemmas.{follows-refl, follows_then}
 
 -- a step into a lawful office
 lawfully : (old new : Office) (request : Request) (answer : Answer) → Handles old request answer new → IsLawful new → HandlesLawfully old request answer new

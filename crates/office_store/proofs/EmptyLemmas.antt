@@ -1,5 +1,5 @@
 -- The rows of the office with nothing in it have texts and numbers of their types.
-use Rattle.std.proofs.Common.{◌≡◌, ◌<◌, ◌^◌, List, [], ◌∷◌, ℕ, arith, refl, sym, subst, map as list_map}
+use Rattle.std.proofs.Common.{◌≡◌, List, [], arith, refl, sym, subst, map as list_map}
 use Rattle.std.proofs.lemmas.List.Elements.{All-cons, All-nil}
 use Rattle.std.specs.Cmp.{nat_cmp_total}
 use Rattle.std.specs.Cmp.Lexicographic.{nat_list_cmp_total}

@@ -1,3 +1,4 @@
+mod AdoptLemmas
 mod DeskLemmas
 pub mod DeskRunLemmas
 mod EmptyLemmas

@@ -1,3 +1,4 @@
+pub mod Adopting
 pub mod Desk
 pub mod LawfulSteps
 pub mod Requests

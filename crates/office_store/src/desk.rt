@@ -12,6 +12,7 @@ ghost use Rattle.office_store.specs.Desk.{HandlesAt, Shows};
 ghost use Rattle.office_store.specs.Requests.{AnswerAscends, Handles};
 ghost use Rattle.office_store.specs.declared.requests.Request.TheVariants.{Office as Request-Office};
 
+mod adopting;
 mod faults;
 mod keeping;
 mod runs;
@@ -21,10 +22,10 @@ pub use crate::desk::faults::{Back, DeskFault, Unavailable};
 use crate::desk::keeping::office_kept;
 pub use crate::desk::runs::handle_all_in_memory;
 use crate::handler::Handler;
-use crate::in_memory::answer_query;
+use crate::queries::answer_query;
 use crate::requests::{Answer, Request};
 use office_changes::store_all;
-use office_core::{Command, Decision, Office, Refusal, decide};
+use office_core::{Command, Decision, Office, decide};
 use office_load::load;
 use sqlite::{Alter, Connection};
 use std::alloc::Global;
@@ -88,8 +89,7 @@ fn decided(alloc: Global, office: &Office, command: &Command) -> Result<Decision
 {
     match decide(alloc, office, command) {
         Ok(decision) => Ok(decision),
-        Err(Refusal::OutOfMemory) => Err(Answer::Unavailable),
-        Err(refusal) => Err(Answer::Refused(refusal)),
+        Err(refusal) => Err(Answer::of_refusal(refusal)),
     }
 }
 

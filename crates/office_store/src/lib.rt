@@ -4,7 +4,7 @@
 pub mod desk;
 pub mod handler;
 pub mod handling;
-pub mod in_memory;
+mod queries;
 pub mod requests;
 
 pub use crate::desk::{Back, Desk, DeskFault, Unavailable, handle_all_in_memory};

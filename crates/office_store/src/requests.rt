@@ -1,4 +1,6 @@
 //! Requests and their answers.
+ghost use Rattle.std.specs.Prelude.{◌≡◌, ◌≢◌, ◌⊎◌};
+
 use office_core::{Command, Query, Refusal, Reply};
 
 /// A request to the office.
@@ -19,4 +21,17 @@ pub enum Answer {
     Refused(Refusal),
     /// Memory was refused, or the database did not serve, and nothing was changed.
     Unavailable,
+}
+
+impl Answer {
+    /// The answer that a refusal gives. Want of memory is no refusal by the office: it is `Unavailable`.
+    pub(crate) fn of_refusal(refusal: Refusal) -> Answer
+        ensures { ((refusal ≡ Refusal.OutOfMemory) × (result ≡ Answer.Unavailable))
+            ⊎ ((refusal ≢ Refusal.OutOfMemory) × (result ≡ Answer.Refused refusal)) }
+    {
+        match refusal {
+            Refusal::OutOfMemory => Answer::Unavailable,
+            refusal => Answer::Refused(refusal),
+        }
+    }
 }

@@ -1,13 +1,15 @@
 //! Requests with ample memory.
+mod adopting;
+
 use crate::{Answer, Back, Desk, DeskFault, Request, handle_all, handle_all_in_memory};
-use office_core::{Command, Office, Query, Refusal, Reply};
+use office_core::{Command, Query, Refusal, Reply};
 use room_types::RoomCode;
 use std::test::Fail;
 
 #[test]
 fn handles_requests_in_turn(rt: HostRuntime) -> Result<(), Fail> {
     let alloc = rt.alloc();
-    let mut office = Office::empty(alloc);
+    let mut desk = Desk::in_memory(alloc)?;
     let requests = vec![in alloc;
         Request::Office(Command::AddRoom {
             room: RoomCode::read(alloc, "H1")?
@@ -17,7 +19,7 @@ fn handles_requests_in_turn(rt: HostRuntime) -> Result<(), Fail> {
         }),
         Request::Ask(Query::Rooms),
     ]?;
-    let answers = handle_all(alloc, &mut office, &requests)?;
+    let answers = handle_all(alloc, &mut desk, &requests)?;
     assert!(rt;
         matches!(
             answers.as_slice(),

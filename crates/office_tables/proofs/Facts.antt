@@ -102,10 +102,6 @@ module _ (old new : State) where
   unfolding edit.without_choices_of
   makes_no_choices_of person = deleted choices old new text.drop_choices_text (Text person ∷ []) (by_parameter 1 0 ∷ []) (col 1 0 ∷ []) (λ r. refl) (λ r. text_eq r.person person) (λ e. same_text e.1.person person) meaning.drop_choices_is
 
-  pub makes_no_choices : Runs text.clear_choices_text [] → Makes old new edit.without_choices
-  unfolding edit.without_choices
-  makes_no_choices runs = cleared choices (deleted choices old new text.clear_choices_text [] [] (col 1 0 ∷ []) (λ r. refl) (λ r. true) (λ e. refl) meaning.clear_choices_is runs)
-
   pub makes_word : (person : Bytes) (word : ℕ) → Runs text.add_word_text (Text person ∷ Text (word_text word) ∷ []) → Makes old new (edit.with_word person word)
   unfolding edit.with_word
   makes_word person word = inserted_anew words old new text.add_word_text (Text person ∷ Text (word_text word) ∷ []) (lit Null ∷ col 0 0 ∷ col 0 1 ∷ []) 3 meaning.add_word_is

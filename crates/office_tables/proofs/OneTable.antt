@@ -48,11 +48,11 @@ rooms = record {
     rooms = put;
     people = stays columns.person_columns tables.people (old.trees 2) (new.trees 2) (t.others.1.0 (λ e. omega arith)) h.people;
     rounds = stays columns.round_columns tables.rounds (old.trees 6) (new.trees 6) (t.others.1.1.0 (λ e. omega arith)) h.rounds;
-    choices = stays columns.choice_columns tables.choices (old.trees 7) (new.trees 7) (t.others.1.1.1.0 (λ e. omega arith)) h.choices;
-    words = stays columns.word_columns tables.words (old.trees 10) (new.trees 10) (t.others.1.1.1.1.0 (λ e. omega arith)) h.words;
-    results = stays columns.result_columns tables.results (old.trees 12) (new.trees 12) (t.others.1.1.1.1.1.0 (λ e. omega arith)) h.results;
-    moves = stays columns.move_columns tables.moves (old.trees 15) (new.trees 15) (t.others.1.1.1.1.1.1.0 (λ e. omega arith)) h.moves;
-    lists = stays columns.list_columns tables.lists (old.trees 17) (new.trees 17) (t.others.1.1.1.1.1.1.1.0 (λ e. omega arith)) h.lists;
+    choices = stays columns.choice_columns tables.choices (old.trees 16) (new.trees 16) (t.others.1.1.1.1.1.1.1.0 (λ e. omega arith)) h.choices;
+    words = stays columns.word_columns tables.words (old.trees 7) (new.trees 7) (t.others.1.1.1.0 (λ e. omega arith)) h.words;
+    results = stays columns.result_columns tables.results (old.trees 9) (new.trees 9) (t.others.1.1.1.1.0 (λ e. omega arith)) h.results;
+    moves = stays columns.move_columns tables.moves (old.trees 12) (new.trees 12) (t.others.1.1.1.1.1.0 (λ e. omega arith)) h.moves;
+    lists = stays columns.list_columns tables.lists (old.trees 14) (new.trees 14) (t.others.1.1.1.1.1.1.0 (λ e. omega arith)) h.lists;
   };
 }
 
@@ -70,11 +70,11 @@ people = record {
     rooms = stays columns.room_columns tables.rooms (old.trees 0) (new.trees 0) (t.others.0 (λ e. omega arith)) h.rooms;
     people = put;
     rounds = stays columns.round_columns tables.rounds (old.trees 6) (new.trees 6) (t.others.1.1.0 (λ e. omega arith)) h.rounds;
-    choices = stays columns.choice_columns tables.choices (old.trees 7) (new.trees 7) (t.others.1.1.1.0 (λ e. omega arith)) h.choices;
-    words = stays columns.word_columns tables.words (old.trees 10) (new.trees 10) (t.others.1.1.1.1.0 (λ e. omega arith)) h.words;
-    results = stays columns.result_columns tables.results (old.trees 12) (new.trees 12) (t.others.1.1.1.1.1.0 (λ e. omega arith)) h.results;
-    moves = stays columns.move_columns tables.moves (old.trees 15) (new.trees 15) (t.others.1.1.1.1.1.1.0 (λ e. omega arith)) h.moves;
-    lists = stays columns.list_columns tables.lists (old.trees 17) (new.trees 17) (t.others.1.1.1.1.1.1.1.0 (λ e. omega arith)) h.lists;
+    choices = stays columns.choice_columns tables.choices (old.trees 16) (new.trees 16) (t.others.1.1.1.1.1.1.1.0 (λ e. omega arith)) h.choices;
+    words = stays columns.word_columns tables.words (old.trees 7) (new.trees 7) (t.others.1.1.1.0 (λ e. omega arith)) h.words;
+    results = stays columns.result_columns tables.results (old.trees 9) (new.trees 9) (t.others.1.1.1.1.0 (λ e. omega arith)) h.results;
+    moves = stays columns.move_columns tables.moves (old.trees 12) (new.trees 12) (t.others.1.1.1.1.1.0 (λ e. omega arith)) h.moves;
+    lists = stays columns.list_columns tables.lists (old.trees 14) (new.trees 14) (t.others.1.1.1.1.1.1.0 (λ e. omega arith)) h.lists;
   };
 }
 
@@ -92,19 +92,19 @@ rounds = record {
     rooms = stays columns.room_columns tables.rooms (old.trees 0) (new.trees 0) (t.others.0 (λ e. omega arith)) h.rooms;
     people = stays columns.person_columns tables.people (old.trees 2) (new.trees 2) (t.others.1.0 (λ e. omega arith)) h.people;
     rounds = put;
-    choices = stays columns.choice_columns tables.choices (old.trees 7) (new.trees 7) (t.others.1.1.1.0 (λ e. omega arith)) h.choices;
-    words = stays columns.word_columns tables.words (old.trees 10) (new.trees 10) (t.others.1.1.1.1.0 (λ e. omega arith)) h.words;
-    results = stays columns.result_columns tables.results (old.trees 12) (new.trees 12) (t.others.1.1.1.1.1.0 (λ e. omega arith)) h.results;
-    moves = stays columns.move_columns tables.moves (old.trees 15) (new.trees 15) (t.others.1.1.1.1.1.1.0 (λ e. omega arith)) h.moves;
-    lists = stays columns.list_columns tables.lists (old.trees 17) (new.trees 17) (t.others.1.1.1.1.1.1.1.0 (λ e. omega arith)) h.lists;
+    choices = stays columns.choice_columns tables.choices (old.trees 16) (new.trees 16) (t.others.1.1.1.1.1.1.1.0 (λ e. omega arith)) h.choices;
+    words = stays columns.word_columns tables.words (old.trees 7) (new.trees 7) (t.others.1.1.1.0 (λ e. omega arith)) h.words;
+    results = stays columns.result_columns tables.results (old.trees 9) (new.trees 9) (t.others.1.1.1.1.0 (λ e. omega arith)) h.results;
+    moves = stays columns.move_columns tables.moves (old.trees 12) (new.trees 12) (t.others.1.1.1.1.1.0 (λ e. omega arith)) h.moves;
+    lists = stays columns.list_columns tables.lists (old.trees 14) (new.trees 14) (t.others.1.1.1.1.1.1.0 (λ e. omega arith)) h.lists;
   };
 }
 
 abbrev pub choices : OneTable ChoiceRecord
 choices = record {
-  at = 3;
+  at = 7;
   found = refl;
-  table = choice 7;
+  table = choice 16;
   columns = columns.choice_columns;
   of = λ tables. tables.choices;
   with_records = λ xs tables. record tables { choices = xs };
@@ -115,18 +115,18 @@ choices = record {
     people = stays columns.person_columns tables.people (old.trees 2) (new.trees 2) (t.others.1.0 (λ e. omega arith)) h.people;
     rounds = stays columns.round_columns tables.rounds (old.trees 6) (new.trees 6) (t.others.1.1.0 (λ e. omega arith)) h.rounds;
     choices = put;
-    words = stays columns.word_columns tables.words (old.trees 10) (new.trees 10) (t.others.1.1.1.1.0 (λ e. omega arith)) h.words;
-    results = stays columns.result_columns tables.results (old.trees 12) (new.trees 12) (t.others.1.1.1.1.1.0 (λ e. omega arith)) h.results;
-    moves = stays columns.move_columns tables.moves (old.trees 15) (new.trees 15) (t.others.1.1.1.1.1.1.0 (λ e. omega arith)) h.moves;
-    lists = stays columns.list_columns tables.lists (old.trees 17) (new.trees 17) (t.others.1.1.1.1.1.1.1.0 (λ e. omega arith)) h.lists;
+    words = stays columns.word_columns tables.words (old.trees 7) (new.trees 7) (t.others.1.1.1.0 (λ e. omega arith)) h.words;
+    results = stays columns.result_columns tables.results (old.trees 9) (new.trees 9) (t.others.1.1.1.1.0 (λ e. omega arith)) h.results;
+    moves = stays columns.move_columns tables.moves (old.trees 12) (new.trees 12) (t.others.1.1.1.1.1.0 (λ e. omega arith)) h.moves;
+    lists = stays columns.list_columns tables.lists (old.trees 14) (new.trees 14) (t.others.1.1.1.1.1.1.0 (λ e. omega arith)) h.lists;
   };
 }
 
 abbrev pub words : OneTable (Text × ℕ)
 words = record {
-  at = 4;
+  at = 3;
   found = refl;
-  table = word 10;
+  table = word 7;
   columns = columns.word_columns;
   of = λ tables. tables.words;
   with_records = λ xs tables. record tables { words = xs };
@@ -136,19 +136,19 @@ words = record {
     rooms = stays columns.room_columns tables.rooms (old.trees 0) (new.trees 0) (t.others.0 (λ e. omega arith)) h.rooms;
     people = stays columns.person_columns tables.people (old.trees 2) (new.trees 2) (t.others.1.0 (λ e. omega arith)) h.people;
     rounds = stays columns.round_columns tables.rounds (old.trees 6) (new.trees 6) (t.others.1.1.0 (λ e. omega arith)) h.rounds;
-    choices = stays columns.choice_columns tables.choices (old.trees 7) (new.trees 7) (t.others.1.1.1.0 (λ e. omega arith)) h.choices;
+    choices = stays columns.choice_columns tables.choices (old.trees 16) (new.trees 16) (t.others.1.1.1.1.1.1.1.0 (λ e. omega arith)) h.choices;
     words = put;
-    results = stays columns.result_columns tables.results (old.trees 12) (new.trees 12) (t.others.1.1.1.1.1.0 (λ e. omega arith)) h.results;
-    moves = stays columns.move_columns tables.moves (old.trees 15) (new.trees 15) (t.others.1.1.1.1.1.1.0 (λ e. omega arith)) h.moves;
-    lists = stays columns.list_columns tables.lists (old.trees 17) (new.trees 17) (t.others.1.1.1.1.1.1.1.0 (λ e. omega arith)) h.lists;
+    results = stays columns.result_columns tables.results (old.trees 9) (new.trees 9) (t.others.1.1.1.1.0 (λ e. omega arith)) h.results;
+    moves = stays columns.move_columns tables.moves (old.trees 12) (new.trees 12) (t.others.1.1.1.1.1.0 (λ e. omega arith)) h.moves;
+    lists = stays columns.list_columns tables.lists (old.trees 14) (new.trees 14) (t.others.1.1.1.1.1.1.0 (λ e. omega arith)) h.lists;
   };
 }
 
 abbrev pub results : OneTable (Text × Assigned)
 results = record {
-  at = 5;
+  at = 4;
   found = refl;
-  table = result 12;
+  table = result 9;
   columns = columns.result_columns;
   of = λ tables. tables.results;
   with_records = λ xs tables. record tables { results = xs };
@@ -158,19 +158,19 @@ results = record {
     rooms = stays columns.room_columns tables.rooms (old.trees 0) (new.trees 0) (t.others.0 (λ e. omega arith)) h.rooms;
     people = stays columns.person_columns tables.people (old.trees 2) (new.trees 2) (t.others.1.0 (λ e. omega arith)) h.people;
     rounds = stays columns.round_columns tables.rounds (old.trees 6) (new.trees 6) (t.others.1.1.0 (λ e. omega arith)) h.rounds;
-    choices = stays columns.choice_columns tables.choices (old.trees 7) (new.trees 7) (t.others.1.1.1.0 (λ e. omega arith)) h.choices;
-    words = stays columns.word_columns tables.words (old.trees 10) (new.trees 10) (t.others.1.1.1.1.0 (λ e. omega arith)) h.words;
+    choices = stays columns.choice_columns tables.choices (old.trees 16) (new.trees 16) (t.others.1.1.1.1.1.1.1.0 (λ e. omega arith)) h.choices;
+    words = stays columns.word_columns tables.words (old.trees 7) (new.trees 7) (t.others.1.1.1.0 (λ e. omega arith)) h.words;
     results = put;
-    moves = stays columns.move_columns tables.moves (old.trees 15) (new.trees 15) (t.others.1.1.1.1.1.1.0 (λ e. omega arith)) h.moves;
-    lists = stays columns.list_columns tables.lists (old.trees 17) (new.trees 17) (t.others.1.1.1.1.1.1.1.0 (λ e. omega arith)) h.lists;
+    moves = stays columns.move_columns tables.moves (old.trees 12) (new.trees 12) (t.others.1.1.1.1.1.0 (λ e. omega arith)) h.moves;
+    lists = stays columns.list_columns tables.lists (old.trees 14) (new.trees 14) (t.others.1.1.1.1.1.1.0 (λ e. omega arith)) h.lists;
   };
 }
 
 abbrev pub moves : OneTable Move
 moves = record {
-  at = 6;
+  at = 5;
   found = refl;
-  table = move 15;
+  table = move 12;
   columns = columns.move_columns;
   of = λ tables. tables.moves;
   with_records = λ xs tables. record tables { moves = xs };
@@ -180,10 +180,10 @@ moves = record {
     rooms = stays columns.room_columns tables.rooms (old.trees 0) (new.trees 0) (t.others.0 (λ e. omega arith)) h.rooms;
     people = stays columns.person_columns tables.people (old.trees 2) (new.trees 2) (t.others.1.0 (λ e. omega arith)) h.people;
     rounds = stays columns.round_columns tables.rounds (old.trees 6) (new.trees 6) (t.others.1.1.0 (λ e. omega arith)) h.rounds;
-    choices = stays columns.choice_columns tables.choices (old.trees 7) (new.trees 7) (t.others.1.1.1.0 (λ e. omega arith)) h.choices;
-    words = stays columns.word_columns tables.words (old.trees 10) (new.trees 10) (t.others.1.1.1.1.0 (λ e. omega arith)) h.words;
-    results = stays columns.result_columns tables.results (old.trees 12) (new.trees 12) (t.others.1.1.1.1.1.0 (λ e. omega arith)) h.results;
+    choices = stays columns.choice_columns tables.choices (old.trees 16) (new.trees 16) (t.others.1.1.1.1.1.1.1.0 (λ e. omega arith)) h.choices;
+    words = stays columns.word_columns tables.words (old.trees 7) (new.trees 7) (t.others.1.1.1.0 (λ e. omega arith)) h.words;
+    results = stays columns.result_columns tables.results (old.trees 9) (new.trees 9) (t.others.1.1.1.1.0 (λ e. omega arith)) h.results;
     moves = put;
-    lists = stays columns.list_columns tables.lists (old.trees 17) (new.trees 17) (t.others.1.1.1.1.1.1.1.0 (λ e. omega arith)) h.lists;
+    lists = stays columns.list_columns tables.lists (old.trees 14) (new.trees 14) (t.others.1.1.1.1.1.1.0 (λ e. omega arith)) h.lists;
   };
 }

@@ -1,5 +1,5 @@
 -- The eight tables of an office: the texts that declare them, and the schema that these make.
-use Rattle.std.specs.Prelude.{true, false, ℕ, pos, List, [], ◌∷◌, ◌++◌, map, codes}
+use Rattle.std.specs.Prelude.{true, false, ℕ, pos, List, [], ◌∷◌, ◌++◌, map, codes, take}
 use Rattle.std.specs.Prelude.{Option, Some, None}
 use Rattle.sqlite_value.specs.declared.keys.Collation.TheVariants.{Binary}
 use Rattle.sqlite_value.specs.declared.value.Value.TheVariants.{Null, Int}
@@ -34,12 +34,6 @@ round_text =
     codes "CREATE TABLE round(one INTEGER PRIMARY KEY CHECK(one = 1),\n"
     ++ codes "  version INTEGER NOT NULL, number INTEGER NOT NULL, phase TEXT NOT NULL) STRICT"
 
-abbrev pub choice_text : List ℕ
-choice_text =
-    codes "CREATE TABLE choice(person TEXT NOT NULL REFERENCES person(id),\n"
-    ++ codes "  place INTEGER NOT NULL, room TEXT NOT NULL REFERENCES room(code),\n"
-    ++ codes "  PRIMARY KEY(person, place), UNIQUE(person, room)) STRICT"
-
 abbrev pub word_text : List ℕ
 word_text =
     codes "CREATE TABLE word(person TEXT PRIMARY KEY NOT NULL REFERENCES person(id),\n"
@@ -59,6 +53,12 @@ abbrev pub list_text : List ℕ
 list_text =
     codes "CREATE TABLE list(label TEXT PRIMARY KEY NOT NULL, kind TEXT NOT NULL,\n"
     ++ codes "  body BLOB NOT NULL, added INTEGER NOT NULL) STRICT"
+
+abbrev pub choice_text : List ℕ
+choice_text =
+    codes "CREATE TABLE choice(person TEXT NOT NULL REFERENCES person(id),\n"
+    ++ codes "  place INTEGER NOT NULL, room TEXT NOT NULL REFERENCES room(code),\n"
+    ++ codes "  PRIMARY KEY(person, place), UNIQUE(person, room)) STRICT"
 
 -- ---- columns, references and checks
 
@@ -142,14 +142,6 @@ round tree =
     ∷ required Integer (codes "number") ∷ required Text (codes "phase") ∷ [])
     (Some 0) (0 ∷ []) [] (equals 0 1 ∷ []) []
 
-abbrev pub choice : ℕ → Table
-choice tree =
-    table_of (codes "choice") tree
-    (required Text (codes "person") ∷ required Integer (codes "place")
-    ∷ required Text (codes "room") ∷ [])
-    None (1 ∷ 2 ∷ []) ((1 ∷ 2 ∷ []) ∷ (1 ∷ 3 ∷ []) ∷ []) []
-    (refers_to (codes "person") (codes "id") 1 ∷ refers_to (codes "room") (codes "code") 3 ∷ [])
-
 abbrev pub word : ℕ → Table
 word tree =
     table_of (codes "word") tree (required Text (codes "person") ∷ required Text (codes "hex") ∷ [])
@@ -176,6 +168,14 @@ list tree =
     ∷ required Integer (codes "added") ∷ [])
     None first (first ∷ []) [] []
 
+abbrev pub choice : ℕ → Table
+choice tree =
+    table_of (codes "choice") tree
+    (required Text (codes "person") ∷ required Integer (codes "place")
+    ∷ required Text (codes "room") ∷ [])
+    None (1 ∷ 2 ∷ []) ((1 ∷ 2 ∷ []) ∷ (1 ∷ 3 ∷ []) ∷ []) []
+    (refers_to (codes "person") (codes "id") 1 ∷ refers_to (codes "room") (codes "code") 3 ∷ [])
+
 -- ---- the schema
 
 -- what a constraint of a table is kept by
@@ -192,16 +192,29 @@ index_of name tree table columns = record {
 abbrev pub no_schema : Schema
 no_schema = record { tables = []; indexes = []; views = [] }
 
--- the schema that the texts make, one after another
+-- The schema that the texts make, one after another. The table of the lists is the last, so that it can be taken out and
+-- made anew where it was.
 abbrev pub office_schema : Schema
 office_schema = record {
-  tables = room 0 ∷ person 2 ∷ round 6 ∷ choice 7 ∷ word 10 ∷ result 12 ∷ move 15 ∷ list 17 ∷ [];
+  tables = room 0 ∷ person 2 ∷ round 6 ∷ word 7 ∷ result 9 ∷ move 12 ∷ list 14 ∷ choice 16 ∷ [];
   indexes =
       index_of (codes "room_1") 1 0 first ∷ index_of (codes "person_1") 3 2 first
       ∷ index_of (codes "person_2") 4 2 (3 ∷ []) ∷ index_of (codes "person_3") 5 2 (4 ∷ [])
-      ∷ index_of (codes "choice_1") 8 7 (1 ∷ 2 ∷ []) ∷ index_of (codes "choice_2") 9 7 (1 ∷ 3 ∷ [])
-      ∷ index_of (codes "word_1") 11 10 first ∷ index_of (codes "result_1") 13 12 first
-      ∷ index_of (codes "result_2") 14 12 (2 ∷ []) ∷ index_of (codes "move_1") 16 15 (1 ∷ 2 ∷ [])
-      ∷ index_of (codes "list_1") 18 17 first ∷ [];
+      ∷ index_of (codes "word_1") 8 7 first ∷ index_of (codes "result_1") 10 9 first
+      ∷ index_of (codes "result_2") 11 9 (2 ∷ []) ∷ index_of (codes "move_1") 13 12 (1 ∷ 2 ∷ [])
+      ∷ index_of (codes "list_1") 15 14 first ∷ index_of (codes "choice_1") 17 16 (1 ∷ 2 ∷ [])
+      ∷ index_of (codes "choice_2") 18 16 (1 ∷ 3 ∷ []) ∷ [];
   views = [];
 }
+
+-- the first tables of an office, and so many indexes with them
+abbrev pub first_tables : ℕ → ℕ → Schema
+first_tables tables indexes = record {
+  tables = take tables office_schema.tables;
+  indexes = take indexes office_schema.indexes;
+  views = [];
+}
+
+-- all tables of an office but that of the lists
+abbrev pub all_but_choices : Schema
+all_but_choices = first_tables 7 9

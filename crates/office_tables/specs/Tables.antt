@@ -14,11 +14,11 @@ pub record AreHeld (trees : Trees) (tables : Tables) : Type 0 where
   pub rooms : Holds room_columns (trees 0) tables.rooms
   pub people : Holds person_columns (trees 2) tables.people
   pub rounds : Holds round_columns (trees 6) tables.rounds
-  pub choices : Holds choice_columns (trees 7) tables.choices
-  pub words : Holds word_columns (trees 10) tables.words
-  pub results : Holds result_columns (trees 12) tables.results
-  pub moves : Holds move_columns (trees 15) tables.moves
-  pub lists : Holds list_columns (trees 17) tables.lists
+  pub choices : Holds choice_columns (trees 16) tables.choices
+  pub words : Holds word_columns (trees 7) tables.words
+  pub results : Holds result_columns (trees 9) tables.results
+  pub moves : Holds move_columns (trees 12) tables.moves
+  pub lists : Holds list_columns (trees 14) tables.lists
 
 -- the database has the tables of an office and no others, with these rows
 pub record HasTables (db : Database) (tables : Tables) : Type 0 where

@@ -72,8 +72,8 @@ add_choice_text = codes "INSERT INTO choice(person, place, room) VALUES (?1, ?2,
 abbrev pub drop_choices_text : List ℕ
 drop_choices_text = codes "DELETE FROM choice WHERE person = ?1"
 
-abbrev pub clear_choices_text : List ℕ
-clear_choices_text = codes "DELETE FROM choice"
+abbrev pub drop_table_text : List ℕ
+drop_table_text = codes "DROP TABLE choice"
 
 -- ---- the table word
 

@@ -1,8 +1,10 @@
 //! The table of recorded lists.
 ghost use Rattle.std.specs.Prelude.{◌≡◌, OnOk};
 ghost use Rattle.sqlite.specs.Held.{state};
+ghost use Rattle.office_tables.specs.Declaring.{LosesChoices, RegainsChoices};
 ghost use Rattle.office_tables.specs.Edits.{with_choice, without_choices_of, without_choices};
 ghost use Rattle.office_tables.specs.Makes.{Makes};
+ghost use Rattle.office_tables.specs.Schema.{choice_text};
 ghost use Rattle.office_tables.specs.Steps.{StaysInside};
 
 use crate::running::run;
@@ -18,7 +20,8 @@ pub fn add_choice<S: Alter>(
     room: &RoomCode,
 ) -> Result<(), Error>
     ensures same_reference { tx.new.conn.ghost_name ≡ tx.old.conn.ghost_name }
-    ensures made { OnOk result (Makes (state S.Store tx.old.conn.now) (state S.Store tx.new.conn.now)
+    ensures made { OnOk result
+        (Makes (state S.Store tx.old.conn.now) (state S.Store tx.new.conn.now)
         (with_choice person.now place room.now)) }
     ensures inside { StaysInside (state S.Store tx.old.conn.now) (state S.Store tx.new.conn.now) }
 {
@@ -32,7 +35,8 @@ pub fn add_choice<S: Alter>(
 /// Takes a person's list out.
 pub fn drop_choices<S: Alter>(tx: &mut Transaction<'_, S>, person: &PersonId) -> Result<(), Error>
     ensures same_reference { tx.new.conn.ghost_name ≡ tx.old.conn.ghost_name }
-    ensures made { OnOk result (Makes (state S.Store tx.old.conn.now) (state S.Store tx.new.conn.now)
+    ensures made { OnOk result
+        (Makes (state S.Store tx.old.conn.now) (state S.Store tx.new.conn.now)
         (without_choices_of person.now)) }
     ensures inside { StaysInside (state S.Store tx.old.conn.now) (state S.Store tx.new.conn.now) }
 {
@@ -43,12 +47,44 @@ pub fn drop_choices<S: Alter>(tx: &mut Transaction<'_, S>, person: &PersonId) ->
     )
 }
 
-/// Takes all lists out.
+/// Takes all lists out. The table is dropped and made anew, in the place where it was: the store in memory looks at
+/// every row of a table for each that it deletes.
 pub fn clear_choices<S: Alter>(tx: &mut Transaction<'_, S>) -> Result<(), Error>
     ensures same_reference { tx.new.conn.ghost_name ≡ tx.old.conn.ghost_name }
-    ensures made { OnOk result (Makes (state S.Store tx.old.conn.now) (state S.Store tx.new.conn.now)
+    ensures made { OnOk result
+        (Makes (state S.Store tx.old.conn.now) (state S.Store tx.new.conn.now)
         (without_choices)) }
     ensures inside { StaysInside (state S.Store tx.old.conn.now) (state S.Store tx.new.conn.now) }
 {
-    run(tx, "DELETE FROM choice", &[])
+    drop_table(tx)?;
+    make_table(tx)
+}
+
+/// The text that declares the table.
+pub fn table_text() -> &'static str
+    ensures text { result.now ≡ choice_text }
+{
+    "CREATE TABLE choice(person TEXT NOT NULL REFERENCES person(id),
+  place INTEGER NOT NULL, room TEXT NOT NULL REFERENCES room(code),
+  PRIMARY KEY(person, place), UNIQUE(person, room)) STRICT"
+}
+
+// The table goes, with its rows.
+fn drop_table<S: Alter>(tx: &mut Transaction<'_, S>) -> Result<(), Error>
+    ensures same_reference { tx.new.conn.ghost_name ≡ tx.old.conn.ghost_name }
+    ensures made { OnOk result
+        (LosesChoices (state S.Store tx.old.conn.now) (state S.Store tx.new.conn.now)) }
+    ensures inside { StaysInside (state S.Store tx.old.conn.now) (state S.Store tx.new.conn.now) }
+{
+    run(tx, "DROP TABLE choice", &[])
+}
+
+// The table is there again, with no rows.
+fn make_table<S: Alter>(tx: &mut Transaction<'_, S>) -> Result<(), Error>
+    ensures same_reference { tx.new.conn.ghost_name ≡ tx.old.conn.ghost_name }
+    ensures made { OnOk result
+        (RegainsChoices (state S.Store tx.old.conn.now) (state S.Store tx.new.conn.now)) }
+    ensures inside { StaysInside (state S.Store tx.old.conn.now) (state S.Store tx.new.conn.now) }
+{
+    run(tx, table_text(), &[])
 }

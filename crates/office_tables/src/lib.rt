@@ -1,5 +1,6 @@
 //! The tables of an office in a database: one function a statement, inside a transaction. What a statement makes of the
-//! rows is said of typed records. Where a statement is refused or fails, the rows are as they were.
+//! rows is said of typed records. A statement that is refused changes no row, and one that fails, for memory or the disk,
+//! rolls the whole transaction back; so says the engine. The clauses here say of both that nothing is committed.
 #![tactic(auto)]
 
 mod cells;

@@ -13,7 +13,8 @@ use sqlite::{Alter, Error, Transaction, params};
 /// Adds a move. Refused where the person has one in this round.
 pub fn add_move<S: Alter>(tx: &mut Transaction<'_, S>, row: &Move) -> Result<(), Error>
     ensures same_reference { tx.new.conn.ghost_name ≡ tx.old.conn.ghost_name }
-    ensures made { OnOk result (Makes (state S.Store tx.old.conn.now) (state S.Store tx.new.conn.now)
+    ensures made { OnOk result
+        (Makes (state S.Store tx.old.conn.now) (state S.Store tx.new.conn.now)
         (with_move row.now)) }
     ensures inside { StaysInside (state S.Store tx.old.conn.now) (state S.Store tx.new.conn.now) }
 {

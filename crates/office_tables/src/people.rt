@@ -20,7 +20,8 @@ pub fn add_person<S: Alter>(
     home: &Option<RoomCode>,
 ) -> Result<(), Error>
     ensures same_reference { tx.new.conn.ghost_name ≡ tx.old.conn.ghost_name }
-    ensures made { OnOk result (Makes (state S.Store tx.old.conn.now) (state S.Store tx.new.conn.now)
+    ensures made { OnOk result
+        (Makes (state S.Store tx.old.conn.now) (state S.Store tx.new.conn.now)
         (with_person id.now (record { name = name.now; key = key.now; home = home.now }))) }
     ensures inside { StaysInside (state S.Store tx.old.conn.now) (state S.Store tx.new.conn.now) }
 {
@@ -34,7 +35,8 @@ pub fn add_person<S: Alter>(
 /// Takes a person out. Refused where other tables name the person.
 pub fn drop_person<S: Alter>(tx: &mut Transaction<'_, S>, id: &PersonId) -> Result<(), Error>
     ensures same_reference { tx.new.conn.ghost_name ≡ tx.old.conn.ghost_name }
-    ensures made { OnOk result (Makes (state S.Store tx.old.conn.now) (state S.Store tx.new.conn.now)
+    ensures made { OnOk result
+        (Makes (state S.Store tx.old.conn.now) (state S.Store tx.new.conn.now)
         (without_person id.now)) }
     ensures inside { StaysInside (state S.Store tx.old.conn.now) (state S.Store tx.new.conn.now) }
 {
@@ -49,7 +51,8 @@ pub fn set_home<S: Alter>(
     home: &Option<RoomCode>,
 ) -> Result<(), Error>
     ensures same_reference { tx.new.conn.ghost_name ≡ tx.old.conn.ghost_name }
-    ensures made { OnOk result (Makes (state S.Store tx.old.conn.now) (state S.Store tx.new.conn.now)
+    ensures made { OnOk result
+        (Makes (state S.Store tx.old.conn.now) (state S.Store tx.new.conn.now)
         (with_home id.now home.now)) }
     ensures inside { StaysInside (state S.Store tx.old.conn.now) (state S.Store tx.new.conn.now) }
 {
@@ -63,7 +66,8 @@ pub fn set_home<S: Alter>(
 /// Notes that a person has withdrawn. Of an unknown person it changes nothing.
 pub fn set_withdrawn<S: Alter>(tx: &mut Transaction<'_, S>, id: &PersonId) -> Result<(), Error>
     ensures same_reference { tx.new.conn.ghost_name ≡ tx.old.conn.ghost_name }
-    ensures made { OnOk result (Makes (state S.Store tx.old.conn.now) (state S.Store tx.new.conn.now)
+    ensures made { OnOk result
+        (Makes (state S.Store tx.old.conn.now) (state S.Store tx.new.conn.now)
         (with_withdrawn id.now)) }
     ensures inside { StaysInside (state S.Store tx.old.conn.now) (state S.Store tx.new.conn.now) }
 {
@@ -77,7 +81,8 @@ pub fn set_withdrawn<S: Alter>(tx: &mut Transaction<'_, S>, id: &PersonId) -> Re
 /// Notes of everybody that they have not withdrawn.
 pub fn clear_withdrawn<S: Alter>(tx: &mut Transaction<'_, S>) -> Result<(), Error>
     ensures same_reference { tx.new.conn.ghost_name ≡ tx.old.conn.ghost_name }
-    ensures made { OnOk result (Makes (state S.Store tx.old.conn.now) (state S.Store tx.new.conn.now)
+    ensures made { OnOk result
+        (Makes (state S.Store tx.old.conn.now) (state S.Store tx.new.conn.now)
         (without_withdrawn)) }
     ensures inside { StaysInside (state S.Store tx.old.conn.now) (state S.Store tx.new.conn.now) }
 {

@@ -16,7 +16,8 @@ pub fn run<S: Alter>(
 ) -> Result<(), Error>
     ensures same_reference { tx.new.conn.ghost_name ≡ tx.old.conn.ghost_name }
     ensures ran { OnOk result (HasCleanDisk (state S.Store tx.new.conn.now)
-        → Ran text.now (bound params.now) (state S.Store tx.old.conn.now) (state S.Store tx.new.conn.now)) }
+        → Ran text.now (bound params.now)
+        (state S.Store tx.old.conn.now) (state S.Store tx.new.conn.now)) }
     ensures inside { StaysInside (state S.Store tx.old.conn.now) (state S.Store tx.new.conn.now) }
 {
     tx.execute(text, params)?;

@@ -18,7 +18,8 @@ pub fn add_word<S: Alter>(
     word: Word,
 ) -> Result<(), Error>
     ensures same_reference { tx.new.conn.ghost_name ≡ tx.old.conn.ghost_name }
-    ensures made { OnOk result (Makes (state S.Store tx.old.conn.now) (state S.Store tx.new.conn.now)
+    ensures made { OnOk result
+        (Makes (state S.Store tx.old.conn.now) (state S.Store tx.new.conn.now)
         (with_word person.now word)) }
     ensures inside { StaysInside (state S.Store tx.old.conn.now) (state S.Store tx.new.conn.now) }
 {
@@ -33,7 +34,8 @@ pub fn add_word<S: Alter>(
 /// Takes a person's word out.
 pub fn drop_word<S: Alter>(tx: &mut Transaction<'_, S>, person: &PersonId) -> Result<(), Error>
     ensures same_reference { tx.new.conn.ghost_name ≡ tx.old.conn.ghost_name }
-    ensures made { OnOk result (Makes (state S.Store tx.old.conn.now) (state S.Store tx.new.conn.now)
+    ensures made { OnOk result
+        (Makes (state S.Store tx.old.conn.now) (state S.Store tx.new.conn.now)
         (without_word_of person.now)) }
     ensures inside { StaysInside (state S.Store tx.old.conn.now) (state S.Store tx.new.conn.now) }
 {
@@ -47,7 +49,8 @@ pub fn drop_word<S: Alter>(tx: &mut Transaction<'_, S>, person: &PersonId) -> Re
 /// Takes all words out.
 pub fn clear_words<S: Alter>(tx: &mut Transaction<'_, S>) -> Result<(), Error>
     ensures same_reference { tx.new.conn.ghost_name ≡ tx.old.conn.ghost_name }
-    ensures made { OnOk result (Makes (state S.Store tx.old.conn.now) (state S.Store tx.new.conn.now)
+    ensures made { OnOk result
+        (Makes (state S.Store tx.old.conn.now) (state S.Store tx.new.conn.now)
         (without_words)) }
     ensures inside { StaysInside (state S.Store tx.old.conn.now) (state S.Store tx.new.conn.now) }
 {

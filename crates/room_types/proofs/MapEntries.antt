@@ -13,18 +13,10 @@ use Rattle.std.specs.Cmp.Derive.{both_true}
 use Rattle.std.proofs.lemmas.List.Elements.{recursion_from_All, All-from_recursion}
 use Rattle.std.proofs.lemmas.List.Sorted.{IsPermutation-refl, IsPermutation-sym, IsPermutation-trans, IsPermutation-middle, IsPermutation-cons, IsPermutation-map, All-permutation}
 use Rattle.std.proofs.lemmas.Map.Keys.{IsDistinct-IsPermutation}
-use Rattle.room_types.specs.TextMaps.{first_holds, second_holds}
+use Rattle.std.proofs.lemmas.Bool.{and_parts}
+use Rattle.room_types.specs.TextMaps.{first_holds, second_holds, less_from_test}
 
 -- ---- tests
-
-pub parts_true : (a b : Bool) → (a && b) ≡ true → (a ≡ true) × (b ≡ true)
-parts_true true b e = (refl, e)
-parts_true false b e = cc
-
-less_from_test : (o : Ordering) → T (is_lt o) → o ≡ Less
-less_from_test Less p = refl
-less_from_test Equal p = absurd p
-less_from_test Greater p = absurd p
 
 both_hold : (a b : Bool) → T a → T b → T (a && b)
 both_hold true b p q = q
@@ -45,7 +37,7 @@ moved_all P xs ys same h = recursion_from_All P ys (All-permutation P xs ys same
 
 pub all_true : {A : Type 0} (test : A → Bool) (xs : List A) → list_all test xs ≡ true → AllByRecursion (λ x. test x ≡ true) xs
 all_true test [] e = tt
-all_true test (x ∷ xs) e = let parts = parts_true (test x) (list_all test xs) e in (parts.0, all_true test xs parts.1)
+all_true test (x ∷ xs) e = let parts = and_parts (test x) (list_all test xs) e in (parts.0, all_true test xs parts.1)
 
 pub true_all : {A : Type 0} (test : A → Bool) (xs : List A) → AllByRecursion (λ x. test x ≡ true) xs → list_all test xs ≡ true
 true_all test [] h = refl

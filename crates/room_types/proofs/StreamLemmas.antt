@@ -4,6 +4,7 @@ use Rattle.std.proofs.Common.{◌≡◌, Bool, true, false, ℕ, zero, suc, ◌+
 use Rattle.std.specs.Io.KnownBytes.{Keeps, Appends}
 use Rattle.std.proofs.KnownBytes.{Appends-trans, Appends-nil, Appends-kept}
 use Rattle.std.proofs.lemmas.List.{take_all, length-drop}
+use Rattle.std.proofs.Math.Bool.{or-false}
 use Rattle.room_types.specs.Watched.{counted}
 use Rattle.room_types.specs.Streams.{Output, Puts, count_after}
 
@@ -57,17 +58,9 @@ Puts-none a b c xs ys n p fits k t none =
       taken = t ∙ ap (counted b.taken) none ∙ ap (λ m. counted m 0) p.taken ∙ count_after-none a.taken (length xs) fits;
     }
 
-pub or_true : (b : Bool) → (b || true) ≡ true
-or_true true = refl
-or_true false = refl
-
-pub or_false : (b : Bool) → (b || false) ≡ b
-or_false true = refl
-or_false false = refl
-
 -- nothing that was not before
 pub or_known : (a b : Bool) → b ≡ false → (a || b) ≡ a
-or_known a b e = ap (λ c. a || c) e ∙ or_false a
+or_known a b e = ap (λ c. a || c) e ∙ or-false a
 
 and_or_false : (b c : Bool) → (b || (c && false)) ≡ b
 and_or_false true c = refl

@@ -1,5 +1,5 @@
 -- A `BTreeMap` as the finite map of its entries.
-use Rattle.std.proofs.Common.{◌≡◌, List, [], ◌∷◌, length, Some, None, cond, refl, ap, ◌∙◌, sym, arith}
+use Rattle.std.proofs.Common.{◌≡◌, List, [], ◌∷◌, length, Some, None, cond, refl, ap, ◌∙◌, sym}
 use Rattle.std.specs.declared.cmp.Ordering.{Ordering}
 use Rattle.std.specs.Cmp.{IsTotalOrder, eq_by_cmp_equiv}
 use Rattle.std.specs.Map.{lookup, keys_of}
@@ -10,6 +10,7 @@ use Rattle.std.specs.BTreeMap as tree
 use Rattle.std.specs.BTreeMap.{BTreeMap, is_at}
 use Rattle.std.specs.FinMap as map
 use Rattle.std.specs.FinMap.{IsAntisymmetric, find, from_entries, get-from_entries, get-insert, get-remove, same_map, entries-insert, len-entries, len-empty}
+use Rattle.std.proofs.lemmas.List.{nil_from_length}
 
 module _ {K X : Type 0} (R : K → K → Ordering) where
   -- both read the first entry that ties with the key
@@ -40,10 +41,6 @@ module _ {K X : Type 0} {R : K → K → Ordering} (total : IsTotalOrder R) (exa
       ∙ ap (λ b. cond b None (map.get (from_entries {R = R} m.entries) q)) ((eq_by_cmp_equiv total).symm k q)
       ∙ sym (get-remove total (from_entries m.entries) k q))
 
-empty_list : {A : Type 0} (xs : List A) → length xs ≡ 0 → xs ≡ []
-empty_list [] e = refl
-empty_list (x ∷ xs) e = absurd (omega arith)
-
 module _ {K X : Type 0} {R : K → K → Ordering} (total : IsTotalOrder R) where
   put-first : (k : K) (v : X) (es : List (K × X)) → IsStrictlySortedBy R (k ∷ keys_of es) → put R k v es ≡ (k, v) ∷ es
   unfolding IsStrictlySortedBy
@@ -51,7 +48,7 @@ module _ {K X : Type 0} {R : K → K → Ordering} (total : IsTotalOrder R) wher
   put-first k v (e ∷ es) s = ap (λ o. by_order o ((k, v) ∷ e ∷ es) ((e.0, v) ∷ es) (e ∷ put R k v es)) s.0.0
 
   pub entries-empty : map.entries (map.empty {X = X} {R = R}) ≡ []
-  entries-empty = empty_list _ (sym (len-entries (map.empty {X = X} {R = R})) ∙ len-empty R X)
+  entries-empty = nil_from_length _ (sym (len-entries (map.empty {X = X} {R = R})) ∙ len-empty R X)
 
   -- entries in order are those of their map
   pub entries-sorted : (es : List (K × X)) → IsStrictlySortedBy R (keys_of es) → map.entries (from_entries {R = R} es) ≡ es

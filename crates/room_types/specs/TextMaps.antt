@@ -46,7 +46,7 @@ pub second_holds : (a b : Bool) → T (a && b) → T b
 second_holds true b h = h
 second_holds false b h = absurd h
 
-less_from_test : (o : Ordering) → T (is_lt o) → o ≡ Less
+pub less_from_test : (o : Ordering) → T (is_lt o) → o ≡ Less
 less_from_test Less p = refl
 less_from_test Equal p = absurd p
 less_from_test Greater p = absurd p

@@ -73,7 +73,11 @@ impl Choices {
 impl Clone for Choices {
     ghost is_clone = { λ x y. y ≡ x };
 
-    fn clone(&self) -> Result<Self, AllocError> {
+    // The empty list takes no memory.
+    fn clone(&self) -> Result<Self, AllocError>
+        ensures copy { IfOk result (λ copy. copy ≡ self.now) }
+        ensures memory { OnErr result (0 < length self.now) }
+    {
         let codes = copied(*self.codes.allocator(), self.codes.as_slice())?;
         Ok(Choices { codes })
     }

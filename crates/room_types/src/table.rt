@@ -32,6 +32,7 @@ impl Copied for () {
 /// A map from texts of the grammar G. Contracts see it as a finite map; look-ups are logarithmic.
 #[derive(Drop)]
 pub struct Table<G: Grammar, V> {
+    alloc: Global,
     tree: BTreeMap<Text<G>, V>,
 }
 
@@ -53,6 +54,7 @@ impl<G: Grammar, V> Table<G, V> {
         ensures { result ≡ map.empty }
     {
         Table {
+            alloc,
             tree: BTreeMap::new(alloc),
         }
     }
@@ -125,11 +127,18 @@ impl<G: Grammar, V: Drop> Table<G, V> {
 }
 
 impl<G: Grammar, V: Copied> Table<G, V> {
-    /// An equal map.
+    /// An equal map. The empty one takes no memory.
     pub fn copy(&self) -> Result<Self, OutOfMemory>
-        ensures { IfOk result (λ copy. copy ≡ self.now) }
+        ensures copy { IfOk result (λ copy. copy ≡ self.now) }
+        ensures memory { OnErr result (0 < map.len self.now) }
     {
+        if self.len() == 0 {
+            return Ok(Table::new(self.alloc));
+        }
         let tree = self.tree.clone()?;
-        Ok(Table { tree })
+        Ok(Table {
+            alloc: self.alloc,
+            tree,
+        })
     }
 }

@@ -1,8 +1,9 @@
 -- A chain of people, each wishing for the home of the next, and what its removal does.
 use Rattle.std.proofs.Common.{◌≡◌, ℕ, ◌<◌, Bool, true, false, not, ◌&&◌, ◌||◌, ◌==◌, List, [], ◌∷◌, Option, Some, None, refl, sym, ap, ◌∙◌, subst, inl, inr, eqb-true, eq-eqb, ne_eqb}
 use mathlib.Core.Path.{fun_ext}
-use Rattle.std.proofs.lemmas.Bool.{and_parts, and_from, or_cases, or_left, or_right, false_from_ne_true, both_ways, cond-true, cond-false, and_right}
+use Rattle.std.proofs.lemmas.Bool.{and_parts, and_from, or_cases, or_left, or_right, false_from_ne_true, both_ways, cond-true, cond-false, and_right, not-true, not_from_false}
 use Rattle.std.proofs.Math.Bool.{or-false}
+use Rattle.std.specs.Cmp.Derive.{one_truth}
 use Rattle.trade_line.specs.Below.{first_below, or_else}
 use Rattle.trade_line.specs.Market.{Market, IsMarket, home, list_of, is_room, tenant}
 use Rattle.trade_line.specs.TopTradingCycles.{Stage, wish, first, tenant_or_first, holder, successor, taken, leave}
@@ -11,7 +12,7 @@ use Rattle.trade_line.specs.Member.{among}
 use Rattle.trade_line.specs.Inner.Queue.{last_of, WaitsBehind}
 use Rattle.trade_line.specs.Inner.Removal.Reach.{here, there}
 use Rattle.trade_line.specs.Inner.Removal.Leads.{trade}
-use Rattle.trade_line.proofs.Search.{and_nots, same_yes, not_yes, not_from, find_passes, find_keeps, first_passes, first_finds, is_room_gives, is_room_from}
+use Rattle.trade_line.proofs.Search.{and_nots, find_passes, find_keeps, first_passes, first_finds, is_room_gives, is_room_from}
 use Rattle.trade_line.proofs.Exchange.{successor_at, taken_gives, first_stays}
 use Rattle.trade_line.proofs.Unique.{same_stage, taken_from, removal}
 
@@ -104,33 +105,33 @@ module _ (m : Market) where
   unfolding wish leave
   wish_stays s k p free =
       ap (λ o. or_else o (home m p)) (find_keeps s.rooms (leave m s k).rooms (list_of m p) (λ y t. (and_parts (s.rooms y) (not (taken m s k y)) t).0)
-      (λ x e. and_from (s.rooms x) (not (taken m s k x)) (find_passes s.rooms (list_of m p) x e) (not_from (taken m s k x) (free x (ap (λ o. or_else o (home m p)) e)))))
+      (λ x e. and_from (s.rooms x) (not (taken m s k x)) (find_passes s.rooms (list_of m p) x e) (not_from_false (taken m s k x) (free x (ap (λ o. or_else o (home m p)) e)))))
 
   taken_both : (s : Stage) (k l : ℕ → Bool) → ((p : ℕ) → l p ≡ true → wish m (leave m s k) p ≡ wish m s p) → (r : ℕ) → ((s.rooms r && not (taken m s k r)) && not (taken m (leave m s k) l r)) ≡ (s.rooms r && not (taken m s (λ p. k p || l p) r))
-  taken_both s k l same r = same_yes ((s.rooms r && not (taken m s k r)) && not (taken m (leave m s k) l r)) (s.rooms r && not (taken m s (λ p. k p || l p) r)) once both
+  taken_both s k l same r = one_truth ((s.rooms r && not (taken m s k r)) && not (taken m (leave m s k) l r)) (s.rooms r && not (taken m s (λ p. k p || l p) r)) once both
     where
       once : ((s.rooms r && not (taken m s k r)) && not (taken m (leave m s k) l r)) ≡ true → (s.rooms r && not (taken m s (λ p. k p || l p) r)) ≡ true
       once h =
           let a : ((s.rooms r && not (taken m s k r)) ≡ true) × (not (taken m (leave m s k) l r) ≡ true) = and_parts (s.rooms r && not (taken m s k r)) (not (taken m (leave m s k) l r)) h in
           let b : (s.rooms r ≡ true) × (not (taken m s k r) ≡ true) = and_parts (s.rooms r) (not (taken m s k r)) a.0 in
-          and_from (s.rooms r) (not (taken m s (λ p. k p || l p) r)) b.0 (not_from (taken m s (λ p. k p || l p) r) (false_from_ne_true (taken m s (λ p. k p || l p) r) (λ y.
+          and_from (s.rooms r) (not (taken m s (λ p. k p || l p) r)) b.0 (not_from_false (taken m s (λ p. k p || l p) r) (false_from_ne_true (taken m s (λ p. k p || l p) r) (λ y.
           let g : (q : ℕ) × (q < m.people) × ((k q || l q) ≡ true) × (wish m s q ≡ Some r) = taken_gives m s (λ p. k p || l p) r y in
           elim (or_cases (k g.0) (l g.0) g.2) [
-            | inl t ↦ both_ways (taken m s k r) (not_yes (taken m s k r) b.1) (taken_from m s k r g.0 g.1 t g.3)
-            | inr t ↦ both_ways (taken m (leave m s k) l r) (not_yes (taken m (leave m s k) l r) a.1) (taken_from m (leave m s k) l r g.0 g.1 t (same g.0 t ∙ g.3))
+            | inl t ↦ both_ways (taken m s k r) (not-true (taken m s k r) b.1) (taken_from m s k r g.0 g.1 t g.3)
+            | inr t ↦ both_ways (taken m (leave m s k) l r) (not-true (taken m (leave m s k) l r) a.1) (taken_from m (leave m s k) l r g.0 g.1 t (same g.0 t ∙ g.3))
           ])))
 
       both : (s.rooms r && not (taken m s (λ p. k p || l p) r)) ≡ true → ((s.rooms r && not (taken m s k r)) && not (taken m (leave m s k) l r)) ≡ true
       both h =
           let a : (s.rooms r ≡ true) × (not (taken m s (λ p. k p || l p) r) ≡ true) = and_parts (s.rooms r) (not (taken m s (λ p. k p || l p) r)) h in
-          let no : taken m s (λ p. k p || l p) r ≡ false = not_yes (taken m s (λ p. k p || l p) r) a.1 in
+          let no : taken m s (λ p. k p || l p) r ≡ false = not-true (taken m s (λ p. k p || l p) r) a.1 in
           let nk : taken m s k r ≡ false = false_from_ne_true (taken m s k r) (λ y.
           let g : (q : ℕ) × (q < m.people) × (k q ≡ true) × (wish m s q ≡ Some r) = taken_gives m s k r y in
           both_ways (taken m s (λ p. k p || l p) r) no (taken_from m s (λ p. k p || l p) r g.0 g.1 (or_left (k g.0) (l g.0) g.2) g.3)) in
           let nl : taken m (leave m s k) l r ≡ false = false_from_ne_true (taken m (leave m s k) l r) (λ y.
           let g : (q : ℕ) × (q < m.people) × (l q ≡ true) × (wish m (leave m s k) q ≡ Some r) = taken_gives m (leave m s k) l r y in
           both_ways (taken m s (λ p. k p || l p) r) no (taken_from m s (λ p. k p || l p) r g.0 g.1 (or_right (k g.0) (l g.0) g.2) (sym (same g.0 g.2) ∙ g.3))) in
-          and_from (s.rooms r && not (taken m s k r)) (not (taken m (leave m s k) l r)) (and_from (s.rooms r) (not (taken m s k r)) a.0 (not_from (taken m s k r) nk)) (not_from (taken m (leave m s k) l r) nl)
+          and_from (s.rooms r && not (taken m s k r)) (not (taken m (leave m s k) l r)) (and_from (s.rooms r) (not (taken m s k r)) a.0 (not_from_false (taken m s k r) nk)) (not_from_false (taken m (leave m s k) l r) nl)
 
   -- two groups, one after the other, are one group
   pub leave_twice : (s : Stage) (k l : ℕ → Bool) → ((p : ℕ) → l p ≡ true → wish m (leave m s k) p ≡ wish m s p) → leave m (leave m s k) l ≡ leave m s (λ p. k p || l p)
@@ -204,7 +205,7 @@ module _ (m : Market) where
       same p h = same_behind a (b ∷ r) known remain w p h
 
       remain2 : (p : ℕ) → among (b ∷ r) p ≡ true → (leave m s (only a)).people p ≡ true
-      remain2 p h = and_from (s.people p) (not (a == p)) (remain p (inner p h)) (not_from (a == p) (other p h))
+      remain2 p h = and_from (s.people p) (not (a == p)) (remain p (inner p h)) (not_from_false (a == p) (other p h))
 
       waits2 : (c : ℕ) (xs : List ℕ) → ((p : ℕ) → among xs p ≡ true → wish m (leave m s (only a)) p ≡ wish m s p) → WaitsBehind m s c xs → WaitsBehind m (leave m s (only a)) c xs
       waits2 c [] sm ws = tt

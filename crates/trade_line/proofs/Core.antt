@@ -1,6 +1,6 @@
 -- The strict core gives each group of tenants that keeps to itself what the trades give it; where no room is vacant, it is that assignment.
-use Rattle.std.proofs.Common.{◌≡◌, ℕ, ◌<◌, ◌≤◌, ◌+◌, ◌⊎◌, Bool, true, false, not, ◌&&◌, ◌||◌, ◌==◌, Option, Some, None, is_some, is_none, length, find, refl, sym, ap, ◌∙◌, subst, inl, inr, arith, eqb-true, eq-eqb, le_refl, ltb, ltb-true, lt-ltb}
-use Rattle.std.proofs.lemmas.Bool.{cases_Bool, cases_lt, or_cases, or_left, or_right, and_parts, and_from, false_from_ne_true, both_ways, cond-true, cond-false}
+use Rattle.std.proofs.Common.{rules, ◌≡◌, ℕ, ◌<◌, ◌≤◌, ◌+◌, ◌⊎◌, Bool, true, false, not, ◌&&◌, ◌||◌, ◌==◌, Option, Some, None, is_some, is_none, length, find, refl, sym, ap, ◌∙◌, subst, inl, inr, arith, eqb-true, eq-eqb, le_refl, ltb, ltb-true, lt-ltb}
+use Rattle.std.proofs.lemmas.Bool.{cases_Bool, cases_lt, or_cases, or_left, or_right, and_parts, and_from, false_from_ne_true, both_ways, cond-true, cond-false, not-true, not_from_false}
 use Rattle.trade_line.specs.Below.{or_else}
 use Rattle.trade_line.specs.Cycles.{IsStageOf}
 use Rattle.trade_line.specs.Market.{Market, IsMarket, home, list_of, is_room, is_tenant}
@@ -12,21 +12,13 @@ use Rattle.trade_line.specs.Rank.{rank}
 use Rattle.trade_line.specs.Assignment.{IsAssignment}
 use Rattle.trade_line.specs.TradeApart.{TradesApart, HasNoBetterTradeApart}
 use Rattle.trade_line.specs.Core.{HasNoVacantRoom, IsInStrictCore, IsOnlyInStrictCore, IsSelfContained, KeepsSelfContained, IsStrictCoreByTradesApart}
-use Rattle.trade_line.proofs.Search.{clash, not_yes, not_from, find_passes, is_room_gives, is_room_from}
+use Rattle.trade_line.proofs.Search.{clash, find_passes, is_room_gives, is_room_from}
 use Rattle.trade_line.proofs.Exchange.{successor_at, taken_gives}
 use Rattle.trade_line.proofs.Unique.{taken_from}
 use Rattle.trade_line.proofs.Chain.{home_holder}
 use Rattle.trade_line.proofs.Steps.{leave_known, start_known, gets_leads}
 use Rattle.trade_line.proofs.Ranks.{best, not_among, rank_unlisted, rank_home}
 use Rattle.trade_line.proofs.Welfare.{HomesThere, homes_stay, start_homes, remains, reach_before, wish_there, gets_rational, gets_assignment, gets_apart}
-
-tenant_has : (o : Option ℕ) → is_some o ≡ true → (h : ℕ) × (o ≡ Some h)
-tenant_has None t = absurd (both_ways false refl t)
-tenant_has (Some h) t = (h, refl)
-
-none_is : (o : Option ℕ) → ((r : ℕ) → o ≡ Some r → ⊥) → o ≡ None
-none_is None never = refl
-none_is (Some r) never = absurd (never r refl)
 
 module _ (m : Market) (ok : IsMarket m) where
   -- the wish is no worse than anything that is to be had
@@ -142,8 +134,8 @@ module _ (m : Market) (ok : IsMarket m) where
           let b : (s.rooms h ≡ true) × (not (taken m s k h) ≡ true) = and_parts (s.rooms h) (not (taken m s k h)) there in
           let stays : k t ≡ false = false_from_ne_true (k t) (λ y.
           let z : (z : ℕ) × (k z ≡ true) × (group z ≡ true) × (wish m s z ≡ home m t) = pointer t y gt in
-          both_ways (taken m s k h) (not_yes (taken m s k h) b.1) (taken_from m s k h z.0 (tk.known z.0 z.1) z.1 (z.3 ∙ e))) in
-          and_from (s.people t) (not (k t)) (held t h gt e b.0) (not_from (k t) stays)
+          both_ways (taken m s k h) (not-true (taken m s k h) b.1) (taken_from m s k h z.0 (tk.known z.0 z.1) z.1 (z.3 ∙ e))) in
+          and_from (s.people t) (not (k t)) (held t h gt e b.0) (not_from_false (k t) stays)
 
     -- each home of the group goes to a member
     given_out : {s : Stage} → Leads m g s → IsStageOf m s → HomesThere m ok s → HomesHeld s → (t : ℕ) → group t ≡ true → s.people t ≡ true → (z : ℕ) × (group z ≡ true) × (g z ≡ home m t)
@@ -154,7 +146,7 @@ module _ (m : Market) (ok : IsMarket m) where
           | inl y ↦
               let z : (z : ℕ) × (k z ≡ true) × (group z ≡ true) × (wish m s z ≡ home m t) = pointer s k tk gk homes held t y gt in
               (z.0, z.2, gk z.0 z.1 ∙ z.3)
-          | inr n ↦ given_out d (leave_known m s k known) (homes_stay m ok s k tk known homes) (held_after s k tk gk homes held) t gt (and_from (s.people t) (not (k t)) h (not_from (k t) n))
+          | inr n ↦ given_out d (leave_known m s k known) (homes_stay m ok s k tk known homes) (held_after s k tk gk homes held) t gt (and_from (s.people t) (not (k t)) h (not_from_false (k t) n))
         ]
 
     -- where no member ranks another room above what they get, an assignment in the strict core gives them the same
@@ -185,8 +177,8 @@ module _ (m : Market) (ok : IsMarket m) where
               | inr le ↦ inr le
               | inl c ↦ elim (cases_lt (rank m p (f p)) (rank m p (g p))) [
                 | inr ge ↦ inr ge
-                | inl lt ↦ inl (λ r e. and_from (s.rooms r) (not (taken m s k r)) (c r e) (not_from (taken m s k r) (false_from_ne_true (taken m s k r) (λ t.
-                    both_ways (k p) (not_yes (k p) b.1) (taken_by p r gp b.0 (c r e) lt e (taken_gives m s k r t))))))
+                | inl lt ↦ inl (λ r e. and_from (s.rooms r) (not (taken m s k r)) (c r e) (not_from_false (taken m s k r) (false_from_ne_true (taken m s k r) (λ t.
+                    both_ways (k p) (not-true (k p) b.1) (taken_by p r gp b.0 (c r e) lt e (taken_gives m s k r t))))))
               ]
             ]
           where
@@ -206,7 +198,7 @@ module _ (m : Market) (ok : IsMarket m) where
           elim (cases_Bool (k p)) [
             | inl y ↦ at_k s k tk gk known homes held can p y gp ∙ sym (gk p y)
             | inr n ↦ group_from d (leave_known m s k known) (homes_stay m ok s k tk known homes) (held_after s k tk gk homes held)
-                (there_after s k tk gk known homes held can) p gp (and_from (s.people p) (not (k p)) h (not_from (k p) n))
+                (there_after s k tk gk known homes held can) p gp (and_from (s.people p) (not (k p)) h (not_from_false (k p) n))
           ]
 
     start_held : HomesHeld (start m)
@@ -244,7 +236,7 @@ module _ (m : Market) (ok : IsMarket m) where
     where
       by_room : (o : Option ℕ) → gets m p ≡ o → (r : ℕ) × (o ≡ Some r)
       by_room None e =
-          let none : is_none (home m p) ≡ false = let h : (h : ℕ) × (home m p ≡ Some h) = tenant_has (home m p) t in ap is_none h.1 in
+          let none : is_none (home m p) ≡ false = ap not t in
           let low : rank m p None ≡ length (list_of m p) + 1 = cond-false (is_none (home m p)) (length (list_of m p)) (length (list_of m p) + 1) none in
           let le : rank m p None ≤ rank m p (home m p) = subst (λ z. rank m p z ≤ rank m p (home m p)) e (gets_rational m ok p l) in
           absurd (omega (arith, rank_home m ok p l))
@@ -266,7 +258,7 @@ module _ (m : Market) (ok : IsMarket m) where
     all_tenants = record {
       apart = record {
         people = λ p h. (housed_parts p h).0;
-        tenants = λ p h. tenant_has (home m p) (housed_parts p h).1;
+        tenants = λ p h. let housed : is_some (home m p) ≡ true = (housed_parts p h).1 in search (rules, housed);
         own = λ p h.
             let b : (p < m.people) × (is_tenant m p ≡ true) = housed_parts p h in
             let w : (r : ℕ) × (gets m p ≡ Some r) = tenant_gets p b.0 b.1 in
@@ -291,12 +283,14 @@ module _ (m : Market) (ok : IsMarket m) where
 
     -- where the tenants get all rooms, newcomers get nothing
     newcomer_none : (f : ℕ → Option ℕ) → IsAssignment m f → IsInStrictCore m f → (p : ℕ) → p < m.people → is_tenant m p ≡ false → f p ≡ None
-    newcomer_none f ia core p l n = none_is (f p) (λ r e.
+    newcomer_none f ia core p l n =
+        let never : (r : ℕ) → f p ≡ Some r → ⊥ = λ r e.
         let t : (t : ℕ) × (housed t ≡ true) × (home m t ≡ Some r) = room_of r (ia.known p r l e) in
         let z : (z : ℕ) × (housed z ≡ true) × (gets m z ≡ home m t.0) = given_out (gets m) housed all_tenants.apart (gets_leads m) (start_known m) (start_homes m ok) (start_held (gets m) housed all_tenants.apart) t.0 t.1 (remains m ok t.0 (housed_parts t.0 t.1).0) in
         let b : (z.0 < m.people) × (is_tenant m z.0 ≡ true) = housed_parts z.0 z.1 in
         let same : p ≡ z.0 = ia.differ p z.0 r l b.0 e (of_groups housed all_tenants f ia core z.0 z.1 ∙ z.2 ∙ t.2) in
-        both_ways (is_tenant m p) n (subst (λ z. is_tenant m z ≡ true) (sym same) b.1))
+        both_ways (is_tenant m p) n (subst (λ z. is_tenant m z ≡ true) (sym same) b.1) in
+        grind (arith, never)
 
     core_same : (f : ℕ → Option ℕ) → IsAssignment m f → IsInStrictCore m f → (p : ℕ) → p < m.people → f p ≡ gets m p
     core_same f ia core p l =

@@ -1,12 +1,12 @@
 -- Counts below a bound, the pigeonhole principle, and repeated steps of a function.
 use Rattle.std.proofs.Common.{◌≡◌, ℕ, zero, suc, ◌+◌, ◌<◌, ◌≤◌, Bool, true, false, cond, not, ◌&&◌, ◌==◌, refl, sym, ap, ap₂, ◌∙◌, subst, inl, inr, arith, eqb-true, eq-eqb, ne_eqb, zero-add, suc-add}
-use Rattle.std.proofs.lemmas.Bool.{cases_Bool, cases_lt, and_from, and_right, false_from_ne_true, both_ways}
+use Rattle.std.proofs.lemmas.Bool.{cases_Bool, cases_lt, and_from, and_right, false_from_ne_true, both_ways, not_from_false}
 use Rattle.std.specs.Fn.{iterate}
 use Rattle.std.proofs.Math.Bool.{and-true}
 use Rattle.trade_line.specs.Below.{some_below, count_below}
 use Rattle.trade_line.specs.Inner.Removal.{Reach}
 use Rattle.trade_line.specs.Inner.Removal.Reach.{here, there}
-use Rattle.trade_line.proofs.Search.{not_from, some_gives, some_from}
+use Rattle.trade_line.proofs.Search.{some_gives, some_from}
 
 pub count_agree : (n : ℕ) (p q : ℕ → Bool) → ((y : ℕ) → y < n → p y ≡ q y) → count_below n p ≡ count_below n q
 count_agree zero p q e = refl
@@ -59,7 +59,7 @@ count_without (suc n) q x h t =
 
 pub count_less : (n : ℕ) (r q : ℕ → Bool) (x : ℕ) → ((y : ℕ) → r y ≡ true → q y ≡ true) → x < n → q x ≡ true → r x ≡ false → count_below n r < count_below n q
 count_less n r q x only h t f =
-    let a : count_below n r ≤ count_below n (without q x) = count_le n r (without q x) (λ y ry. and_from (q y) (not (y == x)) (only y ry) (not_from (y == x) (ne_eqb y x (λ e. both_ways (r x) f (subst (λ z. r z ≡ true) e ry))))) in
+    let a : count_below n r ≤ count_below n (without q x) = count_le n r (without q x) (λ y ry. and_from (q y) (not (y == x)) (only y ry) (not_from_false (y == x) (ne_eqb y x (λ e. both_ways (r x) f (subst (λ z. r z ≡ true) e ry))))) in
     let b : suc (count_below n (without q x)) ≡ count_below n q = count_without n q x h t in
     omega arith
 
@@ -80,7 +80,7 @@ pigeonhole (suc c) n q x inside few =
           let r : (i : ℕ) × (j : ℕ) × (i < j) × (j < suc c) × (x i ≡ x j) =
           pigeonhole c n (without q (x (suc c))) x (λ i h.
           let d : (x i < n) × (q (x i) ≡ true) = inside i (omega (arith, h)) in
-          (d.0, and_from (q (x i)) (not (x i == x (suc c))) d.1 (not_from (x i == x (suc c)) (false_from_ne_true (x i == x (suc c)) (λ y. both_ways (some_below (suc c) (λ i. x i == x (suc c))) f (some_from (suc c) (λ i. x i == x (suc c)) i h y))))))
+          (d.0, and_from (q (x i)) (not (x i == x (suc c))) d.1 (not_from_false (x i == x (suc c)) (false_from_ne_true (x i == x (suc c)) (λ y. both_ways (some_below (suc c) (λ i. x i == x (suc c))) f (some_from (suc c) (λ i. x i == x (suc c)) i h y))))))
           (omega arith) in
           (r.0, r.1, r.2, omega (arith, r.3), r.4)
     ]

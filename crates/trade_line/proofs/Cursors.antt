@@ -1,7 +1,7 @@
 -- The cursors, turn by turn.
 use Rattle.std.proofs.Common.{◌≡◌, ℕ, ◌+◌, ◌-◌, ◌<◌, ◌≤◌, Bool, true, false, not, ◌==◌, List, [], ◌∷◌, ◌++◌, length, Option, Some, None, get_or, set, drop, refl, sym, ap, ◌∙◌, subst, inl, inr, arith, eqb-true, eq-eqb, ne_eqb, get_or-set_same, get_or-set_other, length-set}
 use Rattle.std.proofs.lemmas.List.{get_or-drop, get_or_past, set_past}
-use Rattle.std.proofs.lemmas.Bool.{cases_Bool, cases_eq, cases_lt, both_ways, or_cases, or_left, or_right, or_parts, and_parts, false_from_ne_true}
+use Rattle.std.proofs.lemmas.Bool.{cases_Bool, cases_eq, cases_lt, both_ways, or_cases, or_left, or_right, or_parts, and_parts, false_from_ne_true, not-true}
 use Rattle.trade_line.specs.Market.{Market, IsMarket, home, list_of, tenant}
 use Rattle.trade_line.specs.Member.{among, Once}
 use Rattle.trade_line.specs.Rank.{rank}
@@ -17,7 +17,7 @@ use Rattle.trade_line.proofs.Looks.{skipped_gone, place_is, among_at}
 use Rattle.trade_line.proofs.Lines.{among_self, among_more, among-append, among_left, among_right, among-without, without-append, waits_front}
 use Rattle.trade_line.proofs.Loops.{ring_line}
 use Rattle.trade_line.proofs.Ranks.{rank_listed}
-use Rattle.trade_line.proofs.Search.{not_yes, clash}
+use Rattle.trade_line.proofs.Search.{clash}
 use Rattle.trade_line.proofs.Turns.{granted, marked, brought, tenant_home}
 use Rattle.trade_line.proofs.States.{same_state}
 
@@ -175,7 +175,7 @@ module _ (m : Market) where
       fresh : (p : ℕ) → among (without t ask.fresh) p ≡ true → get_or (set s.asked t true) p false ≡ false
       fresh p h =
           let b : (among ask.fresh p ≡ true) × (not (t == p) ≡ true) = and_parts (among ask.fresh p) (not (t == p)) (sym (among-without t ask.fresh p) ∙ h) in
-          get_or-set_other s.asked t p true false (λ pe. both_ways (t == p) (not_yes (t == p) b.1) (eq-eqb t p (sym pe))) ∙ ask.fresh_unasked p b.0
+          get_or-set_other s.asked t p true false (λ pe. both_ways (t == p) (not-true (t == p) b.1) (eq-eqb t p (sym pe))) ∙ ask.fresh_unasked p b.0
 
       left : (p : ℕ) → among (t ∷ without t s.line) p ≡ false → among s.line p ≡ false
       left p h = false_from_ne_true (among s.line p) (λ y.

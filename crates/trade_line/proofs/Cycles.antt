@@ -1,6 +1,6 @@
 -- Whole cycles leave the other cycles of their stage as they are, and people who wait for one another's homes are on a cycle.
 use Rattle.std.proofs.Common.{◌≡◌, ℕ, zero, suc, ◌+◌, ◌<◌, Bool, true, false, not, ◌==◌, List, [], ◌∷◌, Option, Some, None, refl, sym, ap, ◌∙◌, subst, inl, inr, arith, eqb-true, eq-eqb, le_refl}
-use Rattle.std.proofs.lemmas.Bool.{and_from, cond-false, or_cases, or_left, or_right, both_ways}
+use Rattle.std.proofs.lemmas.Bool.{and_from, cond-false, or_cases, or_left, or_right, both_ways, not_from_false}
 use Rattle.std.specs.Fn.{iterate}
 use Rattle.trade_line.proofs.Lines.{among_self}
 use Rattle.trade_line.specs.Below.{some_below}
@@ -13,7 +13,7 @@ use Rattle.trade_line.specs.TopTradingCycles.{Stage, first, tenant_or_first, hol
 use Rattle.trade_line.proofs.Chain.{reach_trans, home_holder}
 use Rattle.trade_line.proofs.Count.{pigeonhole, reach_times, times_after, times_stays, times_sum}
 use Rattle.trade_line.proofs.Exchange.{minus, exchange, successor_at, successor_keeps, wish_keeps}
-use Rattle.trade_line.proofs.Search.{not_from, some_from}
+use Rattle.trade_line.proofs.Search.{some_from}
 use Rattle.trade_line.proofs.Steps.{cycles_trade, leave_known, successor_remains}
 
 -- ---- how soon somebody comes back
@@ -68,7 +68,7 @@ others_stay m s group known c =
       pointing = successor_keeps m s group (on_cycle m s) gone all;
       cycles = λ p o n.
           let left : IsTrade m (leave m s group) (minus group (on_cycle m s)) = exchange m s group (on_cycle m s) gone all in
-          let is_left : minus group (on_cycle m s) p ≡ true = and_from (on_cycle m s p) (not (group p)) o (not_from (group p) n) in
+          let is_left : minus group (on_cycle m s) p ≡ true = and_from (on_cycle m s p) (not (group p)) o (not_from_false (group p) n) in
           cycle_from m (leave m s group) (leave_known m s group known) p (left.remain p is_left) (left.cycle p is_left);
     }
 

@@ -28,10 +28,6 @@ pub written : (n : ℕ) (new old : List ℕ) → length new ≡ n → length old
 written n new old e f =
     ap (λ z. take n (new ++ z)) (drop_all (length new) old (omega arith)) ∙ ap (take n) (append-nil new) ∙ take_all n new (omega arith)
 
-pub none_from : (o : Option ℕ) → is_some o ≡ false → o ≡ None
-none_from None h = refl
-none_from (Some x) h = absurd (both_ways true h refl)
-
 some_within : (o : Option ℕ) (P : ℕ → Type 0) (r : ℕ) → IfSome o P → o ≡ Some r → P r
 some_within None P r h e = absurd (cc)
 some_within (Some x) P r h e = let z : x ≡ r = cc in subst P z h

@@ -1,13 +1,13 @@
 -- Groups of cycles may be removed in any order.
 use Rattle.std.proofs.Common.{◌≡◌, ℕ, ◌<◌, Bool, true, false, not, ◌&&◌, Option, Some, None, find, refl, sym, ap, ◌∙◌, subst, inl, inr}
 use Rattle.std.specs.Option.{unwrap_or}
-use Rattle.std.proofs.lemmas.Bool.{cond-true, cond-false, cases_Bool, and_parts, and_from, false_from_ne_true, both_ways}
+use Rattle.std.proofs.lemmas.Bool.{cond-true, cond-false, cases_Bool, and_parts, and_from, false_from_ne_true, both_ways, not-true, not_from_false}
 use Rattle.trade_line.specs.Below.{or_else}
 use Rattle.trade_line.specs.Market.{Market, home, list_of, is_room, tenant}
 use Rattle.trade_line.specs.TopTradingCycles.{Stage, wish, first, tenant_or_first, holder, target, successor, taken, leave}
 use Rattle.trade_line.specs.Inner.Removal.{Reach, IsTrade}
 use Rattle.trade_line.specs.Inner.Removal.Reach.{here, there}
-use Rattle.trade_line.proofs.Search.{not_yes, not_from, find_passes, find_keeps, first_passes, first_keeps, some_gives, is_room_gives}
+use Rattle.trade_line.proofs.Search.{find_passes, find_keeps, first_passes, first_keeps, some_gives, is_room_gives}
 
 -- the part of the second group that is not in the first
 abbrev pub minus : (ℕ → Bool) → (ℕ → Bool) → ℕ → Bool
@@ -51,14 +51,14 @@ module _ (m : Market) where
           let g : (q : ℕ) × (q < m.people) × (k q ≡ true) × (wish m s q ≡ Some x) = taken_gives s k x t in
           let same : successor m s g.0 ≡ successor m s p = successor_at s g.0 (Some x) g.3 ∙ sym (successor_at s p (Some x) w) in
           both_ways (k (successor m s p)) (points_past s k l tk tl p h f) (subst (λ z. k z ≡ true) same (tk.closed g.0 g.2))) in
-          and_from (s.rooms x) (not (taken m s k x)) (find_passes s.rooms (list_of m p) x e) (not_from (taken m s k x) free)
+          and_from (s.rooms x) (not (taken m s k x)) (find_passes s.rooms (list_of m p) x e) (not_from_false (taken m s k x) free)
 
   pub first_stays : (s : Stage) (k : ℕ → Bool) → k (first m s) ≡ false → first m (leave m s k) ≡ first m s
   unfolding first leave
   first_stays s k f =
       ap (λ o. unwrap_or o 0) (first_keeps m.people s.people (leave m s k).people (λ y t. (and_parts (s.people y) (not (k y)) t).0) (λ x e.
       let fx : k x ≡ false = subst (λ z. k z ≡ false) (ap (λ o. unwrap_or o 0) e) f in
-      and_from (s.people x) (not (k x)) (first_passes m.people s.people x e).0 (not_from (k x) fx)))
+      and_from (s.people x) (not (k x)) (first_passes m.people s.people x e).0 (not_from_false (k x) fx)))
 
   holder_keeps : (s : Stage) (k : ℕ → Bool) (r : ℕ) → k (holder m s r) ≡ false → holder m (leave m s k) r ≡ holder m s r
   unfolding holder leave
@@ -101,8 +101,8 @@ module _ (m : Market) where
       parts p h = and_parts (l p) (not (k p)) h
 
       same : (p : ℕ) → minus k l p ≡ true → successor m (leave m s k) p ≡ successor m s p
-      same p h = successor_keeps s k l tk tl p (parts p h).0 (not_yes (k p) (parts p h).1)
+      same p h = successor_keeps s k l tk tl p (parts p h).0 (not-true (k p) (parts p h).1)
 
       stay : (p : ℕ) → minus k l p ≡ true → minus k l (successor m s p) ≡ true
       stay p h = and_from (l (successor m s p)) (not (k (successor m s p))) (tl.closed p (parts p h).0)
-          (not_from (k (successor m s p)) (points_past s k l tk tl p (parts p h).0 (not_yes (k p) (parts p h).1)))
+          (not_from_false (k (successor m s p)) (points_past s k l tk tl p (parts p h).0 (not-true (k p) (parts p h).1)))

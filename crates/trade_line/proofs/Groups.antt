@@ -2,9 +2,10 @@
 -- the own lists are cycles of those lists too.
 use Rattle.std.proofs.Common.{◌≡◌, ◌≢◌, ℕ, ◌<◌, ◌≤◌, ◌⊎◌, Bool, true, false, cond, not, ◌&&◌, ◌==◌, List, [], ◌∷◌, Option, Some, None, find, map, length, All, AllPairs, refl, sym, ap, ◌∙◌, subst, inl, inr, arith, eqb-true, eq-eqb, zero-add, get_or-set_other, le_refl, slice_set}
 use Rattle.std.specs.List.{range_with_len}
-use Rattle.std.proofs.lemmas.Bool.{cases_Bool, and_from, both_ways, cond-true, cond-false}
+use Rattle.std.proofs.lemmas.Bool.{cases_Bool, and_from, both_ways, cond-true, cond-false, not_from_false}
 use Rattle.std.proofs.lemmas.List.Elements.{All-nil, All-cons}
 use Rattle.std.proofs.lemmas.List.FromFn.{get_or-map-range_with_len, length-map-range_with_len}
+use Rattle.std.specs.Cmp.Derive.{one_truth}
 use Rattle.trade_line.specs.Below.{or_else}
 use Rattle.trade_line.specs.Cycles.{IsStageOf}
 use Rattle.trade_line.specs.Market.{Market, IsMarket, home, list_of, is_room, tenant}
@@ -14,7 +15,7 @@ use Rattle.trade_line.specs.Inner.Removal.Leads.{done, trade}
 use Rattle.trade_line.specs.Rank.{rank}
 use Rattle.trade_line.specs.OtherList.{with_lists, with_list}
 use Rattle.trade_line.specs.Groups.{OthersKeep, NoneLoses, IsGroupStrategyproof, IsNonbossy}
-use Rattle.trade_line.proofs.Search.{clash, same_yes, not_from, find_passes, is_room_gives, is_room_from}
+use Rattle.trade_line.proofs.Search.{clash, find_passes, is_room_gives, is_room_from}
 use Rattle.trade_line.proofs.Exchange.{reach_same, taken_gives}
 use Rattle.trade_line.proofs.Unique.{same_stage, taken_from, removal}
 use Rattle.trade_line.proofs.Steps.{leave_known, start_known, gets_leads}
@@ -86,7 +87,7 @@ module _ (m : Market) (lists : List (List ℕ)) where
 
     leave_same : leave (with_lists m lists) s k ≡ leave m s k
     unfolding leave
-    leave_same = same_stage (leave (with_lists m lists) s k) (leave m s k) (λ q. refl) (λ r. ap (λ b. s.rooms r && not b) (same_yes (taken (with_lists m lists) s k r) (taken m s k r)
+    leave_same = same_stage (leave (with_lists m lists) s k) (leave m s k) (λ q. refl) (λ r. ap (λ b. s.rooms r && not b) (one_truth (taken (with_lists m lists) s k r) (taken m s k r)
         (λ h. let g : (q : ℕ) × (q < m.people) × (k q ≡ true) × (wish (with_lists m lists) s q ≡ Some r) = taken_gives (with_lists m lists) s k r h in
         taken_from m s k r g.0 g.1 g.2 (sym (same g.0 g.2) ∙ g.3))
         (λ h. let g : (q : ℕ) × (q < m.people) × (k q ≡ true) × (wish m s q ≡ Some r) = taken_gives m s k r h in
@@ -121,7 +122,7 @@ module _ (m : Market) (ok : IsMarket m) (lists : List (List ℕ)) (ok2 : IsMarke
       elim (cases_Bool (k p)) [
         | inl y ↦ r.0 p y ∙ same p y ∙ sym (fk p y)
         | inr n ↦ same_from d (leave_known m s k known) (homes_stay m ok s k tk known homes)
-            (subst (λ z. Leads (with_lists m lists) x z) (leave_same m lists s k same) r.1) p (and_from (s.people p) (not (k p)) h (not_from (k p) n))
+            (subst (λ z. Leads (with_lists m lists) x z) (leave_same m lists s k same) r.1) p (and_from (s.people p) (not (k p)) h (not_from_false (k p) n))
       ]
 
 module _ (m : Market) (ok : IsMarket m) (group : ℕ → Bool) (lists : List (List ℕ)) (ok2 : IsMarket (with_lists m lists)) (keep : OthersKeep m group lists) (none : NoneLoses m group lists) where

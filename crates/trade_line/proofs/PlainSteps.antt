@@ -1,11 +1,11 @@
 -- The plain program, step for step.
 use Rattle.std.proofs.Common.{◌≡◌, ℕ, suc, ◌+◌, ◌<◌, ◌≤◌, Bool, true, false, not, ◌&&◌, ◌==◌, cond, List, length, replicate, Option, Some, None, get_or, set, refl, sym, ap, ◌∙◌, subst, inl, inr, arith, add-one, eq-eqb, length-set, get_or-set_same, get_or-set_other, lt-ltb, le-ltb, ltb}
 use Rattle.std.specs.Option.{unwrap_or}
-use Rattle.std.proofs.lemmas.Bool.{cases_Bool, cases_lt, cases_eq, both_ways, cond-true, cond-false, and_from, and_parts}
+use Rattle.std.proofs.lemmas.Bool.{cases_Bool, cases_lt, cases_eq, both_ways, cond-true, cond-false, and_from, and_parts, not-true}
 use Rattle.std.proofs.lemmas.List.{get_or_past, get_or-replicate, length-replicate}
 use Rattle.std.proofs.lemmas.List.FromFn.{fill_by_all}
 use Rattle.std.specs.Fn.{iterate}
-use Rattle.std.proofs.Math.Bool.{and-true, or-false}
+use Rattle.std.proofs.Math.Bool.{and-true, or-false, and-false}
 use Rattle.trade_line.specs.Below.{first_below, some_below}
 use Rattle.trade_line.specs.Cycles.{IsStageOf}
 use Rattle.trade_line.specs.Market.{Market, is_room, tenant}
@@ -15,7 +15,7 @@ use Rattle.trade_line.specs.Inner.Plain.{remains, AreMarks, Gives, Stepping, Ste
 use Rattle.trade_line.specs.declared.plain.Remaining.{Remaining}
 use Rattle.trade_line.proofs.Count.{times_after}
 use Rattle.trade_line.proofs.Lines.{remaining_after, length-close}
-use Rattle.trade_line.proofs.Search.{and_nots, first_finds, first_passes, first_is_least, some_from, not_yes}
+use Rattle.trade_line.proofs.Search.{and_nots, first_finds, first_passes, first_is_least, some_from}
 use Rattle.trade_line.proofs.States.{read_same}
 use Rattle.trade_line.proofs.Unique.{same_stage}
 
@@ -122,7 +122,7 @@ module _ (m : Market) (s : Stage) (old : List (Option ℕ)) where
       rooms_len = length-close rooms (wish m s n) ∙ t.rooms_len;
       given_len = length-set given n (wish m s n) ∙ t.given_len;
       stayed = λ p l. elim (cases_eq p n) [
-        | inl e ↦ subst (λ z. get_or (set people n false) z false ≡ (s.people z && not (on_cycle m s z))) (sym e) (get_or-set_same people n false false (omega (arith, t.people_len)) ∙ sym (rw on (no_left (s.people n))))
+        | inl e ↦ subst (λ z. get_or (set people n false) z false ≡ (s.people z && not (on_cycle m s z))) (sym e) (get_or-set_same people n false false (omega (arith, t.people_len)) ∙ sym (rw on (and-false (s.people n))))
         | inr d ↦ get_or-set_other people n p false false d ∙ t.stayed p (omega arith)
       ];
       waiting = λ p l. let d : p ≡ n → ⊥ = λ e. omega arith in get_or-set_other people n p false false d ∙ t.waiting p (omega arith);
@@ -136,10 +136,6 @@ module _ (m : Market) (s : Stage) (old : List (Option ℕ)) where
       ];
       kept = λ p l. let d : p ≡ n → ⊥ = λ e. omega arith in get_or-set_other given n p (wish m s n) None d ∙ t.kept p (omega arith);
     }
-      where
-        no_left : (b : Bool) → (b && false) ≡ false
-        no_left true = refl
-        no_left false = refl
 
   pub stepping_end : (given : List (Option ℕ)) (people rooms : List Bool) → Stepping m s old given people rooms m.people → marked_stage people rooms ≡ step m s
   unfolding leave taken
@@ -192,7 +188,7 @@ module _ (m : Market) where
       here p h = (and_parts (s.people p) (not (on_cycle m s p)) h).0
 
       off : (p : ℕ) → (s.people p && not (on_cycle m s p)) ≡ true → on_cycle m s p ≡ false
-      off p h = not_yes (on_cycle m s p) (and_parts (s.people p) (not (on_cycle m s p)) h).1
+      off p h = not-true (on_cycle m s p) (and_parts (s.people p) (not (on_cycle m s p)) h).1
 
   pub stepped_end : (s : Stage) (given : List (Option ℕ)) → Stepped m s given 0 → length given ≡ m.people → given ≡ ttc m
   unfolding ttc gets_within

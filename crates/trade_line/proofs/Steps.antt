@@ -1,7 +1,7 @@
 -- The simultaneous steps remove groups of cycles until nobody remains.
 use Rattle.std.proofs.Common.{◌≡◌, ℕ, zero, suc, ◌+◌, ◌-◌, ◌<◌, ◌≤◌, Bool, true, false, not, ◌&&◌, ◌==◌, Option, Some, None, refl, sym, ap, ◌∙◌, subst, inl, inr, arith, eqb-true, eq-eqb, ltb-true, lt-ltb, le_refl}
 use Rattle.std.specs.Option.{unwrap_or}
-use Rattle.std.proofs.lemmas.Bool.{and_right, cases_Bool, cases_lt, and_parts, and_from, false_from_ne_true, both_ways, cond-true, cond-false}
+use Rattle.std.proofs.lemmas.Bool.{and_right, cases_Bool, cases_lt, and_parts, and_from, false_from_ne_true, both_ways, cond-true, cond-false, not-true}
 use Rattle.std.specs.Fn.{iterate}
 use Rattle.trade_line.specs.Below.{some_below, first_below, count_below}
 use Rattle.trade_line.specs.Market.{Market, tenant}
@@ -9,7 +9,7 @@ use Rattle.trade_line.specs.TopTradingCycles.{Stage, start, wish, first, tenant_
 use Rattle.trade_line.specs.Cycles.{IsStageOf}
 use Rattle.trade_line.specs.Inner.Removal.{IsTrade, Leads}
 use Rattle.trade_line.specs.Inner.Removal.Leads.{done, trade}
-use Rattle.trade_line.proofs.Search.{not_yes, some_gives, some_from, first_finds, first_passes}
+use Rattle.trade_line.proofs.Search.{some_gives, some_from, first_finds, first_passes}
 use Rattle.trade_line.proofs.Count.{count_le, count_most, count_some, count_less, pigeonhole, times_reach, times_after, times_sum, times_stays}
 use Rattle.trade_line.proofs.Unique.{unique}
 
@@ -120,7 +120,7 @@ module _ (m : Market) where
       trade (on_cycle m s) t
       (λ p h. cond-true (on_cycle m s p) (wish m s p) (gets_within m k (step m s) p) h)
       (agree (gets_within m k (step m s)) (gets_within m (suc k) s) d
-      (λ p h. sym (cond-false (on_cycle m s p) (wish m s p) (gets_within m k (step m s) p) (not_yes (on_cycle m s p) (and_parts (s.people p) (not (on_cycle m s p)) h).1))))
+      (λ p h. sym (cond-false (on_cycle m s p) (wish m s p) (gets_within m k (step m s) p) (not-true (on_cycle m s p) (and_parts (s.people p) (not (on_cycle m s p)) h).1))))
 
   pub start_known : IsStageOf m (start m)
   unfolding start

@@ -1,12 +1,13 @@
 -- Whatever the order in which cycles are removed, everybody gets the same.
 use Rattle.std.proofs.Common.{◌≡◌, ℕ, ◌<◌, Bool, true, false, not, ◌&&◌, Option, Some, refl, sym, ap, ap₂, ◌∙◌, subst, inl, inr}
 use mathlib.Core.Path.{fun_ext}
-use Rattle.std.proofs.lemmas.Bool.{cases_Bool, and_parts, and_from, false_from_ne_true, both_ways}
+use Rattle.std.proofs.lemmas.Bool.{cases_Bool, and_parts, and_from, false_from_ne_true, both_ways, not-true, not_from_false}
+use Rattle.std.specs.Cmp.Derive.{one_truth}
 use Rattle.trade_line.specs.Market.{Market, is_room}
 use Rattle.trade_line.specs.TopTradingCycles.{Stage, wish, taken, leave}
 use Rattle.trade_line.specs.Inner.Removal.{IsTrade, Leads}
 use Rattle.trade_line.specs.Inner.Removal.Leads.{done, trade}
-use Rattle.trade_line.proofs.Search.{clash, same_yes, not_yes, not_from, some_from, is_room_from}
+use Rattle.trade_line.proofs.Search.{clash, some_from, is_room_from}
 use Rattle.trade_line.proofs.Exchange.{minus, exchange, wish_keeps, taken_gives}
 
 -- two stages with the same people and rooms are one
@@ -23,23 +24,23 @@ module _ (m : Market) where
   taken_later s k l tk tl r t f =
       let g : (q : ℕ) × (q < m.people) × (l q ≡ true) × (wish m s q ≡ Some r) = taken_gives m s l r t in
       let out : k g.0 ≡ false = false_from_ne_true (k g.0) (λ y. both_ways (taken m s k r) f (taken_from s k r g.0 g.1 y g.3)) in
-      taken_from (leave m s k) (minus k l) r g.0 g.1 (and_from (l g.0) (not (k g.0)) g.2 (not_from (k g.0) out)) (wish_keeps m s k l tk tl g.0 g.2 out ∙ g.3)
+      taken_from (leave m s k) (minus k l) r g.0 g.1 (and_from (l g.0) (not (k g.0)) g.2 (not_from_false (k g.0) out)) (wish_keeps m s k l tk tl g.0 g.2 out ∙ g.3)
 
   taken_before : (s : Stage) (k l : ℕ → Bool) → IsTrade m s k → IsTrade m s l → (r : ℕ) → taken m (leave m s k) (minus k l) r ≡ true → taken m s l r ≡ true
   taken_before s k l tk tl r t =
       let g : (q : ℕ) × (q < m.people) × (minus k l q ≡ true) × (wish m (leave m s k) q ≡ Some r) = taken_gives m (leave m s k) (minus k l) r t in
       let b : (l g.0 ≡ true) × (not (k g.0) ≡ true) = and_parts (l g.0) (not (k g.0)) g.2 in
-      taken_from s l r g.0 g.1 b.0 (sym (wish_keeps m s k l tk tl g.0 b.0 (not_yes (k g.0) b.1)) ∙ g.3)
+      taken_from s l r g.0 g.1 b.0 (sym (wish_keeps m s k l tk tl g.0 b.0 (not-true (k g.0) b.1)) ∙ g.3)
 
   room_order : (s : Stage) (k l : ℕ → Bool) → IsTrade m s k → IsTrade m s l → (r : ℕ) → (leave m (leave m s k) (minus k l)).rooms r ≡ true → (leave m (leave m s l) (minus l k)).rooms r ≡ true
   unfolding leave
   room_order s k l tk tl r h =
       let a : ((s.rooms r && not (taken m s k r)) ≡ true) × (not (taken m (leave m s k) (minus k l) r) ≡ true) = and_parts (s.rooms r && not (taken m s k r)) (not (taken m (leave m s k) (minus k l) r)) h in
       let b : (s.rooms r ≡ true) × (not (taken m s k r) ≡ true) = and_parts (s.rooms r) (not (taken m s k r)) a.0 in
-      let nk : taken m s k r ≡ false = not_yes (taken m s k r) b.1 in
-      let nl : taken m s l r ≡ false = false_from_ne_true (taken m s l r) (λ y. both_ways (taken m (leave m s k) (minus k l) r) (not_yes (taken m (leave m s k) (minus k l) r) a.1) (taken_later s k l tk tl r y nk)) in
+      let nk : taken m s k r ≡ false = not-true (taken m s k r) b.1 in
+      let nl : taken m s l r ≡ false = false_from_ne_true (taken m s l r) (λ y. both_ways (taken m (leave m s k) (minus k l) r) (not-true (taken m (leave m s k) (minus k l) r) a.1) (taken_later s k l tk tl r y nk)) in
       let nm : taken m (leave m s l) (minus l k) r ≡ false = false_from_ne_true (taken m (leave m s l) (minus l k) r) (λ y. both_ways (taken m s k r) nk (taken_before s l k tl tk r y)) in
-      and_from (s.rooms r && not (taken m s l r)) (not (taken m (leave m s l) (minus l k) r)) (and_from (s.rooms r) (not (taken m s l r)) b.0 (not_from (taken m s l r) nl)) (not_from (taken m (leave m s l) (minus l k) r) nm)
+      and_from (s.rooms r && not (taken m s l r)) (not (taken m (leave m s l) (minus l k) r)) (and_from (s.rooms r) (not (taken m s l r)) b.0 (not_from_false (taken m s l r) nl)) (not_from_false (taken m (leave m s l) (minus l k) r) nm)
 
   person_order : (a k l : Bool) → ((a && not k) && not (l && not k)) ≡ ((a && not l) && not (k && not l))
   person_order true true true = refl
@@ -53,7 +54,7 @@ module _ (m : Market) where
   leave_order s k l tk tl =
       same_stage (leave m (leave m s k) (minus k l)) (leave m (leave m s l) (minus l k))
       (λ p. person_order (s.people p) (k p) (l p))
-      (λ r. same_yes ((leave m (leave m s k) (minus k l)).rooms r) ((leave m (leave m s l) (minus l k)).rooms r) (room_order s k l tk tl r) (room_order s l k tl tk r))
+      (λ r. one_truth ((leave m (leave m s k) (minus k l)).rooms r) ((leave m (leave m s l) (minus l k)).rooms r) (room_order s k l tk tl r) (room_order s l k tl tk r))
 
   -- what leads from a stage gives each trade its wishes, and leads from the stage after it
   pub removal : (f : ℕ → Option ℕ) {s : Stage} → Leads m f s → (k : ℕ → Bool) → IsTrade m s k → ((p : ℕ) → k p ≡ true → f p ≡ wish m s p) × Leads m f (leave m s k)
@@ -63,10 +64,10 @@ module _ (m : Market) where
       let ih : ((p : ℕ) → minus l k p ≡ true → f p ≡ wish m (leave m s l) p) × Leads m f (leave m (leave m s l) (minus l k)) = removal f d (minus l k) (exchange m s l k tl tk) in (
         λ p h. elim (cases_Bool (l p)) [
           | inl y ↦ fl p y
-          | inr n ↦ ih.0 p (and_from (k p) (not (l p)) h (not_from (l p) n)) ∙ wish_keeps m s l k tl tk p h n
+          | inr n ↦ ih.0 p (and_from (k p) (not (l p)) h (not_from_false (l p) n)) ∙ wish_keeps m s l k tl tk p h n
         ],
         trade (minus k l) (exchange m s k l tk tl)
-            (λ p h. let b : (l p ≡ true) × (not (k p) ≡ true) = and_parts (l p) (not (k p)) h in fl p b.0 ∙ sym (wish_keeps m s k l tk tl p b.0 (not_yes (k p) b.1)))
+            (λ p h. let b : (l p ≡ true) × (not (k p) ≡ true) = and_parts (l p) (not (k p)) h in fl p b.0 ∙ sym (wish_keeps m s k l tk tl p b.0 (not-true (k p) b.1)))
             (subst (λ t. Leads m f t) (leave_order s l k tl tk) ih.1),
       )
 
@@ -77,5 +78,5 @@ module _ (m : Market) where
       let r : ((p : ℕ) → k p ≡ true → g p ≡ wish m s p) × Leads m g (leave m s k) = removal g e k tk in
       elim (cases_Bool (k p)) [
         | inl y ↦ fk p y ∙ sym (r.0 p y)
-        | inr n ↦ unique f g d r.1 p (and_from (s.people p) (not (k p)) h (not_from (k p) n))
+        | inr n ↦ unique f g d r.1 p (and_from (s.people p) (not (k p)) h (not_from_false (k p) n))
       ]

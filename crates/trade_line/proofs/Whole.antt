@@ -6,6 +6,7 @@ use Rattle.std.specs.List.{range_with_len}
 use Rattle.std.proofs.lemmas.List.FromFn.{length-range_with_len, fill_by_all}
 use Rattle.std.proofs.lemmas.List.{get_or_past, get_or-replicate, length-replicate}
 use Rattle.std.proofs.lemmas.Bool.{cases_lt, or_cases, or_left, or_right, false_from_ne_true, both_ways, and_parts}
+use Rattle.std.specs.Cmp.Derive.{one_truth}
 use Rattle.trade_line.specs.Below.{count_below}
 use Rattle.trade_line.specs.Market.{Market, IsMarket, is_tenant, tenant_count}
 use Rattle.trade_line.specs.Inner.Fresh.{IsFresh}
@@ -18,7 +19,6 @@ use Rattle.trade_line.specs.Inner.State.{State, stage_at, given_to}
 use Rattle.trade_line.specs.Inner.Run.{Underway}
 use Rattle.trade_line.specs.Inner.Turn.{asked_in}
 use Rattle.trade_line.specs.Inner.Removal.Leads.{done}
-use Rattle.trade_line.proofs.Search.{same_yes}
 use Rattle.trade_line.proofs.Count.{count_most, count_le}
 use Rattle.trade_line.proofs.Unique.{same_stage}
 use Rattle.trade_line.proofs.Steps.{leads_gets}
@@ -63,7 +63,7 @@ module _ (m : Market) where
   start_stage s le ve = same_stage (stage_at s) (start m) people rooms
     where
       people : (p : ℕ) → among s.line p ≡ ltb p m.people
-      people p = same_yes (among s.line p) (ltb p m.people)
+      people p = one_truth (among s.line p) (ltb p m.people)
           (λ h. let r : (0 ≤ p) × (p < 0 + m.people) = range_within 0 m.people p (subst (λ z. among z p ≡ true) le h) in lt-ltb p m.people (omega (arith, r.1)))
           (λ h. let l : p < m.people = ltb-true p m.people h in subst (λ z. among z p ≡ true) (sym le) (range_has 0 m.people p (omega arith) (omega arith)))
 

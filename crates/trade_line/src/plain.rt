@@ -1,5 +1,5 @@
 //! Top trading cycles in simultaneous steps, as the definition has them: slow and plain. Tests compare `run` with it.
-ghost use Rattle.std.specs.Prelude.{◌≡◌, ◌<◌, IfOk, Some, None, length, replicate, true, false};
+ghost use Rattle.std.specs.Prelude.{◌≡◌, ◌<◌, IfOk, OnErr, Some, None, length, replicate, true, false};
 ghost use Rattle.trade_line.specs.TopTradingCycles.{wish, first, successor, remaining_count, on_cycle, step, ttc};
 ghost use Rattle.trade_line.specs.Inner.Plain.{remains, AreMarks, Gives};
 
@@ -146,8 +146,12 @@ pub fn top_trading_cycles(
     alloc: Global,
     problem: &Problem,
 ) -> Result<Vec<Option<usize>>, OutOfMemory>
-    ensures { IfOk result (λ rooms. rooms.items ≡ ttc problem.now) }
+    ensures rooms { IfOk result (λ rooms. rooms.items ≡ ttc problem.now) }
+    ensures memory { OnErr result (0 < problem.now.people) }
 {
+    if problem.people() == 0 {
+        return Ok(Vec::new(alloc));
+    }
     let mut stage = everybody(alloc, problem)?;
     let mut given = nothing(alloc, problem)?;
     for turn in 0..problem.people() {

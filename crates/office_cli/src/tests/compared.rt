@@ -1,6 +1,6 @@
 //! A round of 200 people with drawn lists, compared with the plain program of the definition.
-use crate::ending::Ending;
 use crate::tests::scripts::rehearsed;
+use office_lines::Ending;
 use std::alloc::{AllocError, Global};
 use std::test::Fail;
 use trade_line::plain::top_trading_cycles;

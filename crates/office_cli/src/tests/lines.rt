@@ -1,6 +1,6 @@
 //! Ends of lines, comments, words and long lines.
-use crate::ending::Ending;
 use crate::tests::scripts::rehearsed;
+use office_lines::Ending;
 use std::alloc::{AllocError, Global};
 use std::test::Fail;
 

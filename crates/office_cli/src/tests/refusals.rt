@@ -1,7 +1,7 @@
 //! Each command and each query with each of its refusals, as far as a line can ask for it.
-use crate::ending::Ending;
 use crate::tests::register::hears;
 use crate::tests::scripts::rehearsed;
+use office_lines::Ending;
 use std::test::Fail;
 
 const REFUSALS: [(&str, &str); 72] = [

@@ -1,6 +1,6 @@
 //! The register of rooms and people: a worked script, what a person sees, and lists that are too long.
-use crate::ending::Ending;
 use crate::tests::scripts::{answers_of_script, lines_of_script, rehearsed};
+use office_lines::Ending;
 use std::alloc::Global;
 use std::test::Fail;
 

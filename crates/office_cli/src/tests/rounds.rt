@@ -1,6 +1,6 @@
 //! Rounds up to their results: who gets what, by the drawn order and the lists.
-use crate::ending::Ending;
 use crate::tests::scripts::rehearsed;
+use office_lines::Ending;
 use std::test::Fail;
 
 // A round: the rooms, each person with a key and a home or none, the lists, the words by identifier, and the results.

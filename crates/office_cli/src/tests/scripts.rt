@@ -1,6 +1,6 @@
 //! Worked scripts.
-use crate::ending::{Ending, Rehearsed};
-use crate::rehearse::rehearse;
+use office_lines::rehearse::rehearse;
+use office_lines::{Ending, Rehearsed};
 use office_store::Desk;
 use room_types::Watched;
 use std::alloc::{AllocError, Global};

@@ -1,9 +1,9 @@
 //! Streams that fail.
-use crate::ending::{Ending, Rehearsed};
-use crate::rehearse::rehearse;
 use crate::tests::failing::{FailingReader, FailingWriter};
 use crate::tests::scripts::{SECOND_SCRIPT, answers_of_script, lines_of_script};
-use office_core::Office;
+use office_lines::rehearse::rehearse;
+use office_lines::{Ending, Rehearsed};
+use office_store::Desk;
 use room_types::Watched;
 use std::alloc::Global;
 use std::test::Fail;
@@ -18,17 +18,18 @@ fn good_writer(alloc: Global) -> FailingWriter {
     }
 }
 
-// What an empty office makes of the input, and how many rooms it has then.
+// What a new desk in memory makes of the input, and how many rooms it has then.
 fn rehearsed<'a>(
     alloc: Global,
     reader: FailingReader<'a>,
     writer: FailingWriter,
-) -> (Rehearsed, Vec<u8>, usize) {
-    let mut office = Office::empty(alloc);
+) -> Result<(Rehearsed, Vec<u8>, usize), Fail> {
+    let mut desk = Desk::in_memory(alloc)?;
     let mut input = Watched::new(reader);
     let mut output = Watched::new(writer);
-    let rehearsed = rehearse(alloc, &mut office, &mut input, &mut output);
-    (rehearsed, output.into_inner().written, office.rooms.len())
+    let rehearsed = rehearse(alloc, &mut desk, &mut input, &mut output);
+    let rooms = desk.load(alloc)?.rooms.len();
+    Ok((rehearsed, output.into_inner().written, rooms))
 }
 
 fn good_reader<'a>(unread: &'a [u8]) -> FailingReader<'a> {
@@ -54,7 +55,7 @@ fn stops_where_a_read_fails(rt: HostRuntime) -> Result<(), Fail> {
             .filter(|byte| **byte == b'\n')
             .count();
         let answers = answers_of_script(rt.alloc(), &SECOND_SCRIPT, heard)?;
-        let (how, text, rooms) = rehearsed(rt.alloc(), reader, good_writer(rt.alloc()));
+        let (how, text, rooms) = rehearsed(rt.alloc(), reader, good_writer(rt.alloc()))?;
         assert_eq!(rt; (how.status, how.ending), (3, Ending::ReadFault));
         assert_eq!(rt; text.as_slice(), answers.as_bytes(), "{passed}");
         assert_eq!(rt; rooms, if heard < 2 { 0 } else { 1 });
@@ -69,7 +70,7 @@ fn stops_where_a_write_takes_nothing(rt: HostRuntime) -> Result<(), Fail> {
     for taken in 0..answers.len() {
         let mut writer = good_writer(rt.alloc());
         writer.room = taken;
-        let (how, text, rooms) = rehearsed(rt.alloc(), good_reader(lines.as_bytes()), writer);
+        let (how, text, rooms) = rehearsed(rt.alloc(), good_reader(lines.as_bytes()), writer)?;
         assert_eq!(rt;
             (how.status, how.ending),
             (
@@ -99,7 +100,7 @@ fn stops_where_a_write_fails(rt: HostRuntime) -> Result<(), Fail> {
         let answers = answers_of_script(rt.alloc(), &SECOND_SCRIPT, passed)?;
         let mut writer = good_writer(rt.alloc());
         writer.writes = passed;
-        let (how, text, rooms) = rehearsed(rt.alloc(), good_reader(lines.as_bytes()), writer);
+        let (how, text, rooms) = rehearsed(rt.alloc(), good_reader(lines.as_bytes()), writer)?;
         assert_eq!(rt;
             (how.status, how.ending),
             (
@@ -121,7 +122,7 @@ fn stops_where_the_flush_fails(rt: HostRuntime) -> Result<(), Fail> {
     let answers = answers_of_script(rt.alloc(), &SECOND_SCRIPT, 5)?;
     let mut writer = good_writer(rt.alloc());
     writer.flushes = false;
-    let (how, text, rooms) = rehearsed(rt.alloc(), good_reader(lines.as_bytes()), writer);
+    let (how, text, rooms) = rehearsed(rt.alloc(), good_reader(lines.as_bytes()), writer)?;
     assert_eq!(rt;
         (how.status, how.ending),
         (

@@ -3,10 +3,9 @@ use crate::carry_out::carry_out;
 use crate::program::program;
 use crate::tests::failing::FailingReader;
 use crate::usage::Program;
-use crate::word_fault::WordFault;
-use crate::words::words_to_command;
 use office_core::{Command, Query};
 use office_store::Request;
+use office_words::{WordFault, words_to_command};
 use room_types::Watched;
 use std::test::Fail;
 

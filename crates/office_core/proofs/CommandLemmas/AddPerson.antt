@@ -3,6 +3,7 @@ use Rattle.std.proofs.Common.{◌≡◌, [], ◌∷◌, Option, Some, None, refl
 use Rattle.std.proofs.lemmas.Bool.{not-false}
 use Rattle.std.specs.FinMap as map
 use Rattle.room_types.specs.Texts.{Text}
+use Rattle.room_types.proofs.Options.{none_if_not_some}
 use Rattle.std.specs.Prelude.{nat_le}
 use Rattle.office_core.specs.Change.{LeadsOn}
 use Rattle.office_core.specs.Refusal.Checks.{first_refusal}
@@ -20,7 +21,6 @@ use Rattle.office_core.proofs.OfficeLemmas.Register.{person_put, len-put_within}
 use Rattle.office_core.proofs.OfficeLemmas.Untouched.{prepared, undrawn, words_undrawn}
 use Rattle.office_core.proofs.OfficeLemmas.Untouched.{results_undrawn, moves_stay}
 use Rattle.office_core.proofs.OfficeLemmas.Lists.{person_known, unknown_stays}
-use Rattle.office_core.proofs.Truths.{none_if_not_some}
 
 pub add_person-leads : (office : Office) (person name key : Text) (home : Option Text)
     → IsLawful office → first_refusal (checks office person name key home) ≡ None

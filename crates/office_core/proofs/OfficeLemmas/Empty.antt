@@ -7,6 +7,7 @@ use Rattle.std.specs.Ordering.{nat_cmp}
 use Rattle.std.specs.FinMap as map
 use Rattle.std.specs.FinMap.{get-empty, len-empty}
 use Rattle.room_types.specs.Texts.{Text, TextMap, text_cmp}
+use Rattle.room_types.proofs.Options.{none_some}
 use Rattle.office_core.specs.Office.Invariants.{IsLawful, AreLists}
 use Rattle.office_core.specs.Office.{empty_office, had_by}
 use Rattle.office_core.specs.declared.office.moves.RoundMoves.{RoundMoves}
@@ -15,9 +16,6 @@ use Rattle.office_core.specs.declared.office.person.Person.{Person}
 nothing_had : (which : Person → Option Text) (p : Text)
     → had_by which (map.empty {R = text_cmp}) p ≡ None
 nothing_had which p = ap (option_and_then which) (get-empty text_cmp p)
-
-pub none_some : {A : Type 0} (o : Option A) (x : A) → o ≡ None → o ≡ Some x → ⊥
-none_some o x n s = cc
 
 pub none_known : {A : Type 0} (o : Option A) → o ≡ None → is_some o ≡ true → ⊥
 none_known o n s = let none : is_some o ≡ false = ap is_some n in cc

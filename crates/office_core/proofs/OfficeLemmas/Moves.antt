@@ -1,6 +1,6 @@
 -- The moves of rounds, after one more move.
-use Rattle.std.proofs.Common.{◌≡◌, ℕ, [], Option, Some, None, true, false, OnOk, OnErr, IsSome}
-use Rattle.std.proofs.Common.{Result, Ok, Err, cond, refl, ap, ◌∙◌, sym, subst}
+use Rattle.std.proofs.Common.{◌≡◌, ℕ, [], Option, Some, None, true, false, IsSome}
+use Rattle.std.proofs.Common.{cond, refl, ap, ◌∙◌, sym, subst}
 use Rattle.std.specs.Prelude.{unwrap_or}
 use Rattle.std.specs.declared.cmp.Ordering.TheVariants.{Less, Equal, Greater}
 use Rattle.std.specs.Ordering.{nat_cmp, is_eq}
@@ -26,14 +26,6 @@ pub no_moves : (moves : RoundMap RoundMoves) (round : ℕ) → map.get moves rou
     → map.entries (moves_of moves round) ≡ []
 no_moves moves round none =
     ap (λ o. map.entries (kept_moves o)) none ∙ entries-empty nat_list_cmp_total
-
-pub on_ok : {A E P Q : Type 0} (r : Result A E) → (P → Q) → OnOk r P → OnOk r Q
-on_ok (Ok x) f h = f h
-on_ok (Err e) f h = tt
-
-pub on_err : {A E P Q : Type 0} (r : Result A E) → (P → Q) → OnErr r P → OnErr r Q
-on_err (Ok x) f h = tt
-on_err (Err e) f h = f h
 
 -- a value that is there already adds nothing
 put_again : {X : Type 0} (m : RoundMap X) (k : ℕ) (v : X) → map.get m k ≡ Some v

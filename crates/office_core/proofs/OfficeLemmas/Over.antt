@@ -1,7 +1,7 @@
 -- Which rounds are over, from one phase to the next.
 use Rattle.std.proofs.Common.{◌≡◌, ◌≢◌, ℕ, ◌+◌, ◌≤◌, Bool, true, false, not, ◌&&◌, refl, ap, ◌∙◌}
 use Rattle.std.proofs.Common.{sym, arith, eqb, inl, inr}
-use Rattle.std.proofs.lemmas.Bool.{leb-true, le-leb, eq-eqb}
+use Rattle.std.proofs.lemmas.Bool.{leb-true, le-leb, eq-eqb, and_parts}
 use Rattle.std.proofs.lemmas.Bool.Decides.{eqb_tells}
 use Rattle.std.specs.Prelude.{nat_le}
 use Rattle.room_types.specs.declared.phase.Phase.{Phase}
@@ -33,19 +33,14 @@ over-idle office round o =
     idle_over (nat_le 1 round && nat_le round office.number) (eqb round office.number)
     (is_idle office.phase) o
 
-both : (a b : Bool) → (a && b) ≡ true → (a ≡ true) × (b ≡ true)
-both true true h = (refl, refl)
-both true false h = cc
-both false b h = cc
-
 all_three : (a b c : Bool) → a ≡ true → b ≡ true → c ≡ true → (a && b && c) ≡ true
 all_three a b c p q r = ap (λ x. x && b && c) p ∙ ap (λ x. true && x && c) q ∙ r
 
 begun : (round number : ℕ) → over_by true number round ≡ true
     → over_by false (number + 1) round ≡ true
 begun round number h =
-    let first = both (nat_le 1 round && nat_le round number) true h in
-    let parts = both (nat_le 1 round) (nat_le round number) first.0 in
+    let first = and_parts (nat_le 1 round && nat_le round number) true h in
+    let parts = and_parts (nat_le 1 round) (nat_le round number) first.0 in
     let below : round ≤ number = leb-true round number parts.1 in
     let later : round ≢ number + 1 = omega (arith, below) in
     let other : eqb round (number + 1) ≡ false =

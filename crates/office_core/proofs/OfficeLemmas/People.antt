@@ -10,12 +10,12 @@ use Rattle.std.specs.FinMap as map
 use Rattle.std.specs.FinMap.{get-entries, find, entries_sorted}
 use Rattle.std.specs.FinMap.Entries.{below_all, is_sorted}
 use Rattle.room_types.specs.Texts.{Text, TextMap, text_cmp}
-use Rattle.room_types.specs.TextMaps.{text_cases, get-put_same, get-put_other, get-gone_same}
+use Rattle.room_types.specs.TextMaps.{text_cases, get-put_same, get-put_other, get-gone_same, less_from_test}
 use Rattle.room_types.specs.TextMaps.{get-gone_other, first_holds, second_holds}
 use Rattle.office_core.specs.Office.Invariants.{Unshared}
-use Rattle.office_core.specs.Office.{is_text, had_by, first_person, holder}
+use Rattle.office_core.specs.Office.{is_text, had_by, first_person, holder, is_same_text}
 use Rattle.office_core.specs.declared.office.person.Person.{Person}
-use Rattle.office_core.proofs.Truths.{less_T, text_eq-same, tied}
+use Rattle.office_core.proofs.Truths.{text_eq-same, tied, then_some}
 
 module _ (which : Person → Option Text) where
   pub had_by-put_same : (m : TextMap Person) (k : Text) (v : Person) (q : Text) → q ≡ k
@@ -85,17 +85,16 @@ pub held-is_text : (o : Option Text) (text : Text) → is_text o text ≡ true �
 held-is_text None text e = cc
 held-is_text (Some other) text e = ap (λ t. Some t) (same_text other text (sym e))
 
--- what somebody has, read as the record
-had : (which : Person → Option Text) (o : Option Person) (text : Text)
-    → option_and_then which o ≡ Some text → (v : Person) × (o ≡ Some v) × (which v ≡ Some text)
-had which None text e = cc
-had which (Some v) text e = (v, refl, e)
+pub same_optional : (a b : Option Text) → is_same_text a b ≡ true → a ≡ b
+same_optional None None e = refl
+same_optional None (Some text) e = cc
+same_optional (Some text) other e = sym (held-is_text other text e)
 
 -- where nobody holds it, nobody has it
 pub nobody_has : (which : Person → Option Text) (m : TextMap Person) (text : Text)
     → holder which m text ≡ None → (q : Text) → had_by which m q ≡ Some text → ⊥
 nobody_has which m text none q h =
-    let found = had which (map.get m q) text h in
+    let found = then_some which (map.get m q) text h in
     let passes : is_text (which found.0) text ≡ false =
     none_passes (λ p. is_text (which p) text) (map.entries m) q found.0 none
     (sym (get-entries m q) ∙ found.1) in
@@ -111,7 +110,7 @@ found_above x q (e ∷ es) v below h =
     (λ b. eq_by_cmp text_cmp q e.0 ≡ b → cond b (Some e.1) (find text_cmp q es) ≡ Some v
     → text_cmp x q ≡ Less) [
       | true ↦ λ t i. alike_right nat_list_cmp_total q e.0 x (tied _ t)
-          ∙ less_T _ (first_holds _ _ below)
+          ∙ less_from_test _ (first_holds _ _ below)
       | false ↦ λ t i. found_above x q es v (second_holds _ _ below) i
     ] refl h
 

@@ -6,7 +6,7 @@ use Rattle.std.specs.FinMap as map
 use Rattle.std.specs.FinMap.{get-empty}
 use Rattle.room_types.specs.Texts.{Text, TextMap, text_cmp, text_eq}
 use Rattle.room_types.specs.TextMaps.{text_cases, get-put_same, get-put_other}
-use Rattle.office_core.proofs.Truths.{none_if_not_some}
+use Rattle.room_types.proofs.Options.{none_if_not_some}
 
 pub tenants-none : (room : Text) (o : Option Text)
     → option_or (map.get (map.empty {X = Text} {R = text_cmp}) room) o ≡ o

@@ -4,6 +4,7 @@ use Rattle.std.proofs.Common.{lt-ltb, sym, ap, ◌∙◌, subst}
 use Rattle.std.specs.Option.{is_some, option_and_then}
 use Rattle.std.proofs.lemmas.Bool.{and_parts, and_from}
 use Rattle.room_types.specs.Texts.{Text}
+use Rattle.room_types.proofs.Options.{some_of}
 use Rattle.trade_line.specs.Market.{IsMarket, home}
 use Rattle.trade_line.specs.Rank.{rank}
 use Rattle.trade_line.specs.TopTradingCycles.{gets}
@@ -16,11 +17,10 @@ use Rattle.office_core.specs.Round.{round_home, round_room, round_rank, result_o
 use Rattle.office_core.specs.Round.Laws.{TradesOwnRooms, HasNoBetterTradeFor}
 use Rattle.office_core.specs.declared.office.Office.{Office}
 use Rattle.office_core.proofs.RoundLemmas.Names.{number_in-below, number_in-name}
-use Rattle.office_core.proofs.RoundLemmas.People.{number_of_participant, some_of}
-use Rattle.office_core.proofs.RoundLemmas.Results.{person_at, below, number_at, named_again}
-use Rattle.office_core.proofs.RoundLemmas.Results.{rank-named, rank-result, result-numbered}
+use Rattle.office_core.proofs.RoundLemmas.People.{number_of_participant}
 use Rattle.office_core.proofs.RoundLemmas.Problem.{market_people, market_home}
 use Rattle.office_core.proofs.RoundLemmas.Rooms.{home_numbered}
+use Rattle.office_core.proofs.RoundLemmas.Ranks.{person_at, below, number_at, named_again, rank-named, rank-result, result-numbered}
 
 -- where a participant stands
 record IsAt (office : Office) (person : Text) : Type 0 where

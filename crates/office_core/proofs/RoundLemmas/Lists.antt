@@ -30,13 +30,11 @@ use Rattle.office_core.specs.Round.Lists.{NoneLosesBy, NoGroupGains, NobodyIsBos
 use Rattle.office_core.specs.declared.office.Office.{Office}
 use Rattle.office_core.proofs.RoundLemmas.Names.{number_in-below, number_in-name, same-text_eq}
 use Rattle.office_core.proofs.RoundLemmas.People.{number_of_participant}
-use Rattle.office_core.proofs.RoundLemmas.Results.{person_at, below, number_at, takes_part}
-use Rattle.office_core.proofs.RoundLemmas.Results.{rank-given, rank-result, result-numbered}
-use Rattle.office_core.proofs.RoundLemmas.Results.{result_by-numbered, no_gain-named}
 use Rattle.office_core.proofs.RoundLemmas.Problem.{market_people, market_list, market-IsMarket}
 use Rattle.office_core.proofs.RoundLemmas.Problem.{lawful-IsMarket, codes_differ, fits}
 use Rattle.office_core.proofs.RoundLemmas.WellTraded.{recorded}
 use Rattle.office_core.proofs.Truths.{text_eq-same}
+use Rattle.office_core.proofs.RoundLemmas.Ranks.{person_at, below, number_at, rank-result, result-numbered, takes_part, rank-given, result_by-numbered, no_gain-named}
 
 -- ---- other lists of any participants
 

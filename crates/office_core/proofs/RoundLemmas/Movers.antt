@@ -1,5 +1,5 @@
 -- Who moves, and what the settlement makes of the people.
-use Rattle.std.proofs.Common.{◌≡◌, Bool, true, false, not, ◌&&◌, ◌||◌, List, [], ◌∷◌}
+use Rattle.std.proofs.Common.{◌≡◌, Bool, true, false, ◌&&◌, ◌||◌, List, [], ◌∷◌}
 use Rattle.std.proofs.Common.{map as map_list, Option, Some, None, cond, refl, ap, ◌∙◌, sym, ◌⊎◌}
 use Rattle.std.proofs.Common.{inl, inr}
 use Rattle.std.specs.Option.{is_some, option_map, option_or, option_and_then}
@@ -8,18 +8,19 @@ use Rattle.std.specs.Ordering.{eq_by_cmp}
 use Rattle.std.specs.Cmp.Lexicographic.{nat_list_cmp_total}
 use Rattle.std.specs.FinMap as map
 use Rattle.std.specs.FinMap.{find, get-insert, get-entries, get-from_entries, same_map}
+use Rattle.std.proofs.lemmas.Bool.{not-false}
 use Rattle.room_types.specs.Texts.{Text, TextMap, text_cmp}
 use Rattle.room_types.specs.TextMaps.{text_cases, exact_texts, len-put_known}
+use Rattle.room_types.proofs.Options.{none_if_not_some, option_or-none}
 use Rattle.office_lists.specs.Waves.{Mover}
-use Rattle.office_core.specs.Office.{home_of, participants, recorded_result}
+use Rattle.office_core.specs.Office.{home_of, participants, recorded_result, is_same_text}
 use Rattle.office_core.specs.Round.{is_participant}
-use Rattle.office_core.specs.Round.Settlement.{is_same_home, moves_out, movers, settled_person}
+use Rattle.office_core.specs.Round.Settlement.{moves_out, movers, settled_person}
 use Rattle.office_core.specs.Round.Settlement.{settled_people}
 use Rattle.office_core.specs.declared.office.Office.{Office}
 use Rattle.office_core.specs.declared.office.person.Person.{Person}
 use Rattle.office_core.proofs.RoundLemmas.People.{participants_hold}
-use Rattle.office_core.proofs.OfficeLemmas.People.{held-is_text}
-use Rattle.office_core.proofs.Truths.{none_if_not_some}
+use Rattle.office_core.proofs.OfficeLemmas.People.{same_optional}
 
 -- the people after one person's move, by what is known of the person
 abbrev pub rehomed_by : TextMap Person → Text → Option Text → Option Person → TextMap Person
@@ -198,7 +199,7 @@ module _ (from to : Text → Option Text) (test : Text → Bool) where
             (λ t. mover_to (map_list (λ p. (p, from p, to p))
             (cond t (p ∷ filter test ps) (filter test ps))) q
             ≡ cond (list_any (eq_by_cmp text_cmp q) ps && test q) (Some (to q)) None) [
-              | true ↦ ap (λ b. option_or rest (cond b (Some (to p)) None)) apart ∙ or_nothing rest
+              | true ↦ ap (λ b. option_or rest (cond b (Some (to p)) None)) apart ∙ option_or-none rest
                   ∙ known
               | false ↦ known
             ]
@@ -211,10 +212,6 @@ module _ (from to : Text → Option Text) (test : Text → Bool) where
       neither : (b : Bool) (x : Option Text) → cond (b && false) (Some x) None ≡ None
       neither true x = refl
       neither false x = refl
-
-      or_nothing : (o : Option (Option Text)) → option_or o None ≡ o
-      or_nothing None = refl
-      or_nothing (Some x) = refl
 
 pub mover_to-movers : (office : Office) (q : Text)
     → mover_to (movers office) q ≡ cond (is_participant office q && moves_out office q)
@@ -259,23 +256,14 @@ get-settled office q =
     ∙ find_changed (settled office) (map.entries office.people) q
     ∙ ap (option_map (settled office q)) (sym (get-entries office.people q))
 
-same_home : (a b : Option Text) → is_same_home a b ≡ true → a ≡ b
-same_home None None h = refl
-same_home None (Some room) h = cc
-same_home (Some room) other h = sym (held-is_text other room h)
-
 same_none : (o : Option Person) → o ≡ option_map (λ v. v) o
 same_none None = refl
 same_none (Some v) = refl
 
 stays_put : (to : Option Text) (o : Option Person)
-    → is_same_home (option_and_then (λ p. p.home) o) to ≡ true → o ≡ option_map (at_home to) o
+    → is_same_text (option_and_then (λ p. p.home) o) to ≡ true → o ≡ option_map (at_home to) o
 stays_put to None h = refl
-stays_put to (Some kept) h = ap (λ home. Some (at_home home kept)) (same_home kept.home to h)
-
-not_out : (b : Bool) → not b ≡ false → b ≡ true
-not_out true h = refl
-not_out false h = cc
+stays_put to (Some kept) h = ap (λ home. Some (at_home home kept)) (same_optional kept.home to h)
 
 -- leaving and arriving settle the people
 pub people_settled : (office : Office)
@@ -296,7 +284,7 @@ people_settled office = same_map nat_list_cmp_total exact_texts _ _ (λ q.
           ≡ option_map (at_home (recorded_result office q)) (map.get office.people q)) [
             | true ↦ λ _. refl
             | false ↦ λ stays. stays_put (recorded_result office q) (map.get office.people q)
-                (not_out _ stays)
+                (not-false _ stays)
           ] refl
     ]
     ∙ sym (get-settled office q))

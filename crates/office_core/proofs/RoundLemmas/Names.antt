@@ -18,10 +18,12 @@ use Rattle.std.proofs.lemmas.List.{take_more, length-take-le, get_or-take}
 use Rattle.std.proofs.lemmas.List.Quantifiers.{position-Some}
 use Rattle.std.proofs.lemmas.List.Sums.{position_or_len_is}
 use Rattle.std.proofs.lemmas.Option.{slice_get-get_or}
+use Rattle.office_lists.proofs.Leavers.{position-push}
 use Rattle.room_types.specs.Texts.{Text, TextMap, text_cmp, text_eq}
 use Rattle.room_types.specs.TextMaps.{text_cases, differ}
+use Rattle.room_types.proofs.Options.{none_if_not_some}
 use Rattle.office_core.specs.Round.{number_in}
-use Rattle.office_core.proofs.Truths.{none_if_not_some, text_eq-same}
+use Rattle.office_core.proofs.Truths.{text_eq-same}
 
 pub same-text_eq : (a b : Text) → text_eq a b ≡ true → a ≡ b
 same-text_eq a b e = same_text a b (sym e)
@@ -59,30 +61,6 @@ module _ {X : Type 0} (p : X → Bool) where
             ∙ elim (nat_lt n m) as (λ b. cond b (Some (1 + n)) None
             ≡ option_map (λ k. 1 + k) (cond b (Some n) None)) [ true ↦ refl | false ↦ refl ]
       ]
-
-  pub position-push : (xs : List X) (x : X)
-      → position p (xs ++ x ∷ []) ≡ option_or (position p xs) (cond (p x) (Some (length xs)) None)
-  position-push [] x = position-cons x []
-  position-push (y ∷ ys) x =
-      position-cons y (ys ++ x ∷ [])
-      ∙ ap (λ o. cond (p y) (Some 0) (option_map (λ n. 1 + n) o)) (position-push ys x)
-      ∙ elim (p y) as (λ b. cond b (Some 0)
-      (option_map (λ n. 1 + n) (option_or (position p ys) (cond (p x) (Some (length ys)) None)))
-      ≡ option_or (cond b (Some 0) (option_map (λ n. 1 + n) (position p ys)))
-      (cond (p x) (Some (suc (length ys))) None)) [
-        | true ↦ refl
-        | false ↦ elim (position p ys) as
-            (λ o. option_map (λ n. 1 + n) (option_or o (cond (p x) (Some (length ys)) None))
-            ≡ option_or (option_map (λ n. 1 + n) o) (cond (p x) (Some (suc (length ys))) None)) [
-              | None ↦ elim (p x) as (λ b. option_map (λ n. 1 + n) (cond b (Some (length ys)) None)
-                  ≡ cond b (Some (suc (length ys))) None) [
-                    | true ↦ ap (λ n. Some n) (omega arith)
-                    | false ↦ refl
-                  ]
-              | Some k ↦ refl
-            ]
-      ]
-      ∙ ap (λ o. option_or o (cond (p x) (Some (suc (length ys))) None)) (sym (position-cons y ys))
 
 -- a name of its own after the others has the next number
 pub number_in-push_fresh : (names : List Text) (name q : Text) → number_in names name ≡ None

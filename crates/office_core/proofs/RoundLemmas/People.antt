@@ -18,7 +18,8 @@ use Rattle.std.proofs.lemmas.List.Sorted.{list_any-IsPermutation}
 use Rattle.std.proofs.lemmas.Map.Keys.{Less-from_sorted, IsDistinct-IsPermutation}
 use Rattle.std.proofs.lemmas.Map.Made.{AllPairs-from_IsDistinct, IsDistinct-from_AllPairs}
 use Rattle.room_types.specs.Texts.{Text, text_cmp, text_eq}
-use Rattle.room_types.specs.TextMaps.{exact_texts, first_holds, second_holds}
+use Rattle.room_types.specs.TextMaps.{exact_texts, first_holds, second_holds, less_from_test}
+use Rattle.room_types.proofs.Options.{some_of}
 use Rattle.draw_order.specs.Draw.{Lot, IsDrawnOrder}
 use Rattle.draw_order.proofs.DrawnOrders.{one_drawn_order}
 use Rattle.office_core.specs.Office.{has_withdrawn, participants}
@@ -26,7 +27,6 @@ use Rattle.office_core.specs.Round.{is_participant, word_of, lots_of, round_peop
 use Rattle.office_core.specs.Round.{is_kept_back, number_in}
 use Rattle.office_core.specs.declared.office.Office.{Office}
 use Rattle.office_core.proofs.RoundLemmas.Names.{text_eq-tied, position-cons}
-use Rattle.office_core.proofs.Truths.{less_T}
 
 module _ {X : Type 0} (test : Text × X → Bool) where
   below_kept : (x : Text) (es : List (Text × X)) → T (below_all text_cmp x es)
@@ -36,7 +36,7 @@ module _ {X : Type 0} (test : Text × X → Bool) where
       elim (test e) as (λ b. AllByRecursion (λ y. text_cmp x y ≡ Less)
       (map (λ e. e.0) (cond b (e ∷ filter test es) (filter test es)))) [
         | true ↦ (
-          less_T (text_cmp x e.0) (first_holds _ _ below),
+          less_from_test (text_cmp x e.0) (first_holds _ _ below),
           below_kept x es
               (second_holds _ _ below),
         )
@@ -165,10 +165,6 @@ pub participant_number : (office : Office) (person : Text)
     → is_some (number_in (round_people office) person) ≡ is_participant office person
 participant_number office person =
     is_some-number_in (round_people office) person ∙ people_hold office person
-
-pub some_of : {X : Type 0} (o : Option X) → is_some o ≡ true → (x : X) × (o ≡ Some x)
-some_of None e = cc
-some_of (Some x) e = (x, refl)
 
 pub number_of_participant : (office : Office) (person : Text) → is_participant office person ≡ true
     → (n : ℕ) × (number_in (round_people office) person ≡ Some n)

@@ -1,5 +1,5 @@
 -- A map put together from its entries, one by one in ascending order.
-use Rattle.std.proofs.Common.{◌≡◌, true, false, cond, List, [], ◌∷◌, Option, Some, None, refl, sym}
+use Rattle.std.proofs.Common.{◌≡◌, true, false, cond, List, [], ◌∷◌, Some, None, refl, sym}
 use Rattle.std.proofs.Common.{ap, ◌∙◌, T}
 use Rattle.std.specs.declared.cmp.Ordering.{Ordering}
 use Rattle.std.specs.declared.cmp.Ordering.TheVariants.{Less, Equal, Greater}
@@ -12,6 +12,7 @@ use Rattle.std.specs.FinMap.{same_map}
 use Rattle.std.specs.FinMap.Entries.{below_all}
 use Rattle.room_types.specs.Texts.{Text, TextMap, text_cmp}
 use Rattle.room_types.specs.TextMaps.{exact_texts, first_holds, second_holds}
+use Rattle.room_types.proofs.Options.{option_or-none}
 use Rattle.office_core.specs.Puts.{with_all}
 use Rattle.office_core.proofs.Truths.{tied}
 
@@ -46,15 +47,11 @@ get-with_all (e ∷ es) m q sorted =
       | false ↦ λ t. refl
     ] refl
 
-or_none : {X : Type 0} (o : Option X) → option_or o None ≡ o
-or_none None = refl
-or_none (Some x) = refl
-
 -- the entries of a map, put one by one into the empty map, are the map
 pub with_all-entries : {X : Type 0} (m : TextMap X) → with_all maps.empty (maps.entries m) ≡ m
 with_all-entries m =
     same_map nat_list_cmp_total exact_texts (with_all maps.empty (maps.entries m)) m (λ q.
     get-with_all (maps.entries m) maps.empty q (entries_sorted m)
     ∙ ap (λ o. option_or (find text_cmp q (maps.entries m)) o) (get-empty text_cmp q)
-    ∙ or_none (find text_cmp q (maps.entries m))
+    ∙ option_or-none (find text_cmp q (maps.entries m))
     ∙ sym (get-entries m q))

@@ -1,9 +1,9 @@
 -- The rooms that participants get: open ones, not those of people who have withdrawn, and none of
 -- them twice.
-use Rattle.std.proofs.Common.{◌≡◌, ◌≢◌, ℕ, ◌+◌, ◌<◌, Bool, true, false, not, ◌&&◌, ◌||◌, List, []}
+use Rattle.std.proofs.Common.{◌≡◌, ℕ, ◌+◌, ◌<◌, Bool, true, false, not, ◌&&◌, ◌||◌, List, []}
 use Rattle.std.proofs.Common.{◌∷◌, length, get_or, map as map_list, Some, None, cond, refl, ap, ◌∙◌}
 use Rattle.std.proofs.Common.{sym, subst, inl, inr, arith, T}
-use Rattle.std.specs.Prelude.{unwrap_or, ◌==◌}
+use Rattle.std.specs.Prelude.{unwrap_or}
 use Rattle.std.specs.Option.{is_some, is_none, option_and_then}
 use Rattle.std.specs.List.{All, filter, list_any}
 use Rattle.std.specs.Ordering.{eq_by_cmp, is_eq, ordering_reverse}
@@ -11,9 +11,11 @@ use Rattle.std.specs.Cmp.{tied_itself}
 use Rattle.std.specs.Cmp.Lexicographic.{nat_list_cmp_total}
 use Rattle.std.specs.FinMap as map
 use Rattle.std.specs.FinMap.{find, is_sorted, get-entries, entries_sorted}
-use Rattle.std.proofs.lemmas.List.Elements.{All-nil, All-cons, All-head, All-tail, All-map}
+use Rattle.std.proofs.lemmas.List.Elements.{All-nil, All-cons, All-map}
 use Rattle.std.proofs.lemmas.List.Elements.{All-filter, All-get_or, filter_passes}
 use Rattle.std.proofs.lemmas.Option.{slice_get-get_or}
+use Rattle.std.proofs.lemmas.List.Folds.{list_any_none}
+use Rattle.std.proofs.lemmas.Bool.{or_parts}
 use Rattle.room_types.specs.Texts.{Text, text_cmp}
 use Rattle.room_types.specs.TextMaps.{text_cases, first_holds, second_holds}
 use Rattle.trade_line.specs.Market.{Market, IsMarket, home, list_of}
@@ -33,6 +35,7 @@ use Rattle.office_core.proofs.RoundLemmas.People.{is_some-number_in}
 use Rattle.office_core.proofs.OfficeLemmas.People.{found_above, held-is_text}
 use Rattle.office_core.proofs.RoundLemmas.Problem.{market_people, market_rooms, market_home}
 use Rattle.office_core.proofs.Truths.{text_eq-same}
+use Rattle.office_core.proofs.RoundLemmas.Ranks.{result-numbered, within}
 
 -- each entry is what is found at its key
 pub found_each : {X : Type 0} (P : Text → X → Type 0) (es : List (Text × X))
@@ -103,23 +106,13 @@ module _ {X : Type 0} (test : Text × X → Bool) where
             ]
       ] refl h
 
-none_any : {X : Type 0} (test : X → Bool) (xs : List X) → All (λ x. test x ≡ false) xs
-    → list_any test xs ≡ false
-none_any test [] h = refl
-none_any test (x ∷ xs) h = ap (λ b. b || list_any test xs) (All-head (λ x. test x ≡ false) x xs h)
-    ∙ none_any test xs (All-tail (λ x. test x ≡ false) x xs h)
-
-none_either : (a b : Bool) → (a || b) ≡ false → (a ≡ false) × (b ≡ false)
-none_either true b h = cc
-none_either false b h = (refl, h)
-
 kept_false : (left : Text → Bool) (lives : Person → Bool) (es : List (Text × Person)) (q : Text)
     (v : Person) → list_any (λ e. left e.0 && lives e.1) es ≡ false → find text_cmp q es ≡ Some v
     → (left q && lives v) ≡ false
 kept_false left lives [] q v none h = cc
 kept_false left lives (e ∷ es) q v none h =
     let parts =
-    none_either (left e.0 && lives e.1) (list_any (λ x. left x.0 && lives x.1) es) none in
+    or_parts (left e.0 && lives e.1) (list_any (λ x. left x.0 && lives x.1) es) none in
     elim (eq_by_cmp text_cmp q e.0) as
     (λ b. eq_by_cmp text_cmp q e.0 ≡ b → cond b (Some e.1) (find text_cmp q es) ≡ Some v
     → (left q && lives v) ≡ false) [
@@ -148,7 +141,7 @@ home_free : (office : Office) (person room : Text) → IsRegister office.rooms o
     → has_withdrawn office person ≡ false → home_of office person ≡ Some room
     → is_kept_back office room ≡ false
 home_free office person room l stays lives =
-    none_any (λ e. has_withdrawn office e.0 && lives_in room e.1) (map.entries office.people)
+    list_any_none (λ e. has_withdrawn office e.0 && lives_in room e.1) (map.entries office.people)
     (found_each (λ q v. (has_withdrawn office q && lives_in room v) ≡ false)
     (map.entries office.people) (entries_sorted office.people) (λ q v h.
     elim (has_withdrawn office q) as
@@ -195,17 +188,6 @@ pub record IsGiven (office : Office) (person room : Text) : Type 0 where
   pub is_room : get_or (round_rooms office) room_number [] ≡ room
 
 module _ (office : Office) (ok : IsMarket (round_market office)) where
-  within : (person : Text) (n : ℕ) → number_in (round_people office) person ≡ Some n
-      → n < (round_market office).people
-  within person n e = subst (λ k. n < k) (sym (market_people office))
-      (number_in-below (round_people office) person n e)
-
-  result_at : (person : Text) (n : ℕ) → number_in (round_people office) person ≡ Some n
-      → result_of office person ≡ round_room office (gets (round_market office) n)
-  unfolding result_of
-  result_at person n e =
-      ap (option_and_then (λ number. round_room office (gets (round_market office) number))) e
-
   room_at : (n r : ℕ) → n < (round_market office).people → gets (round_market office) n ≡ Some r
       → (r < length (round_rooms office))
       × (round_room office (Some r) ≡ Some (get_or (round_rooms office) r []))
@@ -224,7 +206,7 @@ module _ (office : Office) (ok : IsMarket (round_market office)) where
       → IsGiven office person room) [
         | None ↦ λ _ none. absurd (cc)
         | Some r ↦ λ got named.
-            let at = room_at numbered.0 r (within person numbered.0 numbered.1) got in
+            let at = room_at numbered.0 r (within office ok person numbered.0 numbered.1) got in
             record {
               person_number = numbered.0;
               room_number = r;
@@ -233,7 +215,7 @@ module _ (office : Office) (ok : IsMarket (round_market office)) where
               is_below = at.0;
               is_room = ap (λ o. unwrap_or o (get_or (round_rooms office) r [])) (sym at.1 ∙ named);
             }
-      ] refl (sym (result_at person numbered.0 numbered.1) ∙ result_is)
+      ] refl (sym (result-numbered office ok person numbered.0 numbered.1) ∙ result_is)
 
   -- it is a room of the round
   pub given_numbered : (person room : Text) → is_participant office person ≡ true
@@ -268,8 +250,8 @@ module _ (office : Office) (ok : IsMarket (round_market office)) where
       ∙ number_in-at (round_rooms office) b.room_number [] (rooms_differ office) b.is_below) in
       let same_person : a.person_number ≡ b.person_number =
       (gets_assignment (round_market office) ok).differ a.person_number b.person_number
-      a.room_number (within p a.person_number a.is_person)
-      (within q b.person_number b.is_person)
+      a.room_number (within office ok p a.person_number a.is_person)
+      (within office ok q b.person_number b.is_person)
       a.is_got (b.is_got ∙ ap (λ r. Some r) (sym same_room)) in
       sym (number_in-name (round_people office) p a.person_number [] a.is_person)
       ∙ ap (λ n. get_or (round_people office) n []) same_person
@@ -307,7 +289,7 @@ tenant_gets office ok person room l part lives none =
     ∙ ap (round_home office) (number_in-name (round_people office) person n [] numbered.1)
     ∙ ap (option_and_then (number_in (round_rooms office))) lives in
     let nothing : round_room office (gets (round_market office) n) ≡ None =
-    sym (result_at office ok person n numbered.1) ∙ none in
+    sym (result-numbered office ok person n numbered.1) ∙ none in
     elim (number_in (round_rooms office) room) as
     (λ o. number_in (round_rooms office) room ≡ o → is_some o ≡ true → ⊥) [
       | None ↦ λ _ h. cc

@@ -15,6 +15,7 @@ use Rattle.std.specs.FinMap.{nat_cmp-IsAntisymmetric}
 use Rattle.std.proofs.lemmas.List.Elements.{All-map, All-filter, filter_passes, recursion_from_All}
 use Rattle.std.proofs.lemmas.List.{length-map}
 use Rattle.std.proofs.lemmas.List.Kept.{AllPairs-filter, AllPairs-cons}
+use Rattle.std.proofs.lemmas.Bool.{and_parts}
 use Rattle.room_types.specs.Texts.{Text, TextMap, text_cmp}
 use Rattle.room_types.specs.TextMaps.{text_cases, get-put_same, get-put_other}
 use Rattle.room_types.specs.TextMaps.{contains_key-put_same}
@@ -25,11 +26,11 @@ use Rattle.office_lists.specs.Waves.{Mover, NewRoomsDiffer}
 use Rattle.office_core.specs.Office.Invariants.{IsRegister, Unshared}
 use Rattle.office_core.specs.Office.Limits.{people_limit}
 use Rattle.office_core.specs.Office.Moves.{RoundMap, moves_of, with_move}
-use Rattle.office_core.specs.Office.{home_of, has_withdrawn, participants, knows_person}
+use Rattle.office_core.specs.Office.{home_of, has_withdrawn, participants, knows_person, is_same_text}
 use Rattle.office_core.specs.Office.{recorded_result}
 use Rattle.office_core.specs.Round.{is_participant, round_market, round_results, result_of}
 use Rattle.office_core.specs.Round.{is_kept_back}
-use Rattle.office_core.specs.Round.Settlement.{is_same_home, moves_out, movers, moves_with}
+use Rattle.office_core.specs.Round.Settlement.{moves_out, movers, moves_with}
 use Rattle.office_core.specs.Round.Settlement.{settled_people, with_moves}
 use Rattle.office_core.specs.declared.office.moves.Moved.{Moved}
 use Rattle.office_core.specs.declared.office.moves.RoundMoves.{RoundMoves}
@@ -43,17 +44,10 @@ use Rattle.office_core.proofs.RoundLemmas.Results.{get-round_results}
 use Rattle.office_core.proofs.RoundLemmas.Rooms.{found_each, given_open, given_once, not_kept_back}
 use Rattle.office_core.proofs.RoundLemmas.Rooms.{tenant_gets}
 use Rattle.office_core.proofs.RoundLemmas.Settling.{AreFresh, LeadTo, moves_of-with_move}
-
--- the moves kept for a round
-abbrev kept_by : Option RoundMoves → TextMap Moved
-kept_by kept = unwrap_or (option_map (λ (k : RoundMoves). k.by_person) kept) map.empty
+use Rattle.office_core.proofs.OfficeLemmas.Moves.{kept_moves}
 
 abbrev Some_home : Person → Option Text
 Some_home v = v.home
-
-first_part : (a b : Bool) → (a && b) ≡ true → a ≡ true
-first_part true b h = refl
-first_part false b h = cc
 
 gone_then : (a b : Bool) → a ≡ true → (a && not b) ≡ false → b ≡ true
 gone_then true true e h = refl
@@ -99,11 +93,11 @@ module _ (office : Office) (l : IsRegister office.rooms office.people)
       → is_some (recorded_result office p) ≡ true
   goes p part out =
       elim (recorded_result office p) as
-      (λ o. recorded_result office p ≡ o → not (is_same_home (home_of office p) o) ≡ true
+      (λ o. recorded_result office p ≡ o → not (is_same_text (home_of office p) o) ≡ true
       → is_some o ≡ true) [
         | Some room ↦ λ _ _. refl
         | None ↦ λ nothing moves. elim (home_of office p) as
-            (λ o. home_of office p ≡ o → not (is_same_home o None) ≡ true → false ≡ true) [
+            (λ o. home_of office p ≡ o → not (is_same_text o None) ≡ true → false ≡ true) [
               | None ↦ λ _ stays. stays
               | Some room ↦ λ lives _. absurd
                   (tenant_gets office ok p room l part lives (sym (recorded_is p part) ∙ nothing))
@@ -140,7 +134,7 @@ module _ (office : Office) (l : IsRegister office.rooms office.people)
       (λ k d b room e. comes _ (moving k d b).0 room e))
     where
       known : (p : Text) → is_participant office p ≡ true → knows_person office p ≡ true
-      known p part = first_part (knows_person office p) (not (has_withdrawn office p)) part
+      known p part = (and_parts (knows_person office p) (not (has_withdrawn office p)) part).0
 
       comes : (p : Text) → is_participant office p ≡ true → (room : Text)
           → recorded_result office p ≡ Some room
@@ -298,7 +292,7 @@ with_move-keeps ok moves move l fine goes =
           ] (sym (get-insert nat_cmp_total moves move.round kept_now round) ∙ h);
       arrived =
           λ round p moved h. elim (nat_cmp round move.round) as (λ o. nat_cmp round move.round ≡ o
-          → map.get (kept_by (cond (is_eq o) (Some kept_now) (map.get moves round))) p ≡ Some moved
+          → map.get (kept_moves (cond (is_eq o) (Some kept_now) (map.get moves round))) p ≡ Some moved
           → is_some moved.to ≡ true) [
             | Less ↦ λ _ there. l.arrived round p moved there
             | Equal ↦ λ ties here. elim (text_cases p move.person) as
@@ -314,7 +308,7 @@ with_move-keeps ok moves move l fine goes =
                       ∙ here)
                 ]
             | Greater ↦ λ _ there. l.arrived round p moved there
-          ] refl (ap (λ o. map.get (kept_by o) p)
+          ] refl (ap (λ o. map.get (kept_moves o) p)
           (sym (get-insert nat_cmp_total moves move.round kept_now round)) ∙ h);
     }
 

@@ -7,11 +7,11 @@ use Rattle.office_core.specs.Office.Phases.{has_results}
 use Rattle.office_core.specs.Round.{is_participant, result_of, round_rank}
 use Rattle.office_core.specs.Round.Laws.{IsWellTraded}
 use Rattle.office_core.specs.declared.office.Office.{Office}
-use Rattle.office_core.proofs.RoundLemmas.Results.{rational, efficient}
 use Rattle.office_core.proofs.RoundLemmas.Apart.{apart}
 use Rattle.office_core.proofs.RoundLemmas.Problem.{lawful-IsMarket}
 use Rattle.office_core.proofs.RoundLemmas.Rooms.{given_numbered, given_once}
 use Rattle.office_core.proofs.RoundLemmas.Settled.{recorded_is}
+use Rattle.office_core.proofs.RoundLemmas.Ranks.{rational, efficient}
 
 pub traded : (office : Office) → IsLawful office → IsWellTraded office (result_of office)
 traded office l = record {

@@ -11,13 +11,13 @@ use Rattle.std.specs.FinMap as map
 use Rattle.std.specs.FinMap.{find, entries_sorted, get-entries, get-empty}
 use Rattle.std.specs.FinMap.Entries.{below_all, is_sorted}
 use Rattle.room_types.specs.Texts.{Text, TextMap, text_cmp}
-use Rattle.room_types.specs.TextMaps.{exact_texts, contains_key-put, contains_key-put_same, text_cases, differ, first_holds, second_holds, get-put_other}
+use Rattle.room_types.specs.TextMaps.{exact_texts, contains_key-put, contains_key-put_same, text_cases, differ, first_holds, second_holds, get-put_other, less_from_test}
 use Rattle.office_core.specs.Office.Invariants.{Unshared}
 use Rattle.office_core.specs.Soundness.{differ_from}
 use Rattle.office_core.specs.declared.office.person.Person.{Person}
 use Rattle.room_types.proofs.MapEntries.{each_weaker, entries_found, each-find, later}
 use Rattle.office_core.proofs.OfficeLemmas.People.{found_above}
-use Rattle.office_core.proofs.Truths.{less_T, then_some}
+use Rattle.office_core.proofs.Truths.{then_some}
 
 module _ (which : Person → Option Text) where
   -- nobody of these has this
@@ -135,7 +135,7 @@ module _ (which : Person → Option Text) where
     λ other.
         let here : find text_cmp e.0 (e ∷ es) ≡ Some e.1 = ap (λ t. cond (is_eq t) (Some e.1) (find text_cmp e.0 es)) (tied_itself nat_list_cmp_total e.0) in
         let same : f.0 ≡ e.0 = apart f.0 e.0 text f.1 e.1 (later_found e es below f.0 f.1 found.0) here other has in
-        differ f.0 e.0 same (later nat_list_cmp_total e.0 f.0 (less_T _ (first_holds _ _ under))),
+        differ f.0 e.0 same (later nat_list_cmp_total e.0 f.0 (less_from_test _ (first_holds _ _ under))),
     without e es fs below apart text has (second_holds _ _ under) found.1,
   )
 

@@ -1,15 +1,15 @@
 -- Each law, by the tests that show it.
 use Rattle.std.proofs.Common.{◌≡◌, ℕ, Bool, true, false, not, ◌||◌, ◌&&◌, List, [], ◌∷◌, length, Option, Some, None, refl, ap, ◌∙◌, sym, inl, inr}
-use Rattle.std.specs.Prelude.{nat_le, unwrap_or, eqb}
+use Rattle.std.specs.Prelude.{nat_le, eqb}
 use Rattle.std.specs.Bool.{Decides}
 use Rattle.std.specs.Cmp.Derive.{both_true}
 use Rattle.std.specs.List.{All, list_all}
-use Rattle.std.specs.Option.{is_some, option_and_then, option_map}
+use Rattle.std.specs.Option.{is_some, option_and_then}
 use Rattle.std.specs.Cmp.{nat_cmp_total}
-use Rattle.std.specs.Cmp.Lexicographic.{nat_list_cmp_total, same_text}
+use Rattle.std.specs.Cmp.Lexicographic.{nat_list_cmp_total}
 use Rattle.std.specs.FinMap as map
 use Rattle.std.specs.FinMap.{get-empty, len-empty, empty_of_len, same_map, nat_cmp-IsAntisymmetric}
-use Rattle.std.proofs.lemmas.Bool.{leb-true, le-leb, eq-eqb}
+use Rattle.std.proofs.lemmas.Bool.{leb-true, le-leb, eq-eqb, and_parts, both_ways}
 use Rattle.std.proofs.lemmas.Bool.Decides.{eqb_tells}
 use Rattle.std.proofs.lemmas.List.Elements.{recursion_from_All, All-from_recursion}
 use Rattle.room_types.specs.Choices.{IsChoices}
@@ -18,16 +18,19 @@ use Rattle.room_types.specs.Repeats.{first_repeated}
 use Rattle.room_types.specs.Texts.{Text, TextMap, text_cmp}
 use Rattle.room_types.specs.TextMaps.{exact_texts}
 use Rattle.office_core.specs.Office.Moves.{moves_of}
-use Rattle.office_core.specs.Office.{had_by, is_over}
+use Rattle.office_core.specs.Office.{had_by, is_over, is_same_text}
 use Rattle.office_core.specs.Empty.{is_empty}
-use Rattle.office_core.specs.Soundness.{is_home_open, is_unshut, is_choices, is_kept_list, is_same_text, is_given, is_kept_round}
+use Rattle.office_core.specs.Soundness.{is_home_open, is_unshut, is_choices, is_kept_list, is_given, is_kept_round}
 use Rattle.office_core.specs.declared.office.moves.Moved.{Moved}
 use Rattle.office_core.specs.declared.office.moves.RoundMoves.{RoundMoves}
 use Rattle.office_core.specs.declared.office.Assigned.{Assigned}
 use Rattle.office_core.specs.declared.office.Office.{Office}
 use Rattle.office_core.specs.declared.office.person.Person.{Person}
-use Rattle.room_types.proofs.MapEntries.{all_keys, keys_all, parts_true, all_true, true_all}
+use Rattle.room_types.proofs.MapEntries.{all_keys, keys_all, all_true, true_all}
+use Rattle.room_types.proofs.Options.{some_of}
 use Rattle.office_core.proofs.Truths.{then_some, text_eq-same}
+use Rattle.office_core.proofs.OfficeLemmas.Moves.{kept_moves}
+use Rattle.office_core.proofs.OfficeLemmas.People.{same_optional}
 
 pub never : {P : Type 0} → (P → ⊥) → Decides false P
 never f = (λ e. absurd (cc), λ p. absurd (f p))
@@ -35,19 +38,12 @@ never f = (λ e. absurd (cc), λ p. absurd (f p))
 pub as_well : {P Q : Type 0} (b : Bool) → (P → Q) → (Q → P) → Decides b P → Decides b Q
 as_well b f g d = (λ e. f (d.0 e), λ q. d.1 (g q))
 
-known_at : {X : Type 0} (o : Option X) → is_some o ≡ true → (x : X) × (o ≡ Some x)
-known_at None e = cc
-known_at (Some x) e = (x, refl)
-
-pub false_true : (b : Bool) → b ≡ false → b ≡ true → ⊥
-false_true b e f = cc
-
 -- a map has no entries where it is the empty one
 pub empty-decides : {X : Type 0} (m : TextMap X) → Decides (eqb (map.len m) 0) (m ≡ map.empty)
 empty-decides {X} m = (
   λ e. elim (eqb_tells (map.len m) 0) as (λ _. m ≡ map.empty) [
     | inl same ↦ empty_of_len m same.1
-    | inr differs ↦ absurd (false_true _ differs.0 e)
+    | inr differs ↦ absurd (both_ways _ differs.0 e)
   ],
   λ e. eq-eqb (map.len m) 0 (ap map.len e ∙ len-empty text_cmp X),
 )
@@ -56,7 +52,7 @@ empty-decides {X} m = (
 module _ {X Y : Type 0} (m : TextMap X) (n : TextMap Y) where
   pub keys_known-decides : Decides (list_all (λ (e : Text × X). map.contains_key n e.0) (map.entries m)) ((p : Text) → map.contains_key m p ≡ true → map.contains_key n p ≡ true)
   keys_known-decides = (
-    λ e p h. let found = known_at (map.get m p) h in all_keys nat_list_cmp_total exact_texts (λ k v. map.contains_key n k) m e p found.0 found.1,
+    λ e p h. let found = some_of (map.get m p) h in all_keys nat_list_cmp_total exact_texts (λ k v. map.contains_key n k) m e p found.0 found.1,
     λ h. keys_all nat_list_cmp_total exact_texts (λ k v. map.contains_key n k) m (λ k v f. h k (ap is_some f)),
   )
 
@@ -97,7 +93,7 @@ none_at (Some x) e = cc
 
 pub choices_at : (codes : List Text) → is_choices codes ≡ true → IsChoices codes
 choices_at codes e =
-    let parts = parts_true (nat_le (length codes) CHOICE_LIMIT) _ e in
+    let parts = and_parts (nat_le (length codes) CHOICE_LIMIT) _ e in
     (leb-true (length codes) CHOICE_LIMIT parts.0, none_at (first_repeated [] codes) parts.1)
 
 pub at_choices : (codes : List Text) → IsChoices codes → is_choices codes ≡ true
@@ -118,9 +114,9 @@ module _ (rooms : TextMap Bool) (choices : TextMap (List Text)) where
         let test : (p : Text) (codes : List Text) → map.get choices p ≡ Some codes → is_kept_list rooms codes ≡ true = all_keys nat_list_cmp_total exact_texts (λ k codes. is_kept_list rooms codes) choices e in
         record {
           listed = λ p codes f.
-              All-from_recursion (λ code. known code ≡ true) codes (all_true known codes (parts_true (not (is_empty codes)) _ (parts_true (is_choices codes) _ (test p codes f)).1).1);
-          none_empty = λ p f. let filled : false ≡ true = (parts_true (not (is_empty {X = Text} [])) (list_all known []) (parts_true (is_choices []) (not (is_empty {X = Text} []) && list_all known []) (test p [] f)).1).0 in cc;
-          chosen = λ p codes f. choices_at codes (parts_true (is_choices codes) _ (test p codes f)).0;
+              All-from_recursion (λ code. known code ≡ true) codes (all_true known codes (and_parts (not (is_empty codes)) _ (and_parts (is_choices codes) _ (test p codes f)).1).1);
+          none_empty = λ p f. let filled : false ≡ true = (and_parts (not (is_empty {X = Text} [])) (list_all known []) (and_parts (is_choices []) (not (is_empty {X = Text} []) && list_all known []) (test p [] f)).1).0 in cc;
+          chosen = λ p codes f. choices_at codes (and_parts (is_choices codes) _ (test p codes f)).0;
         },
     λ h. keys_all nat_list_cmp_total exact_texts (λ k codes. is_kept_list rooms codes) choices (λ k codes f.
         both_true (at_choices codes (h.chosen k codes f))
@@ -140,9 +136,9 @@ module _ (people : TextMap Person) (withdrawn : TextMap (Unit {0})) (words : Tex
       → list_all (λ (e : Text × Person). map.contains_key withdrawn e.0 || map.contains_key words e.0) (map.entries people) ≡ true → WordsEach
   words-tell h k p =
       let has : map.contains_key words p ≡ true → takes_part p ≡ true =
-      λ e. let found = known_at (map.get words p) e in all_keys nat_list_cmp_total exact_texts (λ q v. takes_part q) words h p found.0 found.1 in
+      λ e. let found = some_of (map.get words p) e in all_keys nat_list_cmp_total exact_texts (λ q v. takes_part q) words h p found.0 found.1 in
       let given : map.contains_key people p ≡ true → (map.contains_key withdrawn p || map.contains_key words p) ≡ true =
-      λ e. let found = known_at (map.get people p) e in all_keys nat_list_cmp_total exact_texts (λ q v. map.contains_key withdrawn q || map.contains_key words q) people k p found.0 found.1 in
+      λ e. let found = some_of (map.get people p) e in all_keys nat_list_cmp_total exact_texts (λ q v. map.contains_key withdrawn q || map.contains_key words q) people k p found.0 found.1 in
       same (map.contains_key words p) (map.contains_key people p) (map.contains_key withdrawn p) has given
     where
       same : (w k d : Bool) → (w ≡ true → (k && not d) ≡ true) → (k ≡ true → (d || w) ≡ true) → w ≡ (k && not d)
@@ -162,13 +158,6 @@ module _ (people : TextMap Person) (withdrawn : TextMap (Unit {0})) (words : Tex
       or_else w k true e f = refl
       or_else w true false e f = e
       or_else w false false e f = cc
-
--- results
-same_optional : (a b : Option Text) → is_same_text a b ≡ true → a ≡ b
-same_optional None None e = refl
-same_optional None (Some b) e = cc
-same_optional (Some a) None e = cc
-same_optional (Some a) (Some b) e = ap (λ t. Some t) (same_text a b (sym e))
 
 itself : (a : Option Text) → is_same_text a a ≡ true
 itself None = refl
@@ -191,7 +180,7 @@ module _ (found given : TextMap Assigned) where
           | Some v ↦ λ f.
               let there : map.contains_key found q ≡ true = all_keys nat_list_cmp_total exact_texts (λ p v. map.contains_key found p) given k q v f in
               let absent : map.contains_key found q ≡ false = ap is_some none in
-              absurd (false_true _ absent there)
+              absurd (both_ways _ absent there)
         ] refl
         | Some v ↦ λ f. sym (same_given (map.get given q) v (all_keys nat_list_cmp_total exact_texts (λ p v. is_given given p v) found h q v f))
       ] refl)
@@ -204,12 +193,9 @@ module _ (found given : TextMap Assigned) where
 
 -- moves
 module _ (office : Office) where
-  abbrev kept_of : Option RoundMoves → TextMap Moved
-  kept_of o = unwrap_or (option_map (λ (kept : RoundMoves). kept.by_person) o) map.empty
-
   pub rounds_over-decides : Decides (list_all (λ (e : ℕ × RoundMoves). is_over office e.0) (map.entries office.moves)) ((round : ℕ) → map.contains_key office.moves round ≡ true → is_over office round ≡ true)
   rounds_over-decides = (
-    λ e p h. let found = known_at (map.get office.moves p) h in all_keys nat_cmp_total nat_cmp-IsAntisymmetric (λ k v. is_over office k) office.moves e p found.0 found.1,
+    λ e p h. let found = some_of (map.get office.moves p) h in all_keys nat_cmp_total nat_cmp-IsAntisymmetric (λ k v. is_over office k) office.moves e p found.0 found.1,
     λ h. keys_all nat_cmp_total nat_cmp-IsAntisymmetric (λ k v. is_over office k) office.moves (λ k v f. h k (ap is_some f)),
   )
 
@@ -233,15 +219,15 @@ module _ (office : Office) where
     λ e.
         let test : (round : ℕ) (kept : RoundMoves) → map.get office.moves round ≡ Some kept → is_kept_round kept ≡ true = all_keys nat_cmp_total nat_cmp-IsAntisymmetric (λ k v. is_kept_round v) office.moves e in
         record {
-          none_empty = λ round kept f none. not_true _ (parts_true (not (eqb (map.len kept.by_person) 0)) _ (test round kept f)).0 ((empty-decides kept.by_person).1 none);
+          none_empty = λ round kept f none. not_true _ (and_parts (not (eqb (map.len kept.by_person) 0)) _ (test round kept f)).0 ((empty-decides kept.by_person).1 none);
           arrived = λ round p moved.
-              elim (map.get office.moves round) as (λ o. map.get office.moves round ≡ o → map.get (kept_of o) p ≡ Some moved → is_some moved.to ≡ true) [
+              elim (map.get office.moves round) as (λ o. map.get office.moves round ≡ o → map.get (kept_moves o) p ≡ Some moved → is_some moved.to ≡ true) [
                 | None ↦ λ none f. absurd (nowhere p moved f)
                 | Some kept ↦ λ some f.
-                    all_keys nat_list_cmp_total exact_texts (λ k v. is_some v.to) kept.by_person (parts_true (not (eqb (map.len kept.by_person) 0)) _ (test round kept some)).1 p moved f
+                    all_keys nat_list_cmp_total exact_texts (λ k v. is_some v.to) kept.by_person (and_parts (not (eqb (map.len kept.by_person) 0)) _ (test round kept some)).1 p moved f
               ] refl;
         },
     λ h. keys_all nat_cmp_total nat_cmp-IsAntisymmetric (λ k v. is_kept_round v) office.moves (λ round kept f.
         both_true (not_at _ (λ none. h.none_empty round kept f ((empty-decides kept.by_person).0 none)))
-        (keys_all nat_list_cmp_total exact_texts (λ k v. is_some v.to) kept.by_person (λ p moved m. h.arrived round p moved (ap (λ o. map.get (kept_of o) p) f ∙ m)))),
+        (keys_all nat_list_cmp_total exact_texts (λ k v. is_some v.to) kept.by_person (λ p moved m. h.arrived round p moved (ap (λ o. map.get (kept_moves o) p) f ∙ m)))),
   )

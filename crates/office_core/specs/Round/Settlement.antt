@@ -1,5 +1,5 @@
 -- What the settlement of a round comes to: who moves, in which wave, and who lives where then.
-use Rattle.std.specs.Prelude.{ℕ, Bool, true, false, not, List, [], ◌∷◌, Option, None, Some}
+use Rattle.std.specs.Prelude.{ℕ, Bool, not, List, [], ◌∷◌}
 use Rattle.std.specs.Prelude.{if◌then◌else◌, map as map_list}
 use Rattle.std.specs.List.{filter, fold}
 use Rattle.std.specs.FinMap as map
@@ -8,21 +8,15 @@ use Rattle.room_types.specs.declared.moves.Move.{Move}
 use Rattle.room_types.specs.declared.moves.Wave.{Wave}
 use Rattle.office_lists.specs.Waves.{Mover, waves_of}
 use Rattle.office_core.specs.Office.Moves.{RoundMap, with_move}
-use Rattle.office_core.specs.Office.{is_text, home_of, participants, recorded_result}
+use Rattle.office_core.specs.Office.{is_same_text, home_of, participants, recorded_result}
 use Rattle.office_core.specs.Round.{is_participant}
 use Rattle.office_core.specs.declared.office.moves.RoundMoves.{RoundMoves}
 use Rattle.office_core.specs.declared.office.Office.{Office}
 use Rattle.office_core.specs.declared.office.person.Person.{Person}
 
--- whether two homes, or none, are the same
-abbrev pub is_same_home : Option Text → Option Text → Bool
-is_same_home None None = true
-is_same_home None (Some room) = false
-is_same_home (Some room) other = is_text other room
-
 -- whether a participant's home changes
 abbrev pub moves_out : Office → Text → Bool
-moves_out office person = not (is_same_home (home_of office person) (recorded_result office person))
+moves_out office person = not (is_same_text (home_of office person) (recorded_result office person))
 
 -- the participants whose home changes, by identifier, each with the old room and the new one
 abbrev pub movers : Office → List Mover

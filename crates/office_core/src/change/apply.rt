@@ -1,6 +1,6 @@
 //! Changes, applied to an office.
-ghost use Rattle.std.specs.Prelude.{◌≡◌, IfOk, OnOk, OnErr, true, false};
-ghost use Rattle.office_core.specs.Change.{applied, applied_all, change_takes_memory};
+ghost use Rattle.std.specs.Prelude.{◌≡◌, OnOk, OnErr, true, false};
+ghost use Rattle.office_core.specs.Change.{applied, change_takes_memory};
 ghost use Rattle.office_core.specs.Change.{with_home, with_list, without_round};
 ghost use Rattle.office_core.specs.Empty.{is_empty};
 ghost use Rattle.office_core.specs.Office.{knows_person};
@@ -46,17 +46,6 @@ pub fn apply(office: &mut Office, change: &Change) -> Result<(), OutOfMemory>
             Ok(())
         }
     }
-}
-
-/// The office after these changes, each applied in turn to a copy. Where memory is refused there is none.
-pub fn office_after(office: &Office, changes: &[Change]) -> Result<Office, OutOfMemory>
-    ensures { IfOk result (λ after. after ≡ applied_all office.now changes.now) }
-{
-    let mut after = office.copy()?;
-    for change in changes {
-        apply(&mut after, change)?;
-    }
-    Ok(after)
 }
 
 fn put_person(

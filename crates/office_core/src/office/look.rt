@@ -1,7 +1,8 @@
 //! What is read from an office.
-ghost use Rattle.std.specs.Prelude.{◌≡◌, IfOk, IsSome, OnErr, length};
+ghost use Rattle.std.specs.Prelude.{◌≡◌, ◌<◌, IfOk, IsSome, OnErr, length};
 ghost use Rattle.std.specs.Option.{option_copied};
 ghost use Rattle.office_core.specs.Office.{tenant, owner, home_of, recorded_result, is_shut, lives_in};
+ghost use Rattle.office_core.specs.Office.{is_same_text, is_text};
 ghost use Rattle.office_core.specs.Office.{has_withdrawn, participants, is_over, is_under_way, is_shown};
 
 use crate::office::Office;
@@ -97,9 +98,10 @@ impl Office {
         count
     }
 
-    /// Who has not withdrawn, by identifier.
+    /// Who has not withdrawn, by identifier. Nobody takes no memory.
     pub fn participants(&self, alloc: Global) -> Result<Vec<PersonId>, OutOfMemory>
-        ensures { IfOk result (λ people. people.items ≡ participants self.now) }
+        ensures people { IfOk result (λ people. people.items ≡ participants self.now) }
+        ensures memory { OnErr result (0 < length (participants self.now)) }
     {
         let mut people = Vec::new(alloc);
         for (id, _) in self.people.iter() {
@@ -127,8 +129,26 @@ pub(crate) fn copy_found<G: Grammar>(
 fn lives_in(person: &Person, room: &RoomCode) -> bool
     ensures { result ≡ lives_in room.now person.now }
 {
-    match &person.home {
-        Some(home) => home == room,
+    is_room(person.home.as_ref(), room)
+}
+
+/// Whether two rooms, or none, are the same.
+pub(crate) fn is_same_room(one: &Option<RoomCode>, other: &Option<RoomCode>) -> bool
+    ensures { result ≡ is_same_text one.now other.now }
+{
+    match (one, other) {
+        (None, None) => true,
+        (Some(one), Some(other)) => other == one,
+        _ => false,
+    }
+}
+
+/// Whether a room was found, and is this one.
+pub(crate) fn is_room(found: Option<&RoomCode>, room: &RoomCode) -> bool
+    ensures { result ≡ is_text (option_copied found.entry) room.now }
+{
+    match found {
+        Some(found) => found == room,
         None => false,
     }
 }

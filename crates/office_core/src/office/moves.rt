@@ -1,5 +1,5 @@
 //! The moves of all rounds.
-ghost use Rattle.std.specs.Prelude.{◌≡◌, OnOk, OnErr, IfOk, ℕ};
+ghost use Rattle.std.specs.Prelude.{◌≡◌, ◌<◌, OnOk, OnErr, IfOk, ℕ};
 ghost use Rattle.std.specs.Option.{option_copied};
 ghost use Rattle.std.specs.FinMap as map;
 ghost use Rattle.std.specs.Map.Iter.{ShowsInOrder, deref_pair};
@@ -104,13 +104,24 @@ impl<V> Rounds<V> {
     {
         self.tree.iter()
     }
+
+    // How many rounds have a value.
+    fn len(&self) -> usize
+        ensures { result ≡ map.len self.now }
+    {
+        self.tree.len()
+    }
 }
 
 impl<V: Copied> Rounds<V> {
-    /// An equal map.
+    /// An equal map. The empty one takes no memory.
     pub fn copy(&self) -> Result<Self, OutOfMemory>
-        ensures { IfOk result (λ copy. copy ≡ self.now) }
+        ensures copy { IfOk result (λ copy. copy ≡ self.now) }
+        ensures memory { OnErr result (0 < map.len self.now) }
     {
+        if self.len() == 0 {
+            return Ok(Rounds::new(self.alloc));
+        }
         let tree = self.tree.clone()?;
         Ok(Rounds {
             alloc: self.alloc,

@@ -4,10 +4,11 @@ ghost use Rattle.std.specs.Option.{option_copied, option_and_then};
 ghost use Rattle.std.specs.List.{All};
 ghost use Rattle.std.specs.FinMap as map;
 ghost use Rattle.room_types.specs.Repeats.{first_repeated};
-ghost use Rattle.office_core.specs.Office.{home_of, choices_of, is_text};
+ghost use Rattle.office_core.specs.Office.{home_of, choices_of};
 ghost use Rattle.office_core.specs.Round.{before_own};
 
 use crate::office::Office;
+use crate::office::look::is_room;
 use room_types::grammars::RoomCodes;
 use room_types::{OutOfMemory, PersonId, RoomCode, Table};
 use std::alloc::Global;
@@ -62,18 +63,9 @@ pub(crate) fn numbers_of(
 fn before_own<'a>(home: Option<&RoomCode>, codes: &'a [RoomCode]) -> &'a [RoomCode]
     ensures { result.now ≡ before_own (option_copied home.entry) codes.now }
 {
-    match codes.iter().position(|code| is_own(home, code)) {
+    match codes.iter().position(|code| is_room(home, code)) {
         Some(place) => &codes[..place],
         None => codes,
-    }
-}
-
-fn is_own(home: Option<&RoomCode>, code: &RoomCode) -> bool
-    ensures { result ≡ is_text (option_copied home.entry) code.now }
-{
-    match home {
-        Some(home) => home == code,
-        None => false,
     }
 }
 

@@ -5,13 +5,14 @@ ghost use Rattle.std.specs.List.{list_all};
 ghost use Rattle.std.specs.FinMap as map;
 ghost use Rattle.office_core.specs.Office.Invariants.{AreResults, HomesDiffer};
 ghost use Rattle.office_core.specs.Office.Phases.{has_results};
-ghost use Rattle.office_core.specs.Soundness.{is_given, is_same_text};
+ghost use Rattle.office_core.specs.Soundness.{is_given};
 
+use crate::office::look::is_same_room;
 use crate::office::phases::has_results;
 use crate::office::{Assigned, Office};
 use crate::round::round_results;
 use room_types::grammars::PersonIds;
-use room_types::{OutOfMemory, PersonId, RoomCode, Table};
+use room_types::{OutOfMemory, PersonId, Table};
 use std::alloc::Global;
 
 /// Whether results obey their laws. Where there are some, the round is run again.
@@ -49,18 +50,8 @@ fn is_given(given: &Table<PersonIds, Assigned>, person: &PersonId, found: &Assig
     ensures { result ≡ is_given given.now person.now found.now }
 {
     match given.get(person) {
-        Some(assigned) => is_same_text(&assigned.room, &found.room),
+        Some(assigned) => is_same_room(&assigned.room, &found.room),
         None => false,
-    }
-}
-
-fn is_same_text(one: &Option<RoomCode>, other: &Option<RoomCode>) -> bool
-    ensures { result ≡ is_same_text one.now other.now }
-{
-    match (one, other) {
-        (Some(one), Some(other)) => one == other,
-        (None, None) => true,
-        _ => false,
     }
 }
 

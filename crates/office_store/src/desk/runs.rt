@@ -1,5 +1,5 @@
 //! Runs of requests at a desk.
-ghost use Rattle.std.specs.Prelude.{◌≡◌, IfOk, MatchResult, OnErr};
+ghost use Rattle.std.specs.Prelude.{◌≡◌, ◌<◌, IfOk, MatchResult, OnErr, length};
 ghost use Rattle.sqlite.specs.Held.{state};
 ghost use Rattle.sqlite.specs.Steps.{over_memory};
 ghost use Rattle.office_core.specs.declared.office.Office.{Office as AnyOffice};
@@ -15,9 +15,9 @@ use sqlite::{Alter, MemStore};
 use std::alloc::{AllocError, Global};
 
 impl<S: Alter> Desk<S> {
-    /// Answers each request in turn. Memory for all answers is taken first; where it is refused, no request was
-    /// handled. Where the disk is honest, the answers are those of a run of the office that the desk shows, and then it
-    /// shows the last office of that run.
+    /// Answers each request in turn. Memory for all answers is taken first, and none for no requests; where it is
+    /// refused, no request was handled. Where the disk is honest, the answers are those of a run of the office that the
+    /// desk shows, and then it shows the last office of that run.
     pub fn handle_all(
         &mut self,
         alloc: Global,
@@ -29,6 +29,7 @@ impl<S: Alter> Desk<S> {
             × IsRun HandlesLawfully office requests.now answers.items last
             × Shows S.Store self.new last) }
         ensures refused { OnErr result (self.new ≡ self.old) }
+        ensures memory { OnErr result (0 < length requests.now) }
     {
         handle_all(alloc, self, requests)
     }
@@ -36,17 +37,18 @@ impl<S: Alter> Desk<S> {
 
 /// Answers each request in turn, over a database in memory. The answers are those of a run of the office that the desk
 /// shows, and the tables hold the last office of that run. Where memory for the answers is refused, no request was
-/// handled.
+/// handled; for no requests none is taken.
 pub fn handle_all_in_memory(
     desk: &mut Desk<MemStore>,
     alloc: Global,
     requests: &[Request],
 ) -> Result<Vec<Answer>, AllocError>
-    ensures { (office : AnyOffice) → Shows over_memory desk.old office → MatchResult result
+    ensures runs { (office : AnyOffice) → Shows over_memory desk.old office → MatchResult result
         (λ answers. (last : AnyOffice)
         × IsRun HandlesLawfully office requests.now answers.items last
         × Shows over_memory desk.new last)
         (λ _. desk.new ≡ desk.old) }
+    ensures memory { OnErr result (0 < length requests.now) }
 {
     handle_all(alloc, desk, requests)
 }

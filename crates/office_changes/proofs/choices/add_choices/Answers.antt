@@ -4,11 +4,11 @@ use Rattle.sqlite.specs.Held.{state}
 use Rattle.office_cells.specs.Spelled.{IsSpelled}
 use Rattle.office_tables.specs.Edits.{with_choice}
 use Rattle.office_tables.specs.Tables.{HasTables}
+use Rattle.office_tables.proofs.StepLemmas.{inside_then, inside_none}
 use Rattle.office_changes.specs.Choosing.{with_choices}
-use Rattle.office_tables.proofs.InsideLemmas.{inside_then}
-use Rattle.office_changes.proofs.InsideLemmas.{inside_none, next_of}
 use Rattle.office_changes.proofs.SpelledLemmas.{choice_spelled}
 use Rattle.office_changes.proofs.choices.add_choices.Goals as goal
+use Rattle.office_changes.proofs.LoopLemmas.{next_of}
 
 pub loop-room-init : goal.loop-room-init
 loop-room-init g c = record {

@@ -1,6 +1,6 @@
+use Rattle.std.proofs.lemmas.Result.{on_ok_weaker}
 use Rattle.sqlite.specs.Held.{state}
 use Rattle.office_changes.proofs.CallLemmas.{carries_choices}
-use Rattle.office_changes.proofs.CarryLemmas.{on_ok}
 use Rattle.office_changes.proofs.choices.put_choices.Goals as goal
 
 pub returns-clause-made : goal.returns-clause-made
@@ -8,7 +8,7 @@ returns-clause-made g c =
     let old = state g.S.Store c.args.tx.now.conn.now in
     let mid = state g.S.Store c.drop_choices.new.tx.conn.now in
     let new = state g.S.Store c.add_choices.new.tx.conn.now in
-    on_ok c.add_choices.result
+    on_ok_weaker c.add_choices.result
     (carries_choices old mid new c.add_choices.ensures.inside c.args.person.now c.args.choices.now
     c.in_ok-drop_choices.ensures.made)
     c.add_choices.ensures.made

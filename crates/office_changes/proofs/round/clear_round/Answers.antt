@@ -1,6 +1,6 @@
+use Rattle.std.proofs.lemmas.Result.{on_ok_weaker}
 use Rattle.sqlite.specs.Held.{state}
 use Rattle.office_changes.proofs.CallLemmas.{carries_cleared}
-use Rattle.office_changes.proofs.CarryLemmas.{on_ok}
 use Rattle.office_changes.proofs.round.clear_round.Goals as goal
 
 pub returns-clause-made : goal.returns-clause-made
@@ -10,7 +10,7 @@ returns-clause-made g c =
     let d = state g.S.Store c.clear_withdrawn.new.tx.conn.now in
     let e = state g.S.Store c.clear_words.new.tx.conn.now in
     let new = state g.S.Store c.clear_results.new.tx.conn.now in
-    on_ok c.clear_results.result
+    on_ok_weaker c.clear_results.result
     (carries_cleared old b d e new c.clear_withdrawn.ensures.inside c.clear_words.ensures.inside
     c.clear_results.ensures.inside
     c.in_ok-clear_choices.ensures.made c.in_ok-clear_withdrawn.ensures.made c.in_ok-clear_words.ensures.made)

@@ -5,9 +5,9 @@ use Rattle.office_core.specs.Change.{applied, applied_all, AllFit}
 use Rattle.office_cells.specs.Spelled.{IsSpelled}
 use Rattle.office_rows.specs.Tables.{rows_of}
 use Rattle.office_tables.specs.Tables.{HoldsOffice}
-use Rattle.office_tables.proofs.InsideLemmas.{inside_then}
-use Rattle.office_changes.proofs.InsideLemmas.{inside_none, next_of}
+use Rattle.office_tables.proofs.StepLemmas.{inside_then, inside_none}
 use Rattle.office_changes.proofs.store.make_all.Goals as goal
+use Rattle.office_changes.proofs.LoopLemmas.{next_of}
 
 pub loop-change-init : goal.loop-change-init
 loop-change-init g c = record {

@@ -1,6 +1,6 @@
+use Rattle.std.proofs.lemmas.Result.{on_ok_weaker}
 use Rattle.sqlite.specs.Held.{state}
 use Rattle.office_changes.proofs.CallLemmas.{carries_word}
-use Rattle.office_changes.proofs.CarryLemmas.{on_ok}
 use Rattle.office_changes.proofs.words.put_word.Goals as goal
 
 pub returns-clause-made : goal.returns-clause-made
@@ -8,7 +8,7 @@ returns-clause-made g c =
     let old = state g.S.Store c.args.tx.now.conn.now in
     let mid = state g.S.Store c.drop_word.new.tx.conn.now in
     let new = state g.S.Store c.add_word.new.tx.conn.now in
-    on_ok c.add_word.result
+    on_ok_weaker c.add_word.result
     (carries_word old mid new c.add_word.ensures.inside c.args.person.now c.args.word c.know_text.ensures
     c.know_word.ensures c.in_ok-drop_word.ensures.made)
     c.add_word.ensures.made

@@ -4,7 +4,7 @@ use Rattle.office_core.specs.Office.{empty_office}
 use Rattle.office_store.specs.Desk.{HandlesAt, Shows}
 use Rattle.office_store.specs.LawfulSteps.{HandlesLawfully}
 use Rattle.office_store.proofs.DeskRunLemmas.{step_in_memory}
-use Rattle.office_cli.proofs.SimulationLemmas.{rehearsal_shown}
+use Rattle.office_lines.proofs.SimulationLemmas.{rehearsal_shown}
 use Rattle.office_cli.proofs.carry_out.rehearse_anew.Goals as goal
 
 pub returns-in-Ok-clause-rehearses : goal.returns-in-Ok-clause-rehearses

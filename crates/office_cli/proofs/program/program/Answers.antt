@@ -2,7 +2,7 @@ use Rattle.std.proofs.Common.{◌≡◌, ◌∙◌, ◌<◌, ℕ, List, [], map,
 use Rattle.clap.specs.Words.{App, HasKind, Kinds, fault_of, found_of, is_simple_and_free, rows_of, subcommand_of}
 use Rattle.clap.specs.Simple.{is_simple}
 use Rattle.office_cli.specs.Usage.{usage}
-use Rattle.office_cli.specs.Understanding.{Understands}
+use Rattle.office_words.specs.Understanding.{Understands}
 use Rattle.office_cli.specs.declared.usage.Program.{Program}
 use Rattle.office_cli.proofs.ProgramLemmas.{entered_is, fault_told, line_entered, some_words, usage_is_free, usage_is_simple}
 use Rattle.office_cli.proofs.program.program.Goals as goal

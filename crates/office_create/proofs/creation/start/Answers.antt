@@ -1,7 +1,7 @@
 use Rattle.std.proofs.Common.{◌∙◌, subst, arith}
+use Rattle.std.proofs.lemmas.Result.{on_ok_weaker}
 use Rattle.sqlite.specs.State.{HasCleanDisk}
 use Rattle.sqlite.specs.Held.{state}
-use Rattle.office_core.proofs.OfficeLemmas.Moves.{on_ok}
 use Rattle.room_types.specs.declared.phase.Phase.TheVariants.{Idle}
 use Rattle.office_tables.specs.Edits.{with_first_round}
 use Rattle.office_tables.specs.Makes.{Makes}
@@ -16,7 +16,7 @@ returns-clause-made g c =
     let new = state g.S.Store c.add_round.new.tx.conn.now in
     let tables = c.in_ok-make_tables.ensures.made in
     let early : HasCleanDisk new → HasCleanDisk mid = λ clean. omega (arith, c.add_round.ensures.inside.survives.clean) in
-    on_ok {P = Makes mid new (with_first_round 0 Idle)} {Q = Starts (state g.S.Store c.args.tx.now.conn.now) new} _ (λ filled. record {
+    on_ok_weaker {P = Makes mid new (with_first_round 0 Idle)} {Q = Starts (state g.S.Store c.args.tx.now.conn.now) new} _ (λ filled. record {
       shown = λ clean none. subst (HasTables new.now) first_rows (filled.shown no_rows clean (all_empty mid.now (tables.shown (early clean) (none, tt))));
       mode = λ clean. filled.mode clean ∙ tables.mode (early clean);
     }) c.add_round.ensures.made

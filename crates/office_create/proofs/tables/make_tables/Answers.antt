@@ -1,9 +1,9 @@
 use Rattle.std.proofs.Common.{◌∙◌, [], Ok, subst, arith}
+use Rattle.office_tables.proofs.StepLemmas.{inside_then}
 use Rattle.sqlite.specs.State.{HasCleanDisk, Executes}
 use Rattle.sqlite.specs.Held.{state}
 use Rattle.office_create.specs.Stages.{table_text}
 use Rattle.office_create.proofs.CreateFacts.{next_stage}
-use Rattle.office_tables.proofs.InsideLemmas.{inside_then}
 use Rattle.office_create.proofs.tables.make_tables.Goals as goal
 
 pub loop-place-preserved : goal.loop-place-preserved

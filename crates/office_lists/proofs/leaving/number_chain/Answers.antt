@@ -1,5 +1,6 @@
-use Rattle.std.proofs.Common.{◌≡◌, ℕ, Option, refl, ◌<◌, length, Some, None, sym, ap, ◌∙◌, add-one, arith}
+use Rattle.std.proofs.Common.{◌≡◌, ◌<◌, length, Some, sym, ap, ◌∙◌, add-one, arith}
 use Rattle.std.specs.Prelude.{option_and_then}
+use Rattle.room_types.proofs.Options.{none_if_never}
 use Rattle.office_lists.specs.Waves.{next, followed}
 use Rattle.office_lists.proofs.Chains.{one_numbered, all_numbered}
 use Rattle.office_lists.proofs.leaving.number_chain.Goals as goal
@@ -16,10 +17,6 @@ loop-at-preserved c =
       here = sym (ap (λ n. followed followers n end) (add-one count) ∙ ap (option_and_then (next followers)) there);
     }
 
-none_left : (at : Option ℕ) → ((i : ℕ) → at ≡ Some i → ⊥) → at ≡ None
-none_left None h = refl
-none_left (Some i) h = absurd (h i refl)
-
 pub returns : goal.returns
 returns c =
-    all_numbered c.args.followers.now c.args.end c.args.first c.loop-at.count c.args.waves.now c.loop-at.waves c.loop-at.invariant.numbered (sym c.loop-at.invariant.here ∙ none_left c.loop-at.at c.in_default.not-Some)
+    all_numbered c.args.followers.now c.args.end c.args.first c.loop-at.count c.args.waves.now c.loop-at.waves c.loop-at.invariant.numbered (sym c.loop-at.invariant.here ∙ none_if_never c.loop-at.at c.in_default.not-Some)

@@ -1,7 +1,7 @@
-use Rattle.std.proofs.Common.{◌≡◌, ℕ, ◌+◌, ◌≤◌, true, false, not, List, length, Option, None, Some, refl, sym, ap, ◌∙◌, subst, arith}
-use Rattle.std.specs.Option.{is_some}
+use Rattle.std.proofs.Common.{◌≡◌, ℕ, ◌+◌, ◌≤◌, not, List, length, Option, None, Some, sym, ap, ◌∙◌, subst, arith}
 use Rattle.std.proofs.lemmas.List.{with_items_is}
 use Rattle.room_types.specs.declared.moves.Wave.{Wave}
+use Rattle.room_types.proofs.Options.{none_if_not_some, some_of}
 use Rattle.office_lists.specs.Waves.{leavers, end_numbers, own_number, next, followed}
 use Rattle.office_lists.specs.Followers.{AreApart, AreFollowers, NumbersChain}
 use Rattle.office_lists.proofs.Following.{number-le}
@@ -9,14 +9,6 @@ use Rattle.office_lists.proofs.Chains.{AreNumberedTo, number-along, within-along
 use Rattle.office_lists.proofs.Leavers.{all_one, first_at_most_one, leavers-apart, length-leavers, are_waves, are_computed}
 use Rattle.office_lists.proofs.leaving.waves.Goals as goal
 use Rattle.office_lists.proofs.leaving.waves.Goals.{then-is_none, else-is_none}
-
-none_there : (leaver : Option ℕ) → is_some leaver ≡ false → leaver ≡ None
-none_there None e = refl
-none_there (Some i) e = cc
-
-some_there : (leaver : Option ℕ) → is_some leaver ≡ true → (i : ℕ) × (leaver ≡ Some i)
-some_there None e = cc
-some_there (Some i) e = (i, refl)
 
 same_chain : (fs gs : List (Option ℕ)) (end first own : ℕ) (old was new : List Wave) → gs ≡ fs → was ≡ old → first ≡ own → NumbersChain gs end first was new → NumbersChain fs end own old new
 same_chain fs gs end first own old was new same before number chain =
@@ -37,7 +29,7 @@ number_chain-requires-clause-short c = λ count i e.
     let fs = c.in_ok-followers.followers.items in
     let end = c.loop-end.end in
     let at : followed fs count end ≡ Some i = ap (λ l. followed l count end) (sym c.deref-then-is_none.ensures.value) ∙ e in
-    let last : next ls end ≡ None = none_there (next ls end) (c.is_none.ensures ∙ ap not c.if-is_none.true) in
+    let last : next ls end ≡ None = none_if_not_some (next ls end) (c.is_none.ensures ∙ ap not c.if-is_none.true) in
     let apart : AreApart ls = subst AreApart (sym c.loop-end.invariant.leavers) (leavers-apart c.args.entries.now c.requires.new_rooms_differ) in
     let ends = end_numbers c.args.entries.now in
     let few = number-le ends ls apart (first_at_most_one c.args.entries.now) (count + own_number ends end) i (within-along ends ls fs c.loop-end.invariant.linked count end i c.loop-end-test.true at) (number-along ends ls fs c.loop-end.invariant.linked count end i last at) in
@@ -55,7 +47,7 @@ loop-end-preserved c =
       numbered =
           elim c.if-is_none.branch [
             | then-is_none w ↦
-                let last : next ls end ≡ None = none_there (next ls end) (c.is_none.ensures ∙ ap not w.if-is_none.true) in
+                let last : next ls end ≡ None = none_if_not_some (next ls end) (c.is_none.ensures ∙ ap not w.if-is_none.true) in
                 let same = w.deref-then-is_none.ensures.value in
                 let was = w.deref_mut.ensures.value in
                 let new = w.number_chain.new.waves in
@@ -64,7 +56,7 @@ loop-end-preserved c =
                 (end_done ends ls fs c.loop-end.invariant.linked end c.loop-end.waves.items new c.loop-end.invariant.numbered last many
                 (same_chain fs w.deref-then-is_none.result.now end 1 (own_number ends end) c.loop-end.waves.items w.deref_mut.result.now new same was (sym (all_one c.args.entries.now end)) w.number_chain.ensures))
             | else-is_none w ↦
-                let more = some_there (next ls end) (c.is_none.ensures ∙ ap not w.if-is_none.false) in
+                let more = some_of (next ls end) (c.is_none.ensures ∙ ap not w.if-is_none.false) in
                 subst (λ ws. AreNumberedTo ends ls fs (end + 1) ws) (sym (ap (λ v. v.items) w.waves-is))
                 (other_done ends ls fs c.loop-end.invariant.linked end c.loop-end.waves.items c.loop-end.invariant.numbered more.0 more.1)
           ];

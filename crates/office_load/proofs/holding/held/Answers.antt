@@ -1,9 +1,10 @@
 use Rattle.std.proofs.Common.{◌≡◌, [], sym, ap, ◌∙◌, subst, true≢false}
+use Rattle.office_tables.proofs.StepLemmas.{honest_before}
 use Rattle.sqlite.specs.Effect.{Database}
 use Rattle.sqlite.specs.Held.{state}
 use Rattle.office_rows.specs.Tables.{rows_of}
 use Rattle.office_load.specs.Numbers.{HaveNumbers}
-use Rattle.office_load.proofs.FollowLemmas.{honest_before, reads_then}
+use Rattle.office_load.proofs.FollowLemmas.{reads_then}
 use Rattle.office_load.proofs.Layouts.{all_held, no_kept_lists, no_lists, shown_spelled}
 use Rattle.office_load.proofs.Listings.{some_weaker}
 use Rattle.office_load.proofs.holding.held.Goals as goal
@@ -20,7 +21,7 @@ returns-clause-held g c honest laid =
     let has_one = ap (λ (d : Database). d.schema) same_one ∙ laid.schema in
     let same_two = c.keeps_no_list.ensures.reads.same at_two has_one ∙ same_one in
     let has_two = ap (λ (d : Database). d.schema) same_two ∙ laid.schema in
-    let none = subst (λ (d : Database). d.trees 17 ≡ []) same_one ((c.in_ok-keeps_no_list.ensures.none at_two.0 has_one).0 c.if-not-branch.false) in
+    let none = subst (λ (d : Database). d.trees 14 ≡ []) same_one ((c.in_ok-keeps_no_list.ensures.none at_two.0 has_one).0 c.if-not-branch.false) in
     let numbers = subst (λ (d : Database). HaveNumbers d.trees) same_two (c.in_ok-numbers_rise.ensures.risen honest has_two c.if-not-branch-2.false) in
     some_weaker c.in_ok-found.found _ _ (λ office shown. all_held start.now (rows_of office) laid numbers none (no_kept_lists office) shown) (c.in_ok-found.ensures.shown at_one laid.schema)
 
@@ -50,5 +51,5 @@ returns-then-not-branch-clause-found g c honest office lawful spelled holds =
     let at_one = honest_before one two c.keeps_no_list.ensures.reads.follows honest in
     let same_one = c.load.ensures.same at_one holds.schema in
     let has_one = ap (λ (d : Database). d.schema) same_one ∙ holds.schema in
-    let none = subst (λ (d : Database). d.trees 17 ≡ []) (sym same_one) (no_lists start.now office holds) in
+    let none = subst (λ (d : Database). d.trees 14 ≡ []) (sym same_one) (no_lists start.now office holds) in
     absurd (true≢false (sym ((c.in_ok-keeps_no_list.ensures.none honest.0 has_one).1 none) ∙ c.if-not-branch.true))

@@ -1,8 +1,9 @@
 use Rattle.std.proofs.Common.{◌≡◌, ℕ, ◌<◌, ◌+◌, sym, ap, ◌∙◌, subst, refl, arith}
+use Rattle.office_tables.proofs.StepLemmas.{follows-refl, honest_before}
 use Rattle.sqlite.specs.Effect.{Database}
 use Rattle.sqlite.specs.Held.{state}
 use Rattle.office_load.specs.Numbers.{AreNumbered, tree_of}
-use Rattle.office_load.proofs.FollowLemmas.{follows-refl, honest_before, reads_then}
+use Rattle.office_load.proofs.FollowLemmas.{reads_then}
 use Rattle.office_load.proofs.Numbering.{next_place, numbered_if_read}
 use Rattle.office_load.proofs.numbers.numbers_rise.Goals as goal
 

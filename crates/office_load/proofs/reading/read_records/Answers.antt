@@ -1,8 +1,9 @@
 use Rattle.std.proofs.Common.{ap, ◌∙◌}
+use Rattle.office_tables.proofs.StepLemmas.{honest_before}
 use Rattle.sqlite.specs.Effect.{Database}
 use Rattle.sqlite.specs.Held.{state}
 use Rattle.office_load.proofs.Listings.{shown_before, shown_permuted}
-use Rattle.office_load.proofs.FollowLemmas.{honest_before, still_has}
+use Rattle.office_load.proofs.FollowLemmas.{still_has}
 use Rattle.office_load.proofs.reading.read_records.Goals as goal
 
 pub returns-in_default-clause-found : goal.returns-in_default-clause-found
@@ -88,8 +89,8 @@ returns-clause-shown g c honest has tables are =
       rooms = shown_permuted _ _ _ _ _ _ are.rooms first.0;
       people = shown_permuted _ _ _ _ _ _ are.people first.1;
       rounds = shown_permuted _ _ _ _ _ _ are.rounds (shown_before _ _ _ start.now one.now 6 _ same_one second.0);
-      choices = shown_permuted _ _ _ _ _ _ are.choices (shown_before _ _ _ start.now one.now 7 _ same_one second.1);
-      words = shown_permuted _ _ _ _ _ _ are.words (shown_before _ _ _ start.now two.now 10 _ same_two third.0);
-      results = shown_permuted _ _ _ _ _ _ are.results (shown_before _ _ _ start.now two.now 12 _ same_two third.1);
-      moves = shown_permuted _ _ _ _ _ _ are.moves (shown_before _ _ _ start.now three.now 15 _ same_three moves);
+      choices = shown_permuted _ _ _ _ _ _ are.choices (shown_before _ _ _ start.now one.now 16 _ same_one second.1);
+      words = shown_permuted _ _ _ _ _ _ are.words (shown_before _ _ _ start.now two.now 7 _ same_two third.0);
+      results = shown_permuted _ _ _ _ _ _ are.results (shown_before _ _ _ start.now two.now 9 _ same_two third.1);
+      moves = shown_permuted _ _ _ _ _ _ are.moves (shown_before _ _ _ start.now three.now 12 _ same_three moves);
     }

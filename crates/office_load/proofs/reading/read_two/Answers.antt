@@ -1,9 +1,9 @@
-use Rattle.std.proofs.Common.{◌≡◌, sym, ap, ◌∙◌, subst}
+use Rattle.std.proofs.Common.{sym, ap, ◌∙◌, subst}
 use Rattle.sqlite.specs.Effect.{Database}
 use Rattle.sqlite.specs.Held.{state}
 use Rattle.office_tables.specs.Holds.{Holds}
+use Rattle.office_tables.proofs.StepLemmas.{honest_before}
 use Rattle.office_load.specs.Listing.{ShowRecords}
-use Rattle.office_load.proofs.FollowLemmas.{honest_before}
 use Rattle.office_load.proofs.reading.read_two.Goals as goal
 
 pub returns-in_default-clause-found : goal.returns-in_default-clause-found

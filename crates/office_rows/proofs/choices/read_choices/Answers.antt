@@ -1,10 +1,10 @@
-use Rattle.std.proofs.Common.{◌<◌, length, sym, ap, ◌∙◌, subst}
+use Rattle.std.proofs.Common.{rules, ◌<◌, length, sym, ap, ◌∙◌, subst}
 use Rattle.std.specs.FinMap as map
 use Rattle.std.proofs.lemmas.Result.{IfOk-weaker, on_err_weaker}
 use Rattle.office_rows.specs.Rows.{AreKeptLists, choice_rows}
 use Rattle.office_rows.specs.Inner.Gathered.{gathered}
 use Rattle.office_rows.specs.Reads.{Reads}
-use Rattle.office_rows.proofs.Gathering.{fewer_moved, gathered-from, reads-none, reads-some, refused}
+use Rattle.office_rows.proofs.Gathering.{fewer_moved, gathered-from, reads-none, reads-some}
 use Rattle.office_rows.proofs.choices.read_choices.Goals as goal
 
 pub returns-in_default-clause-reads : goal.returns-in_default-clause-reads
@@ -20,9 +20,10 @@ returns-clause-reads c =
 
 pub returns-in_err-lists-clause-memory : goal.returns-in_err-lists-clause-memory
 returns-in_err-lists-clause-memory c =
-    refused c.from_residual.result
-    (fewer_moved c.args.rows.items c.sort_rows.new.rows.items c.sort_rows.ensures.moved
-    (subst (λ rows. 0 < length rows) c.as_slice.ensures.value c.in_err-lists.ensures.memory))
+    let some =
+    fewer_moved c.args.rows.items c.sort_rows.new.rows.items c.sort_rows.ensures.moved
+    (subst (λ rows. 0 < length rows) c.as_slice.ensures.value c.in_err-lists.ensures.memory) in
+    search (rules, some)
 
 pub returns-clause-memory : goal.returns-clause-memory
 returns-clause-memory c =

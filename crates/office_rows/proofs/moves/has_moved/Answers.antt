@@ -4,10 +4,10 @@ use Rattle.std.specs.FinMap as map
 use Rattle.std.specs.FinMap.{get-empty}
 use Rattle.room_types.specs.Texts.{text_cmp}
 use Rattle.office_core.specs.declared.office.moves.Moved.{Moved}
-use Rattle.office_rows.proofs.Moving.{kept_of}
+use Rattle.office_core.proofs.OfficeLemmas.Moves.{kept_moves}
 use Rattle.office_rows.proofs.moves.has_moved.Goals as goal
 
 pub returns-in-None : goal.returns-in-None
 returns-in-None c =
     let none : map.get c.args.moves.now c.args.row.now.round ≡ None = cc (c.get.ensures, c.in-None.is, c.in-None.ensures) in
-    sym (ap (λ o. map.contains_key (kept_of o) c.args.row.now.person) none ∙ ap is_some (get-empty {X = Moved} text_cmp c.args.row.now.person))
+    sym (ap (λ o. map.contains_key (kept_moves o) c.args.row.now.person) none ∙ ap is_some (get-empty {X = Moved} text_cmp c.args.row.now.person))

@@ -1,8 +1,9 @@
 use Rattle.std.proofs.Common.{Some, sym, subst, IsPermutation}
+use Rattle.room_types.proofs.Options.{none_some}
 use Rattle.office_rows.specs.Rows.{only_row}
 use Rattle.office_rows.specs.declared.records.RoundRecord.{RoundRecord}
 use Rattle.office_rows.specs.Tables.{rows_of}
-use Rattle.office_rows.proofs.Rounds.{missed, found_is}
+use Rattle.office_rows.proofs.Rounds.{found_is}
 use Rattle.office_rows.proofs.office.make_office.Goals as goal
 
 pub returns-in_default-2 : goal.returns-in_default-2
@@ -10,7 +11,7 @@ unfolding rows_of
 returns-in_default-2 c = record {
   told = tt;
   only = λ office lawful has.
-      absurd (missed _ _ c.in_default-2.is (c.in_ok-people.ensures.reads.only (record { people = office.people; withdrawn = office.withdrawn }) (record { withdrawers = lawful.lists.withdrawers }) has.people));
+      absurd (none_some _ _ c.in_default-2.is (c.in_ok-people.ensures.reads.only (record { people = office.people; withdrawn = office.withdrawn }) (record { withdrawers = lawful.lists.withdrawers }) has.people));
 }
 
 pub returns-in_default-read_round : goal.returns-in_default-read_round
@@ -19,7 +20,7 @@ returns-in_default-read_round c = record {
   told = tt;
   only = λ office lawful has.
       let round : RoundRecord = record { number = office.number; phase = office.phase } in
-      absurd (missed _ _ c.in_default-read_round.is (c.read_round.ensures.only round tt (subst (λ l. IsPermutation (only_row round) l) (sym c.as_slice.ensures.value) has.rounds)));
+      absurd (none_some _ _ c.in_default-read_round.is (c.read_round.ensures.only round tt (subst (λ l. IsPermutation (only_row round) l) (sym c.as_slice.ensures.value) has.rounds)));
 }
 
 pub returns : goal.returns

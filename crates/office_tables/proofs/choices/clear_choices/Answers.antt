@@ -1,8 +1,12 @@
+use Rattle.std.proofs.Common.{arith}
+use Rattle.std.proofs.lemmas.Result.{on_ok_weaker}
 use Rattle.sqlite.specs.Held.{state}
-use Rattle.office_core.proofs.OfficeLemmas.Moves.{on_ok}
-use Rattle.office_tables.proofs.Facts.{makes_no_choices}
+use Rattle.office_tables.proofs.ClearLemmas.{clears}
 use Rattle.office_tables.proofs.choices.clear_choices.Goals as goal
 
 pub returns-clause-made : goal.returns-clause-made
 returns-clause-made g c =
-    on_ok _ (λ ran. makes_no_choices (state g.S.Store c.args.tx.now.conn.now) (state g.S.Store c.run.new.tx.conn.now) (λ clean. ran clean)) c.run.ensures.ran
+    let old = state g.S.Store c.args.tx.now.conn.now in
+    let mid = state g.S.Store c.drop_table.new.tx.conn.now in
+    let new = state g.S.Store c.make_table.new.tx.conn.now in
+    on_ok_weaker _ (λ made. clears old mid new (λ clean. omega (arith, c.make_table.ensures.inside.survives.clean)) c.in_ok-drop_table.ensures.made made) c.make_table.ensures.made

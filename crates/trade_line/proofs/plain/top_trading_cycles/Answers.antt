@@ -1,5 +1,7 @@
-use Rattle.std.proofs.Common.{◌≡◌, ◌+◌, None, true, replicate, length, sym, ◌∙◌, ap, subst, suc, arith, refl}
+use Rattle.std.proofs.Common.{◌≡◌, ◌+◌, None, true, replicate, length, map, sym, ◌∙◌, ap, subst, suc, arith, refl}
+use Rattle.std.specs.List.{range_with_len}
 use Rattle.trade_line.specs.Market.{Market}
+use Rattle.trade_line.specs.TopTradingCycles.{gets, ttc}
 use Rattle.trade_line.specs.Inner.Plain.{remains, marked_stage, Stepped}
 use Rattle.std.proofs.lemmas.List.{length-replicate}
 use Rattle.trade_line.proofs.PlainSteps.{stepped_start, stepped_more, stepped_end}
@@ -30,7 +32,13 @@ loop-turn-preserved c = record {
       (stepped_more c.args.problem.now (remains c.loop-turn.stage) c.loop-turn.given.items c.step.new.given.items k (c.loop-turn.invariant.stepped (suc k) (omega (arith, e))) c.in_ok-next.ensures.gives);
 }
 
-pub returns : goal.returns
-returns c =
+pub returns-then-people-eq0-clause-rooms : goal.returns-then-people-eq0-clause-rooms
+unfolding ttc
+returns-then-people-eq0-clause-rooms c =
+    c.new.ensures.items ∙ ap (λ n. map (gets c.args.problem.now) (range_with_len 0 n))
+    (sym c.if-people-eq0.true ∙ c.people.ensures.count)
+
+pub returns-clause-rooms : goal.returns-clause-rooms
+returns-clause-rooms c =
     let at : 0 + c.loop-turn.turn ≡ c.args.problem.now.people = omega arith in
     stepped_end c.args.problem.now (remains c.loop-turn.stage) c.loop-turn.given.items (c.loop-turn.invariant.stepped 0 at) c.loop-turn.invariant.given_len

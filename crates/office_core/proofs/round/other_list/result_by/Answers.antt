@@ -11,9 +11,9 @@ use Rattle.trade_line.proofs.Manipulation.{list_proof}
 use Rattle.trade_line.proofs.OtherLists.{with_list_market}
 use Rattle.office_core.specs.Round.{round_market, round_people, round_list, number_in}
 use Rattle.office_core.proofs.RoundLemmas.People.{participant_number}
-use Rattle.office_core.proofs.RoundLemmas.Results.{result_by-numbered, no_gain-named}
 use Rattle.office_core.proofs.RoundLemmas.Problem.{codes_differ, fits, list-same, sole_list_fault}
 use Rattle.office_core.proofs.round.other_list.result_by.Goals as goal
+use Rattle.office_core.proofs.RoundLemmas.Ranks.{result_by-numbered, no_gain-named}
 
 pub unreachable-requires : goal.unreachable-requires
 unreachable-requires c =

@@ -1,17 +1,18 @@
 use Rattle.std.proofs.Common.{sym, ◌∙◌}
 use Rattle.std.proofs.lemmas.Bool.Decides.{Decides-at}
-use Rattle.office_core.proofs.SoundnessLemmas.LawTests.{never, as_well, false_true, keys_known-decides, lists-decides}
+use Rattle.std.proofs.lemmas.Bool.{both_ways}
+use Rattle.office_core.proofs.SoundnessLemmas.LawTests.{never, as_well, keys_known-decides, lists-decides}
 use Rattle.office_core.proofs.soundness.lists.are_lists.Goals as goal
 
 pub returns-then-not-are_choosers_known : goal.returns-then-not-are_choosers_known
 returns-then-not-are_choosers_known c =
     let office = c.args.office.now in
-    never (λ l. false_true _ (sym c.are_choosers_known.ensures ∙ c.if-not-are_choosers_known.true) ((keys_known-decides office.choices office.people).1 l.choosers))
+    never (λ l. both_ways _ (sym c.are_choosers_known.ensures ∙ c.if-not-are_choosers_known.true) ((keys_known-decides office.choices office.people).1 l.choosers))
 
 pub returns-then-not-are_lists_kept : goal.returns-then-not-are_lists_kept
 returns-then-not-are_lists_kept c =
     let office = c.args.office.now in
-    never (λ l. false_true _ (sym c.are_lists_kept.ensures ∙ c.if-not-are_lists_kept.true) ((lists-decides office.rooms office.choices).1 (record { listed = l.listed; none_empty = l.none_empty; chosen = l.chosen })))
+    never (λ l. both_ways _ (sym c.are_lists_kept.ensures ∙ c.if-not-are_lists_kept.true) ((lists-decides office.rooms office.choices).1 (record { listed = l.listed; none_empty = l.none_empty; chosen = l.chosen })))
 
 pub returns : goal.returns
 returns c =

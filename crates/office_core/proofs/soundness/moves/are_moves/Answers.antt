@@ -1,11 +1,12 @@
 use Rattle.std.proofs.Common.{sym, ◌∙◌}
 use Rattle.std.proofs.lemmas.Bool.Decides.{Decides-at}
-use Rattle.office_core.proofs.SoundnessLemmas.LawTests.{never, as_well, false_true, rounds_over-decides, rounds_kept-decides}
+use Rattle.std.proofs.lemmas.Bool.{both_ways}
+use Rattle.office_core.proofs.SoundnessLemmas.LawTests.{never, as_well, rounds_over-decides, rounds_kept-decides}
 use Rattle.office_core.proofs.soundness.moves.are_moves.Goals as goal
 
 pub returns-then-not-are_rounds_over : goal.returns-then-not-are_rounds_over
 returns-then-not-are_rounds_over c =
-    never (λ l. false_true _ (sym c.are_rounds_over.ensures ∙ c.if-not-are_rounds_over.true) ((rounds_over-decides c.args.office.now).1 l.over))
+    never (λ l. both_ways _ (sym c.are_rounds_over.ensures ∙ c.if-not-are_rounds_over.true) ((rounds_over-decides c.args.office.now).1 l.over))
 
 pub returns : goal.returns
 returns c =

@@ -1,18 +1,19 @@
 use Rattle.std.proofs.Common.{Some, sym, ◌∙◌, arith}
 use Rattle.std.proofs.lemmas.Bool.Decides.{Decides-at}
 use Rattle.std.proofs.lemmas.Result.{IfOk-weaker}
+use Rattle.std.proofs.lemmas.Bool.{both_ways}
 use Rattle.office_core.proofs.SoundnessLemmas.Differing.{differ-decides}
-use Rattle.office_core.proofs.SoundnessLemmas.LawTests.{never, as_well, false_true, homes_open-decides}
+use Rattle.office_core.proofs.SoundnessLemmas.LawTests.{never, as_well, homes_open-decides}
 use Rattle.office_core.proofs.soundness.register.is_register.Goals as goal
 
 pub returns-then-not-are_homes_open-clause-lawful : goal.returns-then-not-are_homes_open-clause-lawful
 returns-then-not-are_homes_open-clause-lawful c =
     let office = c.args.office.now in
-    never (λ l. false_true _ (sym c.are_homes_open.ensures ∙ c.if-not-are_homes_open.true) ((homes_open-decides office.rooms office.people).1 l.homes_open))
+    never (λ l. both_ways _ (sym c.are_homes_open.ensures ∙ c.if-not-are_homes_open.true) ((homes_open-decides office.rooms office.people).1 l.homes_open))
 
 pub returns-then-not-branch-clause-lawful : goal.returns-then-not-branch-clause-lawful
 returns-then-not-branch-clause-lawful c =
-    never (λ l. false_true _ (sym c.in_ok-do_keys_differ.ensures.differ ∙ c.if-not-branch.true) ((differ-decides (λ p. Some p.key) c.args.office.now.people).1 l.keys))
+    never (λ l. both_ways _ (sym c.in_ok-do_keys_differ.ensures.differ ∙ c.if-not-branch.true) ((differ-decides (λ p. Some p.key) c.args.office.now.people).1 l.keys))
 
 pub returns-clause-lawful : goal.returns-clause-lawful
 returns-clause-lawful c =

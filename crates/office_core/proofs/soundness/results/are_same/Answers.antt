@@ -1,10 +1,11 @@
 use Rattle.std.proofs.Common.{sym, ◌∙◌}
-use Rattle.office_core.proofs.SoundnessLemmas.LawTests.{never, false_true, results-tell, results-first, results-second}
+use Rattle.std.proofs.lemmas.Bool.{both_ways}
+use Rattle.office_core.proofs.SoundnessLemmas.LawTests.{never, results-tell, results-first, results-second}
 use Rattle.office_core.proofs.soundness.results.are_same.Goals as goal
 
 pub returns-then-not-are_given : goal.returns-then-not-are_given
 returns-then-not-are_given c =
-    never (λ same. false_true _ (sym c.are_given.ensures ∙ c.if-not-are_given.true) (results-first c.args.found.now c.args.given.now same))
+    never (λ same. both_ways _ (sym c.are_given.ensures ∙ c.if-not-are_given.true) (results-first c.args.found.now c.args.given.now same))
 
 pub returns : goal.returns
 returns c =

@@ -3,8 +3,9 @@ use Rattle.std.specs.Prelude.{eqb}
 use Rattle.std.specs.FinMap as map
 use Rattle.std.specs.FinMap.{len-empty, empty_of_len}
 use Rattle.std.proofs.lemmas.Bool.Decides.{Decides-at}
+use Rattle.std.proofs.lemmas.Bool.{both_ways}
 use Rattle.room_types.specs.Texts.{text_cmp}
-use Rattle.office_core.proofs.SoundnessLemmas.LawTests.{never, as_well, false_true, empty-decides}
+use Rattle.office_core.proofs.SoundnessLemmas.LawTests.{never, as_well, empty-decides}
 use Rattle.office_core.proofs.soundness.round.is_round.Goals as goal
 
 pub returns-then-len-ne0 : goal.returns-then-len-ne0
@@ -17,7 +18,7 @@ returns c =
     as_well _
     (λ none. record {
       few_rounds = omega (arith, c.if-office-gt-ROUND_LIMIT.false);
-      numbered = λ busy. absurd (false_true _ busy (sym c.is_idle.ensures ∙ c.if-not-is_idle.false));
+      numbered = λ busy. absurd (both_ways _ busy (sym c.is_idle.ensures ∙ c.if-not-is_idle.false));
       idle_choices = λ _. empty_of_len office.choices (sym c.len.ensures ∙ c.if-len-ne0.false);
       idle_withdrawn = λ _. none;
     })

@@ -1,4 +1,4 @@
-use Rattle.std.proofs.Common.{sym, subst}
+use Rattle.std.proofs.Common.{subst}
 use Rattle.office_core.specs.Office.Invariants.{IsLawful}
 use Rattle.office_store.proofs.EmptyLemmas.{spelled}
 use Rattle.office_store.proofs.desk.Desk.create.Goals as goal

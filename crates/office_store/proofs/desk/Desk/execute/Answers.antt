@@ -1,11 +1,11 @@
 use Rattle.std.proofs.Common.{◌≡◌, Some, IfSome, sym, ap, ◌∙◌, subst}
+use Rattle.office_tables.proofs.StepLemmas.{follows-refl}
 use Rattle.sqlite.specs.Held.{state}
 use Rattle.office_core.specs.Office.Invariants.{IsLawful}
-use Rattle.office_store.specs.Desk.{HandlesAt, Shows}
+use Rattle.office_store.specs.Desk.{HandlesAt}
 use Rattle.office_store.specs.declared.requests.Answer.TheVariants.{Reply, Unavailable}
 use Rattle.office_store.specs.declared.requests.Request.TheVariants.{Office as Request-Office}
 use Rattle.office_store.proofs.DeskLemmas.{answered, carried_out, shows_still, unavailable}
-use Rattle.office_load.proofs.FollowLemmas.{follows-refl}
 use Rattle.office_store.proofs.desk.Desk.execute.Goals as goal
 
 pub returns-in_default-clause-handles : goal.returns-in_default-clause-handles

@@ -1,6 +1,6 @@
-use Rattle.std.proofs.Common.{◌≡◌, ℕ, ◌<◌, ◌+◌, Some, None, length, get_or, sym, ◌∙◌, ap, arith, subst, is_some, length-set}
+use Rattle.std.proofs.Common.{false, ◌≡◌, ℕ, ◌<◌, ◌+◌, Some, None, length, get_or, sym, ◌∙◌, ap, arith, subst, is_some, length-set}
 use Rattle.trade_line.specs.Inner.Tenants.{AreHoused}
-use Rattle.trade_line.proofs.Drafts.{housed_none, housed_some, housed_shared, none_from}
+use Rattle.trade_line.proofs.Drafts.{housed_none, housed_some, housed_shared}
 use Rattle.trade_line.proofs.States.{read_same}
 use Rattle.trade_line.proofs.draft.Draft.tenants.Goals as goal
 use Rattle.trade_line.proofs.draft.Draft.tenants.Goals.{in-Some+else-is_some, in_default}
@@ -26,9 +26,9 @@ loop-person-preserved c =
           let lp : c.loop-person.person < length c.args.self.now.homes.items = omega (arith, ap length c.deref-home-items.ensures.value, c.loop-person-test.true) in
           let home_is : get_or c.args.self.now.homes.items c.loop-person.person None ≡ Some w.in-Some.room = sym (ap (λ z. get_or z c.loop-person.person None) c.deref-home-items.ensures.value) ∙ w.in-Some.is in
           let room : w.in-Some.room < length c.loop-person.tenants.items = omega (arith, c.requires.homes_known c.loop-person.person w.in-Some.room (omega (arith, c.requires.homes_len)) home_is, c.loop-person.invariant.1) in
-          let free : get_or c.loop-person.tenants.items w.in-Some.room None ≡ None =
-          none_from (get_or c.loop-person.tenants.items w.in-Some.room None)
-          (ap is_some (read_same c.loop-person.tenants.items w.in-Some.room None w.index.result.now room ∙ sym w.index.ensures) ∙ sym w.is_some.ensures ∙ w.if-is_some.false) in (
+          let unlet : is_some (get_or c.loop-person.tenants.items w.in-Some.room None) ≡ false =
+          ap is_some (read_same c.loop-person.tenants.items w.in-Some.room None w.index.result.now room ∙ sym w.index.ensures) ∙ sym w.is_some.ensures ∙ w.if-is_some.false in
+          let free : get_or c.loop-person.tenants.items w.in-Some.room None ≡ None = grind (arith, unlet) in (
             subst (λ z. AreHoused c.args.self.now.homes.items z (c.loop-person.person + 1)) (sym (ap (λ v. v.items) w.tenants-is))
                 (housed_some c.args.self.now.homes.items c.loop-person.tenants.items c.loop-person.person w.in-Some.room c.loop-person.invariant.0 home_is room free),
             ap (λ v. length v.items) w.tenants-is ∙ length-set c.loop-person.tenants.items w.in-Some.room (Some c.loop-person.person) ∙ c.loop-person.invariant.1,

@@ -2,16 +2,17 @@ use Rattle.std.proofs.Common.{◌≡◌, None, refl, ◌∙◌, sym, ap}
 use Rattle.std.specs.Ordering.{nat_cmp}
 use Rattle.std.specs.Cmp.{nat_cmp_total}
 use Rattle.std.specs.FinMap as map
+use Rattle.std.proofs.lemmas.Result.{on_ok_weaker, on_err_weaker}
 use Rattle.office_core.specs.Office.Moves.{with_move}
 use Rattle.room_types.proofs.Trees.{get-tree}
-use Rattle.office_core.proofs.OfficeLemmas.Moves.{on_ok, on_err, move-written, move-unwritten}
+use Rattle.office_core.proofs.OfficeLemmas.Moves.{move-written, move-unwritten}
 use Rattle.office_core.proofs.OfficeLemmas.Moves.{move-begun}
 use Rattle.office_core.proofs.office.moves.Rounds+RoundMoves.add.Goals as goal
 
 pub returns-in-Some-clause-ok : goal.returns-in-Some-clause-ok
 returns-in-Some-clause-ok c =
     let moves = c.in-Some.moves.now.by_person in
-    on_ok c.insert.result (λ m.
+    on_ok_weaker c.insert.result (λ m.
     move-written c.self.inside.tree
     (c.get_mut.follows.lender (record { by_person = c.insert.new.self })) c.args.moved.now.round
     c.in-Some.moves.now c.in-Some.ensures.value c.insert.new.self
@@ -26,7 +27,7 @@ returns-in-Some-clause-ok c =
 
 pub returns-in-Some-clause-err : goal.returns-in-Some-clause-err
 returns-in-Some-clause-err c =
-    on_err c.insert.result (λ m.
+    on_err_weaker c.insert.result (λ m.
     move-unwritten c.self.inside.tree
     (c.get_mut.follows.lender (record { by_person = c.insert.new.self })) c.args.moved.now.round
     c.in-Some.moves.now c.in-Some.ensures.value c.insert.new.self
@@ -35,7 +36,7 @@ returns-in-Some-clause-err c =
 
 pub returns-in-None-clause-ok : goal.returns-in-None-clause-ok
 returns-in-None-clause-ok c =
-    on_ok c.begin.result (λ m.
+    on_ok_weaker c.begin.result (λ m.
     let none : map.get c.args.self.now c.args.moved.now.round ≡ None =
     ap (λ kept. map.get kept c.args.moved.now.round) (sym c.self.view_is)
     ∙ get-tree nat_cmp_total c.self.inside.tree c.args.moved.now.round

@@ -1,4 +1,3 @@
-use Rattle.sqlite.specs.Steps.{over_memory}
 use Rattle.office_store.proofs.DeskRunLemmas.{honest_in_memory}
 use Rattle.office_store.proofs.desk.tables.Desk+MemStore.in_memory.Goals as goal
 

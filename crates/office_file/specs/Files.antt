@@ -1,0 +1,44 @@
+-- What an opening finds in the files, and why there is no desk over them.
+use Rattle.std.specs.Prelude.{◌≡◌, ◌⊎◌, [], IfErr, Result}
+use Rattle.sqlite_disk.specs.declared.Disk.{Ghosts}
+use Rattle.sqlite_store.specs.declared.store.FileStore.{FileStore}
+use Rattle.sqlite_wal.specs.Recovery.{Image}
+use Rattle.sqlite.specs.Files.{file_state}
+use Rattle.sqlite.specs.Held.{Held}
+use Rattle.sqlite.specs.Start.{FindsIn}
+use Rattle.sqlite.specs.State.{HasCleanDisk, IsLive, Opens, State}
+use Rattle.office_create.specs.Names.{NameIsTaken}
+use Rattle.office_store.specs.Desk.{DeskState}
+use Rattle.office_store.specs.declared.desk.faults.DeskFault.{DeskFault}
+use Rattle.office_store.specs.declared.desk.faults.DeskFault.TheVariants.{AlreadyThere, Unavailable}
+use Rattle.office_tables.specs.Schema.{no_schema}
+use Rattle.office_tables.specs.Steps.{Follows}
+
+-- both files were empty
+abbrev pub no_contents : Image
+no_contents = record { log = []; db = [] }
+
+-- A database as it is found by an opening: its trees are those that the file and its log held, or none where they held
+-- no database yet, its schema is the one that the trees list, and no transaction is under way.
+pub record Finds (contents : Image) (s : State) : Type 0 where
+  pub opened : Opens s
+  pub live : IsLive s
+  pub found : FindsIn contents s
+
+module _ {D : Type 0} {g : Ghosts D} (contents : Image) where
+  -- a connection just opened over files that held this, where the disk returned what they held
+  abbrev pub IsOpenedOver : Held (FileStore D g) → Type 0
+  IsOpenedOver connection = HasCleanDisk (file_state connection) → Finds contents (file_state connection)
+
+  -- the desk goes on from an opening that found nothing declared
+  pub record BeginsBlank (desk : DeskState (FileStore D g)) : Type 0 where
+    pub connection : Held (FileStore D g)
+    pub opened : IsOpenedOver connection
+    pub blank : (file_state connection).now.schema ≡ no_schema
+    pub follows : Follows (file_state connection) (file_state desk.conn)
+
+  -- a name is told to be taken only where an opening found one of the names taken
+  abbrev pub IsCreateFault : Result (DeskState (FileStore D g)) DeskFault → Type 0
+  IsCreateFault result =
+      IfErr result (λ fault. (fault ≡ Unavailable) ⊎ ((fault ≡ AlreadyThere)
+      × ((connection : Held (FileStore D g)) × IsOpenedOver connection × NameIsTaken (file_state connection).now)))

@@ -1,0 +1,44 @@
+-- Runs of lines.
+use Rattle.std.specs.Prelude.{◌≡◌, ℕ, Bool, true, ◌⊎◌, max, List, [], ◌∷◌}
+use Rattle.std.specs.List.{flat_map}
+use Rattle.office_store.specs.declared.requests.Request.{Request}
+use Rattle.office_store.specs.declared.requests.Answer.{Answer}
+use Rattle.office_store.specs.declared.requests.Answer.TheVariants.{Unavailable}
+use Rattle.office_words.specs.declared.sentences.Sentence.{Sentence}
+use Rattle.office_words.specs.declared.sentences.Sentence.TheVariants.{Silent, Asks, Unclear}
+use Rattle.office_texts.specs.declared.said.Said.{Said}
+use Rattle.office_texts.specs.declared.said.Said.TheVariants.{Nothing, Answered, NotUnderstood}
+use Rattle.office_words.specs.Sentences.{begins_request, sentence_of}
+use Rattle.office_texts.specs.Texts.{text_of, status_of}
+
+module _ {H : Type 0} (handles : H → Request → Answer → H → Type 0) where
+  -- What may be said of a line that says this, and who handles requests after it. Of a silent line nothing is said. What is not
+  -- understood changes nothing. Memory may be wanting for the words, before anybody handles a request; for what is not
+  -- understood only where the line begins as a request.
+  abbrev pub Answers : H → Sentence → Bool → Said → H → Type 0
+  Answers old Silent begins said new = (said ≡ Nothing) × (new ≡ old)
+  Answers old (Asks request) begins said new =
+      ((answer : Answer) × (said ≡ Answered answer) × handles old request answer new)
+      ⊎ ((said ≡ Answered Unavailable) × (new ≡ old))
+  Answers old Unclear begins said new =
+      ((said ≡ NotUnderstood) ⊎ ((begins ≡ true) × (said ≡ Answered Unavailable))) × (new ≡ old)
+
+  -- what may be said of a line, and who handles requests after it
+  abbrev pub Step : H → List ℕ → Said → H → Type 0
+  Step old line said new = Answers old (sentence_of line) (begins_request line) said new
+
+  -- From the old one on, this may be said of the lines, each in turn, and the new one is left.
+  abbrev pub Run : H → List (List ℕ) → List Said → H → Type 0
+  Run old [] [] new = new ≡ old
+  Run old (line ∷ lines) (said ∷ others) new = (between : H) × Step old line said between × Run between lines others new
+  Run old [] (said ∷ others) new = ⊥
+  Run old (line ∷ lines) [] new = ⊥
+
+-- the texts one after another
+abbrev pub texts_of : List Said → List ℕ
+texts_of all = flat_map text_of all
+
+-- the greatest status, 0 without any
+abbrev pub greatest_status : List Said → ℕ
+greatest_status [] = 0
+greatest_status (said ∷ others) = max (status_of said) (greatest_status others)

@@ -1,0 +1,161 @@
+-- What a rehearsal did with a part of its input: words of inner contracts and invariants.
+use Rattle.std.specs.Prelude.{◌≡◌, ℕ, ◌+◌, ◌-◌, ◌<◌, ◌≤◌, ◌⊎◌, Bool, true, max, List, [], ◌∷◌, ◌++◌, length, take, Option, if◌then◌else◌}
+use Rattle.std.specs.List.{list_all}
+use Rattle.std.specs.Io.KnownBytes.{Consumes}
+use Rattle.office_texts.specs.declared.said.Said.{Said}
+use Rattle.office_lines.specs.declared.ending.Ending.{Ending}
+use Rattle.office_lines.specs.declared.ending.Ending.TheVariants.{Ended, ReadFault, WriteFault, NoMemory}
+use Rattle.office_lines.specs.declared.session.Session.{Session}
+use Rattle.office_store.specs.declared.requests.Answer.{Answer}
+use Rattle.office_store.specs.declared.requests.Request.{Request}
+use Rattle.office_lines.specs.Lines.{is_short, is_line_end, line_limit, piece_limit, read_limit, front, unended}
+use Rattle.room_types.specs.Streams.{Input, Output, Puts}
+use Rattle.office_texts.specs.Texts.{text_of, status_of}
+use Rattle.office_lines.specs.Runs.{Run, Step, texts_of, greatest_status}
+
+-- the lines that the bytes end, where a line has begun already
+abbrev pub ended_from : List ℕ → List ℕ → List (List ℕ)
+ended_from partial_line [] = []
+ended_from partial_line (b ∷ bytes) = if is_line_end b then partial_line ∷ ended_from [] bytes else ended_from (partial_line ++ b ∷ []) bytes
+
+-- what has begun after the bytes
+abbrev pub partial_from : List ℕ → List ℕ → List ℕ
+partial_from partial_line [] = partial_line
+partial_from partial_line (b ∷ bytes) = if is_line_end b then partial_from [] bytes else partial_from (partial_line ++ b ∷ []) bytes
+
+-- what is kept between two bytes: who handles requests, the output, what has come of a line, how many bytes were sent, and
+-- the greatest status
+pub record State (H : Type 0) : Type 0 where
+  pub handler : H
+  pub out : Output
+  pub partial_line : List ℕ
+  pub sent : ℕ
+  pub status : ℕ
+
+abbrev pub state : {H : Type 0} → H → Output → Session → State H
+state handler out session = record {
+  handler = handler;
+  out = out;
+  partial_line = session.partial_line.items;
+  sent = session.sent;
+  status = session.status;
+}
+
+-- How an ending fits the number of bytes sent, of those among them of the last text, of those not sent, and the length of the
+-- line that has begun. Memory was wanting for the last text, of which nothing went out, or for the line that has begun.
+abbrev pub Suits : Ending → ℕ → ℕ → ℕ → ℕ → Type 0
+Suits Ended sent of_last unsent begun = ⊥
+Suits ReadFault sent of_last unsent begun = (unsent ≡ 0) × (begun ≡ line_limit + 1)
+Suits (WriteFault n) sent of_last unsent begun = n ≡ sent
+Suits (NoMemory n) sent of_last unsent begun =
+    (n ≡ sent) × (((of_last ≡ 0) × (0 < unsent)) ⊎ ((unsent ≡ 0) × (0 < begun) × (begun ≤ line_limit)))
+
+-- how many of the bytes that went out are of the last text
+abbrev pub of_last_text : ℕ → List Said → ℕ
+of_last_text sent answers = sent - length (texts_of (front answers))
+
+-- a write fault where the writer failed, and any other ending where it did not
+abbrev pub OnlyWhereFailed : Ending → Bool → Bool → Type 0
+OnlyWhereFailed Ended failed failed' = failed' ≡ failed
+OnlyWhereFailed ReadFault failed failed' = failed' ≡ failed
+OnlyWhereFailed (WriteFault n) failed failed' = failed' ≡ true
+OnlyWhereFailed (NoMemory n) failed failed' = failed' ≡ failed
+
+module _ {H : Type 0} (handles : H → Request → Answer → H → Type 0) where
+  -- The lines that the bytes ended were answered, and their texts went out.
+  pub record Heard (before after : State H) (bytes : List ℕ) : Type 0 where
+    pub answers : List Said
+    pub partial_line : after.partial_line ≡ partial_from before.partial_line bytes
+    pub short : list_all is_short (ended_from before.partial_line bytes) ≡ true
+    pub run : Run handles before.handler (ended_from before.partial_line bytes) answers after.handler
+    pub written : Puts before.out after.out (texts_of answers)
+    pub flushes : after.out.flushes ≡ before.out.flushes
+    pub failed : after.out.failed ≡ before.out.failed
+    pub sent : after.sent ≡ before.sent + length (texts_of answers)
+    pub status : after.status ≡ max before.status (greatest_status answers)
+
+  -- The rehearsal stopped within the bytes, after the first of them or later. The lines that the bytes up to there ended were answered, and a front of their texts
+  -- went out, all but the last text whole.
+  pub record Halted (before : State H) (ending : Ending) (handler : H) (out : Output) (bytes : List ℕ) : Type 0 where
+    pub heard : List ℕ
+    pub rest : List ℕ
+    pub answers : List Said
+    pub sent : ℕ
+    pub unsent : ℕ
+    pub cut : bytes ≡ heard ++ rest
+    pub some : 0 < length heard
+    pub short : list_all is_short (ended_from before.partial_line heard) ≡ true
+    pub run : Run handles before.handler (ended_from before.partial_line heard) answers handler
+    pub written : Puts before.out out (take sent (texts_of answers))
+    pub all : sent + unsent ≡ length (texts_of answers)
+    pub whole : length (texts_of (front answers)) ≤ sent
+    pub suits : Suits ending (before.sent + sent) (of_last_text sent answers) unsent (length (partial_from before.partial_line heard))
+
+  -- The line that had come was answered, and all of the text went out.
+  pub record Answered (before after : State H) : Type 0 where
+    pub said : Said
+    pub step : Step handles before.handler before.partial_line said after.handler
+    pub partial_line : after.partial_line ≡ []
+    pub written : Puts before.out after.out (text_of said)
+    pub flushes : after.out.flushes ≡ before.out.flushes
+    pub failed : after.out.failed ≡ before.out.failed
+    pub sent : after.sent ≡ before.sent + length (text_of said)
+    pub status : after.status ≡ max before.status (status_of said)
+
+  -- The line that had come was answered, and a front of the text went out.
+  pub record Broken (before : State H) (ending : Ending) (handler : H) (out : Output) : Type 0 where
+    pub said : Said
+    pub sent : ℕ
+    pub unsent : ℕ
+    pub step : Step handles before.handler before.partial_line said handler
+    pub written : Puts before.out out (take sent (text_of said))
+    pub all : sent + unsent ≡ length (text_of said)
+    pub suits : Suits ending (before.sent + sent) sent unsent 0
+
+  -- The last line, if one has begun, was answered, its text went out, and the output was flushed so often in all.
+  pub record Finished (before after : State H) (flushes : ℕ) : Type 0 where
+    pub answers : List Said
+    pub run : Run handles before.handler (unended before.partial_line) answers after.handler
+    pub written : Puts before.out after.out (texts_of answers)
+    pub flushed : after.out.flushes ≡ flushes
+    pub failed : after.out.failed ≡ before.out.failed
+    pub sent : after.sent ≡ before.sent + length (texts_of answers)
+    pub status : after.status ≡ max before.status (greatest_status answers)
+
+  -- The last line, if one has begun, was answered, and a front of its text went out.
+  pub record Unfinished (before : State H) (ending : Ending) (handler : H) (out : Output) : Type 0 where
+    pub answers : List Said
+    pub sent : ℕ
+    pub unsent : ℕ
+    pub short : list_all is_short (unended before.partial_line) ≡ true
+    pub run : Run handles before.handler (unended before.partial_line) answers handler
+    pub written : Puts before.out out (take sent (texts_of answers))
+    pub all : sent + unsent ≡ length (texts_of answers)
+    pub whole : length (texts_of (front answers)) ≤ sent
+    pub suits : Suits ending (before.sent + sent) (of_last_text sent answers) unsent 0
+
+  -- All that was read was heard.
+  pub record Listened (before after : State H) (unread unread' : Option (List ℕ)) : Type 0 where
+    pub bytes : List ℕ
+    pub read : Consumes unread unread' bytes
+    pub heard : Heard before after bytes
+
+  -- All that was read was heard, what has begun of a line is not too long, and a read failed, or too many were made that each
+  -- gave a byte.
+  pub record Cut (before : State H) (handler : H) (out : Output) (bytes : List ℕ) (input : Input) : Type 0 where
+    pub after : State H
+    pub heard : Heard before after bytes
+    pub handler_is : handler ≡ after.handler
+    pub out_is : out ≡ after.out
+    pub begun : length after.partial_line ≤ line_limit
+    pub cause : (input.failed ≡ true) ⊎ ((read_limit ≤ input.reads) × (read_limit ≤ length bytes))
+
+  -- Why a rehearsal stopped: within the piece that was read last, without a failed read; or since no more could be read. Each
+  -- read but the last gave a byte.
+  pub record Stopped (before : State H) (ending : Ending) (handler : H) (out : Output) (input input' : Input) : Type 0 where
+    pub bytes : List ℕ
+    pub read : Consumes input.remaining input'.remaining bytes
+    pub reads : input'.reads ≤ length bytes + 1
+    pub why :
+        ((halted : Halted before ending handler out bytes) × (length halted.rest < piece_limit) × (input'.failed ≡ input.failed))
+        ⊎ ((ending ≡ ReadFault) × Cut before handler out bytes input')

@@ -1,0 +1,39 @@
+-- What is done with a text that is to be one line of a rehearsal, and with words that are joined to one.
+use Rattle.std.specs.Prelude.{◌≡◌, ℕ, Bool, ◌<◌, ◌⊎◌, true, false, List, length}
+use Rattle.std.specs.List.{list_any}
+use Rattle.office_store.specs.declared.requests.Answer.{Answer}
+use Rattle.office_store.specs.declared.requests.Request.{Request}
+use Rattle.office_texts.specs.declared.said.Said.{Said}
+use Rattle.office_texts.specs.declared.said.Said.TheVariants.{NotUnderstood}
+use Rattle.office_lines.specs.Lines.{is_line_end, is_short}
+use Rattle.office_lines.specs.Runs.{Step}
+use Rattle.office_lines.specs.Saying.{Says, SaysUnavailable}
+use Rattle.office_texts.specs.Texts.{status_of, text_of}
+use Rattle.office_words.specs.Values.{joined}
+use Rattle.room_types.specs.Streams.{Output}
+use Rattle.room_types.specs.Texts.{Text}
+
+-- What is said goes out, with its status. Or memory is wanting for its text, which has bytes: none goes out, and the status is 3.
+abbrev pub Tells : Said → ℕ → Output → Output → Type 0
+Tells said status out out' =
+    Says (text_of said) (status_of said) status out out'
+    ⊎ ((status ≡ 3) × (0 < length (text_of said)) × (out' ≡ out))
+
+-- it holds a line feed, so it is not one line
+abbrev pub is_broken : Text → Bool
+is_broken text = list_any is_line_end text
+
+module _ {H : Type 0} (handles : H → Request → Answer → H → Type 0) where
+  -- One line is heard as in a rehearsal, whether or not its answer goes out. What is no one line is not understood, and a line
+  -- that is too long is not heard, has no answer, and its status is 3, as in a rehearsal.
+  abbrev pub DoesText : H → Text → ℕ → H → Output → Output → Type 0
+  DoesText old text status new out out' =
+      ((is_broken text ≡ false) × (is_short text ≡ true) × (said : Said) × Step handles old text said new × Tells said status out out')
+      ⊎ ((is_broken text ≡ true) × (new ≡ old) × Tells NotUnderstood status out out')
+      ⊎ ((is_broken text ≡ false) × (is_short text ≡ false) × (new ≡ old) × (status ≡ 3) × (out' ≡ out))
+
+  -- The words are joined by one space and heard as a line. Or memory is wanting to join them, and nothing is handled.
+  abbrev pub DoesWords : H → List Text → ℕ → H → Output → Output → Type 0
+  DoesWords old words status new out out' =
+      DoesText old (joined words) status new out out'
+      ⊎ ((new ≡ old) × SaysUnavailable status out out')

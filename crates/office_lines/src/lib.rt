@@ -1,0 +1,14 @@
+//! Lines that are heard and answered, whoever handles the requests.
+#![tactic(auto)]
+
+pub mod do_line;
+pub mod ending;
+pub mod hearing;
+pub mod limits;
+pub mod rehearse;
+pub mod say;
+pub mod session;
+
+pub use crate::ending::{Ending, Rehearsed};
+pub use crate::hearing::hear;
+pub use crate::session::Session;

@@ -1,0 +1,197 @@
+//! What is kept of a rehearsal between two bytes of its input.
+ghost use Rattle.std.specs.Prelude.{◌≤◌, vec_len};
+ghost use Rattle.office_lines.specs.Lines.{line_limit};
+
+use crate::ending::Ending;
+use crate::hearing::hear;
+use crate::limits::LINE_LIMIT;
+use office_store::Handler;
+use office_texts::{status_of, text_of};
+use room_types::Watched;
+use room_types::send::send;
+use std::alloc::Global;
+use std::io::Write;
+
+/// What has come of a line, how many bytes were sent, and the greatest status so far.
+#[derive(Drop)]
+pub struct Session {
+    pub partial_line: Vec<u8>,
+    pub sent: u128,
+    pub status: u8,
+    ghost short: { vec_len partial_line ≤ line_limit },
+}
+
+impl Session {
+    ghost use Rattle.std.specs.Prelude.{◌≡◌, ◌+◌, ◌*◌, ◌^◌, ◌<◌, OnOk, IfErr, false, length, [], ◌∷◌};
+    ghost use Rattle.room_types.specs.Streams.{output_of};
+    ghost use Rattle.room_types.specs.Watched.{watched_failed, watched_flushes, watched_pending, counted, StopsAtFailure};
+    ghost use Rattle.office_lines.specs.Sessions.{Answered, Broken, Finished, Heard, Halted, OnlyWhereFailed, Unfinished, state};
+
+    /// Nothing was heard or sent.
+    pub fn new(alloc: Global) -> Self
+        ensures line { result.partial_line.items ≡ [] }
+        ensures sent { result.sent ≡ 0 }
+        ensures status { result.status ≡ 0 }
+    {
+        Session {
+            partial_line: Vec::new(alloc),
+            sent: 0,
+            status: 0,
+        }
+    }
+
+    /// Answers the line that has come.
+    pub fn answer_line<H: Handler, W: Write>(
+        &mut self,
+        alloc: Global,
+        handler: &mut H,
+        output: &mut Watched<W>,
+    ) -> Result<(), Ending>
+        requires ready { H.is_ready handler.old }
+        requires room { self.old.sent + 2 ^ 64 ≤ 2 ^ 127 }
+        ensures answered { OnOk result (Answered H.handles
+            (state handler.old (output_of W.contents output.old) self.old)
+            (state handler.new (output_of W.contents output.new) self.new)) }
+        ensures broken { IfErr result (λ ending. Broken H.handles
+            (state handler.old (output_of W.contents output.old) self.old) ending
+            handler.new (output_of W.contents output.new)) }
+        ensures failed { IfErr result (λ ending.
+            OnlyWhereFailed ending (watched_failed output.old) (watched_failed output.new)) }
+        ensures no_late_write { StopsAtFailure output.old output.new }
+        ensures bound { OnOk result (self.new.sent < self.old.sent + 2 ^ 64) }
+        ensures ready { H.is_ready handler.new }
+    {
+        let said = hear(alloc, handler, &self.partial_line);
+        self.status = self.status.max(status_of(&said));
+        match text_of(alloc, &said) {
+            Ok(text) => match send(output, text.as_bytes()) {
+                Ok(()) => {
+                    self.sent += text.len() as u128;
+                    self.partial_line.clear();
+                    Ok(())
+                }
+                Err(sent) => Err(Ending::WriteFault {
+                    sent: self.sent + sent as u128,
+                }),
+            },
+            Err(_) => Err(Ending::NoMemory { sent: self.sent }),
+        }
+    }
+
+    /// Hears one byte.
+    pub fn take_byte<H: Handler, W: Write>(
+        &mut self,
+        alloc: Global,
+        handler: &mut H,
+        output: &mut Watched<W>,
+        byte: u8,
+    ) -> Result<(), Ending>
+        requires ready { H.is_ready handler.old }
+        requires room { self.old.sent + 2 ^ 64 ≤ 2 ^ 127 }
+        ensures heard { OnOk result (Heard H.handles
+            (state handler.old (output_of W.contents output.old) self.old)
+            (state handler.new (output_of W.contents output.new) self.new) (byte ∷ [])) }
+        ensures halted { IfErr result (λ ending. Halted H.handles
+            (state handler.old (output_of W.contents output.old) self.old) ending
+            handler.new (output_of W.contents output.new) (byte ∷ [])) }
+        ensures failed { IfErr result (λ ending.
+            OnlyWhereFailed ending (watched_failed output.old) (watched_failed output.new)) }
+        ensures no_late_write { StopsAtFailure output.old output.new }
+        ensures bound { OnOk result (self.new.sent < self.old.sent + 2 ^ 64) }
+        ensures ready { H.is_ready handler.new }
+    {
+        if byte == b'\n' {
+            return self.answer_line(alloc, handler, output);
+        }
+        if self.partial_line.len() >= LINE_LIMIT {
+            return Err(Ending::ReadFault);
+        }
+        match self.partial_line.push(byte) {
+            Ok(()) => Ok(()),
+            Err(_) => Err(Ending::NoMemory { sent: self.sent }),
+        }
+    }
+
+    /// Hears some bytes.
+    pub fn take_piece<H: Handler, W: Write>(
+        &mut self,
+        alloc: Global,
+        handler: &mut H,
+        output: &mut Watched<W>,
+        piece: &[u8],
+    ) -> Result<(), Ending>
+        requires ready { H.is_ready handler.old }
+        requires room { self.old.sent + length piece.now * 2 ^ 64 ≤ 2 ^ 127 }
+        ensures heard { OnOk result (Heard H.handles
+            (state handler.old (output_of W.contents output.old) self.old)
+            (state handler.new (output_of W.contents output.new) self.new) piece.now) }
+        ensures halted { IfErr result (λ ending. Halted H.handles
+            (state handler.old (output_of W.contents output.old) self.old) ending
+            handler.new (output_of W.contents output.new) piece.now) }
+        ensures failed { IfErr result (λ ending.
+            OnlyWhereFailed ending (watched_failed output.old) (watched_failed output.new)) }
+        ensures no_late_write { StopsAtFailure output.old output.new }
+        ensures bound { OnOk result (self.new.sent ≤ self.old.sent + length piece.now * 2 ^ 64) }
+        ensures ready { H.is_ready handler.new }
+    {
+        for byte in piece {
+            self.take_byte(alloc, handler, output, *byte)?;
+        }
+        Ok(())
+    }
+
+    // Answers the line that the end of the input ends, if one has begun.
+    fn answer_rest<H: Handler, W: Write>(
+        &mut self,
+        alloc: Global,
+        handler: &mut H,
+        output: &mut Watched<W>,
+    ) -> Result<(), Ending>
+        requires ready { H.is_ready handler.old }
+        requires room { self.old.sent ≤ 2 ^ 100 }
+        ensures finished { OnOk result (Finished H.handles
+            (state handler.old (output_of W.contents output.old) self.old)
+            (state handler.new (output_of W.contents output.new) self.new) (watched_flushes output.old)) }
+        ensures unfinished { IfErr result (λ ending. Unfinished H.handles
+            (state handler.old (output_of W.contents output.old) self.old) ending
+            handler.new (output_of W.contents output.new)) }
+        ensures failed { IfErr result (λ ending.
+            OnlyWhereFailed ending (watched_failed output.old) (watched_failed output.new)) }
+        ensures no_late_write { StopsAtFailure output.old output.new }
+        ensures ready { H.is_ready handler.new }
+    {
+        if self.partial_line.is_empty() {
+            return Ok(());
+        }
+        self.answer_line(alloc, handler, output)
+    }
+
+    /// Answers the line that the end of the input ends, if one has begun, and flushes.
+    pub fn finish<H: Handler, W: Write>(
+        &mut self,
+        alloc: Global,
+        handler: &mut H,
+        output: &mut Watched<W>,
+    ) -> Result<(), Ending>
+        requires ready { H.is_ready handler.old }
+        requires room { self.old.sent ≤ 2 ^ 100 }
+        ensures finished { OnOk result (Finished H.handles
+            (state handler.old (output_of W.contents output.old) self.old)
+            (state handler.new (output_of W.contents output.new) self.new)
+            (counted (watched_flushes output.old) 1)) }
+        ensures flushed { OnOk result (watched_pending output.new ≡ false) }
+        ensures unfinished { IfErr result (λ ending. Unfinished H.handles
+            (state handler.old (output_of W.contents output.old) self.old) ending
+            handler.new (output_of W.contents output.new)) }
+        ensures failed { IfErr result (λ ending.
+            OnlyWhereFailed ending (watched_failed output.old) (watched_failed output.new)) }
+        ensures no_late_write { StopsAtFailure output.old output.new }
+        ensures ready { H.is_ready handler.new }
+    {
+        self.answer_rest(alloc, handler, output)?;
+        match output.flush() {
+            Ok(()) => Ok(()),
+            Err(_) => Err(Ending::WriteFault { sent: self.sent }),
+        }
+    }
+}

@@ -1,0 +1,61 @@
+-- The kinds of lists.
+use Rattle.std.specs.Prelude.{ℕ, Bool, true, ◌&&◌, is_none, eqb, List, [], ◌∷◌, codes, Option, Some, None}
+use Rattle.std.specs.List.{list_all, slice_split}
+use Rattle.std.specs.Option.{option_map_or}
+use Rattle.room_types.specs.Choices.{choices_fault}
+use Rattle.room_types.specs.Grammars.{is_room_code, is_person_id, is_key, is_name}
+use Rattle.room_types.specs.Texts.{Text}
+use Rattle.office_lists.specs.Records.{ListForm, field}
+use Rattle.office_lists.specs.declared.entries.PersonEntry.{PersonEntry}
+use Rattle.office_lists.specs.declared.entries.ChoicesEntry.{ChoicesEntry}
+
+-- a room in each record
+abbrev pub room_list : ListForm Text
+room_list = record { header = codes "room" ∷ []; grammars = is_room_code ∷ []; entry = field 0 }
+
+-- the text of a field that may be empty
+abbrev pub optional : Text → Option Text
+optional [] = None
+optional (byte ∷ rest) = Some (byte ∷ rest)
+
+abbrev pub is_optional_room_code : Text → Bool
+is_optional_room_code text = option_map_or is_room_code (optional text) true
+
+abbrev pub person_entry : List Text → PersonEntry
+person_entry fields = record {
+  person = field 0 fields;
+  name = field 1 fields;
+  key = field 2 fields;
+  home = optional (field 3 fields);
+}
+
+-- a person in each record, whose home may be empty
+abbrev pub people_list : ListForm PersonEntry
+people_list = record {
+  header = codes "person" ∷ codes "name" ∷ codes "key" ∷ codes "home" ∷ [];
+  grammars = is_person_id ∷ is_name ∷ is_key ∷ is_optional_room_code ∷ [];
+  entry = person_entry;
+}
+
+abbrev pub is_space : ℕ → Bool
+is_space byte = eqb byte 32
+
+-- the codes of a field, which stand between single spaces
+abbrev pub codes_in : Text → List Text
+codes_in [] = []
+codes_in (byte ∷ rest) = slice_split is_space (byte ∷ rest)
+
+-- room codes, not too many and none twice
+abbrev pub is_choices : Text → Bool
+is_choices text = list_all is_room_code (codes_in text) && is_none (choices_fault (codes_in text))
+
+abbrev pub choices_entry : List Text → ChoicesEntry
+choices_entry fields = record { person = field 0 fields; choices = codes_in (field 1 fields) }
+
+-- a person's list of rooms in each record
+abbrev pub choices_list : ListForm ChoicesEntry
+choices_list = record {
+  header = codes "person" ∷ codes "choices" ∷ [];
+  grammars = is_person_id ∷ is_choices ∷ [];
+  entry = choices_entry;
+}

@@ -1,0 +1,92 @@
+//! What the records of lists tell.
+ghost use Rattle.std.specs.Prelude.{◌≡◌, IfOk, IfErr, None};
+ghost use Rattle.csv.specs.Records.{fields_of};
+ghost use Rattle.office_lists.specs.Entries.{choices_list, people_list, room_list};
+ghost use Rattle.office_lists.specs.Records.{FailsFor, ListForm, field_cause, same_fields};
+
+use crate::fault::RecordFault;
+use crate::fields::{choices, field, has_fields, optional_room, value};
+use csv::{ByteRecord, StringRecord};
+use room_types::{Choices, Key, Name, PersonId, RoomCode};
+use std::alloc::Global;
+
+/// What a record of a list of people tells.
+#[derive(Debug, Drop)]
+pub struct PersonEntry {
+    pub person: PersonId,
+    pub name: Name,
+    pub key: Key,
+    /// The room where the person lives, if any.
+    pub home: Option<RoomCode>,
+}
+
+/// What a record of a list of choices tells.
+#[derive(Debug, Drop)]
+pub struct ChoicesEntry {
+    pub person: PersonId,
+    pub choices: Choices,
+}
+
+/// What a record of a list tells, in a list of one kind.
+pub trait ListEntry: Drop {
+    /// The lists of this kind.
+    ghost form: { ListForm Self };
+
+    /// Whether a record is the header of such a list.
+    fn is_header(row: &ByteRecord) -> bool
+        ensures { result ≡ same_fields form.header (fields_of row.now) };
+
+    /// What the fields of a data record tell.
+    fn from_fields(alloc: Global, fields: &StringRecord) -> Result<Self, RecordFault>
+        ensures told { IfOk result (λ entry. entry ≡ form.entry (fields_of fields.now)) }
+        ensures good { IfOk result (λ _. field_cause form (fields_of fields.now) ≡ None) }
+        ensures fault { IfErr result
+            (λ fault. FailsFor (field_cause form (fields_of fields.now)) fault) };
+}
+
+impl ListEntry for RoomCode {
+    ghost form = { room_list };
+
+    fn is_header(row: &ByteRecord) -> bool {
+        has_fields(row, &["room"])
+    }
+
+    fn from_fields(alloc: Global, fields: &StringRecord) -> Result<RoomCode, RecordFault> {
+        value(alloc, field(fields, 0), 1)
+    }
+}
+
+impl ListEntry for PersonEntry {
+    ghost form = { people_list };
+
+    fn is_header(row: &ByteRecord) -> bool {
+        has_fields(row, &["person", "name", "key", "home"])
+    }
+
+    fn from_fields(alloc: Global, fields: &StringRecord) -> Result<PersonEntry, RecordFault> {
+        let person = value(alloc, field(fields, 0), 1)?;
+        let name = value(alloc, field(fields, 1), 2)?;
+        let key = value(alloc, field(fields, 2), 3)?;
+        let home = optional_room(alloc, field(fields, 3), 4)?;
+        Ok(PersonEntry {
+            person,
+            name,
+            key,
+            home,
+        })
+    }
+}
+
+impl ListEntry for ChoicesEntry {
+    ghost form = { choices_list };
+
+    fn is_header(row: &ByteRecord) -> bool {
+        has_fields(row, &["person", "choices"])
+    }
+
+    fn from_fields(alloc: Global, fields: &StringRecord) -> Result<ChoicesEntry, RecordFault> {
+        let person = value(alloc, field(fields, 0), 1)?;
+        let choices = choices(alloc, field(fields, 1), 2)?;
+        Ok(ChoicesEntry { person, choices })
+    }
+}

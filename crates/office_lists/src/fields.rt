@@ -1,0 +1,128 @@
+//! The values of a record's fields.
+ghost use Rattle.std.specs.Prelude.{◌≡◌, ◌⊎◌, true, false, map, IfOk, IfErr};
+ghost use Rattle.std.specs.List.{list_all};
+ghost use Rattle.csv.specs.Records.{fields_of};
+ghost use Rattle.room_types.specs.Grammars.{is_room_code};
+ghost use Rattle.office_lists.specs.Entries.{codes_in, is_choices, is_optional_room_code, optional};
+ghost use Rattle.office_lists.specs.Records.{FailsAt, field, field_fault, same_fields};
+
+use crate::fault::{Cause, RecordFault};
+use csv::{ByteRecord, StringRecord};
+use room_types::{Choices, Grammar, RoomCode, Text, TypeFault};
+use std::alloc::{AllocError, Global};
+
+/// Whether the fields of a record are these.
+pub fn has_fields(row: &ByteRecord, names: &[&str]) -> bool
+    ensures { result ≡ same_fields (map (λ name. name.now) names.now) (fields_of row.now) }
+{
+    if row.len() != names.len() {
+        return false;
+    }
+    for (i, name) in names.iter().enumerate() {
+        match row.get(i) {
+            Some(field) => {
+                if field != name.as_bytes() {
+                    return false;
+                }
+            }
+            None => return false,
+        }
+    }
+    true
+}
+
+/// The field at a place, counted from 0, and the empty text where there is none.
+pub fn field(fields: &StringRecord, at: usize) -> &str
+    ensures { result.now ≡ field at (fields_of fields.now) }
+{
+    fields.get(at).unwrap_or("")
+}
+
+/// The value of the field of this number. Memory is taken for a text of the grammar alone.
+pub fn value<G: Grammar>(alloc: Global, text: &str, number: u8) -> Result<Text<G>, RecordFault>
+    ensures value { IfOk result (λ value. value ≡ text.now) }
+    ensures in_grammar { IfOk result (λ _. G.is_text text.now ≡ true) }
+    ensures fault { IfErr result (λ fault. FailsAt number (G.is_text text.now) fault) }
+{
+    match Text::read(alloc, text) {
+        Ok(value) => Ok(value),
+        Err(fault) => Err(field_fault(fault, number)),
+    }
+}
+
+/// The room of the field of this number, which may be empty.
+pub fn optional_room(alloc: Global, text: &str, number: u8) -> Result<Option<RoomCode>, RecordFault>
+    ensures value { IfOk result (λ room. room ≡ optional text.now) }
+    ensures in_grammar { IfOk result (λ _. is_optional_room_code text.now ≡ true) }
+    ensures fault { IfErr result (λ fault. FailsAt number (is_optional_room_code text.now) fault) }
+{
+    if text.is_empty() {
+        return Ok(None);
+    }
+    match value(alloc, text, number) {
+        Ok(room) => Ok(Some(room)),
+        Err(fault) => Err(fault),
+    }
+}
+
+/// The list of rooms of the field of this number: none where it is empty, and else codes between single spaces.
+pub fn choices(alloc: Global, text: &str, number: u8) -> Result<Choices, RecordFault>
+    ensures value { IfOk result (λ choices. choices ≡ codes_in text.now) }
+    ensures in_grammar { IfOk result (λ _. is_choices text.now ≡ true) }
+    ensures fault { IfErr result (λ fault. FailsAt number (is_choices text.now) fault) }
+{
+    match read_choices(alloc, text) {
+        Ok(choices) => Ok(choices),
+        Err(fault) => Err(field_fault(fault, number)),
+    }
+}
+
+// The fault of a record whose field of this number has this fault.
+fn field_fault(fault: TypeFault, number: u8) -> RecordFault
+    ensures { result ≡ field_fault number fault }
+{
+    match fault {
+        TypeFault::OutOfMemory => RecordFault::OutOfMemory,
+        _ => RecordFault::Bad(Cause::BadField(number)),
+    }
+}
+
+fn read_choices(alloc: Global, text: &str) -> Result<Choices, TypeFault>
+    ensures value { IfOk result (λ choices. choices ≡ codes_in text.now) }
+    ensures in_grammar { IfOk result (λ _. is_choices text.now ≡ true) }
+    ensures fault { IfErr result (λ fault.
+        (fault ≡ TypeFault.OutOfMemory) ⊎ (is_choices text.now ≡ false)) }
+{
+    let codes = codes(alloc, text)?;
+    Choices::read(codes)
+}
+
+fn codes(alloc: Global, text: &str) -> Result<Vec<RoomCode>, TypeFault>
+    ensures value { IfOk result (λ codes. codes.items ≡ codes_in text.now) }
+    ensures in_grammar { IfOk result (λ _. list_all is_room_code (codes_in text.now) ≡ true) }
+    ensures fault { IfErr result (λ fault. (fault ≡ TypeFault.OutOfMemory)
+        ⊎ (list_all is_room_code (codes_in text.now) ≡ false)) }
+{
+    let mut codes = Vec::new(alloc);
+    for word in &words(alloc, text)? {
+        match RoomCode::read(alloc, word) {
+            Ok(code) => {
+                if codes.push(code).is_err() {
+                    return Err(TypeFault::OutOfMemory);
+                }
+            }
+            Err(fault) => return Err(fault),
+        }
+    }
+    Ok(codes)
+}
+
+// What stands between single spaces, and nothing in an empty text.
+fn words(alloc: Global, text: &str) -> Result<Vec<&str>, AllocError>
+    ensures { IfOk result (λ words. map (λ word. word.now) words.items ≡ codes_in text.now) }
+{
+    if text.is_empty() {
+        return Ok(Vec::new(alloc));
+    }
+    text.split(' ').collect(alloc)
+}

@@ -1,0 +1,117 @@
+//! Reading lists.
+ghost use Rattle.std.specs.Prelude.{◌≡◌, ◌<◌, IfOk, IfErr, None, length};
+ghost use Rattle.csv.specs.Records.{fields_of};
+ghost use Rattle.office_lists.specs.Entries.{choices_list, people_list, room_list};
+ghost use Rattle.office_lists.specs.Records.{Fails, FailsFor, Tells, cause_of};
+
+use crate::entries::{ChoicesEntry, ListEntry, PersonEntry};
+use crate::fault::{Cause, ListFault, RecordFault};
+use csv::{ByteRecord, ReaderBuilder, StringRecord};
+use room_types::RoomCode;
+use std::alloc::Global;
+
+/// How many records a list may have after its header.
+pub const RECORD_LIMIT: usize = 10_000;
+
+// The first record is no header.
+const NO_HEADER: ListFault = ListFault::Bad {
+    at: 0,
+    cause: Cause::Header,
+};
+
+// The first record after the last that a list may have.
+const TOO_MANY: ListFault = ListFault::Bad {
+    at: 10_001,
+    cause: Cause::TooMany,
+};
+
+/// The rooms of a list, in its order.
+///
+/// # Errors
+///
+/// `Bad` with the first bad record, or `OutOfMemory`, which comes of no empty list.
+pub fn read_rooms(alloc: Global, bytes: &[u8]) -> Result<Vec<RoomCode>, ListFault>
+    ensures told { IfOk result (λ rooms. Tells room_list bytes.now rooms.items) }
+    ensures fault { IfErr result (λ fault. Fails room_list bytes.now fault) }
+{
+    read_list(alloc, bytes)
+}
+
+/// The people of a list, in its order, with their keys and homes.
+///
+/// # Errors
+///
+/// `Bad` with the first bad record, or `OutOfMemory`, which comes of no empty list.
+pub fn read_people(alloc: Global, bytes: &[u8]) -> Result<Vec<PersonEntry>, ListFault>
+    ensures told { IfOk result (λ people. Tells people_list bytes.now people.items) }
+    ensures fault { IfErr result (λ fault. Fails people_list bytes.now fault) }
+{
+    read_list(alloc, bytes)
+}
+
+/// The choices of a list, in its order. A person may stand there more than once.
+///
+/// # Errors
+///
+/// `Bad` with the first bad record, or `OutOfMemory`, which comes of no empty list.
+pub fn read_choices(alloc: Global, bytes: &[u8]) -> Result<Vec<ChoicesEntry>, ListFault>
+    ensures told { IfOk result (λ choices. Tells choices_list bytes.now choices.items) }
+    ensures fault { IfErr result (λ fault. Fails choices_list bytes.now fault) }
+{
+    read_list(alloc, bytes)
+}
+
+// A list is read record by record, up to its first bad one.
+fn read_list<E: ListEntry>(alloc: Global, bytes: &[u8]) -> Result<Vec<E>, ListFault>
+    ensures told { IfOk result (λ entries. Tells E.form bytes.now entries.items) }
+    ensures fault { IfErr result (λ fault. Fails E.form bytes.now fault) }
+{
+    if bytes.is_empty() {
+        return Err(NO_HEADER);
+    }
+    let mut records = ReaderBuilder::new()
+        .has_headers(false)
+        .flexible(true)
+        .from_reader(alloc, bytes)
+        .into_byte_records();
+    let Some(header) = records.next() else {
+        return Err(NO_HEADER);
+    };
+    let header = header?;
+    if !E::is_header(&header) {
+        return Err(NO_HEADER);
+    }
+    let width = header.len();
+    let mut entries = Vec::new(alloc);
+    for row in records {
+        let row = row?;
+        if entries.len() >= RECORD_LIMIT {
+            return Err(TOO_MANY);
+        }
+        match read_record(alloc, row, width) {
+            Ok(entry) => {
+                if entries.push(entry).is_err() {
+                    return Err(ListFault::OutOfMemory);
+                }
+            }
+            Err(fault) => return Err(fault.of_record(entries.len() as u32 + 1)),
+        }
+    }
+    Ok(entries)
+}
+
+// What a data record tells, where the header has so many fields.
+fn read_record<E: ListEntry>(alloc: Global, row: ByteRecord, width: usize) -> Result<E, RecordFault>
+    requires { width ≡ length E.form.header }
+    ensures told { IfOk result (λ entry. entry ≡ E.form.entry (fields_of row)) }
+    ensures good { IfOk result (λ _. cause_of E.form (fields_of row) ≡ None) }
+    ensures fault { IfErr result (λ fault. FailsFor (cause_of E.form (fields_of row)) fault) }
+{
+    if row.len() != width {
+        return Err(RecordFault::Bad(Cause::FieldCount));
+    }
+    match StringRecord::from_byte_record(row) {
+        Ok(fields) => E::from_fields(alloc, &fields),
+        Err(_) => Err(RecordFault::Bad(Cause::NotText)),
+    }
+}

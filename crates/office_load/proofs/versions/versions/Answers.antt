@@ -1,0 +1,19 @@
+use Rattle.std.proofs.Common.{[], not, ap, ◌∙◌, codes}
+use Rattle.sqlite.specs.Held.{state}
+use Rattle.office_load.specs.Versions.{only_version}
+use Rattle.office_load.proofs.Listings.{shows_table}
+use Rattle.office_load.proofs.VersionMeanings.{versions_listed}
+use Rattle.office_load.proofs.StateLemmas.{reads_shown, reads_failed}
+use Rattle.office_load.proofs.versions.versions.Goals as goal
+
+pub returns-in_err-rows-clause-reads : goal.returns-in_err-rows-clause-reads
+returns-in_err-rows-clause-reads g c =
+    reads_failed (codes "SELECT version FROM round") [] _ _ _ c.query_all.ensures.survives _ (c.is_autocommit-outside.ensures.settled (c.is_autocommit-outside.ensures.value ∙ ap not c.requires)) c.in_err-rows.ensures.err
+
+pub returns-clause-reads : goal.returns-clause-reads
+returns-clause-reads g c =
+    reads_shown (codes "SELECT version FROM round") [] _ _ _ c.query_all.ensures.survives _ versions_listed.plain c.in_ok-rows.ensures.ok
+
+pub returns-clause-shown : goal.returns-clause-shown
+returns-clause-shown g c clean has =
+    shows_table (codes "SELECT version FROM round") 6 only_version _ versions_listed (state g.S.Store c.args.conn.now) _ _ has (c.in_ok-rows.ensures.ok clean)

@@ -1,0 +1,80 @@
+//! Desks over an office that a database holds.
+ghost use Rattle.std.specs.Prelude.{◌≡◌, false, IfErr, IfOk, IsErrAnd, MatchResult};
+ghost use Rattle.sqlite.specs.Held.{state};
+ghost use Rattle.office_core.specs.Office.Invariants.{IsLawful};
+ghost use Rattle.office_core.specs.declared.office.Office.{Office as AnyOffice};
+ghost use Rattle.office_rows.specs.Tables.{rows_of};
+ghost use Rattle.office_cells.specs.Spelled.{IsSpelled};
+ghost use Rattle.office_tables.specs.Steps.{Follows, IsHonest};
+ghost use Rattle.office_tables.specs.Tables.{HoldsOffice};
+ghost use Rattle.office_load.specs.Finding.{AreDeclared, AreWhole, has_round};
+ghost use Rattle.office_store.specs.Adopting.{MayRefuse, desk_fault};
+ghost use Rattle.office_store.specs.Desk.{Shows};
+
+use crate::desk::Desk;
+use crate::desk::faults::{Back, DeskFault};
+use office_load::{FindFault, find};
+use sqlite::{Alter, Connection};
+use std::alloc::Global;
+
+impl<S: Alter> Desk<S> {
+    /// A desk over a database whose tables are the rows of an office, which it shows. Each table that has one of the eight
+    /// names has to be declared as that table of an office. An office's tables are never answered `NotAnOffice` or
+    /// `OtherVersion`.
+    ///
+    /// # Errors
+    ///
+    /// `NotAnOffice` where there is no table of the round, and else only where its row holds no other version and the
+    /// tables are no office's rows. `OtherVersion` only where the row of the round holds that version. Else `Unavailable`,
+    /// also where one of the other tables is absent, or anything is declared beside them. The connection comes back with
+    /// its tables as they were.
+    pub fn adopt(alloc: Global, connection: Connection<S>) -> Result<Desk<S>, Back<S>>
+        requires { connection.in_transaction ≡ false }
+        ensures follows { IfOk result
+            (λ desk. Follows (state S.Store connection) (state S.Store desk.conn)) }
+        ensures shows { IfOk result (λ desk. IsHonest (state S.Store desk.conn)
+            → AreDeclared (state S.Store connection).now.schema
+            → AreWhole (state S.Store connection).now.trees
+            → (office : AnyOffice) × HoldsOffice (state S.Store connection).now office
+            × Shows S.Store desk office) }
+        ensures outside { IfErr result (λ back. back.connection.in_transaction ≡ false) }
+        ensures followed { IfErr result
+            (λ back. Follows (state S.Store connection) (state S.Store back.connection)) }
+        ensures undone { IfErr result (λ back. IsHonest (state S.Store back.connection)
+            → AreDeclared (state S.Store connection).now.schema
+            → (state S.Store back.connection).now ≡ (state S.Store connection).now) }
+        ensures cause { IfErr result (λ back. IsHonest (state S.Store back.connection)
+            → AreDeclared (state S.Store connection).now.schema
+            → MayRefuse (state S.Store connection).now back.fault) }
+        ensures absent { has_round (state S.Store connection).now.schema ≡ false → IsErrAnd result
+            (λ back. (back.fault ≡ DeskFault.NotAnOffice) × (back.connection ≡ connection)) }
+        ensures accepts { (office : AnyOffice) → IsLawful office → IsSpelled (rows_of office)
+            → HoldsOffice (state S.Store connection).now office → MatchResult result
+            (λ desk. IsHonest (state S.Store desk.conn) → Shows S.Store desk office)
+            (λ back. IsHonest (state S.Store back.connection)
+            → back.fault ≡ DeskFault.Unavailable) }
+    {
+        let mut conn = connection;
+        match find(alloc, &mut conn) {
+            Ok(office) => Ok(Desk {
+                conn,
+                kept: Some(office),
+            }),
+            Err(fault) => Err(Back {
+                fault: desk_fault(fault),
+                connection: conn,
+            }),
+        }
+    }
+}
+
+// Why there is no desk, where no office was found.
+fn desk_fault(fault: FindFault) -> DeskFault
+    ensures { result ≡ desk_fault fault }
+{
+    match fault {
+        FindFault::Unavailable => DeskFault::Unavailable,
+        FindFault::NotAnOffice => DeskFault::NotAnOffice,
+        FindFault::OtherVersion(version) => DeskFault::OtherVersion(version),
+    }
+}

@@ -1,0 +1,5 @@
+pub mod OrderLines
+pub mod OutputLines
+pub mod RefusalTexts
+pub mod Replies
+pub mod Texts

@@ -1,0 +1,24 @@
+-- The drawn order, as it is printed.
+use Rattle.std.specs.Prelude.{ℕ, ◌+◌, ◌-◌, List, [], ◌∷◌, ◌++◌, length, replicate, codes}
+use Rattle.std.specs.Fmt.{decimal}
+use Rattle.room_types.specs.Texts.{Text}
+use Rattle.room_types.specs.Words.{word_text}
+use Rattle.office_core.specs.declared.reply.OrderRow.{OrderRow}
+use Rattle.office_texts.specs.OutputLines.{line_of}
+
+-- the text, and spaces before it up to the width
+abbrev pub right_in : ℕ → Text → Text
+right_in width text = replicate (width - length text) 32 ++ text
+
+-- the place right in 4, the word and the identifier
+abbrev pub order_line : ℕ → OrderRow → Text
+order_line place row = line_of (right_in 4 (decimal place) ∷ codes " " ∷ word_text row.word ∷ codes " " ∷ row.person ∷ [])
+
+-- a line for each row, the first one at this place
+abbrev pub order_lines : ℕ → List OrderRow → Text
+order_lines place [] = []
+order_lines place (row ∷ rows) = order_line place row ++ order_lines (place + 1) rows
+
+-- places from 1; without rows there are no bytes
+abbrev pub order_text : List OrderRow → Text
+order_text rows = order_lines 1 rows

@@ -1,0 +1,33 @@
+-- The lines of refusals.
+use Rattle.std.specs.Prelude.{[], ◌∷◌, ◌++◌, codes}
+use Rattle.std.specs.Fmt.{decimal}
+use Rattle.room_types.specs.Phases.{phase_text}
+use Rattle.room_types.specs.Texts.{Text}
+use Rattle.office_core.specs.Refusal.{name_of, number_of}
+use Rattle.office_core.specs.declared.refusal.Refusal.{Refusal}
+use Rattle.office_texts.specs.OutputLines.{line_of}
+use Rattle.office_core.specs.declared.refusal.Refusal.TheVariants.{BadPhase, UnknownPerson, UnknownRoom, DuplicateRoom, DuplicatePerson, KeyInUse, RoomShut, RoomTaken, HasHome, NoHome, Withdrawn, WrongWordCount, LimitReached, NotInRound, NoSuchRound, NotShut, OutOfMemory}
+
+-- the values that a refusal has, after a space
+abbrev pub refusal_values : Refusal → Text
+refusal_values (BadPhase phase) = codes " " ++ phase_text phase
+refusal_values (UnknownRoom room) = codes " " ++ room
+refusal_values (RoomShut room) = codes " " ++ room
+refusal_values (WrongWordCount want got) = codes " want " ++ decimal want ++ codes " got " ++ decimal got
+refusal_values UnknownPerson = []
+refusal_values DuplicateRoom = []
+refusal_values DuplicatePerson = []
+refusal_values KeyInUse = []
+refusal_values RoomTaken = []
+refusal_values HasHome = []
+refusal_values NoHome = []
+refusal_values Withdrawn = []
+refusal_values LimitReached = []
+refusal_values NotInRound = []
+refusal_values NoSuchRound = []
+refusal_values NotShut = []
+refusal_values OutOfMemory = []
+
+-- the number, the name and the values
+abbrev pub refusal_text : Refusal → Text
+refusal_text refusal = line_of (codes "refused " ∷ decimal (number_of refusal) ∷ codes " " ∷ name_of refusal ∷ refusal_values refusal ∷ [])

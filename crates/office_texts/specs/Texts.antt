@@ -1,0 +1,32 @@
+-- What is printed for a line, and the statuses of lines.
+use Rattle.std.specs.Prelude.{ℕ, ⊤, [], ◌∷◌, codes}
+use Rattle.room_types.specs.Texts.{Text}
+use Rattle.office_store.specs.Requests.{AnswerAscends}
+use Rattle.office_store.specs.declared.requests.Answer.TheVariants.{Reply, Refused, Unavailable}
+use Rattle.office_texts.specs.declared.said.Said.{Said}
+use Rattle.office_texts.specs.declared.said.Said.TheVariants.{Nothing, Answered, NotUnderstood}
+use Rattle.office_texts.specs.RefusalTexts.{refusal_text}
+use Rattle.office_texts.specs.OutputLines.{line_of}
+use Rattle.office_texts.specs.Replies.{reply_text}
+
+-- what is printed
+abbrev pub text_of : Said → Text
+text_of Nothing = []
+text_of (Answered (Reply reply)) = reply_text reply
+text_of (Answered (Refused refusal)) = refusal_text refusal
+text_of (Answered Unavailable) = line_of (codes "unavailable" ∷ [])
+text_of NotUnderstood = line_of (codes "not understood" ∷ [])
+
+-- the rows of the reply that is said, if there is one, ascend
+abbrev pub SaidAscends : Said → Type 0
+SaidAscends Nothing = ⊤
+SaidAscends (Answered answer) = AnswerAscends answer
+SaidAscends NotUnderstood = ⊤
+
+-- how the line went: accepted, refused, not understood, or unavailable
+abbrev pub status_of : Said → ℕ
+status_of Nothing = 0
+status_of (Answered (Reply reply)) = 0
+status_of (Answered (Refused refusal)) = 1
+status_of NotUnderstood = 2
+status_of (Answered Unavailable) = 3

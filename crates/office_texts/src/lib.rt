@@ -1,0 +1,15 @@
+//! What is printed of an answer: its lines, and the status that they have.
+#![tactic(auto)]
+
+pub mod order_lines;
+pub mod output_lines;
+pub mod refusals;
+pub mod replies;
+pub mod said;
+pub mod texts;
+
+pub use crate::order_lines::text_of_order;
+pub use crate::refusals::text_of_refusal;
+pub use crate::replies::text_of_reply;
+pub use crate::said::Said;
+pub use crate::texts::{ACCEPTED, NOT_UNDERSTOOD, REFUSED, UNAVAILABLE, status_of, text_of};

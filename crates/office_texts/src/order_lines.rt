@@ -1,0 +1,50 @@
+//! The drawn order, as it is printed.
+ghost use Rattle.std.specs.Prelude.{◌≡◌, ◌<◌, ◌++◌, IfOk, OnErr, OnOk, length, string_bytes};
+ghost use Rattle.office_texts.specs.OrderLines.{order_line, order_text, right_in};
+
+use office_core::OrderRow;
+use room_types::OutOfMemory;
+use std::alloc::{AllocError, Global};
+
+/// The width of the column of places.
+const PLACE_WIDTH: usize = 4;
+
+/// The rows in their order, with places from 1. Without rows there are no bytes, and no memory is taken.
+#[tactic(auto, using(crate::proofs::TextLemmas::order_some))]
+pub fn text_of_order(alloc: Global, rows: &[OrderRow]) -> Result<String, OutOfMemory>
+    ensures text { IfOk result (λ text. string_bytes text ≡ order_text rows.now) }
+    ensures memory { OnErr result (0 < length (order_text rows.now)) }
+{
+    let mut text = String::new(alloc);
+    let mut place = 1u64;
+    for row in rows {
+        push_row(alloc, &mut text, place, row)?;
+        place += 1;
+    }
+    Ok(text)
+}
+
+fn push_row(alloc: Global, text: &mut String, place: u64, row: &OrderRow) -> Result<(), AllocError>
+    ensures { OnOk result
+        (string_bytes text.new ≡ string_bytes text.old ++ order_line place row.now) }
+{
+    let number = place.to_string(alloc)?;
+    let word = row.word;
+    push_right(text, number.as_str(), PLACE_WIDTH)?;
+    write!(text, " {word} ")?;
+    text.push_str(row.person.as_str())?;
+    text.push_str("\n")
+}
+
+// Adds a text, right in its width.
+fn push_right(text: &mut String, cell: &str, width: usize) -> Result<(), AllocError>
+    ensures { OnOk result
+        (string_bytes text.new ≡ string_bytes text.old ++ right_in width cell.now) }
+{
+    let mut spaces = width.saturating_sub(cell.len());
+    while spaces > 0 {
+        text.push_str(" ")?;
+        spaces -= 1;
+    }
+    text.push_str(cell)
+}

@@ -1,0 +1,44 @@
+//! The lines of refusals.
+ghost use Rattle.std.specs.Prelude.{◌≡◌, ◌++◌, IfOk, OnOk, string_bytes};
+ghost use Rattle.office_texts.specs.RefusalTexts.{refusal_text, refusal_values};
+
+use office_core::Refusal;
+use room_types::OutOfMemory;
+use std::alloc::{AllocError, Global};
+
+/// The line of a refusal: its number, its name, and the values that it has.
+pub fn text_of_refusal(alloc: Global, refusal: &Refusal) -> Result<String, OutOfMemory>
+    ensures { IfOk result (λ text. string_bytes text ≡ refusal_text refusal.now) }
+{
+    let number = refusal.number();
+    let name = refusal.name();
+    let mut text = format!(in alloc; "refused {number} {name}")?;
+    push_values(&mut text, refusal)?;
+    text.push_str("\n")?;
+    Ok(text)
+}
+
+// Adds the values that the refusal has, after a space.
+fn push_values(text: &mut String, refusal: &Refusal) -> Result<(), AllocError>
+    ensures { OnOk result
+        (string_bytes text.new ≡ string_bytes text.old ++ refusal_values refusal.now) }
+{
+    match refusal {
+        Refusal::BadPhase(phase) => write!(text, " {phase}"),
+        Refusal::UnknownRoom(room) | Refusal::RoomShut(room) => write!(text, " {room}"),
+        Refusal::WrongWordCount { want, got } => write!(text, " want {want} got {got}"),
+        Refusal::UnknownPerson
+        | Refusal::DuplicateRoom
+        | Refusal::DuplicatePerson
+        | Refusal::KeyInUse
+        | Refusal::RoomTaken
+        | Refusal::HasHome
+        | Refusal::NoHome
+        | Refusal::Withdrawn
+        | Refusal::LimitReached
+        | Refusal::NotInRound
+        | Refusal::NoSuchRound
+        | Refusal::NotShut
+        | Refusal::OutOfMemory => Ok(()),
+    }
+}

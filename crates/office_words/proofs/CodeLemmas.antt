@@ -1,0 +1,12 @@
+-- Words that are read one after the other.
+use Rattle.std.proofs.Common.{◌≡◌, ◌++◌, Bor, ℕ, List, Option, map, drop}
+use Rattle.std.specs.Prelude.{option_map}
+use Rattle.room_types.specs.Texts.{Text}
+use Rattle.office_words.specs.Values.{all_of}
+
+abbrev pub texts : List (Bor Text) → List Text
+texts = map (λ (word : Bor Text). word.now)
+
+-- what all the words are is what was read, and then what those from i on are
+abbrev pub IsReadTo : {X : Type 0} → (Text → Option X) → List (Bor Text) → ℕ → List X → Type 0
+IsReadTo meaning words i read = all_of meaning (texts words) ≡ option_map (λ (others : List _). read ++ others) (all_of meaning (texts (drop i words)))

@@ -1,0 +1,4 @@
+pub mod CodeLemmas
+pub mod NameLemmas
+pub mod RoundLemmas
+pub mod SentenceLemmas

@@ -1,0 +1,12 @@
+use Rattle.std.proofs.Common.{◌≡◌, ◌⊎◌, true}
+use Rattle.room_types.specs.Words.{word_of}
+use Rattle.office_words.specs.Words.{first_in, is_drawn_word}
+use Rattle.office_words.proofs.CodeLemmas.{IsReadTo, texts}
+use Rattle.office_words.proofs.values.drawn_words.Given as goal
+
+-- the words so far are read, and the first of them is a word of a draw
+abbrev pub invariant-loop-word : goal.invariant-loop-word
+invariant-loop-word l = record {
+  read : IsReadTo word_of l.words l.word-index l.drawn.items;
+  first : (l.word-index ≡ 0) ⊎ (first_in is_drawn_word (texts l.words) ≡ true);
+}

@@ -1,0 +1,5 @@
+pub mod Sentences
+pub mod Understanding
+pub mod Values
+pub mod Verbs
+pub mod Words

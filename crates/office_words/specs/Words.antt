@@ -1,0 +1,162 @@
+-- The request that the words of a line are.
+use Rattle.std.specs.Prelude.{Bool, false, ◌&&◌, List, [], ◌∷◌, length, ◌==◌, nat_le, Option, Some, None, is_some, option_and_then, option_map}
+use Rattle.room_types.specs.Grammars.{is_key, is_name, is_person_id, is_room_code}
+use Rattle.room_types.specs.Texts.{Text}
+use Rattle.room_types.specs.Words.{word_of}
+use Rattle.office_core.specs.declared.command.Command.TheVariants.{AddPerson, AddRoom, Cancel, CloseRound, Draw, Leave, OpenRound, Publish, Remove, Reopen, Run, SetChoices, SetHome, Settle, Shut, Withdraw}
+use Rattle.office_core.specs.declared.query.Query.TheVariants.{Me, Moves, Order, People, Results, Rooms, Round, WhatIf}
+use Rattle.office_words.specs.Verbs.{verb_of}
+use Rattle.office_words.specs.declared.verbs.Verb.{Verb}
+use Rattle.office_words.specs.declared.verbs.Verb.TheVariants as verb
+use Rattle.office_words.specs.Values.{all_of, choices_in, in_grammar, joined, only, round_number}
+use Rattle.office_store.specs.declared.requests.Request.{Request}
+use Rattle.office_store.specs.declared.requests.Request.TheVariants.{Office, Ask}
+
+-- `room CODE`
+abbrev pub add_room : List Text → Option Request
+add_room words = option_map (λ room. Office (AddRoom room)) (only is_room_code words)
+
+-- `person ID KEY NAME..`, without home; the rest of the words is the name
+abbrev pub add_person : List Text → Option Request
+add_person (person ∷ key ∷ name) =
+    option_and_then (λ id. option_and_then (λ k.
+    option_map (λ n. Office (AddPerson id n k None)) (in_grammar is_name (joined name)))
+    (in_grammar is_key key)) (in_grammar is_person_id person)
+add_person _ = None
+
+-- `home ID CODE`
+abbrev pub set_home : List Text → Option Request
+set_home (person ∷ room ∷ []) = option_and_then (λ id. option_map (λ code. Office (SetHome id code)) (in_grammar is_room_code room)) (in_grammar is_person_id person)
+set_home _ = None
+
+-- `leave ID`
+abbrev pub leave : List Text → Option Request
+leave words = option_map (λ person. Office (Leave person)) (only is_person_id words)
+
+-- `remove ID`
+abbrev pub remove : List Text → Option Request
+remove words = option_map (λ person. Office (Remove person)) (only is_person_id words)
+
+-- `shut CODE`
+abbrev pub shut : List Text → Option Request
+shut words = option_map (λ room. Office (Shut room)) (only is_room_code words)
+
+-- `reopen CODE`
+abbrev pub reopen : List Text → Option Request
+reopen words = option_map (λ room. Office (Reopen room)) (only is_room_code words)
+
+-- `choose ID CODE..`, no code or more
+abbrev pub set_choices : List Text → Option Request
+set_choices (person ∷ rooms) = option_and_then (λ id. option_map (λ choices. Office (SetChoices id choices)) (choices_in rooms)) (in_grammar is_person_id person)
+set_choices [] = None
+
+-- `withdraw ID`
+abbrev pub withdraw : List Text → Option Request
+withdraw words = option_map (λ person. Office (Withdraw person)) (only is_person_id words)
+
+-- `draw WORD..`, no word or more
+abbrev pub draw : List Text → Option Request
+draw words = option_map (λ drawn. Office (Draw drawn)) (all_of word_of words)
+
+-- `moves N`, N being 1 to 4 decimal digits
+abbrev pub ask_moves : List Text → Option Request
+ask_moves (round ∷ []) = option_map (λ number. Ask (Moves number)) (round_number round)
+ask_moves _ = None
+
+-- `me KEY`
+abbrev pub ask_me : List Text → Option Request
+ask_me words = option_map (λ key. Ask (Me key)) (only is_key words)
+
+-- `whatif ID CODE..`, no code or more
+abbrev pub ask_what_if : List Text → Option Request
+ask_what_if (person ∷ rooms) = option_and_then (λ id. option_map (λ choices. Ask (WhatIf id choices)) (choices_in rooms)) (in_grammar is_person_id person)
+ask_what_if [] = None
+
+-- a word after which none may stand
+abbrev pub alone : Request → List Text → Option Request
+alone request [] = Some request
+alone request (word ∷ rest) = None
+
+-- the request of the words after a first one
+abbrev pub request_after : Verb → List Text → Option Request
+request_after verb.Room rest = add_room rest
+request_after verb.Person rest = add_person rest
+request_after verb.Home rest = set_home rest
+request_after verb.Leave rest = leave rest
+request_after verb.Remove rest = remove rest
+request_after verb.Shut rest = shut rest
+request_after verb.Reopen rest = reopen rest
+request_after verb.Open rest = alone (Office OpenRound) rest
+request_after verb.Close rest = alone (Office CloseRound) rest
+request_after verb.Run rest = alone (Office Run) rest
+request_after verb.Publish rest = alone (Office Publish) rest
+request_after verb.Settle rest = alone (Office Settle) rest
+request_after verb.Cancel rest = alone (Office Cancel) rest
+request_after verb.Choose rest = set_choices rest
+request_after verb.Withdraw rest = withdraw rest
+request_after verb.Draw rest = draw rest
+request_after verb.Rooms rest = alone (Ask Rooms) rest
+request_after verb.People rest = alone (Ask People) rest
+request_after verb.Round rest = alone (Ask Round) rest
+request_after verb.Order rest = alone (Ask Order) rest
+request_after verb.Results rest = alone (Ask Results) rest
+request_after verb.Moves rest = ask_moves rest
+request_after verb.Me rest = ask_me rest
+request_after verb.WhatIf rest = ask_what_if rest
+
+-- the first word is in the grammar
+abbrev pub first_in : (Text → Bool) → List Text → Bool
+first_in is_text [] = false
+first_in is_text (word ∷ rest) = is_text word
+
+-- a word of a draw
+abbrev pub is_drawn_word : Text → Bool
+is_drawn_word word = is_some (word_of word)
+
+-- Memory is taken for the words after a first one. Values are copied, from the first on, up to one that is out of its grammar,
+-- and only where there are as many as the request has. Nothing is copied of a number, or where no word may stand.
+abbrev pub copies : Verb → List Text → Bool
+copies verb.Room rest = is_some (add_room rest)
+copies verb.Person rest = nat_le 2 (length rest) && first_in is_person_id rest
+copies verb.Home rest = length rest == 2 && first_in is_person_id rest
+copies verb.Leave rest = is_some (leave rest)
+copies verb.Remove rest = is_some (remove rest)
+copies verb.Shut rest = is_some (shut rest)
+copies verb.Reopen rest = is_some (reopen rest)
+copies verb.Open rest = false
+copies verb.Close rest = false
+copies verb.Run rest = false
+copies verb.Publish rest = false
+copies verb.Settle rest = false
+copies verb.Cancel rest = false
+copies verb.Choose rest = first_in is_person_id rest
+copies verb.Withdraw rest = is_some (withdraw rest)
+copies verb.Draw rest = first_in is_drawn_word rest
+copies verb.Rooms rest = false
+copies verb.People rest = false
+copies verb.Round rest = false
+copies verb.Order rest = false
+copies verb.Results rest = false
+copies verb.Moves rest = false
+copies verb.Me rest = is_some (ask_me rest)
+copies verb.WhatIf rest = first_in is_person_id rest
+
+-- memory is taken to read a verb, if there is one, with the words after it
+abbrev pub takes_memory_after : Option Verb → List Text → Bool
+takes_memory_after None rest = false
+takes_memory_after (Some verb) rest = copies verb rest
+
+-- memory is taken to read the words as a request
+abbrev pub takes_memory : List Text → Bool
+takes_memory [] = false
+takes_memory (first ∷ rest) = takes_memory_after (verb_of first) rest
+
+-- the request, if the words are one
+abbrev pub request_of : List Text → Option Request
+request_of [] = None
+request_of (first ∷ rest) = option_and_then (λ verb. request_after verb rest) (verb_of first)
+
+-- the first word is that of a request
+abbrev pub names_request : List Text → Bool
+names_request [] = false
+names_request (first ∷ rest) = is_some (verb_of first)

@@ -1,0 +1,129 @@
+//! The values that words are.
+ghost use Rattle.std.specs.Prelude.{◌≡◌, false, is_some, length, map};
+ghost use Rattle.std.specs.Char.{is_ascii_digit};
+ghost use Rattle.std.specs.Int.{is_in_range};
+ghost use Rattle.std.specs.List.{list_all};
+ghost use Rattle.office_words.specs.Understanding.{Understands, UnderstandsAs, WantsMemoryOnlyIf};
+ghost use Rattle.room_types.specs.Words.{word_of};
+ghost use Rattle.office_words.specs.Values.{all_of, choices_in, codes_of, in_grammar, is_round_number, joined, only, round_number};
+ghost use Rattle.office_words.specs.Words.{first_in, is_drawn_word};
+ghost use Rattle.room_types.specs.Grammars.{is_name};
+
+use crate::word_fault::WordFault;
+use room_types::{Choices, Grammar, Listing, Name, RoomCode, Text, TypeFault, Word};
+use std::alloc::Global;
+
+/// How many digits the number of a round has at most.
+pub const ROUND_DIGITS: usize = 4;
+
+/// The value that a word is in its grammar. Memory is taken for such a word alone.
+pub fn value_of<G: Grammar>(alloc: Global, word: &str) -> Result<Text<G>, WordFault>
+    ensures understands { Understands (in_grammar G.is_text word.now) result }
+    ensures memory { WantsMemoryOnlyIf (G.is_text word.now) result }
+{
+    match Text::read(alloc, word) {
+        Ok(value) => Ok(value),
+        Err(TypeFault::OutOfMemory) => Err(WordFault::OutOfMemory),
+        Err(_) => Err(WordFault::NotUnderstood),
+    }
+}
+
+/// The value that the only word is in its grammar. Memory is taken for such a word alone.
+pub fn only_value<G: Grammar>(alloc: Global, words: &[&str]) -> Result<Text<G>, WordFault>
+    ensures understands { Understands
+        (only G.is_text (map (λ word. word.now) words.now)) result }
+    ensures memory { WantsMemoryOnlyIf
+        (is_some (only G.is_text (map (λ word. word.now) words.now))) result }
+{
+    match words {
+        [word] => value_of(alloc, word),
+        _ => Err(WordFault::NotUnderstood),
+    }
+}
+
+/// The name that the words are, joined by one space.
+pub fn name_of(alloc: Global, words: &[&str]) -> Result<Name, WordFault>
+    ensures { Understands (in_grammar is_name (joined (map (λ word. word.now) words.now))) result }
+{
+    let name = words.join(alloc, " ")?;
+    value_of(alloc, name.as_str())
+}
+
+/// The list of rooms that the words are.
+pub fn choices_of(alloc: Global, words: &[&str]) -> Result<Choices, WordFault>
+    ensures { Understands (choices_in (map (λ word. word.now) words.now)) result }
+{
+    let codes = all_codes(alloc, words)?;
+    match Choices::read(codes) {
+        Ok(choices) => Ok(choices),
+        Err(TypeFault::OutOfMemory) => Err(WordFault::OutOfMemory),
+        Err(_) => Err(WordFault::NotUnderstood),
+    }
+}
+
+fn all_codes(alloc: Global, words: &[&str]) -> Result<Vec<RoomCode>, WordFault>
+    ensures { UnderstandsAs (λ codes. codes.items) (codes_of (map (λ word. word.now) words.now))
+        result }
+{
+    let mut codes = Vec::new(alloc);
+    for word in words {
+        codes.push(value_of(alloc, word)?)?;
+    }
+    Ok(codes)
+}
+
+/// The words of a draw that the words are. Memory is taken once the first of them is one.
+pub fn drawn_words(alloc: Global, words: &[&str]) -> Result<Listing<Word>, WordFault>
+    ensures understands { Understands (all_of word_of (map (λ word. word.now) words.now)) result }
+    ensures memory { WantsMemoryOnlyIf
+        (first_in is_drawn_word (map (λ word. word.now) words.now)) result }
+{
+    let mut drawn = Vec::new(alloc);
+    for word in words {
+        drawn.push(drawn_word(word)?)?;
+    }
+    Ok(Listing::new(drawn))
+}
+
+fn drawn_word(word: &str) -> Result<Word, WordFault>
+    ensures understands { Understands (word_of word.now) result }
+    ensures memory { WantsMemoryOnlyIf false result }
+{
+    match Word::read(word) {
+        Ok(word) => Ok(word),
+        Err(_) => Err(WordFault::NotUnderstood),
+    }
+}
+
+/// The number of a round that a word of digits is. It takes no memory.
+pub fn round_of(word: &str) -> Result<u16, WordFault>
+    ensures understands { Understands (round_number word.now) result }
+    ensures memory { WantsMemoryOnlyIf false result }
+{
+    if !is_round_number(word) {
+        return Err(WordFault::NotUnderstood);
+    }
+    match word.parse::<u16>() {
+        Ok(number) => Ok(number),
+        Err(_) => Err(WordFault::NotUnderstood),
+    }
+}
+
+// Whether a word is 1 to 4 decimal digits.
+fn is_round_number(word: &str) -> bool
+    ensures { result ≡ is_round_number word.now }
+{
+    has_round_length(word) && has_digits_alone(word)
+}
+
+fn has_round_length(word: &str) -> bool
+    ensures { result ≡ is_in_range 1 4 (length word.now) }
+{
+    1 <= word.len() && word.len() <= ROUND_DIGITS
+}
+
+fn has_digits_alone(word: &str) -> bool
+    ensures { result ≡ list_all is_ascii_digit word.now }
+{
+    word.as_bytes().iter().all(|byte| byte.is_ascii_digit())
+}

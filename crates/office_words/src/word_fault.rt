@@ -1,0 +1,33 @@
+//! Why words are not what they should be.
+ghost use Rattle.std.specs.Prelude.{◌≡◌};
+
+use std::alloc::{AllocError, AllocFailed};
+
+/// Why words are not what they should be.
+#[derive(Clone, Copy, Debug, PartialEq, Eq, Drop)]
+pub enum WordFault {
+    /// The words have no meaning.
+    NotUnderstood,
+    /// Memory was refused.
+    OutOfMemory,
+}
+
+impl From<AllocError> for WordFault {
+    ghost use Rattle.office_words.specs.declared.word_fault.WordFault.TheVariants.{OutOfMemory};
+
+    ghost from_gives = { λ _ fault. fault ≡ OutOfMemory };
+
+    fn from(_error: AllocError) -> WordFault {
+        WordFault::OutOfMemory
+    }
+}
+
+impl<T: Drop> From<AllocFailed<T>> for WordFault {
+    ghost use Rattle.office_words.specs.declared.word_fault.WordFault.TheVariants.{OutOfMemory};
+
+    ghost from_gives = { λ _ fault. fault ≡ OutOfMemory };
+
+    fn from(_error: AllocFailed<T>) -> WordFault {
+        WordFault::OutOfMemory
+    }
+}

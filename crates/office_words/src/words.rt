@@ -1,0 +1,226 @@
+//! The request that the words of a line are.
+ghost use Rattle.std.specs.Prelude.{false, map};
+ghost use Rattle.office_words.specs.Understanding.{Understands, WantsMemoryOnlyIf};
+ghost use Rattle.office_words.specs.Words.{add_person, add_room, alone, ask_me, ask_moves, ask_what_if, draw, leave, remove, reopen, request_after, request_of, set_choices, set_home, shut, withdraw};
+ghost use Rattle.office_words.specs.Words.{copies, takes_memory};
+ghost use Rattle.office_words.specs.declared.verbs.Verb.TheVariants as verb;
+
+use crate::values::{choices_of, drawn_words, name_of, only_value, round_of, value_of};
+use crate::verbs::{Verb, verb_of};
+use crate::word_fault::WordFault;
+use office_core::{Command, Query};
+use office_store::Request;
+use std::alloc::Global;
+
+/// The request that the words of a line are. `NotUnderstood` is answered exactly where they are none. Memory is wanting
+/// only where it is taken: for copies of values, from the first on, where there are as many as the request has.
+pub fn words_to_command(alloc: Global, words: &[&str]) -> Result<Request, WordFault>
+    ensures understands { Understands (request_of (map (λ word. word.now) words.now)) result }
+    ensures memory { WantsMemoryOnlyIf (takes_memory (map (λ word. word.now) words.now)) result }
+{
+    let [first, rest @ ..] = words else {
+        return Err(WordFault::NotUnderstood);
+    };
+    match verb_of(first) {
+        Some(verb) => request_after(alloc, verb, rest),
+        None => Err(WordFault::NotUnderstood),
+    }
+}
+
+// The request of the words after a first word.
+fn request_after(alloc: Global, verb: Verb, rest: &[&str]) -> Result<Request, WordFault>
+    ensures understands { Understands
+        (request_after verb (map (λ word. word.now) rest.now)) result }
+    ensures memory { WantsMemoryOnlyIf (copies verb (map (λ word. word.now) rest.now)) result }
+{
+    match verb {
+        Verb::Room => add_room(alloc, rest),
+        Verb::Person => add_person(alloc, rest),
+        Verb::Home => set_home(alloc, rest),
+        Verb::Leave => leave(alloc, rest),
+        Verb::Remove => remove(alloc, rest),
+        Verb::Shut => shut(alloc, rest),
+        Verb::Reopen => reopen(alloc, rest),
+        Verb::Open => alone(rest, Request::Office(Command::OpenRound)),
+        Verb::Close => alone(rest, Request::Office(Command::CloseRound)),
+        Verb::Run => alone(rest, Request::Office(Command::Run)),
+        Verb::Publish => alone(rest, Request::Office(Command::Publish)),
+        Verb::Settle => alone(rest, Request::Office(Command::Settle)),
+        Verb::Cancel => alone(rest, Request::Office(Command::Cancel)),
+        Verb::Choose => set_choices(alloc, rest),
+        Verb::Withdraw => withdraw(alloc, rest),
+        Verb::Draw => draw(alloc, rest),
+        Verb::Rooms => alone(rest, Request::Ask(Query::Rooms)),
+        Verb::People => alone(rest, Request::Ask(Query::People)),
+        Verb::Round => alone(rest, Request::Ask(Query::Round)),
+        Verb::Order => alone(rest, Request::Ask(Query::Order)),
+        Verb::Results => alone(rest, Request::Ask(Query::Results)),
+        Verb::Moves => ask_moves(rest),
+        Verb::Me => ask_me(alloc, rest),
+        Verb::WhatIf => ask_what_if(alloc, rest),
+    }
+}
+
+fn add_room(alloc: Global, words: &[&str]) -> Result<Request, WordFault>
+    ensures understands { Understands (add_room (map (λ word. word.now) words.now)) result }
+    ensures memory { WantsMemoryOnlyIf (copies verb.Room (map (λ word. word.now) words.now))
+        result }
+{
+    let room = only_value(alloc, words)?;
+    Ok(Request::Office(Command::AddRoom { room }))
+}
+
+// The rest of the words, joined by one space, is the name.
+fn add_person(alloc: Global, words: &[&str]) -> Result<Request, WordFault>
+    ensures understands { Understands (add_person (map (λ word. word.now) words.now)) result }
+    ensures memory { WantsMemoryOnlyIf (copies verb.Person (map (λ word. word.now) words.now))
+        result }
+{
+    match words {
+        [person, key, name @ ..] => {
+            let person = value_of(alloc, person)?;
+            let key = value_of(alloc, key)?;
+            let name = name_of(alloc, name)?;
+            Ok(Request::Office(Command::AddPerson {
+                person,
+                name,
+                key,
+                home: None,
+            }))
+        }
+        _ => Err(WordFault::NotUnderstood),
+    }
+}
+
+fn set_home(alloc: Global, words: &[&str]) -> Result<Request, WordFault>
+    ensures understands { Understands (set_home (map (λ word. word.now) words.now)) result }
+    ensures memory { WantsMemoryOnlyIf (copies verb.Home (map (λ word. word.now) words.now))
+        result }
+{
+    match words {
+        [person, room] => {
+            let person = value_of(alloc, person)?;
+            let room = value_of(alloc, room)?;
+            Ok(Request::Office(Command::SetHome { person, room }))
+        }
+        _ => Err(WordFault::NotUnderstood),
+    }
+}
+
+fn leave(alloc: Global, words: &[&str]) -> Result<Request, WordFault>
+    ensures understands { Understands (leave (map (λ word. word.now) words.now)) result }
+    ensures memory { WantsMemoryOnlyIf (copies verb.Leave (map (λ word. word.now) words.now))
+        result }
+{
+    let person = only_value(alloc, words)?;
+    Ok(Request::Office(Command::Leave { person }))
+}
+
+fn remove(alloc: Global, words: &[&str]) -> Result<Request, WordFault>
+    ensures understands { Understands (remove (map (λ word. word.now) words.now)) result }
+    ensures memory { WantsMemoryOnlyIf (copies verb.Remove (map (λ word. word.now) words.now))
+        result }
+{
+    let person = only_value(alloc, words)?;
+    Ok(Request::Office(Command::Remove { person }))
+}
+
+fn shut(alloc: Global, words: &[&str]) -> Result<Request, WordFault>
+    ensures understands { Understands (shut (map (λ word. word.now) words.now)) result }
+    ensures memory { WantsMemoryOnlyIf (copies verb.Shut (map (λ word. word.now) words.now))
+        result }
+{
+    let room = only_value(alloc, words)?;
+    Ok(Request::Office(Command::Shut { room }))
+}
+
+fn reopen(alloc: Global, words: &[&str]) -> Result<Request, WordFault>
+    ensures understands { Understands (reopen (map (λ word. word.now) words.now)) result }
+    ensures memory { WantsMemoryOnlyIf (copies verb.Reopen (map (λ word. word.now) words.now))
+        result }
+{
+    let room = only_value(alloc, words)?;
+    Ok(Request::Office(Command::Reopen { room }))
+}
+
+fn set_choices(alloc: Global, words: &[&str]) -> Result<Request, WordFault>
+    ensures understands { Understands (set_choices (map (λ word. word.now) words.now)) result }
+    ensures memory { WantsMemoryOnlyIf (copies verb.Choose (map (λ word. word.now) words.now))
+        result }
+{
+    match words {
+        [person, rooms @ ..] => {
+            let person = value_of(alloc, person)?;
+            let choices = choices_of(alloc, rooms)?;
+            Ok(Request::Office(Command::SetChoices { person, choices }))
+        }
+        [] => Err(WordFault::NotUnderstood),
+    }
+}
+
+fn withdraw(alloc: Global, words: &[&str]) -> Result<Request, WordFault>
+    ensures understands { Understands (withdraw (map (λ word. word.now) words.now)) result }
+    ensures memory { WantsMemoryOnlyIf (copies verb.Withdraw (map (λ word. word.now) words.now))
+        result }
+{
+    let person = only_value(alloc, words)?;
+    Ok(Request::Office(Command::Withdraw { person }))
+}
+
+fn draw(alloc: Global, words: &[&str]) -> Result<Request, WordFault>
+    ensures understands { Understands (draw (map (λ word. word.now) words.now)) result }
+    ensures memory { WantsMemoryOnlyIf (copies verb.Draw (map (λ word. word.now) words.now))
+        result }
+{
+    let words = drawn_words(alloc, words)?;
+    Ok(Request::Office(Command::Draw { words }))
+}
+
+fn ask_moves(words: &[&str]) -> Result<Request, WordFault>
+    ensures understands { Understands (ask_moves (map (λ word. word.now) words.now)) result }
+    ensures memory { WantsMemoryOnlyIf (copies verb.Moves (map (λ word. word.now) words.now))
+        result }
+{
+    match words {
+        [round] => {
+            let round = round_of(round)?;
+            Ok(Request::Ask(Query::Moves(round)))
+        }
+        _ => Err(WordFault::NotUnderstood),
+    }
+}
+
+fn ask_me(alloc: Global, words: &[&str]) -> Result<Request, WordFault>
+    ensures understands { Understands (ask_me (map (λ word. word.now) words.now)) result }
+    ensures memory { WantsMemoryOnlyIf (copies verb.Me (map (λ word. word.now) words.now)) result }
+{
+    let key = only_value(alloc, words)?;
+    Ok(Request::Ask(Query::Me(key)))
+}
+
+fn ask_what_if(alloc: Global, words: &[&str]) -> Result<Request, WordFault>
+    ensures understands { Understands (ask_what_if (map (λ word. word.now) words.now)) result }
+    ensures memory { WantsMemoryOnlyIf (copies verb.WhatIf (map (λ word. word.now) words.now))
+        result }
+{
+    match words {
+        [person, rooms @ ..] => {
+            let person = value_of(alloc, person)?;
+            let choices = choices_of(alloc, rooms)?;
+            Ok(Request::Ask(Query::WhatIf(person, choices)))
+        }
+        [] => Err(WordFault::NotUnderstood),
+    }
+}
+
+// The request of a word after which none may stand.
+fn alone(words: &[&str], request: Request) -> Result<Request, WordFault>
+    ensures understands { Understands (alone request (map (λ word. word.now) words.now)) result }
+    ensures memory { WantsMemoryOnlyIf false result }
+{
+    if words.is_empty() {
+        Ok(request)
+    } else {
+        Err(WordFault::NotUnderstood)
+    }
+}
