@@ -5,8 +5,8 @@ pub mod creating;
 pub mod finding;
 mod opening;
 
-pub use crate::creating::{FileDesk, create_file, create_file_from};
-pub use crate::finding::{on_file, on_file_from};
+pub use crate::creating::{FileDesk, create_file};
+pub use crate::finding::on_file;
 
 #[cfg(test)]
 mod tests;

@@ -72,8 +72,11 @@ fn takes_tables_of_its_own_version(rt: HostRuntime) -> Result<(), Fail> {
     let (fault, mut conn) = tried(alloc, conn);
     assert_eq!(rt; fault, Some(DeskFault::Unavailable));
     conn.execute_batch("DROP TABLE note; DROP TABLE round")?;
-    let (fault, _) = tried(alloc, conn);
+    let (fault, mut conn) = tried(alloc, conn);
     assert_eq!(rt; fault, Some(DeskFault::NotAnOffice));
+    conn.execute_batch("CREATE VIEW Round AS SELECT 1 AS one")?;
+    let (fault, _) = tried(alloc, conn);
+    assert_eq!(rt; fault, Some(DeskFault::Unavailable));
     Ok(())
 }
 
