@@ -1,0 +1,6 @@
+mod FieldLemmas
+mod Keys
+mod Requests
+mod Windows
+mod Targets
+mod Continuations

@@ -1,0 +1,2 @@
+//! What no clause says: requests and answers to the byte, from the profile of residents' HTTP.
+mod asks;
