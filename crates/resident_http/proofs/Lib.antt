@@ -1,6 +1,9 @@
+mod CodeLists
+mod Continuations
 mod FieldLemmas
+mod Floats
+mod JsonBodies
 mod Keys
 mod Requests
-mod Windows
 mod Targets
-mod Continuations
+mod Windows

@@ -1,4 +1,6 @@
 pub mod Answers
 pub mod Asks
+pub mod Bodies
+pub mod Faults
 pub mod Fields
 pub mod Found

@@ -1,2 +1,3 @@
 //! What no clause says: requests and answers to the byte, from the profile of residents' HTTP.
+mod answers;
 mod asks;
