@@ -4,6 +4,8 @@ mod FieldLemmas
 mod Floats
 mod JsonBodies
 mod Keys
+mod LiteralRoutes
 mod Requests
+mod RoutesFound
 mod Targets
 mod Windows

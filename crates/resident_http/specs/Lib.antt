@@ -4,3 +4,5 @@ pub mod Bodies
 pub mod Faults
 pub mod Fields
 pub mod Found
+pub mod RouteRows
+pub mod Routes

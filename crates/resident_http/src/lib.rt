@@ -9,6 +9,7 @@ pub mod faults;
 mod fields;
 pub mod laws;
 pub mod method;
+pub mod routes;
 
 pub use crate::answer::{HttpAnswer, UNAVAILABLE, answer_bytes};
 pub use crate::ask::{AskState, read_ask};
@@ -16,6 +17,7 @@ pub use crate::bodies::{choices_body, fault_body, rooms_body, standing_body, wit
 pub use crate::choices::choices_of_body;
 pub use crate::faults::fault_name;
 pub use crate::method::Method;
+pub use crate::routes::{Route, Routed, route_request};
 
 #[cfg(test)]
 mod tests;
