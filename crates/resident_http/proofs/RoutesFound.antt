@@ -9,7 +9,6 @@ use Rattle.resident_http.specs.Routes.{route_of}
 use Rattle.resident_http.specs.RouteRows.{route_rows}
 use Rattle.resident_http.proofs.LiteralRoutes.{IsLiteral, seek_literal}
 
-
 both : (a b : Bool) → (a && b) ≡ true → (a ≡ true) × (b ≡ true)
 both true b e = (refl, e)
 both false b e = absurd (cc)

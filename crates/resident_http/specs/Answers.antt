@@ -1,5 +1,6 @@
 -- Answers over HTTP, and their bytes (RFC 9110, section 15; RFC 9112, sections 4 and 5).
-use Rattle.std.specs.Prelude.{◌≡◌, ℕ, Bool, true, ◌==◌, List, [], ◌∷◌, ◌++◌, length, codes, decimal, if◌then◌else◌, Option, None, Some, is_some}
+use Rattle.std.specs.Prelude.{◌≡◌, ℕ, Bool, true, ◌==◌, List, [], ◌∷◌, ◌++◌, length, codes, decimal, if◌then◌else◌}
+use Rattle.std.specs.Prelude.{Option, None, Some, is_some}
 use Rattle.std.specs.List.{concat, list_any}
 use Rattle.resident_http.specs.declared.method.Method.{Method}
 use Rattle.resident_http.specs.declared.method.Method.TheVariants as method

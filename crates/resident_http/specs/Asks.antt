@@ -1,5 +1,6 @@
 -- What the bytes of a connection ask: the head at their front (RFC 9112, sections 2 to 6) and the bytes after it.
-use Rattle.std.specs.Prelude.{◌≡◌, ℕ, ◌+◌, ◌<◌, ◌≤◌, ◌⊎◌, Bool, true, false, ◌==◌, List, [], ◌∷◌, ◌++◌, length, take, nat_lt, map, codes, if◌then◌else◌, Option, Some, None, Result, Ok, Err}
+use Rattle.std.specs.Prelude.{◌≡◌, ℕ, ◌+◌, ◌<◌, ◌≤◌, ◌⊎◌, Bool, true, false, ◌==◌, List, [], ◌∷◌, ◌++◌, length, take}
+use Rattle.std.specs.Prelude.{nat_lt, map, codes, if◌then◌else◌, Option, Some, None, Result, Ok, Err}
 use Rattle.std.specs.Option.{option_map}
 use Rattle.std.specs.List.{before_first}
 use Rattle.httparse.specs.Grammar.{RequestHead, print_request, ReadsRequest, HasNoRequest, MayBecomeRequest}
@@ -66,13 +67,15 @@ asked_with method path key len rest (Err status) = fault status
 asked_with method path key len rest (Ok n) =
     if nat_lt (length rest) n then more else ask method path key (take n rest) (len + n)
 
--- what a head of these parts and the bytes after it ask: the first fault counts
+-- what a head of these parts, so long, and the bytes after it ask: the first fault counts
 unfoldable pub asked_of : List ℕ → List ℕ → ℕ → List NamedValue → ℕ → List ℕ → Asked
 asked_of method target minor fields len rest =
     if has_bad_host minor (values_of (codes "host") fields) then fault 400
     else if is_there (values_of (codes "expect") fields) then fault 417
     else if is_there (values_of (codes "transfer-encoding") fields) then fault 501
-    else asked_with method (path_of target) (key_of (values_of (codes "room-key") fields)) len rest (length_of (values_of (codes "content-length") fields))
+    else asked_with method (path_of target)
+    (key_of (values_of (codes "room-key") fields)) len rest
+    (length_of (values_of (codes "content-length") fields))
 
 -- the same for a head of the grammar
 abbrev pub asked_by : RequestHead → List ℕ → Asked

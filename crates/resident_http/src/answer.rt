@@ -24,7 +24,8 @@ impl Model for HttpAnswer {
 
     ghost view = { λ a. record { status = a.status; allow = a.allow; body = a.body } };
 
-    ghost invariant = { λ a. IsAnswer (record { status = a.status; allow = a.allow; body = a.body }) };
+    ghost invariant = { λ a.
+        IsAnswer (record { status = a.status; allow = a.allow; body = a.body }) };
 }
 
 /// The bytes of the answer with status 503, which can be given where memory was refused.

@@ -1,8 +1,10 @@
 //! What the bytes of a connection ask.
-ghost use Rattle.std.specs.Prelude.{◌≡◌, ◌<◌, ◌∷◌, [], ◌≤◌, ◌++◌, ◌+◌, codes, drop, length, map, option_map, IfOk, IfErr, IsUtf8, true};
+ghost use Rattle.std.specs.Prelude.{◌≡◌, ◌<◌, ◌∷◌, [], ◌≤◌, ◌++◌, ◌+◌, codes, drop, length, map, option_map, IfOk};
+ghost use Rattle.std.specs.Prelude.{IfErr, IsUtf8, true};
 ghost use Rattle.std.specs.List.{All};
 ghost use Rattle.httparse.specs.Spans.{IsHeaderWithin, IsWithin, header_bytes, span_bytes};
-ghost use Rattle.resident_http.specs.Asks.{Asks, asked_of, seen, has_bad_host, is_there, key_of, length_of, path_of, window, is_more};
+ghost use Rattle.resident_http.specs.Asks.{Asks, asked_of, seen, has_bad_host, is_there, key_of, length_of, path_of};
+ghost use Rattle.resident_http.specs.Asks.{window, is_more};
 ghost use Rattle.resident_http.specs.Fields.{values_of};
 
 use crate::fields::{Found, find_fields, is_decimal, number_up_to};
@@ -87,8 +89,9 @@ fn read_head<'b>(
     requires len { head.len ≤ length bytes.now }
     requires headers { All (IsHeaderWithin (length window.now)) headers.now }
     ensures few { is_more (seen result) ≡ true → length bytes.now < head.len + 1024 }
-    ensures value { seen result ≡ asked_of (span_bytes window.now head.method) (span_bytes window.now head.path)
-        head.version (map (header_bytes window.now) headers.now) head.len (drop head.len bytes.now) }
+    ensures value { let fields = map (header_bytes window.now) headers.now in
+        seen result ≡ asked_of (span_bytes window.now head.method)
+        (span_bytes window.now head.path) head.version fields head.len (drop head.len bytes.now) }
 {
     if has_bad_host(window, headers, head.version) {
         return AskState::Fault(StatusCode::BAD_REQUEST);
@@ -116,7 +119,8 @@ fn read_head<'b>(
 // Whether there is more than one field Host, or none in HTTP/1.1.
 fn has_bad_host(window: &[u8], headers: &[HeaderSpan], minor: u8) -> bool
     requires { All (IsHeaderWithin (length window.now)) headers.now }
-    ensures { result ≡ has_bad_host minor (values_of (codes "host") (map (header_bytes window.now) headers.now)) }
+    ensures { let fields = map (header_bytes window.now) headers.now in
+        result ≡ has_bad_host minor (values_of (codes "host") fields) }
 {
     match find_fields(window, headers, b"host") {
         Found::Nothing => minor == 1,
@@ -139,7 +143,8 @@ fn has_field(window: &[u8], headers: &[HeaderSpan], name: &[u8]) -> bool
 // The key of the resident, where there is exactly one and it is in its grammar.
 fn room_key<'b>(window: &'b [u8], headers: &[HeaderSpan]) -> Option<&'b str>
     requires { All (IsHeaderWithin (length window.now)) headers.now }
-    ensures { option_map (λ k. k.now) result ≡ key_of (values_of (codes "room-key") (map (header_bytes window.now) headers.now)) }
+    ensures { let fields = map (header_bytes window.now) headers.now in
+        option_map (λ k. k.now) result ≡ key_of (values_of (codes "room-key") fields) }
 {
     match find_fields(window, headers, b"room-key") {
         Found::One(span) => key_text(span.of(window)),
@@ -151,7 +156,8 @@ fn room_key<'b>(window: &'b [u8], headers: &[HeaderSpan]) -> Option<&'b str>
 // The length of the body, which is 0 where none is told.
 fn body_length(window: &[u8], headers: &[HeaderSpan]) -> Result<usize, StatusCode>
     requires { All (IsHeaderWithin (length window.now)) headers.now }
-    ensures value { result ≡ length_of (values_of (codes "content-length") (map (header_bytes window.now) headers.now)) }
+    ensures value { let fields = map (header_bytes window.now) headers.now in
+        result ≡ length_of (values_of (codes "content-length") fields) }
     ensures bound { IfOk result (λ n. n ≤ 1024) }
 {
     match find_fields(window, headers, b"content-length") {

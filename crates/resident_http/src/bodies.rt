@@ -3,7 +3,8 @@ ghost use Rattle.std.specs.Prelude.{◌≡◌, IfOk, false};
 ghost use Rattle.serde_json.specs.Data.{string};
 ghost use Rattle.serde_json.specs.View.{view};
 ghost use Rattle.serde_json.specs.Written.{compact_text, has_float};
-ghost use Rattle.resident_http.specs.Bodies.{choices_data, fault_data, room_data, rooms_data, standing_data, text_array, text_or_null, withdrawn_data};
+ghost use Rattle.resident_http.specs.Bodies.{choices_data, fault_data, room_data, rooms_data, standing_data};
+ghost use Rattle.resident_http.specs.Bodies.{text_array, text_or_null, withdrawn_data};
 
 use office_core::Standing;
 use room_types::{Listing, OutOfMemory, RoomCode, RoomRow};
@@ -82,7 +83,17 @@ fn standing_value(alloc: Global, standing: &Standing) -> Result<Value, AllocErro
     let round = u64::from(standing.round);
     let shown = standing.shown;
     let withdrawn = standing.withdrawn;
-    json!(in alloc; {"choices": choices, "home": home, "name": name, "person": person, "phase": phase, "result": result, "round": round, "shown": shown, "withdrawn": withdrawn})
+    json!(in alloc; {
+        "choices": choices,
+        "home": home,
+        "name": name,
+        "person": person,
+        "phase": phase,
+        "result": result,
+        "round": round,
+        "shown": shown,
+        "withdrawn": withdrawn
+    })
 }
 
 fn rooms_value(alloc: Global, rows: &[RoomRow]) -> Result<Value, AllocError>

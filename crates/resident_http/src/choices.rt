@@ -15,7 +15,8 @@ use std::alloc::Global;
 /// choices; `OutOfMemory` where memory is refused, which is taken for a body that has bytes alone.
 pub fn choices_of_body(alloc: Global, body: &[u8]) -> Result<Choices, TypeFault>
     ensures value { IfOk result (λ choices. choices_of_body body.now ≡ Ok choices) }
-    ensures fault { IfErr result (λ fault. ((fault ≡ TypeFault.OutOfMemory) × (0 < length body.now))
+    ensures fault { IfErr result (λ fault.
+        ((fault ≡ TypeFault.OutOfMemory) × (0 < length body.now))
         ⊎ (choices_of_body body.now ≡ Err fault)) }
 {
     let value = json_value(alloc, body)?;
@@ -29,7 +30,8 @@ pub fn choices_of_body(alloc: Global, body: &[u8]) -> Result<Choices, TypeFault>
 // The value that the bytes spell.
 fn json_value(alloc: Global, bytes: &[u8]) -> Result<Value, TypeFault>
     ensures value { IfOk result (λ value. json_of bytes.now ≡ Some (view value)) }
-    ensures fault { IfErr result (λ fault. ((fault ≡ TypeFault.OutOfMemory) × (0 < length bytes.now))
+    ensures fault { IfErr result (λ fault.
+        ((fault ≡ TypeFault.OutOfMemory) × (0 < length bytes.now))
         ⊎ ((fault ≡ TypeFault.BadValue) × (json_of bytes.now ≡ None))) }
 {
     match Value::from_slice(alloc, bytes) {

@@ -35,7 +35,8 @@ fn with_field(buf: &[u8], found: Found, header: HeaderSpan, name: &[u8]) -> Foun
     requires { IsHeaderWithin (length buf.now) header }
     ensures { (values : List (List ℕ)) → Tells buf.now found values
         → Tells buf.now result (values
-        ++ (if str_eq_ignore_ascii_case (span_bytes buf.now header.name) name.now then span_bytes buf.now header.value ∷ [] else [])) }
+        ++ (if str_eq_ignore_ascii_case (span_bytes buf.now header.name) name.now
+        then span_bytes buf.now header.value ∷ [] else [])) }
 {
     if !header.name.of(buf).eq_ignore_ascii_case(name) {
         return found;

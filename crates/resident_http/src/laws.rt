@@ -16,11 +16,12 @@ pub fn unavailable_is_an_answer()
 /// request, whatever bytes follow. So does a fault, but for too many fields and for one that is found while the target
 /// is still being read; and after any fault no request comes.
 pub fn findings_stay()
-    ensures request { (bytes next : List ℕ) (asked later : Asked) → Asks bytes asked → is_request asked ≡ true
+    ensures request { (bytes next : List ℕ) (asked later : Asked)
+        → Asks bytes asked → is_request asked ≡ true
         → Asks (bytes ++ next) later → later ≡ asked }
-    ensures fault { (bytes next : List ℕ) (status : ℕ) (later : Asked) → Asks bytes (fault status)
-        → ¬ (BeginsTooManyFields bytes) → ¬ (EndsInTarget bytes)
+    ensures fault { (bytes next : List ℕ) (status : ℕ) (later : Asked)
+        → Asks bytes (fault status) → ¬ (BeginsTooManyFields bytes) → ¬ (EndsInTarget bytes)
         → Asks (bytes ++ next) later → later ≡ fault status }
-    ensures no_request { (bytes next : List ℕ) (status : ℕ) (later : Asked) → Asks bytes (fault status)
-        → Asks (bytes ++ next) later → is_request later ≡ false }
+    ensures no_request { (bytes next : List ℕ) (status : ℕ) (later : Asked)
+        → Asks bytes (fault status) → Asks (bytes ++ next) later → is_request later ≡ false }
 {}

@@ -34,9 +34,12 @@ PUT /me/choices - forbidden";
 fn worked_routes(rt: HostRuntime) -> Result<(), OutOfMemory> {
     for row in ROUTES.lines() {
         let mut cells = row.split(' ');
-        let (Some(method), Some(path), Some(key), Some(wanted)) =
-            (cells.next(), cells.next(), cells.next(), cells.next())
-        else {
+        let (Some(method), Some(path), Some(key), Some(wanted)) = (
+            cells.next(),
+            cells.next(),
+            cells.next(),
+            cells.next(),
+        ) else {
             panic!(rt; "{row} is no row");
         };
         let key = (key != "-").then_some(key);
