@@ -1,8 +1,8 @@
 -- What the bytes of a connection ask: the head at their front (RFC 9112, sections 2 to 6) and the bytes after it.
-use Rattle.std.specs.Prelude.{◌≡◌, ℕ, ◌+◌, ◌<◌, ◌≤◌, ◌⊎◌, Bool, true, false, ◌==◌, List, [], ◌∷◌, ◌++◌, length, take}
+use Rattle.std.specs.Prelude.{◌≡◌, ⊤, ℕ, ◌+◌, ◌<◌, ◌≤◌, ◌⊎◌, Bool, true, false, ◌==◌, List, [], ◌∷◌, ◌++◌, length, take}
 use Rattle.std.specs.Prelude.{nat_lt, map, codes, if◌then◌else◌, Option, Some, None, Result, Ok, Err}
 use Rattle.std.specs.Option.{option_map}
-use Rattle.std.specs.List.{before_first}
+use Rattle.std.specs.List.{before_first, list_any}
 use Rattle.httparse.specs.Grammar.{RequestHead, print_request, ReadsRequest, HasNoRequest, MayBecomeRequest}
 use Rattle.httparse.specs.Spans.{name_and_value, RequestOverflows}
 use Rattle.room_types.specs.Grammars.{is_key}
@@ -121,6 +121,15 @@ abbrev pub is_request : Asked → Bool
 is_request more = false
 is_request (ask method path key body used) = true
 is_request (fault status) = false
+
+-- the status of a fault that is found before a request is whole
+abbrev pub is_early_status : ℕ → Bool
+is_early_status status = list_any (λ known. known == status) (400 ∷ 413 ∷ 417 ∷ 501 ∷ [])
+
+abbrev pub HasEarlyStatus : Asked → Type 0
+HasEarlyStatus more = ⊤
+HasEarlyStatus (ask method path key body used) = ⊤
+HasEarlyStatus (fault status) = is_early_status status ≡ true
 
 -- the bytes begin more fields than a head may have, and a head could come otherwise
 pub record BeginsTooManyFields (bytes : List ℕ) : Type 0 where

@@ -4,6 +4,7 @@ ghost use Rattle.std.specs.Prelude.{IfErr, IsUtf8, true};
 ghost use Rattle.std.specs.List.{All};
 ghost use Rattle.httparse.specs.Spans.{IsHeaderWithin, IsWithin, header_bytes, span_bytes};
 ghost use Rattle.resident_http.specs.Asks.{Asks, asked_of, seen, has_bad_host, is_there, key_of, length_of, path_of};
+ghost use Rattle.resident_http.specs.Asks.{HasEarlyStatus, is_early_status};
 ghost use Rattle.resident_http.specs.Asks.{window, is_more};
 ghost use Rattle.resident_http.specs.Fields.{values_of};
 
@@ -50,6 +51,9 @@ pub enum AskState<'b> {
 /// (413). It takes no memory.
 pub fn read_ask(bytes: &[u8]) -> AskState<'_>
     ensures asks { Asks bytes.now (seen result) }
+    // The faults found here have statuses of their own.
+    ensures early { HasEarlyStatus (seen result) }
+
     // More is asked of few bytes alone, so that a reader needs room for no more.
     ensures few { is_more (seen result) ≡ true → length bytes.now < 9216 }
 {
@@ -88,6 +92,7 @@ fn read_head<'b>(
     requires text { IsUtf8 (span_bytes window.now head.path) }
     requires len { head.len ≤ length bytes.now }
     requires headers { All (IsHeaderWithin (length window.now)) headers.now }
+    ensures early { HasEarlyStatus (seen result) }
     ensures few { is_more (seen result) ≡ true → length bytes.now < head.len + 1024 }
     ensures value { let fields = map (header_bytes window.now) headers.now in
         seen result ≡ asked_of (span_bytes window.now head.method)
@@ -158,6 +163,7 @@ fn body_length(window: &[u8], headers: &[HeaderSpan]) -> Result<usize, StatusCod
     requires { All (IsHeaderWithin (length window.now)) headers.now }
     ensures value { let fields = map (header_bytes window.now) headers.now in
         result ≡ length_of (values_of (codes "content-length") fields) }
+    ensures early { IfErr result (λ status. is_early_status status ≡ true) }
     ensures bound { IfOk result (λ n. n ≤ 1024) }
 {
     match find_fields(window, headers, b"content-length") {
@@ -170,6 +176,7 @@ fn body_length(window: &[u8], headers: &[HeaderSpan]) -> Result<usize, StatusCod
 // The length that the value of a field tells.
 fn length_in(text: &[u8]) -> Result<usize, StatusCode>
     ensures value { result ≡ length_of (text.now ∷ []) }
+    ensures early { IfErr result (λ status. is_early_status status ≡ true) }
     ensures bound { IfOk result (λ n. n ≤ 1024) }
 {
     if !is_decimal(text) {
