@@ -1,0 +1,11 @@
+mod CodeLists
+mod Continuations
+mod FieldLemmas
+mod Floats
+mod JsonBodies
+mod Keys
+mod LiteralRoutes
+mod Requests
+mod RoutesFound
+mod Targets
+mod Windows

@@ -1,0 +1,6 @@
+use Rattle.std.proofs.Common.{sym, ◌∙◌}
+use Rattle.resident_http.proofs.Keys.{no_key_of}
+use Rattle.resident_http.proofs.ask.key_text.Goals as goal
+
+pub returns-in_default : goal.returns-in_default
+returns-in_default c = no_key_of c.args.value.now c.in_default.ensures.cases.0

@@ -1,0 +1,67 @@
+-- Answers over HTTP, and their bytes (RFC 9110, section 15; RFC 9112, sections 4 and 5).
+use Rattle.std.specs.Prelude.{◌≡◌, ℕ, Bool, true, ◌==◌, List, [], ◌∷◌, ◌++◌, length, codes, decimal, if◌then◌else◌}
+use Rattle.std.specs.Prelude.{Option, None, Some, is_some}
+use Rattle.std.specs.List.{concat, list_any}
+use Rattle.resident_http.specs.declared.method.Method.{Method}
+use Rattle.resident_http.specs.declared.method.Method.TheVariants as method
+
+-- the status, the method to use in place of a wrong one, and the body
+pub record Answer : Type 0 where
+  pub status : ℕ
+  pub allow : Option Method
+  pub body : List ℕ
+
+abbrev pub method_text : Method → List ℕ
+method_text method.Get = codes "GET"
+method_text method.Put = codes "PUT"
+method_text method.Post = codes "POST"
+
+-- a status that requests are answered with
+abbrev pub is_answered : ℕ → Bool
+is_answered status =
+    list_any (λ known. known == status) (200 ∷ 400 ∷ 403 ∷ 404 ∷ 405 ∷ 409 ∷ 413 ∷ 417 ∷ 422 ∷ 501 ∷ 503 ∷ [])
+
+-- the status is one of these, and a method is named with 405 alone
+pub record IsAnswer (answer : Answer) : Type 0 where
+  pub answered : is_answered answer.status ≡ true
+  pub allow : is_some answer.allow ≡ (answer.status == 405)
+
+-- the phrase that goes with the status
+abbrev pub reason_of : ℕ → List ℕ
+reason_of status =
+    if status == 200 then codes "OK"
+    else if status == 400 then codes "Bad Request"
+    else if status == 403 then codes "Forbidden"
+    else if status == 404 then codes "Not Found"
+    else if status == 405 then codes "Method Not Allowed"
+    else if status == 409 then codes "Conflict"
+    else if status == 413 then codes "Payload Too Large"
+    else if status == 417 then codes "Expectation Failed"
+    else if status == 422 then codes "Unprocessable Entity"
+    else if status == 501 then codes "Not Implemented"
+    else codes "Service Unavailable"
+
+abbrev pub line_end : List ℕ
+line_end = codes "\r\n"
+
+-- the field that names the method to use, if there is one
+abbrev pub allow_line : Option Method → List ℕ
+allow_line None = []
+allow_line (Some method) = concat (codes "Allow: " ∷ method_text method ∷ line_end ∷ [])
+
+-- the status line, the fields and the empty line
+abbrev pub head_of : ℕ → Option Method → ℕ → List ℕ
+head_of status allow body_length =
+    concat (
+    codes "HTTP/1.1 " ∷ decimal status ∷ codes " " ∷ reason_of status ∷ line_end
+    ∷ codes "Content-Type: application/json" ∷ line_end
+    ∷ codes "Content-Length: " ∷ decimal body_length ∷ line_end
+    ∷ allow_line allow
+    ∷ codes "Connection: close" ∷ line_end
+    ∷ line_end
+    ∷ []
+    )
+
+-- the bytes of an answer
+abbrev pub bytes_of : Answer → List ℕ
+bytes_of answer = head_of answer.status answer.allow (length answer.body) ++ answer.body

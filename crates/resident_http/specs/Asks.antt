@@ -1,0 +1,137 @@
+-- What the bytes of a connection ask: the head at their front (RFC 9112, sections 2 to 6) and the bytes after it.
+use Rattle.std.specs.Prelude.{◌≡◌, ⊤, ℕ, ◌+◌, ◌<◌, ◌≤◌, ◌⊎◌, Bool, true, false, ◌==◌, List, [], ◌∷◌, ◌++◌, length, take}
+use Rattle.std.specs.Prelude.{nat_lt, map, codes, if◌then◌else◌, Option, Some, None, Result, Ok, Err}
+use Rattle.std.specs.Option.{option_map}
+use Rattle.std.specs.List.{before_first, list_any}
+use Rattle.httparse.specs.Grammar.{RequestHead, print_request, ReadsRequest, HasNoRequest, MayBecomeRequest}
+use Rattle.httparse.specs.Spans.{name_and_value, RequestOverflows}
+use Rattle.room_types.specs.Grammars.{is_key}
+use Rattle.resident_http.specs.Fields.{NamedValue, values_of, is_decimal, number_of}
+use Rattle.resident_http.specs.declared.ask.AskState.{AskState}
+use Rattle.resident_http.specs.declared.ask.AskState.TheVariants as state
+
+-- what is asked, without where it lies in memory
+pub data Asked : Type 0 where
+  more : Asked
+  ask : (method path : List ℕ) (key : Option (List ℕ)) (body : List ℕ) (used : ℕ) → Asked
+  fault : (status : ℕ) → Asked
+
+abbrev pub seen : AskState → Asked
+seen state.More = more
+seen (state.Ask method path key body used) = ask method.now path.now (option_map (λ k. k.now) key) body.now used
+seen (state.Fault status) = fault status
+
+-- how many bytes a head may have
+abbrev pub head_limit : ℕ
+head_limit = 8192
+
+-- how many fields a head may have
+abbrev pub field_limit : ℕ
+field_limit = 64
+
+-- how many bytes a body may have
+abbrev pub body_limit : ℕ
+body_limit = 1024
+
+-- more than one Host field, or none in HTTP/1.1
+abbrev pub has_bad_host : ℕ → List (List ℕ) → Bool
+has_bad_host minor [] = minor == 1
+has_bad_host minor (host ∷ []) = false
+has_bad_host minor (host ∷ other ∷ hosts) = true
+
+-- there is such a field
+abbrev pub is_there : List (List ℕ) → Bool
+is_there [] = false
+is_there (value ∷ values) = true
+
+-- the key, where there is exactly one such field and it is in the grammar of keys
+abbrev pub key_of : List (List ℕ) → Option (List ℕ)
+key_of [] = None
+key_of (value ∷ []) = if is_key value then Some value else None
+key_of (value ∷ other ∷ values) = None
+
+-- the length of the body, or the status of the fault
+abbrev pub length_of : List (List ℕ) → Result ℕ ℕ
+length_of [] = Ok 0
+length_of (value ∷ []) =
+    if is_decimal value then (if nat_lt body_limit (number_of value) then Err 413 else Ok (number_of value)) else Err 400
+length_of (value ∷ other ∷ values) = Err 400
+
+-- the target up to the first question mark
+abbrev pub path_of : List ℕ → List ℕ
+path_of target = before_first (λ byte. byte == 63) target
+
+-- the request with a body of this length, once the body is whole
+abbrev pub asked_with : List ℕ → List ℕ → Option (List ℕ) → ℕ → List ℕ → Result ℕ ℕ → Asked
+asked_with method path key len rest (Err status) = fault status
+asked_with method path key len rest (Ok n) =
+    if nat_lt (length rest) n then more else ask method path key (take n rest) (len + n)
+
+-- what a head of these parts, so long, and the bytes after it ask: the first fault counts
+unfoldable pub asked_of : List ℕ → List ℕ → ℕ → List NamedValue → ℕ → List ℕ → Asked
+asked_of method target minor fields len rest =
+    if has_bad_host minor (values_of (codes "host") fields) then fault 400
+    else if is_there (values_of (codes "expect") fields) then fault 417
+    else if is_there (values_of (codes "transfer-encoding") fields) then fault 501
+    else asked_with method (path_of target)
+    (key_of (values_of (codes "room-key") fields)) len rest
+    (length_of (values_of (codes "content-length") fields))
+
+-- the same for a head of the grammar
+abbrev pub asked_by : RequestHead → List ℕ → Asked
+asked_by head rest =
+    asked_of head.method head.target head.minor (map name_and_value head.fields) (length (print_request head)) rest
+
+-- the bytes within which a head must end
+unfoldable pub window : List ℕ → List ℕ
+window bytes = take head_limit bytes
+
+-- The bytes begin with this head, which is within the limits, and go on with the rest.
+pub record HasHead (bytes : List ℕ) (head : RequestHead) (rest : List ℕ) : Type 0 where
+  pub reads : ReadsRequest bytes head rest
+  pub short : length (print_request head) ≤ head_limit
+  pub few_fields : length head.fields ≤ field_limit
+
+-- The bytes have no whole head, are fewer than its limit, and can become one or end in the target.
+pub record AwaitsHead (bytes : List ℕ) : Type 0 where
+  pub few : length bytes < head_limit
+  pub none : HasNoRequest bytes
+  pub can_come : MayBecomeRequest bytes
+
+-- No head within the limits can come.
+abbrev pub LacksHead : List ℕ → Type 0
+LacksHead bytes =
+    RequestOverflows field_limit (window bytes) ⊎ ((head_limit ≤ length bytes) × HasNoRequest (window bytes))
+
+-- What the bytes ask: what their head and the bytes after it ask; or more, while a head can come;
+-- or they are refused, where none within the limits can.
+abbrev pub Asks : List ℕ → Asked → Type 0
+Asks bytes asked =
+    ((head : RequestHead) × (rest : List ℕ) × HasHead bytes head rest × (asked ≡ asked_by head rest))
+    ⊎ (((asked ≡ more) × AwaitsHead bytes) ⊎ ((asked ≡ fault 400) × LacksHead bytes))
+
+-- more bytes are awaited
+abbrev pub is_more : Asked → Bool
+is_more more = true
+is_more (ask method path key body used) = false
+is_more (fault status) = false
+
+-- it is a request
+abbrev pub is_request : Asked → Bool
+is_request more = false
+is_request (ask method path key body used) = true
+is_request (fault status) = false
+
+-- the status of a fault that is found before a request is whole
+abbrev pub is_early_status : ℕ → Bool
+is_early_status status = list_any (λ known. known == status) (400 ∷ 413 ∷ 417 ∷ 501 ∷ [])
+
+abbrev pub HasEarlyStatus : Asked → Type 0
+HasEarlyStatus more = ⊤
+HasEarlyStatus (ask method path key body used) = ⊤
+HasEarlyStatus (fault status) = is_early_status status ≡ true
+
+-- the bytes begin more fields than a head may have, and a head could come otherwise
+pub record BeginsTooManyFields (bytes : List ℕ) : Type 0 where
+  pub too_many : RequestOverflows field_limit (window bytes)
+  pub some : (more : List ℕ) × (head : RequestHead) × (rest : List ℕ) × ReadsRequest (window bytes ++ more) head rest

@@ -1,0 +1,35 @@
+-- Answers that all is well, and answers of faults.
+use Rattle.std.specs.Prelude.{ℕ, Bool, List, [], ◌∷◌, codes, if◌then◌else◌, ◌==◌, None, Some}
+use Rattle.std.specs.List.{list_any}
+use Rattle.serde_json.specs.Written.{compact_text}
+use Rattle.room_types.specs.Texts.{Text}
+use Rattle.resident_http.specs.Answers.{Answer}
+use Rattle.resident_http.specs.Bodies.{fault_data}
+use Rattle.resident_http.specs.declared.method.Method.{Method}
+
+-- a status that is one fault's alone
+abbrev pub is_one_fault : ℕ → Bool
+is_one_fault status =
+    list_any (λ known. known == status) (400 ∷ 403 ∷ 404 ∷ 405 ∷ 413 ∷ 417 ∷ 501 ∷ 503 ∷ [])
+
+-- the name of that fault
+abbrev pub name_of : ℕ → Text
+name_of status =
+    if status == 400 then codes "BadRequest"
+    else if status == 403 then codes "Forbidden"
+    else if status == 404 then codes "NotFound"
+    else if status == 405 then codes "MethodNotAllowed"
+    else if status == 413 then codes "ContentTooLarge"
+    else if status == 417 then codes "ExpectationFailed"
+    else if status == 501 then codes "NotImplemented"
+    else codes "Unavailable"
+
+abbrev pub success_answer : List ℕ → Answer
+success_answer body = record { status = 200; allow = None; body = body }
+
+abbrev pub fault_answer : ℕ → Text → Answer
+fault_answer status name = record { status = status; allow = None; body = compact_text (fault_data name) }
+
+abbrev pub wrong_method_answer : Method → Answer
+wrong_method_answer allow =
+    record { status = 405; allow = Some allow; body = compact_text (fault_data (name_of 405)) }

@@ -1,0 +1,8 @@
+pub mod Answers
+pub mod Asks
+pub mod Bodies
+pub mod Faults
+pub mod Fields
+pub mod Found
+pub mod RouteRows
+pub mod Routes

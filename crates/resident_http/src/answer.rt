@@ -1,0 +1,101 @@
+//! Answers, and their bytes.
+ghost use Rattle.std.specs.Prelude.{◌≡◌, ◌++◌, IfOk, OnOk, string_bytes};
+ghost use Rattle.resident_http.specs.Answers.{bytes_of, head_of, reason_of, allow_line};
+
+use crate::method::Method;
+use http::StatusCode;
+use room_types::{Listing, OutOfMemory};
+use std::alloc::{AllocError, Global};
+use std::marker::Model;
+
+/// An answer over HTTP: the status, which is one of those that residents are answered with; the method to use in
+/// place of a wrong one, which goes with 405 alone; and the body, in JSON.
+#[derive(Debug, Drop)]
+pub struct HttpAnswer {
+    pub status: StatusCode,
+    pub allow: Option<Method>,
+    pub body: Listing<u8>,
+}
+
+impl Model for HttpAnswer {
+    ghost use Rattle.resident_http.specs.Answers.{Answer, IsAnswer};
+
+    ghost Value = { Answer };
+
+    ghost view = { λ a. record { status = a.status; allow = a.allow; body = a.body } };
+
+    ghost invariant = { λ a.
+        IsAnswer (record { status = a.status; allow = a.allow; body = a.body }) };
+}
+
+/// The bytes of the answer with status 503, which can be given where memory was refused.
+pub const UNAVAILABLE: &[u8] = b"HTTP/1.1 503 Service Unavailable\r\n\
+    Content-Type: application/json\r\n\
+    Content-Length: 23\r\n\
+    Connection: close\r\n\
+    \r\n\
+    {\"error\":\"Unavailable\"}";
+
+/// The bytes of an answer: its head, the fields in a fixed order, and its body.
+///
+/// # Errors
+///
+/// `OutOfMemory` where memory for the bytes is refused.
+pub fn answer_bytes(alloc: Global, answer: &HttpAnswer) -> Result<Vec<u8>, OutOfMemory>
+    ensures { IfOk result (λ bytes. bytes.items ≡ bytes_of answer.now) }
+{
+    let head = head_text(alloc, answer.status, answer.allow, answer.body.len())?;
+    let mut bytes = head.into_bytes();
+    bytes.extend_from_slice(answer.body.as_slice())?;
+    Ok(bytes)
+}
+
+// The status line, the fields and the empty line.
+fn head_text(
+    alloc: Global,
+    status: StatusCode,
+    allow: Option<Method>,
+    body_length: usize,
+) -> Result<String, AllocError>
+    ensures { IfOk result (λ text. string_bytes text ≡ head_of status allow body_length) }
+{
+    let code = status.as_u16();
+    let reason = reason(status);
+    let mut text = format!(in alloc;
+        "HTTP/1.1 {code} {reason}\r\nContent-Type: application/json\r\nContent-Length: {body_length}\r\n"
+    )?;
+    push_allow(&mut text, allow)?;
+    text.push_str("Connection: close\r\n\r\n")?;
+    Ok(text)
+}
+
+// Adds the field that names the method to use, if there is one.
+fn push_allow(text: &mut String, allow: Option<Method>) -> Result<(), AllocError>
+    ensures { OnOk result (string_bytes text.new ≡ string_bytes text.old ++ allow_line allow) }
+{
+    if let Some(method) = allow {
+        text.push_str("Allow: ")?;
+        text.push_str(method.as_str())?;
+        text.push_str("\r\n")?;
+    }
+    Ok(())
+}
+
+// The phrase that goes with the status.
+fn reason(status: StatusCode) -> &'static str
+    ensures { result.now ≡ reason_of status }
+{
+    match status.as_u16() {
+        200 => "OK",
+        400 => "Bad Request",
+        403 => "Forbidden",
+        404 => "Not Found",
+        405 => "Method Not Allowed",
+        409 => "Conflict",
+        413 => "Payload Too Large",
+        417 => "Expectation Failed",
+        422 => "Unprocessable Entity",
+        501 => "Not Implemented",
+        _ => "Service Unavailable",
+    }
+}

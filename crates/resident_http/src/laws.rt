@@ -1,0 +1,27 @@
+//! Laws of the definitions: each is the contract of a function that does nothing.
+ghost use Rattle.std.specs.Prelude.{◌≡◌, ◌++◌, List, ℕ, codes, true, false};
+ghost use Rattle.httparse.specs.Grammar.{EndsInTarget};
+ghost use Rattle.resident_http.specs.Answers.{bytes_of};
+ghost use Rattle.resident_http.specs.Faults.{fault_answer};
+ghost use Rattle.resident_http.specs.Asks.{Asked, Asks, BeginsTooManyFields, fault, is_more, is_request};
+
+use crate::answer::UNAVAILABLE;
+
+/// The constant answer is that of want of memory, to the byte.
+pub fn unavailable_is_an_answer()
+    ensures { UNAVAILABLE.now ≡ bytes_of (fault_answer 503 (codes "Unavailable")) }
+{}
+
+/// However the bytes of a connection are cut into pieces, a request that is found in the bytes so far stays the
+/// request, whatever bytes follow. So does a fault, but for too many fields and for one that is found while the target
+/// is still being read; and after any fault no request comes.
+pub fn findings_stay()
+    ensures request { (bytes next : List ℕ) (asked later : Asked)
+        → Asks bytes asked → is_request asked ≡ true
+        → Asks (bytes ++ next) later → later ≡ asked }
+    ensures fault { (bytes next : List ℕ) (status : ℕ) (later : Asked)
+        → Asks bytes (fault status) → ¬ (BeginsTooManyFields bytes) → ¬ (EndsInTarget bytes)
+        → Asks (bytes ++ next) later → later ≡ fault status }
+    ensures no_request { (bytes next : List ℕ) (status : ℕ) (later : Asked)
+        → Asks bytes (fault status) → Asks (bytes ++ next) later → is_request later ≡ false }
+{}
