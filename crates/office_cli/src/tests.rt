@@ -1,4 +1,5 @@
 //! Worked scripts, streams that fail, and the words of the command line.
+mod at_desks;
 mod compared;
 mod draw;
 mod example;
