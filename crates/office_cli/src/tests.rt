@@ -4,6 +4,7 @@ mod compared;
 mod draw;
 mod example;
 mod failing;
+mod file_lines;
 mod lines;
 mod refusals;
 mod register;
