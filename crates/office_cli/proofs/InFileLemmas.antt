@@ -10,14 +10,18 @@ use Rattle.office_cli.specs.InFile.{DoesFound, DoesInFile, MakesInFile}
 use Rattle.office_core.specs.Office.{empty_office}
 use Rattle.office_file.specs.Adopted.{BeginsFound, IsFileFault}
 use Rattle.office_file.specs.Files.{BeginsBlank, IsCreateFault}
-use Rattle.office_store.proofs.DeskLemmas.{stands_if_shown}
-use Rattle.office_store.specs.Desk.{DeskState, Shows}
+use Rattle.office_store.specs.Desk.{DeskState, Shows, StandsFor}
+use Rattle.office_core.specs.declared.office.Office.{Office}
 use Rattle.office_store.specs.declared.desk.faults.DeskFault.{DeskFault}
 use Rattle.office_tables.proofs.StepLemmas.{follows_then}
 use Rattle.room_types.specs.Streams.{Output}
 use Rattle.room_types.specs.Texts.{Text}
 
 module _ {D : Type 0} (g : Ghosts D) (contents : Image) where
+  -- a desk that shows an office stands for it
+  stands : (desk : DeskState (FileStore D g)) (office : Office) → Shows over_files desk office → StandsFor over_files desk office
+  stands desk office shows = record { tables = λ is_open. shows.tables; spelled = shows.spelled; lawful = shows.lawful; kept = shows.kept }
+
   pub makes : (made : Result (DeskState (FileStore D g)) DeskFault) (status : ℕ) (out out' : Output) → IfOk made (λ desk. HasCleanDisk (file_state desk.conn) → Shows over_files desk empty_office)
       → IfOk made (BeginsBlank contents) → IsCreateFault contents made → TellsMade made status out out' → MakesInFile g contents status out out'
   makes (Ok desk) status out out' shows begins cause tells = inl (record { desk = desk; begins = begins; shows = shows; says = tells })
@@ -34,7 +38,7 @@ module _ {D : Type 0} (g : Ghosts D) (contents : Image) where
     heard = hears.heard;
     done = λ clean declared whole.
         let shown = begins.shows (hears.follows.clean clean) declared whole in
-        let next = hears.done clean shown.0 (stands_if_shown over_files desk shown.0 shown.2) in
+        let next = hears.done clean shown.0 (stands desk shown.0 shown.2) in
         (shown.0, shown.1, next);
   }
 

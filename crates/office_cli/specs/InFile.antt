@@ -23,6 +23,10 @@ use Rattle.office_texts.specs.OutputLines.{line_of}
 use Rattle.room_types.specs.Streams.{Output}
 use Rattle.room_types.specs.Texts.{Text}
 
+-- both files were empty
+abbrev pub no_contents : Image
+no_contents = record { log = []; db = [] }
+
 module _ {D : Type 0} (g : Ghosts D) (contents : Image) where
   -- a desk over a file, with the office that it keeps
   abbrev pub FileDesk : Type 0

@@ -3,7 +3,7 @@ ghost use Rattle.std.specs.Prelude.{◌≤◌, map};
 ghost use Rattle.room_types.specs.Watched.{IsFresh, StopsAtEnd, StopsAtFailure, watched_reads};
 ghost use Rattle.room_types.specs.Streams.{input_of, output_of};
 ghost use Rattle.office_cli.specs.Doing.{CarriesOut, RehearsesAnew, Refuses};
-ghost use Rattle.office_file.specs.Files.{no_contents};
+ghost use Rattle.office_cli.specs.InFile.{no_contents};
 ghost use Rattle.office_lines.specs.Lines.{read_limit};
 ghost use Rattle.sqlite_wal.specs.Files.{image_at};
 
