@@ -114,8 +114,8 @@ impl ExportRow for Move {
     }
 }
 
-// The bytes of a record of these fields.
-fn record_bytes(alloc: Global, fields: &[&str]) -> Result<Vec<u8>, OutOfMemory>
+/// The bytes of a record of these fields.
+pub fn record_bytes(alloc: Global, fields: &[&str]) -> Result<Vec<u8>, OutOfMemory>
     ensures { IfOk result (λ bytes.
         bytes.items ≡ record_bytes (map (λ field. field.now) fields.now)) }
 {
