@@ -42,7 +42,8 @@ abbrev pub person_fields : PersonRow → Record
 person_fields row = row.person ∷ row.name ∷ or_empty row.home ∷ []
 
 abbrev pub move_fields : Move → Record
-move_fields row = decimal row.round ∷ wave_text row.wave ∷ row.person ∷ or_empty row.from ∷ or_empty row.to ∷ []
+move_fields row =
+    decimal row.round ∷ wave_text row.wave ∷ row.person ∷ or_empty row.from ∷ or_empty row.to ∷ []
 
 -- an export: the header, and a record for each row
 abbrev pub export : {Row : Type 0} → ExportKind → (Row → Record) → List Row → List Record

@@ -1,7 +1,8 @@
 //! The bytes of the records of exports.
 ghost use Rattle.std.specs.Prelude.{◌≡◌, IfOk, map};
 ghost use Rattle.room_types.specs.Rows.{state_text};
-ghost use Rattle.office_lists.specs.Exports.{header_of, move_fields, or_empty, person_fields, record_bytes, room_fields};
+ghost use Rattle.office_lists.specs.Exports.{header_of, move_fields, or_empty, person_fields};
+ghost use Rattle.office_lists.specs.Exports.{record_bytes, room_fields};
 ghost use Rattle.office_lists.specs.Records.{Record};
 
 use crate::move_day::wave_text;

@@ -1,7 +1,8 @@
 //! Reading lists.
 ghost use Rattle.std.specs.Prelude.{◌≡◌, ◌<◌, IfOk, IfErr, None, Some, length, true, false};
-ghost use Rattle.csv.specs.Reading.{default_config, error_kind, is_flexible, names_headers, owned_rows_left, owned_rows_reader};
-ghost use Rattle.csv.specs.Reading.{reader_config, reader_headers, reader_state, reader_trim, source_of, stops_reader, strip_bom};
+ghost use Rattle.csv.specs.Reading.{default_config, error_kind, is_flexible, names_headers, owned_rows_left};
+ghost use Rattle.csv.specs.Reading.{owned_rows_reader, reader_config, reader_headers, reader_state, reader_trim};
+ghost use Rattle.csv.specs.Reading.{source_of, stops_reader, strip_bom};
 ghost use Rattle.csv.specs.Records.{fields_of};
 ghost use Rattle.csv.specs.declared.parser.State.TheVariants as st;
 ghost use Rattle.csv.specs.declared.reader.Trim.TheVariants as trim;
@@ -125,8 +126,8 @@ fn records(alloc: Global, bytes: &[u8]) -> ByteRecordsIntoIter<&[u8]>
         .into_byte_records()
 }
 
-// The fault of a reader that failed: a reader over memory fails for memory alone. An error that tells of a record, as that it
-// has more fields than the one before, is none of these.
+// The fault of a reader that failed: a reader over memory fails for memory alone. An error that tells of a record, as
+// that it has more fields than the one before, is none of these.
 fn memory_fault(error: csv::Error) -> ListFault
     requires { stops_reader (error_kind error) ≡ true }
     ensures { result ≡ ListFault.OutOfMemory }

@@ -3,7 +3,8 @@ ghost use Rattle.std.specs.Prelude.{◌≡◌, ◌<◌, IfErr, OnOk, length, tak
 ghost use Rattle.room_types.specs.Ascending.{AscendsBy};
 ghost use Rattle.room_types.specs.Streams.{Puts, output_of};
 ghost use Rattle.room_types.specs.Watched.{StopsAtFailure, watched_failed, watched_flushes};
-ghost use Rattle.office_lists.specs.Exports.{AscendByRound, export, export_bytes, moves_export, people_export, rooms_export};
+ghost use Rattle.office_lists.specs.Exports.{AscendByRound, export, export_bytes};
+ghost use Rattle.office_lists.specs.Exports.{moves_export, people_export, rooms_export};
 ghost use Rattle.office_lists.specs.Writing.{StopsAfter, has_failed, sent_of};
 
 use crate::exports::{ExportKind, ExportRow, head_bytes};
