@@ -31,11 +31,13 @@ pub enum AskState<'b> {
     More,
     /// A whole request.
     Ask {
+        /// The method, as it stands in the request.
         method: &'b [u8],
         /// The target up to its first question mark; it is not decoded.
         path: &'b str,
         /// The resident's key, where there is exactly one field `Room-Key` and it is in the grammar of `Key`.
         key: Option<&'b str>,
+        /// As many bytes after the head as its field `Content-Length` tells; none where there is no such field.
         body: &'b [u8],
         /// How many bytes the head and the body have.
         used: usize,

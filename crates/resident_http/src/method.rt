@@ -7,8 +7,11 @@ use std::fmt;
 /// A method by which a path is asked.
 #[derive(Clone, Copy, Debug, PartialEq, Eq, Drop)]
 pub enum Method {
+    /// Something is asked for.
     Get,
+    /// A list is handed in.
     Put,
+    /// Somebody withdraws.
     Post,
 }
 
