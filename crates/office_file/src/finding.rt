@@ -16,11 +16,7 @@ use sqlite::Start;
 /// `NotAnOffice` and `OtherVersion` only of a database that was opened, as `Desk::adopt` tells them. Else
 /// `Unavailable`: there is no file that can be opened, the file is no database, what it declares is not the tables of
 /// an office alone, or the disk or memory did not serve. The tables of the file stay as they were.
-pub fn on_file<S: Start>(
-    rt: &HostRuntime,
-    path: &str,
-    start: S,
-) -> Result<FileDesk<S>, DeskFault>
+pub fn on_file<S: Start>(rt: &HostRuntime, path: &str, start: S) -> Result<FileDesk<S>, DeskFault>
     ensures shows { IfOk result (BeginsFound (image_at S.Start)) }
     ensures cause { IsFileFault (image_at S.Start) result }
 {

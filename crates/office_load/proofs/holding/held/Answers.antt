@@ -4,7 +4,6 @@ use Rattle.sqlite.specs.Effect.{Database}
 use Rattle.sqlite.specs.Held.{state}
 use Rattle.office_rows.specs.Tables.{rows_of}
 use Rattle.office_load.specs.Numbers.{HaveNumbers}
-use Rattle.office_load.proofs.FollowLemmas.{reads_then}
 use Rattle.office_load.proofs.Layouts.{all_held, no_kept_lists, no_lists, shown_spelled}
 use Rattle.office_load.proofs.Listings.{some_weaker}
 use Rattle.office_load.proofs.holding.held.Goals as goal

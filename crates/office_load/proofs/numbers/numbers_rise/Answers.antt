@@ -1,5 +1,5 @@
-use Rattle.std.proofs.Common.{◌≡◌, ℕ, ◌<◌, ◌+◌, sym, ap, ◌∙◌, subst, refl, arith}
-use Rattle.office_tables.proofs.StepLemmas.{follows-refl, honest_before}
+use Rattle.std.proofs.Common.{ap, ◌∙◌, subst, refl, arith}
+use Rattle.office_tables.proofs.StepLemmas.{honest_before}
 use Rattle.sqlite.specs.Effect.{Database}
 use Rattle.sqlite.specs.Held.{state}
 use Rattle.office_load.specs.Numbers.{AreNumbered, tree_of}
