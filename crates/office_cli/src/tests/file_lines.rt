@@ -8,8 +8,9 @@ use std::{fs, io};
 
 const NOT_A_LINE: &str = "rooms: not understood\n";
 
-// A year in which T1 and T2 pass their homes to one another and N moves into the vacant room, with what each line prints. N asks
-// for H1 first, which goes to T2, since the order is T1, T2, N: so T1 and T2 swap, and N enters a room that nobody leaves.
+// A year in which T1 and T2 pass their homes to one another and N moves into the vacant room, with what each line
+// prints. The order is T1, T2, N: T1 asks for H2 and T2 for H1, which closes the loop. H1 is gone then, so N gets V,
+// which nobody leaves.
 const YEAR: [(&str, &str); 20] = [
     ("room H1", "ok\n"),
     ("room H2", "ok\n"),
@@ -126,60 +127,80 @@ fn tells_why_there_is_no_office(rt: HostRuntime) -> Result<(), Fail> {
     Ok(())
 }
 
-// The words after `--db FILE` are one line, however they are cut into words; what is no line is answered on standard output.
+// The words after `--db FILE` are one line, however they are cut into words. What is no line is answered on standard
+// output.
 #[test]
 fn hears_the_words_as_one_line(rt: HostRuntime) -> Result<(), Fail> {
     make_folder(&rt, "lines_words")?;
-    let path = "lines_words/office.db";
-    carried(&rt, &["new", "--db", path]);
+    carried(&rt, &["new", "--db", "lines_words/office.db"]);
     for (words, status, printed) in [
-        (["do", "--db", path, "room", "A"].as_slice(), 0, "ok\n"),
-        (["do", "--db", path, "room B"].as_slice(), 0, "ok\n"),
-        (["do", "room", "--db", path, "C"].as_slice(), 0, "ok\n"),
+        (
+            ["do", "--db", "lines_words/office.db", "room", "A"].as_slice(),
+            0,
+            "ok\n",
+        ),
+        (
+            ["do", "--db", "lines_words/office.db", "room B"].as_slice(),
+            0,
+            "ok\n",
+        ),
+        (
+            ["do", "room", "--db", "lines_words/office.db", "C"].as_slice(),
+            0,
+            "ok\n",
+        ),
         (
             ["do", "room", "D", "--db=lines_words/office.db"].as_slice(),
             0,
             "ok\n",
         ),
         (
-            ["do", "--db", path, "--", "room", "E"].as_slice(),
+            ["do", "--db", "lines_words/office.db", "--", "room", "E"].as_slice(),
             0,
             "ok\n",
         ),
         (
-            ["do", "--db", path, "room", "A"].as_slice(),
+            ["do", "--db", "lines_words/office.db", "room", "A"].as_slice(),
             1,
             "refused 4 DuplicateRoom\n",
         ),
         (
-            ["do", "--db", path, "help"].as_slice(),
+            ["do", "--db", "lines_words/office.db", "help"].as_slice(),
             2,
             "not understood\n",
         ),
         (
-            ["do", "--db", path, "room"].as_slice(),
+            ["do", "--db", "lines_words/office.db", "room"].as_slice(),
             2,
             "not understood\n",
         ),
         (
-            ["do", "--db", path, "--", "room", "-A"].as_slice(),
+            ["do", "--db", "lines_words/office.db", "--", "room", "-A"].as_slice(),
             2,
             "not understood\n",
         ),
         (
-            ["do", "--db", path, "room", "F\n"].as_slice(),
+            ["do", "--db", "lines_words/office.db", "room", "F\n"].as_slice(),
             2,
             "not understood\n",
         ),
         (
-            ["do", "--db", path, "room F\nroom G"].as_slice(),
+            ["do", "--db", "lines_words/office.db", "room F\nroom G"].as_slice(),
             2,
             "not understood\n",
         ),
-        (["do", "--db", path, "# room F"].as_slice(), 0, ""),
-        (["do", "--db", path, ""].as_slice(), 0, ""),
         (
-            ["do", "--db", path, "rooms"].as_slice(),
+            ["do", "--db", "lines_words/office.db", "# room F"].as_slice(),
+            0,
+            "",
+        ),
+        (
+            ["do", "--db", "lines_words/office.db", ""].as_slice(),
+            0,
+            "",
+        ),
+        (
+            ["do", "--db", "lines_words/office.db", "rooms"].as_slice(),
             0,
             "room      state     tenant\nA         free      none\nB         free      none\nC         free      none\nD         free      none\nE         free      none\n",
         ),
@@ -197,31 +218,45 @@ fn hears_the_words_as_one_line(rt: HostRuntime) -> Result<(), Fail> {
 #[test]
 fn refuses_other_program_lines(rt: HostRuntime) -> Result<(), Fail> {
     make_folder(&rt, "lines_other")?;
-    let path = "lines_other/office.db";
     for words in [
         ["new"].as_slice(),
         ["new", "--db"].as_slice(),
-        ["new", path].as_slice(),
-        ["new", "--db", path, "now"].as_slice(),
-        ["new", "--db", path, "--db", path].as_slice(),
-        ["new", "--db", path, "--help"].as_slice(),
-        ["new", "--file", path].as_slice(),
-        ["new", "-d", path].as_slice(),
+        ["new", "lines_other/office.db"].as_slice(),
+        ["new", "--db", "lines_other/office.db", "now"].as_slice(),
+        [
+            "new",
+            "--db",
+            "lines_other/office.db",
+            "--db",
+            "lines_other/office.db",
+        ]
+        .as_slice(),
+        ["new", "--db", "lines_other/office.db", "--help"].as_slice(),
+        ["new", "--file", "lines_other/office.db"].as_slice(),
+        ["new", "-d", "lines_other/office.db"].as_slice(),
         ["do"].as_slice(),
         ["do", "rooms"].as_slice(),
-        ["do", "--db", path].as_slice(),
-        ["do", "--db", path, "--"].as_slice(),
-        ["do", "--db", path, "--db", path, "rooms"].as_slice(),
-        ["do", "--db", path, "room", "-A"].as_slice(),
-        ["do", "--db", path, "--quick", "rooms"].as_slice(),
-        ["do", "--db", path, "rooms", "--help"].as_slice(),
+        ["do", "--db", "lines_other/office.db"].as_slice(),
+        ["do", "--db", "lines_other/office.db", "--"].as_slice(),
+        [
+            "do",
+            "--db",
+            "lines_other/office.db",
+            "--db",
+            "lines_other/office.db",
+            "rooms",
+        ]
+        .as_slice(),
+        ["do", "--db", "lines_other/office.db", "room", "-A"].as_slice(),
+        ["do", "--db", "lines_other/office.db", "--quick", "rooms"].as_slice(),
+        ["do", "--db", "lines_other/office.db", "rooms", "--help"].as_slice(),
     ] {
         let (status, printed, told) = carried(&rt, words);
         assert_eq!(rt; status, 2);
         assert!(rt; printed.is_empty());
         assert_eq!(rt; told.as_slice(), NOT_A_LINE.as_bytes());
     }
-    assert!(rt; !fs::exists(&rt, path)?);
+    assert!(rt; !fs::exists(&rt, "lines_other/office.db")?);
     fs::remove_dir_all(&rt, "lines_other")?;
     Ok(())
 }
