@@ -1,6 +1,6 @@
 //! Cells in their types. A cell of another form is none. Numbers take no memory.
-ghost use Rattle.std.specs.Prelude.{◌≡◌, ◌⊎◌, ℕ, pos, IfOk, IfSome, MatchOption, Option, string_bytes};
-ghost use Rattle.std.specs.Option.{option_map};
+ghost use Rattle.std.specs.Prelude.{◌≡◌, ◌⊎◌, ℕ, pos, IfOk, IfSome, IsUtf8, MatchOption, OnErr, Option};
+ghost use Rattle.std.specs.Bool.{Decides};
 ghost use Rattle.sqlite_value.specs.Order.{column};
 ghost use Rattle.sqlite_value.specs.declared.value.Value.TheVariants.{Int, Null, Text as text_value};
 ghost use Rattle.office_cells.specs.Cells.{IsTextOf, IsOptionalTextOf, IsString, IsFlag, IsCount};
@@ -8,37 +8,23 @@ ghost use Rattle.office_cells.specs.Cells.{IsShort, IsWave, count_or_null, flag,
 ghost use Rattle.office_cells.specs.Cells.{wave_value};
 
 use room_types::{Grammar, OutOfMemory, Text, TypeFault, Wave};
-use sqlite::{Error, ErrorCode, Row};
+use sqlite::Row;
 use sqlite_value::value::ValueRef;
 use std::alloc::Global;
+use std::str;
 
-/// A column as a text.
-pub fn string_in(row: &Row, at: usize) -> Result<Option<String>, OutOfMemory>
-    ensures { IfOk result (λ found. MatchOption found (¬ IsString (column row.now at))
-        (λ t. column row.now at ≡ text_value (string_bytes t))) }
+/// A column as a text, which the row lends. It takes no memory.
+pub fn str_in(row: &Row, at: usize) -> Option<&str>
+    ensures { MatchOption result (¬ IsString (column row.now at))
+        (λ t. (column row.now at ≡ text_value t.now) × IsUtf8 t.now) }
 {
-    match row.get(at) {
-        Ok(text) => Ok(Some(text)),
-        Err(Error::SqliteFailure(ErrorCode::OutOfMemory)) => Err(OutOfMemory {}),
-        Err(_) => Ok(None),
+    match row.get_ref(at) {
+        Ok(ValueRef::Text(bytes)) => str::from_utf8(bytes).ok(),
+        _ => None,
     }
 }
 
-// A column as a text or NULL. A row that ends before the column has NULL there.
-fn optional_string_in(row: &Row, at: usize) -> Result<Option<Option<String>>, OutOfMemory>
-    ensures { IfOk result (λ found. MatchOption found
-        (¬ ((column row.now at ≡ Null) ⊎ IsString (column row.now at)))
-        (λ t. column row.now at ≡ text_or_null (option_map string_bytes t))) }
-{
-    match row.get(at) {
-        Ok(text) => Ok(Some(text)),
-        Err(Error::SqliteFailure(ErrorCode::OutOfMemory)) => Err(OutOfMemory {}),
-        Err(Error::InvalidColumnIndex(_)) => Ok(Some(None)),
-        Err(_) => Ok(None),
-    }
-}
-
-/// A column as a text of the grammar.
+/// A column as a text of the grammar. Memory is taken for such a text alone.
 pub fn text_in<G: Grammar>(
     alloc: Global,
     row: &Row,
@@ -49,18 +35,20 @@ pub fn text_in<G: Grammar>(
         (λ t. column row.now at ≡ text_value t)) }
     ensures formed { IfOk result
         (λ found. IfSome found (λ _. IsTextOf G.is_text (column row.now at))) }
+    ensures memory { OnErr result (IsTextOf G.is_text (column row.now at)) }
 {
-    let Some(text) = string_in(row, at)? else {
+    let Some(text) = str_in(row, at) else {
         return Ok(None);
     };
-    match Text::read(alloc, text.as_str()) {
+    match Text::read(alloc, text) {
         Ok(text) => Ok(Some(text)),
         Err(TypeFault::OutOfMemory) => Err(OutOfMemory {}),
         Err(_) => Ok(None),
     }
 }
 
-/// A column as a text of the grammar, or NULL.
+/// A column as a text of the grammar, or NULL. Memory is taken for such a text alone. A row that ends before the column
+/// has NULL there.
 pub fn optional_text_in<G: Grammar>(
     alloc: Global,
     row: &Row,
@@ -71,18 +59,22 @@ pub fn optional_text_in<G: Grammar>(
         (λ t. column row.now at ≡ text_or_null t)) }
     ensures formed { IfOk result
         (λ found. IfSome found (λ _. IsOptionalTextOf G.is_text (column row.now at))) }
+    ensures memory { OnErr result (IsTextOf G.is_text (column row.now at)) }
 {
-    let Some(text) = optional_string_in(row, at)? else {
-        return Ok(None);
-    };
-    let Some(text) = text else {
+    if is_null(row, at) {
         return Ok(Some(None));
-    };
-    match Text::read(alloc, text.as_str()) {
-        Ok(text) => Ok(Some(Some(text))),
-        Err(TypeFault::OutOfMemory) => Err(OutOfMemory {}),
-        Err(_) => Ok(None),
     }
+    match text_in(alloc, row, at)? {
+        Some(text) => Ok(Some(Some(text))),
+        None => Ok(None),
+    }
+}
+
+// Whether a column is NULL.
+fn is_null(row: &Row, at: usize) -> bool
+    ensures { Decides result (column row.now at ≡ Null) }
+{
+    matches!(row.get_ref(at), Ok(ValueRef::Null) | Err(_))
 }
 
 /// A column as a number from 0.

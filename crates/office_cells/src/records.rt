@@ -1,5 +1,5 @@
 //! All rows of a table in their type.
-ghost use Rattle.std.specs.Prelude.{◌≡◌, map, IfOk, IfSome, MatchOption};
+ghost use Rattle.std.specs.Prelude.{◌≡◌, ◌<◌, length, map, IfOk, IfSome, MatchOption, OnErr};
 ghost use Rattle.std.specs.List.{All};
 ghost use Rattle.sqlite_value.specs.Order.{Row as Values};
 
@@ -23,11 +23,12 @@ pub trait Record: Drop {
         ensures formed { IfOk result (λ found. IfSome found (λ _. is_form row.now)) };
 }
 
-/// The records of all rows, in their order, or none where some row has another form.
+/// The records of all rows, in their order, or none where some row has another form. No memory is taken for no rows.
 pub fn records_in<R: Record>(alloc: Global, rows: &[Row]) -> Result<Option<Vec<R>>, OutOfMemory>
     ensures told { IfOk result (λ found. MatchOption found (¬ All R.is_form rows.now)
         (λ records. map R.columns records.items ≡ map R.front rows.now)) }
     ensures formed { IfOk result (λ found. IfSome found (λ _. All R.is_form rows.now)) }
+    ensures memory { OnErr result (0 < length rows.now) }
 {
     let mut records = Vec::new(alloc);
     for row in rows {

@@ -1,12 +1,12 @@
 //! The row of the round.
-ghost use Rattle.std.specs.Prelude.{◌≡◌, pos, IfOk, IfSome, MatchOption};
+ghost use Rattle.std.specs.Prelude.{◌≡◌, pos, IfSome, MatchOption};
 ghost use Rattle.sqlite_value.specs.Order.{column};
 ghost use Rattle.sqlite_value.specs.declared.value.Value.TheVariants.{Text as text_value};
 ghost use Rattle.room_types.specs.Phases.{phase_text};
 ghost use Rattle.office_cells.specs.Cells.{IsPhase};
 ghost use Rattle.room_types.specs.declared.phase.Phase.{Phase as phase};
 
-use crate::cells::{short_in, string_in};
+use crate::cells::{short_in, str_in};
 use crate::records::Record;
 use office_rows::RoundRecord;
 use room_types::{OutOfMemory, Phase};
@@ -40,15 +40,15 @@ fn phase_of(text: &str) -> Option<Phase>
 }
 
 // A column as a phase.
-fn phase_in(row: &Row, at: usize) -> Result<Option<Phase>, OutOfMemory>
-    ensures told { IfOk result (λ found. MatchOption found (¬ IsPhase (column row.now at))
-        (λ p. column row.now at ≡ text_value (phase_text p))) }
-    ensures formed { IfOk result (λ found. IfSome found (λ _. IsPhase (column row.now at))) }
+fn phase_in(row: &Row, at: usize) -> Option<Phase>
+    ensures told { MatchOption result (¬ IsPhase (column row.now at))
+        (λ p. column row.now at ≡ text_value (phase_text p)) }
+    ensures formed { IfSome result (λ _. IsPhase (column row.now at)) }
 {
-    let Some(text) = string_in(row, at)? else {
-        return Ok(None);
+    let Some(text) = str_in(row, at) else {
+        return None;
     };
-    Ok(phase_of(text.as_str()))
+    phase_of(text)
 }
 
 impl Record for RoundRecord {
@@ -71,7 +71,7 @@ impl Record for RoundRecord {
         let Some(number) = short_in(row, 1) else {
             return Ok(None);
         };
-        let Some(phase) = phase_in(row, 2)? else {
+        let Some(phase) = phase_in(row, 2) else {
             return Ok(None);
         };
         Ok(Some(RoundRecord { number, phase }))

@@ -1,33 +1,34 @@
 //! Rows of words.
-ghost use Rattle.std.specs.Prelude.{◌≡◌, IfOk, IfSome, MatchOption};
+ghost use Rattle.std.specs.Prelude.{◌≡◌, IfOk, IfSome, MatchOption, OnErr};
 ghost use Rattle.sqlite_value.specs.Order.{column};
 ghost use Rattle.sqlite_value.specs.declared.value.Value.TheVariants.{Text as text_value};
 ghost use Rattle.room_types.specs.Words.{word_text};
-ghost use Rattle.office_cells.specs.Cells.{IsWord};
+ghost use Rattle.office_cells.specs.Cells.{IsString, IsWord};
 
-use crate::cells::{string_in, text_in};
+use crate::cells::{str_in, text_in};
 use crate::records::Record;
 use room_types::{OutOfMemory, PersonId, Word};
 use sqlite::Row;
 use std::alloc::Global;
 
-// A column as a word. Its digits are in lower case, as they are printed.
+// A column as a word. Its digits are in lower case, as they are printed. Memory is taken for a text alone.
 fn word_in(alloc: Global, row: &Row, at: usize) -> Result<Option<Word>, OutOfMemory>
     ensures told { IfOk result (λ found. MatchOption found (¬ IsWord (column row.now at))
         (λ w. column row.now at ≡ text_value (word_text w))) }
     ensures formed { IfOk result (λ found. IfSome found (λ _. IsWord (column row.now at))) }
+    ensures memory { OnErr result (IsString (column row.now at)) }
 {
-    let Some(text) = string_in(row, at)? else {
+    let Some(text) = str_in(row, at) else {
         return Ok(None);
     };
-    let word = match Word::read(text.as_str()) {
+    let word = match Word::read(text) {
         Ok(word) => word,
         Err(_) => return Ok(None),
     };
     let Ok(digits) = format!(in alloc; "{word}") else {
         return Err(OutOfMemory {});
     };
-    if digits.as_str() != text.as_str() {
+    if digits.as_str() != text {
         return Ok(None);
     }
     Ok(Some(word))

@@ -1,6 +1,7 @@
 //! The changes of a command, all of them stored in one transaction.
-ghost use Rattle.std.specs.Prelude.{◌≡◌, false, OnOk, OnErr};
+ghost use Rattle.std.specs.Prelude.{◌≡◌, false, OnOk, OnErr, IsTrue};
 ghost use Rattle.sqlite.specs.Held.{state};
+ghost use Rattle.sqlite.specs.State.{HasCleanDisk};
 ghost use Rattle.office_tables.specs.Steps.{IsHonest, Follows, StaysInside};
 ghost use Rattle.office_changes.specs.Carries.{CarriesOne, Carries};
 
@@ -16,8 +17,9 @@ use std::alloc::Global;
 
 /// Stores changes of an office whose rows the tables are: all of them in one transaction, or none.
 ///
-/// Where it succeeds, the tables are the rows of the office after the changes, if these fit. Where it fails, for a
-/// fault of the disk, want of memory, or a change that the tables refuse, they are as they were.
+/// Where it succeeds, the connection is open, and the tables are the rows of the office after the changes, if these
+/// fit. Where it fails, for a fault of the disk, want of memory, or a change that the tables refuse, they are as they
+/// were, unless a fault shut the connection.
 pub fn store_all<S: Alter>(
     alloc: Global,
     conn: &mut Connection<S>,
@@ -29,6 +31,8 @@ pub fn store_all<S: Alter>(
     ensures follows { Follows (state S.Store conn.old) (state S.Store conn.new) }
     ensures stored { OnOk result
         (Carries office.now (state S.Store conn.old) (state S.Store conn.new) changes.now) }
+    ensures is_open { OnOk result (HasCleanDisk (state S.Store conn.new)
+        → IsTrue (state S.Store conn.new).is_open) }
     ensures undone { OnErr result
         (IsHonest (state S.Store conn.new)
         → (state S.Store conn.new).now ≡ (state S.Store conn.old).now) }

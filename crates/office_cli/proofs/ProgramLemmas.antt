@@ -11,8 +11,8 @@ use Rattle.clap.specs.Simple.{is_simple}
 use Rattle.clap.specs.Words.{is_simple_and_free}
 use Rattle.clap.proofs.OnLiterals.{clap_on_literals}
 use Rattle.office_cli.specs.Usage.{usage}
-use Rattle.office_cli.specs.Programs.{entered, entered_line, is_taken, program_of}
-use Rattle.office_words.specs.Understanding.{Understands}
+use Rattle.office_cli.specs.Programs.{entered, entered_line, is_taken, line_of, program_of}
+use Rattle.office_words.specs.Understanding.{UnderstandsAs}
 use Rattle.office_words.specs.declared.word_fault.WordFault.{WordFault}
 use Rattle.office_words.specs.declared.word_fault.WordFault.TheVariants.{NotUnderstood, OutOfMemory}
 
@@ -56,7 +56,7 @@ IsMemory e = kind_of e ≡ kind.OutOfMemory
 
 -- an error of a parse of the words, which is one of memory or of words that are no line
 pub fault_told : (words : List Text) (e : Error) (fault : WordFault) → 0 < length words → HasKind (fault_of usage words) e
-    → (fault ≡ NotUnderstood → ¬ IsMemory e) → Understands (program_of words) (Err fault)
+    → (fault ≡ NotUnderstood → ¬ IsMemory e) → UnderstandsAs line_of (program_of words) (Err fault)
 fault_told words e OutOfMemory some kinds other = tt
 fault_told words e NotUnderstood some (inl memory) other = absurd (other refl memory)
 fault_told words e NotUnderstood some (inr among) other = go (fault_of usage words) refl among

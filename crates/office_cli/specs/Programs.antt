@@ -1,14 +1,29 @@
 -- The lines of the program, and the line that words are.
-use Rattle.std.specs.Prelude.{ℕ, Bool, true, false, List, [], ◌∷◌, Option, Some, None, codes, if◌then◌else◌, option_and_then, option_map}
+use Rattle.std.specs.Prelude.{ℕ, Bool, true, false, List, [], ◌∷◌, Option, Some, None, codes, if◌then◌else◌, map, option_and_then, option_map}
 use Rattle.std.specs.Str.{bytes_eq}
 use Rattle.std.specs.Str.Parse.{digits_value, without_leading_plus}
 use Rattle.clap.specs.ValueTests.{is_unsigned_in}
-use Rattle.clap.specs.Words.{Kinds, Row, fault_of, first_of, one_of, subcommand_of}
+use Rattle.clap.specs.Words.{Kinds, Row, all_of, fault_of, first_of, one_of, subcommand_of}
 use Rattle.office_cli.specs.declared.usage.Program.{Program}
-use Rattle.office_cli.specs.declared.usage.Program.TheVariants.{Rehearse, Words}
+use Rattle.office_cli.specs.declared.usage.Program.TheVariants as program
 use Rattle.office_cli.specs.Seeds.{seed_of}
 use Rattle.office_cli.specs.Usage.{usage}
 use Rattle.room_types.specs.Texts.{Text}
+
+-- A line of the program: an office is made in the file of a path, the office in such a file hears words as a line, lines are
+-- rehearsed, or so many words of a seed are printed.
+pub data Line : Type 0 where
+  makes : Text → Line
+  does : Text → List Text → Line
+  rehearses : Line
+  prints : List ℕ → ℕ → Line
+
+-- what was read is seen as this line
+abbrev pub line_of : Program → Line
+line_of (program.New path) = makes path.now
+line_of (program.Do path words) = does path.now (map (λ word. word.now) words.items)
+line_of program.Rehearse = rehearses
+line_of (program.Words seed count) = prints seed count
 
 -- The number that a text is in decimal, where it lies in the bounds. The text of a number is as `clap` reads it: an integer
 -- with a sign, whose minus is dropped where the bounds begin at 0 (`-0` is 0).
@@ -19,13 +34,23 @@ number_between low high text = if is_unsigned_in low high text then Some (digits
 abbrev pub number_of : ℕ → ℕ → Text → List Row → Option ℕ
 number_of low high id rows = option_and_then (number_between low high) (one_of id rows)
 
+-- `new --db FILE`
+abbrev pub new_line : List Row → Option Line
+new_line rows = option_map makes (first_of (codes "db") rows)
+
+-- `do --db FILE WORD..`
+abbrev pub do_line : List Row → Option Line
+do_line rows = option_and_then (λ path. option_map (does path) (all_of (codes "word") rows)) (first_of (codes "db") rows)
+
 -- `words --seed HEX --count N`
-abbrev pub words_line : List Row → Option Program
-words_line rows = option_and_then (λ seed. option_map (λ count. Words seed count) (number_of 0 2000 (codes "count") rows)) (option_and_then seed_of (first_of (codes "seed") rows))
+abbrev pub words_line : List Row → Option Line
+words_line rows = option_and_then (λ seed. option_map (prints seed) (number_of 0 2000 (codes "count") rows)) (option_and_then seed_of (first_of (codes "seed") rows))
 
 -- the line of a subcommand with its entries
-abbrev pub entered_line : Text × List Row → Option Program
-entered_line (name, rows) = if bytes_eq name (codes "rehearse") then Some Rehearse
+abbrev pub entered_line : Text × List Row → Option Line
+entered_line (name, rows) = if bytes_eq name (codes "new") then new_line rows
+    else if bytes_eq name (codes "do") then do_line rows
+    else if bytes_eq name (codes "rehearse") then Some rehearses
     else if bytes_eq name (codes "words") then words_line rows
     else None
 
@@ -42,7 +67,7 @@ unfoldable pub entered : List Text → Option (Text × List Row)
 entered words = subcommand_of usage words
 
 -- the line that the words are, if any; no words are the line `rehearse`
-abbrev pub program_of : List Text → Option Program
-program_of [] = Some Rehearse
+abbrev pub program_of : List Text → Option Line
+program_of [] = Some rehearses
 program_of (word ∷ rest) =
     if is_taken (word ∷ rest) then option_and_then entered_line (entered (word ∷ rest)) else None

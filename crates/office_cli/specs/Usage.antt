@@ -2,7 +2,7 @@
 use Rattle.std.specs.Prelude.{◌≡◌, ℕ, pos, true, false, codes, Some}
 use Rattle.clap.specs.Words.{App, Rule, Text, app_of, new_app, new_rule, with_rule, with_subcommand}
 use Rattle.clap.specs.Simple.{on_top}
-use Rattle.clap.specs.declared.builder.action.ArgAction.TheVariants.{Set}
+use Rattle.clap.specs.declared.builder.action.ArgAction.TheVariants.{Set, Append}
 use Rattle.clap.specs.declared.builder.command.Command.{Command}
 use Rattle.clap.specs.declared.builder.command.Command.TheViews.{out-Command}
 use Rattle.clap.specs.declared.builder.value_parser.ValueParser.TheVariants as parser
@@ -16,12 +16,22 @@ plain_usage = on_top (λ settings. record settings {
   subcommand_required = true;
 }) (new_app (codes "rooms"))
 
-abbrev pub rehearse_usage : App
-rehearse_usage = new_app (codes "rehearse")
-
 -- `--name VALUE`, which has to be there
 abbrev pub option : Text → Rule
 option name = record (new_rule name) { long = Some name; action = Some Set; required = true }
+
+-- one word or more, at the end
+abbrev pub operands : Text → Rule
+operands name = record (new_rule name) { action = Some Append; required = true }
+
+abbrev pub new_usage : App
+new_usage = with_rule (new_app (codes "new")) (option (codes "db"))
+
+abbrev pub do_usage : App
+do_usage = with_rule (with_rule (new_app (codes "do")) (option (codes "db"))) (operands (codes "word"))
+
+abbrev pub rehearse_usage : App
+rehearse_usage = new_app (codes "rehearse")
 
 -- `--name N`, a number from low to high
 abbrev pub number : ℕ → ℕ → Text → Rule
@@ -31,7 +41,8 @@ abbrev pub words_usage : App
 words_usage = with_rule (with_rule (new_app (codes "words")) (option (codes "seed"))) (number 0 2000 (codes "count"))
 
 abbrev pub usage : App
-usage = with_subcommand (with_subcommand plain_usage rehearse_usage.top) words_usage.top
+usage = with_subcommand (with_subcommand (with_subcommand (with_subcommand plain_usage new_usage.top) do_usage.top)
+    rehearse_usage.top) words_usage.top
 
 -- the command is this one, and no argument of it is global
 abbrev pub IsCommand : App → Command → Type 0

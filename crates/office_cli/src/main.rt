@@ -3,8 +3,10 @@
 
 ghost use Rattle.std.specs.Prelude.{◌≡◌, ◌<◌, IfOk, OnErr, drop, length, map, string_bytes};
 
+pub mod at_desk;
 pub mod carry_out;
 pub mod desk_faults;
+pub mod in_file;
 pub mod program;
 pub mod seeds;
 pub mod usage;

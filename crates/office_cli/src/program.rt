@@ -1,8 +1,8 @@
 //! The words after the program's name.
 ghost use Rattle.std.specs.Prelude.{◌≡◌, ◌≢◌, ◌<◌, IfErr, length, map, option_map};
-ghost use Rattle.clap.specs.Words.{first_of, found_of, kind_of, rows_of};
-ghost use Rattle.office_cli.specs.Programs.{entered_line, number_of, program_of, words_line};
-ghost use Rattle.office_words.specs.Understanding.{Understands};
+ghost use Rattle.clap.specs.Words.{all_of, first_of, found_of, kind_of, rows_of};
+ghost use Rattle.office_cli.specs.Programs.{do_line, entered_line, line_of, new_line, number_of, program_of, words_line};
+ghost use Rattle.office_words.specs.Understanding.{UnderstandsAs};
 
 use crate::seeds::seed_of;
 use crate::usage::{Program, WORDS_LIMIT, rooms_command};
@@ -13,8 +13,9 @@ use std::alloc::Global;
 
 /// The line of the program that these words are. No words are the line `rehearse`, and take no memory. `NotUnderstood` is
 /// answered exactly where the words are no line.
-pub fn program<'a>(alloc: Global, words: &'a [&'a str]) -> Result<Program, WordFault>
-    ensures understands { Understands (program_of (map (λ word. word.now) words.entry.now)) result }
+pub fn program<'a>(alloc: Global, words: &'a [&'a str]) -> Result<Program<'a>, WordFault>
+    ensures understands { UnderstandsAs line_of
+        (program_of (map (λ word. word.now) words.entry.now)) result }
     ensures some { IfErr result
         (λ fault. fault ≡ WordFault.OutOfMemory → 0 < length words.entry.now) }
 {
@@ -24,7 +25,7 @@ pub fn program<'a>(alloc: Global, words: &'a [&'a str]) -> Result<Program, WordF
     let command = rooms_command(alloc)?;
     match command.try_get_matches_from(words) {
         Ok(matches) => match matches.subcommand() {
-            Some((name, entries)) => entered_line(name, entries),
+            Some((name, entries)) => entered_line(alloc, name, entries),
             None => Err(WordFault::NotUnderstood),
         },
         Err(error) => Err(fault_of(&error)),
@@ -32,18 +33,53 @@ pub fn program<'a>(alloc: Global, words: &'a [&'a str]) -> Result<Program, WordF
 }
 
 // The line of this subcommand with its entries.
-fn entered_line<'a>(name: &str, entries: &ArgMatches<'a>) -> Result<Program, WordFault>
-    ensures { Understands (entered_line (name.now, rows_of (found_of entries.now))) result }
+fn entered_line<'a>(
+    alloc: Global,
+    name: &str,
+    entries: &ArgMatches<'a>,
+) -> Result<Program<'a>, WordFault>
+    ensures { UnderstandsAs line_of
+        (entered_line (name.now, rows_of (found_of entries.now))) result }
 {
     match name {
+        "new" => understood(new_line(entries)),
+        "do" => do_line(alloc, entries),
         "rehearse" => Ok(Program::Rehearse),
-        "words" => words_line(entries).ok_or(WordFault::NotUnderstood),
+        "words" => understood(words_line(entries)),
         _ => Err(WordFault::NotUnderstood),
     }
 }
 
-fn words_line<'a>(entries: &ArgMatches<'a>) -> Option<Program>
-    ensures { result ≡ words_line (rows_of (found_of entries.now)) }
+// What is no line is not understood.
+fn understood<'a>(line: Option<Program<'a>>) -> Result<Program<'a>, WordFault>
+    ensures { UnderstandsAs line_of (option_map line_of line.entry) result }
+{
+    line.ok_or(WordFault::NotUnderstood)
+}
+
+fn new_line<'a>(entries: &ArgMatches<'a>) -> Option<Program<'a>>
+    ensures { option_map line_of result ≡ new_line (rows_of (found_of entries.now)) }
+{
+    let database = text(entries, "db")?;
+    Some(Program::New { database })
+}
+
+// The words are copied out of the entries, which takes memory.
+fn do_line<'a>(alloc: Global, entries: &ArgMatches<'a>) -> Result<Program<'a>, WordFault>
+    ensures { UnderstandsAs line_of (do_line (rows_of (found_of entries.now))) result }
+{
+    let Some(database) = text(entries, "db") else {
+        return Err(WordFault::NotUnderstood);
+    };
+    let Some(words) = texts(entries, "word") else {
+        return Err(WordFault::NotUnderstood);
+    };
+    let words = words.to_vec(alloc)?;
+    Ok(Program::Do { database, words })
+}
+
+fn words_line<'a>(entries: &ArgMatches<'a>) -> Option<Program<'a>>
+    ensures { option_map line_of result ≡ words_line (rows_of (found_of entries.now)) }
 {
     let seed = seed_of(text(entries, "seed")?)?;
     let count = number(entries, "count", WORDS_LIMIT)?;
@@ -56,6 +92,14 @@ fn text<'a>(entries: &ArgMatches<'a>, id: &str) -> Option<&'a str>
         (rows_of (found_of entries.now)) }
 {
     entries.get_str(id)
+}
+
+// The texts that the argument was given.
+fn texts<'m, 'a>(entries: &'m ArgMatches<'a>, id: &str) -> Option<&'m [&'a str]>
+    ensures { option_map (λ given. map (λ word. word.now) given.now) result
+        ≡ all_of id.now (rows_of (found_of entries.now)) }
+{
+    entries.get_strs(id)
 }
 
 // The number up to `most` that the argument was given.

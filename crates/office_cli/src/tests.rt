@@ -1,8 +1,10 @@
 //! Worked scripts, streams that fail, and the words of the command line.
+mod at_desks;
 mod compared;
 mod draw;
 mod example;
 mod failing;
+mod file_lines;
 mod lines;
 mod refusals;
 mod register;

@@ -1,19 +1,31 @@
 //! The lines of the program, as `clap` reads them.
 ghost use Rattle.std.specs.Prelude.{◌≡◌, IfOk, false};
 ghost use Rattle.clap.specs.Words.{app_of, rule_of};
-ghost use Rattle.office_cli.specs.Usage.{IsCommand, option as option_rule, plain_usage, usage, words_usage};
+ghost use Rattle.office_cli.specs.Usage.{IsCommand, do_usage, new_usage, option as option_rule, plain_usage, usage, words_usage};
 
 use crate::seeds::Seed;
 use clap::{Arg, ArgAction, Command};
 use std::alloc::{AllocError, Global};
 
 /// A line of the program.
-#[derive(Clone, Copy, Debug, PartialEq, Eq)]
-pub enum Program {
+#[derive(Debug, PartialEq, Eq, Drop)]
+pub enum Program<'a> {
+    /// A new office is made in the file of this path.
+    New {
+        database: &'a str,
+    },
+    /// These words, one or more, are heard as a line by the office in the file of this path.
+    Do {
+        database: &'a str,
+        words: Vec<&'a str>,
+    },
     /// Lines from standard input are heard by an empty office.
     Rehearse,
     /// So many words of a draw are printed, of the generator of this seed.
-    Words { seed: Seed, count: u32 },
+    Words {
+        seed: Seed,
+        count: u32,
+    },
 }
 
 /// How many words are printed at most.
@@ -23,9 +35,34 @@ pub const WORDS_LIMIT: u32 = 2000;
 pub fn rooms_command<'a>(alloc: Global) -> Result<Command<'a>, AllocError>
     ensures { IfOk result (λ command. app_of command ≡ usage) }
 {
+    let make = new_command(alloc)?;
+    let hear = do_command(alloc)?;
     let rehearse = Command::new(alloc, "rehearse");
     let words = words_command(alloc)?;
-    plain_command(alloc).subcommand(rehearse)?.subcommand(words)
+    plain_command(alloc)
+        .subcommand(make)?
+        .subcommand(hear)?
+        .subcommand(rehearse)?
+        .subcommand(words)
+}
+
+// `new --db FILE`.
+fn new_command<'a>(alloc: Global) -> Result<Command<'a>, AllocError>
+    ensures { IfOk result (IsCommand new_usage) }
+{
+    Command::new(alloc, "new").arg(option(alloc, "db"))
+}
+
+// `do --db FILE WORD..`, with one word or more.
+fn do_command<'a>(alloc: Global) -> Result<Command<'a>, AllocError>
+    ensures { IfOk result (IsCommand do_usage) }
+{
+    let words = Arg::new(alloc, "word")
+        .action(ArgAction::Append)
+        .required(true);
+    Command::new(alloc, "do")
+        .arg(option(alloc, "db"))?
+        .arg(words)
 }
 
 // `words --seed HEX --count N`.

@@ -1,5 +1,5 @@
 //! Making an office in a database.
-ghost use Rattle.std.specs.Prelude.{◌≡◌, false, Err, OnOk, OnErr, IfErr};
+ghost use Rattle.std.specs.Prelude.{◌≡◌, false, Err, OnOk, OnErr, IfErr, IsTrue};
 ghost use Rattle.sqlite.specs.Held.{state};
 ghost use Rattle.sqlite.specs.State.{HasCleanDisk};
 ghost use Rattle.office_core.specs.Office.{empty_office};
@@ -18,9 +18,9 @@ use sqlite::{Alter, Connection, Error, Transaction};
 /// Why no office was made.
 #[derive(Clone, Copy, Debug, PartialEq, Eq, Drop)]
 pub enum CreateFault {
-    /// The database or memory refused, or something that is no table of an office is declared.
+    /// The database or memory did not serve, or something is declared, though under none of the eight names.
     Unavailable,
-    /// A table, an index or a view has the name of a table of an office.
+    /// A table, an index or a view has the name of one of the eight tables of an office.
     AlreadyThere,
 }
 
@@ -28,13 +28,16 @@ pub enum CreateFault {
 ///
 /// # Errors
 ///
-/// `AlreadyThere` exactly where one of the names is taken, and else `Unavailable`. The rows are then as they were.
+/// `AlreadyThere` exactly where one of the names is taken. Else `Unavailable`, where something else is declared, or
+/// where the database or memory did not serve. The tables are then as they were, unless a fault shut the connection.
 pub fn create<S: Alter>(conn: &mut Connection<S>) -> Result<(), CreateFault>
     requires { conn.old.in_transaction ≡ false }
     ensures outside { conn.new.in_transaction ≡ false }
     ensures follows { Follows (state S.Store conn.old) (state S.Store conn.new) }
     ensures made { OnOk result (HasCleanDisk (state S.Store conn.new)
         → HoldsOffice (state S.Store conn.new).now empty_office) }
+    ensures is_open { OnOk result (HasCleanDisk (state S.Store conn.new)
+        → IsTrue (state S.Store conn.new).is_open) }
     ensures blank { OnOk result ((state S.Store conn.old).now.schema ≡ no_schema) }
     ensures undone { OnErr result (IsHonest (state S.Store conn.new)
         → (state S.Store conn.new).now ≡ (state S.Store conn.old).now) }
@@ -61,6 +64,8 @@ fn start_office<S: Alter>(conn: &mut Connection<S>) -> Result<(), Error>
     ensures outside { conn.new.in_transaction ≡ false }
     ensures follows { Follows (state S.Store conn.old) (state S.Store conn.new) }
     ensures made { OnOk result (Starts (state S.Store conn.old) (state S.Store conn.new)) }
+    ensures is_open { OnOk result (HasCleanDisk (state S.Store conn.new)
+        → IsTrue (state S.Store conn.new).is_open) }
     ensures undone { OnErr result (IsHonest (state S.Store conn.new)
         → (state S.Store conn.new).now ≡ (state S.Store conn.old).now) }
 {

@@ -1,5 +1,5 @@
 -- What an opening finds in the files, and why there is no desk over them.
-use Rattle.std.specs.Prelude.{◌≡◌, ◌⊎◌, [], IfErr, Result}
+use Rattle.std.specs.Prelude.{◌≡◌, ◌⊎◌, IfErr, Result}
 use Rattle.sqlite_disk.specs.declared.Disk.{Ghosts}
 use Rattle.sqlite_store.specs.declared.store.FileStore.{FileStore}
 use Rattle.sqlite_wal.specs.Recovery.{Image}
@@ -12,11 +12,7 @@ use Rattle.office_store.specs.Desk.{DeskState}
 use Rattle.office_store.specs.declared.desk.faults.DeskFault.{DeskFault}
 use Rattle.office_store.specs.declared.desk.faults.DeskFault.TheVariants.{AlreadyThere, Unavailable}
 use Rattle.office_tables.specs.Schema.{no_schema}
-use Rattle.office_tables.specs.Steps.{Follows}
-
--- both files were empty
-abbrev pub no_contents : Image
-no_contents = record { log = []; db = [] }
+use Rattle.office_tables.specs.Steps.{Follows, IsHonest}
 
 -- A database as it is found by an opening: its trees are those that the file and its log held, or none where they held
 -- no database yet, its schema is the one that the trees list, and no transaction is under way.
@@ -37,8 +33,16 @@ module _ {D : Type 0} {g : Ghosts D} (contents : Image) where
     pub blank : (file_state connection).now.schema ≡ no_schema
     pub follows : Follows (file_state connection) (file_state desk.conn)
 
-  -- a name is told to be taken only where an opening found one of the names taken
+  -- What an opening found is refused for this. Its tables are then as they were found, as long as no fault shuts the
+  -- connection.
+  pub record MayRefuseNew (connection refused : Held (FileStore D g)) (fault : DeskFault) : Type 0 where
+    pub opened : IsOpenedOver connection
+    pub follows : Follows (file_state connection) (file_state refused)
+    pub undone : IsHonest (file_state refused) → (file_state refused).now ≡ (file_state connection).now
+    pub cause : (fault ≡ Unavailable) ⊎ ((fault ≡ AlreadyThere) × NameIsTaken (file_state connection).now)
+
+  -- the files were not opened, or what an opening found is refused
   abbrev pub IsCreateFault : Result (DeskState (FileStore D g)) DeskFault → Type 0
   IsCreateFault result =
-      IfErr result (λ fault. (fault ≡ Unavailable) ⊎ ((fault ≡ AlreadyThere)
-      × ((connection : Held (FileStore D g)) × IsOpenedOver connection × NameIsTaken (file_state connection).now)))
+      IfErr result (λ fault. (fault ≡ Unavailable) ⊎ ((connection : Held (FileStore D g)) × (refused : Held (FileStore D g))
+      × MayRefuseNew connection refused fault))

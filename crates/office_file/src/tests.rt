@@ -1,28 +1,56 @@
-//! Offices in files.
-use crate::{create_file, on_file};
+//! Offices in files. A desk is let go by one call, since each place where a file may be closed is proved by itself.
+use crate::{FileDesk, create_file, let_go, on_file};
 use office_core::{Command, Reply};
 use office_store::{Answer, DeskFault, Request};
 use room_types::RoomCode;
+use sqlite::Wary;
+use std::alloc::Global;
 use std::test::Fail;
 use std::{fs, io};
+
+type Opened = Result<FileDesk<Wary>, DeskFault>;
 
 fn make_folder(rt: &HostRuntime, folder: &str) -> io::Result<()> {
     let _ = fs::remove_dir_all(rt, folder);
     fs::create_dir(rt, folder)
 }
 
+// Why there is no desk, or none where there is one.
+fn fault(opened: Opened) -> Option<DeskFault> {
+    let fault = match &opened {
+        Ok(_) => None,
+        Err(fault) => Some(*fault),
+    };
+    let_go(opened);
+    fault
+}
+
+// How many rooms the office has before and after the room H1 is added, if there is a desk.
+fn room_added(alloc: Global, mut opened: Opened) -> Result<Option<(usize, usize)>, Fail> {
+    let counts = match &mut opened {
+        Ok(desk) => counts(alloc, desk).map(Some),
+        Err(_) => Ok(None),
+    };
+    let_go(opened);
+    counts
+}
+
+fn counts(alloc: Global, desk: &mut FileDesk<Wary>) -> Result<(usize, usize), Fail> {
+    let before = desk.load(alloc)?.rooms.len();
+    let room = RoomCode::read(alloc, "H1")?;
+    let requests = vec![in alloc; Request::Office(Command::AddRoom { room })]?;
+    let answers = desk.handle_all(alloc, &requests)?;
+    let done = matches!(answers.as_slice(), [Answer::Reply(Reply::Done)]);
+    let after = desk.load(alloc)?.rooms.len();
+    Ok((before, if done { after } else { before }))
+}
+
 #[test]
 fn makes_an_office_once(rt: HostRuntime) -> Result<(), Fail> {
     make_folder(&rt, "office_file_once")?;
-    let mut desk = create_file(&rt, "office_file_once/office.db")?;
-    let room = RoomCode::read(rt.alloc(), "H1")?;
-    let requests = vec![in rt.alloc(); Request::Office(Command::AddRoom { room })]?;
-    let answers = desk.handle_all(rt.alloc(), &requests)?;
-    assert!(rt; matches!(answers.as_slice(), [Answer::Reply(Reply::Done)]));
-    assert_eq!(rt; desk.load(rt.alloc())?.rooms.len(), 1);
-    drop(desk);
-    let again = create_file(&rt, "office_file_once/office.db");
-    assert!(rt; matches!(again, Err(DeskFault::AlreadyThere)));
+    let path = "office_file_once/office.db";
+    assert_eq!(rt; fault(create_file(&rt, path, Wary)), None);
+    assert_eq!(rt; fault(create_file(&rt, path, Wary)), Some(DeskFault::AlreadyThere));
     fs::remove_dir_all(&rt, "office_file_once")?;
     Ok(())
 }
@@ -36,8 +64,8 @@ fn makes_no_office_of_other_files(rt: HostRuntime) -> Result<(), Fail> {
         "office_file_other/none/office.db",
         "office_file_other/letter",
     ] {
-        let made = create_file(&rt, path);
-        assert!(rt; matches!(made, Err(DeskFault::Unavailable)), "{path}");
+        let fault = fault(create_file(&rt, path, Wary));
+        assert_eq!(rt; fault, Some(DeskFault::Unavailable), "{path}");
     }
     let letter = fs::read_to_string(&rt, "office_file_other/letter")?;
     assert_eq!(rt; letter.as_str(), "Dear Tim,\n");
@@ -48,19 +76,11 @@ fn makes_no_office_of_other_files(rt: HostRuntime) -> Result<(), Fail> {
 #[test]
 fn finds_the_office_again(rt: HostRuntime) -> Result<(), Fail> {
     make_folder(&rt, "office_file_again")?;
-    drop(create_file(&rt, "office_file_again/office.db")?);
-    let mut desk = on_file(&rt, "office_file_again/office.db")?;
-    let empty = desk.load(rt.alloc())?;
-    assert_eq!(rt;
-        (empty.number, empty.rooms.len(), empty.people.len()),
-        (0, 0, 0)
-    );
-    let room = RoomCode::read(rt.alloc(), "H1")?;
-    let requests = vec![in rt.alloc(); Request::Office(Command::AddRoom { room })]?;
-    desk.handle_all(rt.alloc(), &requests)?;
-    drop(desk);
-    let office = on_file(&rt, "office_file_again/office.db")?.load(rt.alloc())?;
-    assert_eq!(rt; office.rooms.len(), 1);
+    let path = "office_file_again/office.db";
+    assert_eq!(rt; fault(create_file(&rt, path, Wary)), None);
+    assert_eq!(rt; room_added(rt.alloc(), on_file(&rt, path, Wary))?, Some((0, 1)));
+    assert_eq!(rt; fault(create_file(&rt, path, Wary)), Some(DeskFault::AlreadyThere));
+    assert_eq!(rt; room_added(rt.alloc(), on_file(&rt, path, Wary))?, Some((1, 1)));
     fs::remove_dir_all(&rt, "office_file_again")?;
     Ok(())
 }
@@ -68,12 +88,12 @@ fn finds_the_office_again(rt: HostRuntime) -> Result<(), Fail> {
 #[test]
 fn finds_no_office_elsewhere(rt: HostRuntime) -> Result<(), Fail> {
     make_folder(&rt, "office_file_elsewhere")?;
-    let missing = on_file(&rt, "office_file_elsewhere/office.db");
-    assert!(rt; matches!(missing, Err(DeskFault::Unavailable)));
+    let missing = fault(on_file(&rt, "office_file_elsewhere/office.db", Wary));
+    assert_eq!(rt; missing, Some(DeskFault::Unavailable));
     assert!(rt; !fs::exists(&rt, "office_file_elsewhere/office.db")?);
     fs::write(&rt, "office_file_elsewhere/empty", b"".as_slice())?;
-    let empty = on_file(&rt, "office_file_elsewhere/empty");
-    assert!(rt; matches!(empty, Err(DeskFault::NotAnOffice)));
+    let empty = fault(on_file(&rt, "office_file_elsewhere/empty", Wary));
+    assert_eq!(rt; empty, Some(DeskFault::NotAnOffice));
     fs::remove_dir_all(&rt, "office_file_elsewhere")?;
     Ok(())
 }

@@ -6,4 +6,6 @@ pub mod Headers
 pub mod Leavers
 pub mod MoveDays
 pub mod Reaching
+pub mod ReadBack
 pub mod RecordLemmas
+pub mod Sending

@@ -3,7 +3,10 @@ use Rattle.std.proofs.Common.{◌≡◌, ◌∙◌, ◌<◌, ◌≤◌, ◌+◌,
 use Rattle.std.proofs.lemmas.Bool.{ne_eqb}
 use Rattle.std.proofs.lemmas.List.{map-append, length-map}
 use Rattle.std.specs.Option.{option_map, option_map_or}
-use Rattle.csv.specs.Reading.{Reached, ReadRecord, Ready, default_config, records_from, source_of, strip_bom}
+use Rattle.csv.specs.Reading.{ExplainsRead, Reached, ReadRecord, Ready, default_config, error_kind, is_flexible, records_from, source_of, stops_reader, strip_bom}
+use Rattle.csv.specs.declared.error.Error.{Error}
+use Rattle.csv.specs.declared.error.ErrorKind.{ErrorKind}
+use Rattle.csv.specs.declared.error.ErrorKind.TheVariants as kinds
 use Rattle.csv.specs.Machine.{next_record}
 use Rattle.csv.specs.Records.{Row, fields_of}
 use Rattle.csv.specs.declared.parser.State.TheVariants as st
@@ -27,17 +30,19 @@ bytes_of source = Some source.now
 pub record HasGiven (bytes : List ℕ) (given : List Record) (rdr : Reader (Bor (List ℕ))) : Type 0 where
   pub trims : rdr.trim ≡ trim.None
   pub ready : Ready rdr
+  pub flexible : is_flexible rdr ≡ true
   pub config : rdr.config ≡ default_config
   pub rest : List ℕ
   pub source : source_of bytes_of rdr ≡ Some rest
   pub reached : Reached default_config st.StartRecord (strip_bom bytes) given rdr.state rest
 
 pub started : (bytes : List ℕ) (rdr : Reader (Bor (List ℕ))) → rdr.trim ≡ trim.None → rdr.has_headers ≡ false → rdr.headers ≡ None
-    → rdr.config ≡ default_config → source_of bytes_of rdr ≡ Some (strip_bom bytes) → rdr.state ≡ st.StartRecord → HasGiven bytes [] rdr
+    → is_flexible rdr ≡ true → rdr.config ≡ default_config → source_of bytes_of rdr ≡ Some (strip_bom bytes) → rdr.state ≡ st.StartRecord → HasGiven bytes [] rdr
 unfolding Reached
-started bytes rdr trims plain none config source state = record {
+started bytes rdr trims plain none flexible config source state = record {
   trims = trims;
   ready = inr (inr (plain, none));
+  flexible = flexible;
   config = config;
   rest = strip_bom bytes;
   source = source;
@@ -46,17 +51,32 @@ started bytes rdr trims plain none config source state = record {
 
 -- one record more
 pub gives : (bytes : List ℕ) (given : List Record) (old new : Reader (Bor (List ℕ))) (row : Row) → HasGiven bytes given old
-    → ReadRecord bytes_of old new true (fields_of row) → new.first ≡ true → HasGiven bytes (given ++ fields_of row ∷ []) new
-gives bytes given old new row has step first =
+    → ReadRecord bytes_of old new true (fields_of row) → new.first ≡ true → is_flexible new ≡ is_flexible old
+    → HasGiven bytes (given ++ fields_of row ∷ []) new
+gives bytes given old new row has step first same =
     let more = rows-more bytes_of old new (fields_of row) default_config st.StartRecord (strip_bom bytes) has.rest given has.config has.source has.reached step in
     record {
       trims = step.3 ∙ has.trims;
       ready = inl first;
+      flexible = same ∙ has.flexible;
       config = step.2 ∙ has.config;
       rest = more.0;
       source = more.1;
       reached = more.2;
     }
+
+-- a reader over memory that takes records of any length fails for memory alone, and not for what it reads
+pub fails_for_memory : (bytes : List ℕ) (given : List Record) (old new : Reader (Bor (List ℕ))) (error : Error) → HasGiven bytes given old
+    → ExplainsRead bytes_of old new false (error_kind error) → stops_reader (error_kind error) ≡ true
+fails_for_memory bytes given old new error has why = by_kind (error_kind error) why
+  where
+    by_kind : (kind : ErrorKind) → ExplainsRead bytes_of old new false kind → stops_reader kind ≡ true
+    by_kind (kinds.Io e) why = refl
+    by_kind kinds.OutOfMemory why = refl
+    by_kind (kinds.UnequalLengths pos expected len) why = cc (why.0, has.flexible)
+    by_kind (kinds.Utf8 pos err) why = cc why.0
+    by_kind (kinds.Serialize text) why = absurd why
+    by_kind (kinds.Deserialize pos err) why = absurd why
 
 -- no record more
 pub gave_all : (bytes : List ℕ) (given : List Record) (old new : Reader (Bor (List ℕ))) → HasGiven bytes given old
@@ -135,15 +155,15 @@ all_read form bytes entries old new to step =
 
 -- one more is read, and is good
 pub one_read : {X : Type 0} (form : ListForm X) (bytes : List ℕ) (entries : List X) (old new : Reader (Bor (List ℕ))) (row : Row) (entry : X)
-    → IsReadTo form bytes entries old → ReadRecord bytes_of old new true (fields_of row) → new.first ≡ true → length entries < record_limit
+    → IsReadTo form bytes entries old → ReadRecord bytes_of old new true (fields_of row) → new.first ≡ true → is_flexible new ≡ is_flexible old → length entries < record_limit
     → cause_of form (fields_of row) ≡ None → entry ≡ form.entry (fields_of row) → IsReadTo form bytes (entries ++ entry ∷ []) new
 unfolding first_bad
-one_read form bytes entries old new row entry to step first few good is =
+one_read form bytes entries old new row entry to step first same few good is =
     let count = count_told form entries to.done to.told in
     record {
       header = to.header;
       done = to.done ++ fields_of row ∷ [];
-      given = gives bytes (to.header ∷ to.done) old new row to.given step first;
+      given = gives bytes (to.header ∷ to.done) old new row to.given step first same;
       few = omega (arith, count, length-append to.done (fields_of row ∷ []));
       good = fault_at_next (cause_of form) to.done (fields_of row) [] (omega (arith, count)) to.good
           ∙ ap (λ (o : Option Cause). option_map_or (λ why. Some (list.Bad (length to.done + 1) why)) o (first_bad (cause_of form) (length to.done + 1 + 1) [])) good;
@@ -153,34 +173,34 @@ one_read form bytes entries old new row entry to step first few good is =
 
 -- the records after those that are read begin with this one
 next_is : {X : Type 0} (form : ListForm X) (bytes : List ℕ) (entries : List X) (old new : Reader (Bor (List ℕ))) (row : Row)
-    → (to : IsReadTo form bytes entries old) → ReadRecord bytes_of old new true (fields_of row) → new.first ≡ true
+    → (to : IsReadTo form bytes entries old) → ReadRecord bytes_of old new true (fields_of row) → new.first ≡ true → is_flexible new ≡ is_flexible old
     → (rest : List Record) × (list_fault form (records_of bytes) ≡ first_bad (cause_of form) 1 (to.done ++ fields_of row ∷ rest))
-next_is form bytes entries old new row to step first =
-    let found = gave_first bytes (to.header ∷ (to.done ++ fields_of row ∷ [])) new (gives bytes (to.header ∷ to.done) old new row to.given step first) in
-    let same : records_of bytes ≡ to.header ∷ (to.done ++ fields_of row ∷ found.0) = found.1 ∙ ap (λ (rs : List Record). to.header ∷ rs) (append_assoc to.done (fields_of row ∷ []) found.0) in
-    (found.0, headed_fault form bytes to.header (to.done ++ fields_of row ∷ found.0) to.headed same)
+next_is form bytes entries old new row to step first same =
+    let found = gave_first bytes (to.header ∷ (to.done ++ fields_of row ∷ [])) new (gives bytes (to.header ∷ to.done) old new row to.given step first same) in
+    let are : records_of bytes ≡ to.header ∷ (to.done ++ fields_of row ∷ found.0) = found.1 ∙ ap (λ (rs : List Record). to.header ∷ rs) (append_assoc to.done (fields_of row ∷ []) found.0) in
+    (found.0, headed_fault form bytes to.header (to.done ++ fields_of row ∷ found.0) to.headed are)
 
 -- one more stands there than a list may have
 pub one_too_many : {X : Type 0} (form : ListForm X) (bytes : List ℕ) (entries : List X) (old new : Reader (Bor (List ℕ))) (row : Row)
-    → IsReadTo form bytes entries old → ReadRecord bytes_of old new true (fields_of row) → new.first ≡ true → record_limit ≤ length entries
+    → IsReadTo form bytes entries old → ReadRecord bytes_of old new true (fields_of row) → new.first ≡ true → is_flexible new ≡ is_flexible old → record_limit ≤ length entries
     → Fails form bytes (list.Bad 10001 TooMany)
 unfolding first_bad
-one_too_many form bytes entries old new row to step first full =
+one_too_many form bytes entries old new row to step first same full =
     let count = count_told form entries to.done to.told in
-    let found = next_is form bytes entries old new row to step first in
+    let found = next_is form bytes entries old new row to step first same in
     let at : 1 + length to.done ≡ 10001 = omega (arith, count, to.few) in
     inr (found.1 ∙ fault_after (cause_of form) 1 to.done (fields_of row ∷ found.0) to.good
     ∙ ap (λ (k : ℕ). first_bad (cause_of form) k (fields_of row ∷ found.0)) at)
 
 -- one more is read, and is bad, or is not read for memory
 pub one_fails : {X : Type 0} (form : ListForm X) (bytes : List ℕ) (entries : List X) (old new : Reader (Bor (List ℕ))) (row : Row) (fault : RecordFault)
-    → IsReadTo form bytes entries old → ReadRecord bytes_of old new true (fields_of row) → new.first ≡ true → length entries < record_limit
+    → IsReadTo form bytes entries old → ReadRecord bytes_of old new true (fields_of row) → new.first ≡ true → is_flexible new ≡ is_flexible old → length entries < record_limit
     → 0 < length bytes → FailsFor (cause_of form (fields_of row)) fault → Fails form bytes (fault_at (length entries + 1) fault)
-one_fails form bytes entries old new row one.OutOfMemory to step first few some why = inl (refl, some)
-one_fails form bytes entries old new row (one.Bad cause) to step first few some (inl other) = cc other
-one_fails form bytes entries old new row (one.Bad cause) to step first few some (inr is) =
+one_fails form bytes entries old new row one.OutOfMemory to step first same few some why = inl (refl, some)
+one_fails form bytes entries old new row (one.Bad cause) to step first same few some (inl other) = cc other
+one_fails form bytes entries old new row (one.Bad cause) to step first same few some (inr is) =
     let count = count_told form entries to.done to.told in
-    let found = next_is form bytes entries old new row to step first in
+    let found = next_is form bytes entries old new row to step first same in
     let bad : cause_of form (fields_of row) ≡ Some cause = inside (cause_of form (fields_of row)) is in
     inr (found.1 ∙ fault_at_next (cause_of form) to.done (fields_of row) found.0 (omega (arith, count)) to.good
     ∙ ap (λ (o : Option Cause). option_map_or (λ why. Some (list.Bad (length to.done + 1) why)) o (first_bad (cause_of form) (length to.done + 1 + 1) found.0)) bad

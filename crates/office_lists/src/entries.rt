@@ -10,8 +10,8 @@ use csv::{ByteRecord, StringRecord};
 use room_types::{Choices, Key, Name, PersonId, RoomCode};
 use std::alloc::Global;
 
-/// What a record of a list of people tells.
-#[derive(Debug, Drop)]
+/// What a record of a list of people tells. It has no `Debug`, which would print the key.
+#[derive(Drop)]
 pub struct PersonEntry {
     pub person: PersonId,
     pub name: Name,

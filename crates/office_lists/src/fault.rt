@@ -28,17 +28,6 @@ pub enum ListFault {
     OutOfMemory,
 }
 
-/// A reader over memory that takes records of any length fails for memory alone.
-impl From<csv::Error> for ListFault {
-    ghost use Rattle.office_lists.specs.declared.fault.ListFault.TheVariants.{OutOfMemory};
-
-    ghost from_gives = { λ _ fault. fault ≡ OutOfMemory };
-
-    fn from(_error: csv::Error) -> ListFault {
-        ListFault::OutOfMemory
-    }
-}
-
 /// Why a record was not read.
 #[derive(Clone, Copy, Debug, PartialEq, Eq, Drop)]
 pub enum RecordFault {

@@ -2,18 +2,25 @@
 #![tactic(auto)]
 
 mod entries;
+mod exports;
 mod fault;
 mod fields;
+pub mod laws;
 pub mod leaving;
 pub mod move_day;
 mod reading;
 pub mod tables;
 #[cfg(test)]
 mod tests;
+mod writing;
 
 pub use crate::entries::{ChoicesEntry, PersonEntry};
+pub use crate::exports::{
+    ExportKind, head_bytes, move_row_bytes, person_row_bytes, room_row_bytes,
+};
 pub use crate::fault::{Cause, ListFault};
 pub use crate::leaving::{MOVE_LIMIT, Mover, one_wave_each, waves};
 pub use crate::move_day::{move_day_text, one_move_day_list};
 pub use crate::reading::{RECORD_LIMIT, read_choices, read_people, read_rooms};
 pub use crate::tables::{or_none, people_text, results_text, rooms_text};
+pub use crate::writing::{WriteEnd, write_moves, write_people, write_rooms};

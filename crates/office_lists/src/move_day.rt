@@ -59,7 +59,8 @@ fn turn(row: &Move) -> (bool, u16, &PersonId)
     }
 }
 
-fn wave_text(alloc: Global, wave: Wave) -> Result<String, AllocError>
+/// A wave as it is printed.
+pub fn wave_text(alloc: Global, wave: Wave) -> Result<String, AllocError>
     ensures { IfOk result (λ text. string_bytes text ≡ wave_text wave) }
 {
     match wave {

@@ -1,12 +1,17 @@
 //! Reading lists.
-ghost use Rattle.std.specs.Prelude.{◌≡◌, ◌<◌, IfOk, IfErr, None, length};
+ghost use Rattle.std.specs.Prelude.{◌≡◌, ◌<◌, IfOk, IfErr, None, Some, length, true, false};
+ghost use Rattle.csv.specs.Reading.{default_config, error_kind, is_flexible, names_headers, owned_rows_left};
+ghost use Rattle.csv.specs.Reading.{owned_rows_reader, reader_config, reader_headers, reader_state, reader_trim};
+ghost use Rattle.csv.specs.Reading.{source_of, stops_reader, strip_bom};
 ghost use Rattle.csv.specs.Records.{fields_of};
+ghost use Rattle.csv.specs.declared.parser.State.TheVariants as st;
+ghost use Rattle.csv.specs.declared.reader.Trim.TheVariants as trim;
 ghost use Rattle.office_lists.specs.Entries.{choices_list, people_list, room_list};
 ghost use Rattle.office_lists.specs.Records.{Fails, FailsFor, Tells, cause_of};
 
 use crate::entries::{ChoicesEntry, ListEntry, PersonEntry};
 use crate::fault::{Cause, ListFault, RecordFault};
-use csv::{ByteRecord, ReaderBuilder, StringRecord};
+use csv::{ByteRecord, ByteRecordsIntoIter, ReaderBuilder, StringRecord};
 use room_types::RoomCode;
 use std::alloc::Global;
 
@@ -69,22 +74,24 @@ fn read_list<E: ListEntry>(alloc: Global, bytes: &[u8]) -> Result<Vec<E>, ListFa
     if bytes.is_empty() {
         return Err(NO_HEADER);
     }
-    let mut records = ReaderBuilder::new()
-        .has_headers(false)
-        .flexible(true)
-        .from_reader(alloc, bytes)
-        .into_byte_records();
+    let mut records = records(alloc, bytes);
     let Some(header) = records.next() else {
         return Err(NO_HEADER);
     };
-    let header = header?;
+    let header = match header {
+        Ok(header) => header,
+        Err(error) => return Err(memory_fault(error)),
+    };
     if !E::is_header(&header) {
         return Err(NO_HEADER);
     }
     let width = header.len();
     let mut entries = Vec::new(alloc);
     for row in records {
-        let row = row?;
+        let row = match row {
+            Ok(row) => row,
+            Err(error) => return Err(memory_fault(error)),
+        };
         if entries.len() >= RECORD_LIMIT {
             return Err(TOO_MANY);
         }
@@ -98,6 +105,35 @@ fn read_list<E: ListEntry>(alloc: Global, bytes: &[u8]) -> Result<Vec<E>, ListFa
         }
     }
     Ok(entries)
+}
+
+// The records of a list, one after the other. The header is one of them, and they may have any number of fields.
+fn records(alloc: Global, bytes: &[u8]) -> ByteRecordsIntoIter<&[u8]>
+    ensures config { reader_config (owned_rows_reader result) ≡ default_config }
+    ensures trim { reader_trim (owned_rows_reader result) ≡ trim.None }
+    ensures header_is_record { names_headers (owned_rows_reader result) ≡ false }
+    ensures headers { reader_headers (owned_rows_reader result) ≡ None }
+    ensures flexible { is_flexible (owned_rows_reader result) ≡ true }
+    ensures state { reader_state (owned_rows_reader result) ≡ st.StartRecord }
+    ensures source { source_of (λ source. Some source.now) (owned_rows_reader result)
+        ≡ Some (strip_bom bytes.now) }
+    ensures left { 0 < owned_rows_left result }
+{
+    ReaderBuilder::new()
+        .has_headers(false)
+        .flexible(true)
+        .from_reader(alloc, bytes)
+        .into_byte_records()
+}
+
+// The fault of a reader that failed: a reader over memory fails for memory alone. An error that tells of a record, as
+// that it has more fields than the one before, is none of these.
+fn memory_fault(error: csv::Error) -> ListFault
+    requires { stops_reader (error_kind error) ≡ true }
+    ensures { result ≡ ListFault.OutOfMemory }
+{
+    drop(error);
+    ListFault::OutOfMemory
 }
 
 // What a data record tells, where the header has so many fields.

@@ -6,6 +6,7 @@ use std::alloc::Global;
 use std::process::Abort;
 use std::test::Fail;
 
+mod exports;
 mod lists;
 
 #[test]
@@ -75,9 +76,9 @@ fn tables_of_nobody(rt: HostRuntime) -> Result<(), Fail> {
 fn move_day_of_a_swap_with_a_newcomer_behind(rt: HostRuntime) -> Result<(), Fail> {
     let alloc = rt.alloc();
     let moves = vec![in alloc;
-        moved(&rt, alloc, "T2", Some("H2"), "H1", Wave::Swap),
-        moved(&rt, alloc, "T1", Some("H1"), "H2", Wave::Swap),
-        moved(&rt, alloc, "N", None, "V", Wave::Nth(1)),
+        moved(&rt, alloc, 1, "T2", Some("H2"), "H1", Wave::Swap),
+        moved(&rt, alloc, 1, "T1", Some("H1"), "H2", Wave::Swap),
+        moved(&rt, alloc, 1, "N", None, "V", Wave::Nth(1)),
     ]?;
     let table = move_day_text(alloc, &moves)?;
     assert_eq!(rt;
@@ -95,8 +96,8 @@ fn move_day_of_a_chain(rt: HostRuntime) -> Result<(), Fail> {
         "wave  person        from      to\n"
     );
     let moves = vec![in alloc;
-        moved(&rt, alloc, "T1", Some("H1"), "H2", Wave::Nth(2)),
-        moved(&rt, alloc, "T2", Some("H2"), "V", Wave::Nth(1)),
+        moved(&rt, alloc, 1, "T1", Some("H1"), "H2", Wave::Nth(2)),
+        moved(&rt, alloc, 1, "T2", Some("H2"), "V", Wave::Nth(1)),
     ]?;
     let table = move_day_text(alloc, &moves)?;
     assert_eq!(rt;
@@ -203,13 +204,17 @@ fn optional<G: Grammar>(rt: &impl Abort, alloc: Global, value: Option<&str>) -> 
 fn moved(
     rt: &impl Abort,
     alloc: Global,
+    round: u16,
     person: &str,
     from: Option<&str>,
     to: &str,
     wave: Wave,
-) -> Move {
+) -> Move
+    ensures round { result.round ≡ round }
+    ensures person { result.person ≡ person.now }
+{
     Move {
-        round: 1,
+        round,
         person: text(rt, alloc, person),
         from: optional(rt, alloc, from),
         to: Some(text(rt, alloc, to)),

@@ -1,3 +1,4 @@
+mod FindLemmas
 pub mod FollowLemmas
 mod LayoutLemmas
 mod Layouts

@@ -21,6 +21,15 @@ module _ (sql : List ℕ) (params : Row) (old new : State) where
       go None it = it.3.0.was_open
       go (Some what) it = it.1.shown.was_open
 
+  -- and it is open
+  pub shown_is_open : (rows : List Row) → Shown sql params old new rows → IsTrue new.is_open
+  unfolding Shown
+  shown_is_open rows h = go h.0.returning h.2
+    where
+      go : (what : Option Returning) → ShowsRows old new sql h.0 (timed params h.0.formats h.1.now) rows what → IsTrue new.is_open
+      go None it = it.3.0.is_open
+      go (Some what) it = it.1.shown.is_open
+
   -- the connection sees the same, or nothing any more
   abbrev Stays : Type 0
   Stays = IsTrue new.is_open → IsTrue old.is_open × (IsTrue old.is_open → old.now ≡ old.committed → new.now ≡ old.now)

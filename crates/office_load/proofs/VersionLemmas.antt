@@ -12,7 +12,7 @@ use Rattle.office_cells.specs.Columns.{round_columns}
 use Rattle.office_tables.specs.Holds.{stored}
 use Rattle.office_tables.specs.Schema.{office_schema}
 use Rattle.office_tables.specs.Tables.{HoldsOffice}
-use Rattle.office_load.specs.Finding.{IsOfOther, has_round}
+use Rattle.office_load.specs.Finding.{IsOfOther, names_round}
 
 -- the rows of an office have no other version
 pub own_version : (db : Database) (office : Office) → HoldsOffice db office → (version : ℤ) → ¬ IsOfOther db version
@@ -24,7 +24,7 @@ own_version db office h version other =
     go (x ∷ entries) e = ap (λ (rows : List Row). column (slice_index_or rows 0 []) 2) e
 
 -- they have a table of the round
-pub own_round : has_round office_schema ≡ true
+pub own_round : names_round office_schema ≡ true
 unfolding same_name
 own_round = refl
 

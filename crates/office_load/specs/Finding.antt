@@ -1,19 +1,21 @@
 -- What has to be so of a database in which an office is looked for.
-use Rattle.std.specs.Prelude.{◌≡◌, ◌≢◌, ℤ, pos, Bool, [], ◌∷◌, codes, IsTrue, is_some}
+use Rattle.std.specs.Prelude.{◌≡◌, ◌≢◌, ℤ, pos, Bool, [], ◌∷◌, codes, IsTrue}
 use Rattle.std.specs.List.{AllByRecursion}
 use Rattle.sqlite_value.specs.Order.{Row, column}
 use Rattle.sqlite_value.specs.declared.value.Value.TheVariants.{Int}
 use Rattle.sqlite_trees.specs.Tree.{Trees}
 use Rattle.sqlite_schema.specs.declared.schema.Schema.{Schema}
 use Rattle.sqlite_schema.specs.declared.schema.Table.{Table}
-use Rattle.sqlite_schema.specs.Names.{same_name, table_named}
+use Rattle.sqlite_schema.specs.Names.{same_name}
+use Rattle.sqlite_catalog.specs.Change.{is_used}
 use Rattle.sqlite.specs.Effect.{Database}
 use Rattle.office_load.specs.Numbers.{IsWhole}
 use Rattle.office_tables.specs.Schema.{office_schema}
 
--- there is a table of the round
-abbrev pub has_round : Schema → Bool
-has_round schema = is_some (table_named schema (codes "round"))
+-- A table, an index or a view has the name of the table of the round. A table that the engine does not understand
+-- counts as a view.
+abbrev pub names_round : Schema → Bool
+names_round schema = is_used schema (codes "round")
 
 -- a table that has this one's name is declared as this one, in whichever tree it is kept
 abbrev pub IsDeclaredAs : Table → Table → Type 0

@@ -1,5 +1,5 @@
 //! The records of one table.
-ghost use Rattle.std.specs.Prelude.{◌≡◌, false, ℕ, List, map, IfOk, IfSome, MatchOption};
+ghost use Rattle.std.specs.Prelude.{◌≡◌, false, ℕ, List, map, IfOk, IfSome, IsTrue, MatchOption, OnOk};
 ghost use Rattle.std.specs.List.{All};
 ghost use Rattle.std.specs.List.Sorted.{IsPermutation};
 ghost use Rattle.sqlite.specs.State.{HasCleanDisk};
@@ -35,7 +35,7 @@ pub trait Listed: Record {
         ensures tells { TellsRecords kept Self.columns Self.is_form Self.front project };
 }
 
-/// The records of a table, in some order, or none where some row has another form.
+/// The records of a table, in some order, or none where some row has another form. The connection is open then.
 pub fn table_records<R: Listed, S: Alter>(
     alloc: Global,
     conn: &mut Connection<S>,
@@ -43,6 +43,8 @@ pub fn table_records<R: Listed, S: Alter>(
     requires { conn.old.in_transaction ≡ false }
     ensures outside { conn.new.in_transaction ≡ false }
     ensures reads { OnlyReads (state S.Store conn.old) (state S.Store conn.new) }
+    ensures is_open { OnOk result (HasCleanDisk (state S.Store conn.new)
+        → IsTrue (state S.Store conn.new).is_open) }
     ensures told { HasCleanDisk (state S.Store conn.new)
         → (state S.Store conn.old).now.schema ≡ office_schema
         → IfOk result (λ found. MatchOption found

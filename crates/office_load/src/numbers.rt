@@ -1,10 +1,9 @@
 //! The rowids of the tables of an office.
-ghost use Rattle.std.specs.Prelude.{◌≡◌, ◌<◌, ◌<ℤ◌, false, [], map, IfOk, IfSome, IsTrue};
+ghost use Rattle.std.specs.Prelude.{◌≡◌, ◌<◌, ◌<ℤ◌, false, [], map, IfOk, IfSome, IsTrue, OnOk};
 ghost use Rattle.std.specs.List.Sorted.{IsPermutation};
 ghost use Rattle.sqlite.specs.State.{HasCleanDisk};
 ghost use Rattle.sqlite.specs.Held.{state};
 ghost use Rattle.office_tables.specs.Schema.{office_schema};
-ghost use Rattle.office_tables.specs.Steps.{IsHonest};
 ghost use Rattle.office_load.specs.Listing.{listed};
 ghost use Rattle.office_load.specs.Numbers.{AreNumbered, HaveNumbers, only_rowid, rowid_text, tree_of};
 ghost use Rattle.office_load.specs.Reading.{OnlyReads};
@@ -16,7 +15,9 @@ pub fn numbers_rise<S: Alter>(conn: &mut Connection<S>) -> Result<bool, Error>
     requires { conn.old.in_transaction ≡ false }
     ensures outside { conn.new.in_transaction ≡ false }
     ensures reads { OnlyReads (state S.Store conn.old) (state S.Store conn.new) }
-    ensures risen { IfOk result (λ rise. IsHonest (state S.Store conn.new)
+    ensures is_open { OnOk result (HasCleanDisk (state S.Store conn.new)
+        → IsTrue (state S.Store conn.new).is_open) }
+    ensures risen { IfOk result (λ rise. HasCleanDisk (state S.Store conn.new)
         → (state S.Store conn.old).now.schema ≡ office_schema
         → IsTrue rise → HaveNumbers (state S.Store conn.old).now.trees) }
 {
@@ -34,6 +35,8 @@ pub fn keeps_no_list<S: Alter>(conn: &mut Connection<S>) -> Result<bool, Error>
     requires { conn.old.in_transaction ≡ false }
     ensures outside { conn.new.in_transaction ≡ false }
     ensures reads { OnlyReads (state S.Store conn.old) (state S.Store conn.new) }
+    ensures is_open { OnOk result (HasCleanDisk (state S.Store conn.new)
+        → IsTrue (state S.Store conn.new).is_open) }
     ensures none { IfOk result (λ none. HasCleanDisk (state S.Store conn.new)
         → (state S.Store conn.old).now.schema ≡ office_schema
         → (IsTrue none → (state S.Store conn.old).now.trees 14 ≡ [])
@@ -49,6 +52,8 @@ fn rowids<S: Alter>(conn: &mut Connection<S>, place: usize) -> Result<Vec<Row>, 
     requires known { place < 8 }
     ensures outside { conn.new.in_transaction ≡ false }
     ensures reads { OnlyReads (state S.Store conn.old) (state S.Store conn.new) }
+    ensures is_open { OnOk result (HasCleanDisk (state S.Store conn.new)
+        → IsTrue (state S.Store conn.new).is_open) }
     ensures shown { HasCleanDisk (state S.Store conn.new)
         → (state S.Store conn.old).now.schema ≡ office_schema
         → IfOk result (λ rows. IsPermutation

@@ -1,9 +1,10 @@
 //! The office whose rows the tables are.
-ghost use Rattle.std.specs.Prelude.{◌≡◌, false, List, map, Some, IfOk, MatchOption};
+ghost use Rattle.std.specs.Prelude.{◌≡◌, false, List, map, Some, IfOk, IsTrue, MatchOption, OnOk};
 ghost use Rattle.std.specs.List.{All};
 ghost use Rattle.std.specs.List.Sorted.{IsPermutation};
 ghost use Rattle.std.specs.Option.{IfSome};
 ghost use Rattle.sqlite.specs.Held.{state};
+ghost use Rattle.sqlite.specs.State.{HasCleanDisk};
 ghost use Rattle.office_core.specs.Office.Invariants.{IsLawful};
 ghost use Rattle.office_core.specs.declared.office.Office.{Office as Books};
 ghost use Rattle.office_rows.specs.ReadsOffice.{AreRecordsOf};
@@ -29,14 +30,16 @@ pub fn load<S: Alter>(alloc: Global, conn: &mut Connection<S>) -> Result<Option<
     requires { conn.old.in_transaction ≡ false }
     ensures outside { conn.new.in_transaction ≡ false }
     ensures follows { Follows (state S.Store conn.old) (state S.Store conn.new) }
+    ensures is_open { OnOk result (HasCleanDisk (state S.Store conn.new)
+        → IsTrue (state S.Store conn.new).is_open) }
     ensures same { IsHonest (state S.Store conn.new)
         → (state S.Store conn.old).now.schema ≡ office_schema
         → (state S.Store conn.new).now ≡ (state S.Store conn.old).now }
     ensures lawful { IfOk result (λ found. IfSome found (λ office. IsLawful office)) }
-    ensures shown { IfOk result (λ found. IsHonest (state S.Store conn.new)
+    ensures shown { IfOk result (λ found. HasCleanDisk (state S.Store conn.new)
         → (state S.Store conn.old).now.schema ≡ office_schema
         → IfSome found (λ office. AreShown (state S.Store conn.old).now.trees (rows_of office))) }
-    ensures found { IfOk result (λ found. IsHonest (state S.Store conn.new) → (office : Books)
+    ensures found { IfOk result (λ found. HasCleanDisk (state S.Store conn.new) → (office : Books)
         → IsLawful office
         → IsSpelled (rows_of office) → HoldsOffice (state S.Store conn.old).now office
         → found ≡ Some office) }
@@ -59,11 +62,13 @@ fn read_records<S: Alter>(
     requires { conn.old.in_transaction ≡ false }
     ensures outside { conn.new.in_transaction ≡ false }
     ensures reads { OnlyReads (state S.Store conn.old) (state S.Store conn.new) }
-    ensures shown { IfOk result (λ found. IsHonest (state S.Store conn.new)
+    ensures is_open { OnOk result (HasCleanDisk (state S.Store conn.new)
+        → IsTrue (state S.Store conn.new).is_open) }
+    ensures shown { IfOk result (λ found. HasCleanDisk (state S.Store conn.new)
         → (state S.Store conn.old).now.schema ≡ office_schema
         → IfSome found (λ records. (tables : Tables) → AreRecordsOf tables records
         → AreShown (state S.Store conn.old).now.trees tables)) }
-    ensures found { IfOk result (λ found. IsHonest (state S.Store conn.new) → (tables : Tables)
+    ensures found { IfOk result (λ found. HasCleanDisk (state S.Store conn.new) → (tables : Tables)
         → HasTables (state S.Store conn.old).now tables → IsSpelled tables
         → MatchOption found ⊥ (AreRecordsOf tables)) }
 {
@@ -99,14 +104,16 @@ fn read_two<A: Listed, B: Listed, S: Alter>(
     requires { conn.old.in_transaction ≡ false }
     ensures outside { conn.new.in_transaction ≡ false }
     ensures reads { OnlyReads (state S.Store conn.old) (state S.Store conn.new) }
-    ensures shown { IfOk result (λ found. IsHonest (state S.Store conn.new)
+    ensures is_open { OnOk result (HasCleanDisk (state S.Store conn.new)
+        → IsTrue (state S.Store conn.new).is_open) }
+    ensures shown { IfOk result (λ found. HasCleanDisk (state S.Store conn.new)
         → (state S.Store conn.old).now.schema ≡ office_schema
         → IfSome found (λ two.
         ShowRecords A.columns A.is_form A.project ((state S.Store conn.old).now.trees A.tree)
         two.0.items
         × ShowRecords B.columns B.is_form B.project ((state S.Store conn.old).now.trees B.tree)
         two.1.items)) }
-    ensures found { IfOk result (λ found. IsHonest (state S.Store conn.new)
+    ensures found { IfOk result (λ found. HasCleanDisk (state S.Store conn.new)
         → (state S.Store conn.old).now.schema ≡ office_schema
         → (first : List A) (second : List B)
         → Holds A.kept ((state S.Store conn.old).now.trees A.tree) first

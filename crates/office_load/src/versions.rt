@@ -1,5 +1,5 @@
 //! The version that the row of the round holds.
-ghost use Rattle.std.specs.Prelude.{◌≡◌, ◌≢◌, false, pos, map, IfOk, IfSome};
+ghost use Rattle.std.specs.Prelude.{◌≡◌, ◌≢◌, false, pos, map, IfOk, IfSome, IsTrue, OnOk};
 ghost use Rattle.std.specs.List.Sorted.{IsPermutation};
 ghost use Rattle.sqlite.specs.State.{HasCleanDisk};
 ghost use Rattle.sqlite.specs.Held.{state};
@@ -16,6 +16,9 @@ pub fn other_version<S: Alter>(conn: &mut Connection<S>) -> Result<Option<i64>, 
     requires { conn.old.in_transaction ≡ false }
     ensures outside { conn.new.in_transaction ≡ false }
     ensures reads { OnlyReads (state S.Store conn.old) (state S.Store conn.new) }
+    ensures is_open { OnOk result (HasCleanDisk (state S.Store conn.new)
+        → IsTrue (state S.Store conn.new).is_open) }
+    ensures number { IfOk result (λ found. IfSome found (λ version. version ≢ pos 1)) }
     ensures other { IfOk result (λ found. HasCleanDisk (state S.Store conn.new)
         → (state S.Store conn.old).now.schema ≡ office_schema
         → IfSome found (IsOfOther (state S.Store conn.old).now)) }
@@ -32,6 +35,8 @@ fn versions<S: Alter>(conn: &mut Connection<S>) -> Result<Vec<Row>, Error>
     requires { conn.old.in_transaction ≡ false }
     ensures outside { conn.new.in_transaction ≡ false }
     ensures reads { OnlyReads (state S.Store conn.old) (state S.Store conn.new) }
+    ensures is_open { OnOk result (HasCleanDisk (state S.Store conn.new)
+        → IsTrue (state S.Store conn.new).is_open) }
     ensures shown { HasCleanDisk (state S.Store conn.new)
         → (state S.Store conn.old).now.schema ≡ office_schema
         → IfOk result (λ rows. IsPermutation

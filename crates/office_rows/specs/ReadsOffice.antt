@@ -1,5 +1,5 @@
 -- What a reader of the rows of all tables finds.
-use Rattle.std.specs.Prelude.{◌≡◌, Option, Some}
+use Rattle.std.specs.Prelude.{◌≡◌, ℕ, ◌+◌, length, Option, Some}
 use Rattle.std.specs.Option.{IfSome}
 use Rattle.std.specs.List.Sorted.{IsPermutation}
 use Rattle.office_core.specs.Office.Invariants.{IsLawful}
@@ -16,6 +16,13 @@ pub record AreRecordsOf (tables : Tables) (records : OfficeRecords) : Type 0 whe
   pub words : IsPermutation tables.words records.words.items
   pub results : IsPermutation tables.results records.results.items
   pub moves : IsPermutation tables.moves records.moves.items
+
+-- how many records the tables have
+abbrev pub record_count : OfficeRecords → ℕ
+record_count records =
+    length records.rooms.items + length records.people.items + length records.rounds.items
+    + length records.choices.items + length records.words.items + length records.results.items
+    + length records.moves.items
 
 -- What is found is a lawful office with these rows, and the only one. Nothing is found only where no lawful office has
 -- them.

@@ -1,6 +1,7 @@
 -- A desk over an office that was found.
 use Rattle.std.proofs.Common.{◌≡◌, Some, refl, sym, subst}
 use Rattle.sqlite_trees.specs.declared.store.Store.{Ghosts}
+use Rattle.sqlite_schema.specs.declared.schema.Schema.{Schema}
 use Rattle.sqlite.specs.Effect.{Database}
 use Rattle.sqlite.specs.Held.{Held, state}
 use Rattle.office_core.specs.Office.Invariants.{IsLawful}
@@ -9,10 +10,10 @@ use Rattle.office_cells.specs.Spelled.{IsSpelled}
 use Rattle.office_rows.specs.Tables.{rows_of}
 use Rattle.office_tables.specs.Steps.{IsHonest}
 use Rattle.office_tables.specs.Tables.{HoldsOffice}
-use Rattle.office_load.specs.Causes.{HasCause}
+use Rattle.office_load.specs.Causes.{HasCause, IsAllowed}
 use Rattle.office_load.specs.declared.finding.FindFault.{FindFault}
 use Rattle.office_load.specs.declared.finding.FindFault.TheVariants as find
-use Rattle.office_store.specs.Adopting.{MayRefuse, desk_fault}
+use Rattle.office_store.specs.Adopting.{IsFaultOf, MayRefuse, desk_fault}
 use Rattle.office_store.specs.Desk.{Shows}
 
 -- what may be said of a search may be said of the desk
@@ -20,6 +21,11 @@ pub may_refuse : (db : Database) (fault : FindFault) → HasCause db fault → M
 may_refuse db find.Unavailable cause = tt
 may_refuse db find.NotAnOffice cause = cause
 may_refuse db (find.OtherVersion version) cause = cause
+
+pub fault_of : (schema : Schema) (fault : FindFault) → IsAllowed schema fault → IsFaultOf schema (desk_fault fault)
+fault_of schema find.Unavailable allowed = tt
+fault_of schema find.NotAnOffice allowed = allowed
+fault_of schema (find.OtherVersion version) allowed = allowed
 
 -- the office that was found is shown, where the tables stayed as they were
 pub shows_found : {S : Type 0} (g : Ghosts S) (old new : Held S) (office : Office) → IsHonest (state g new) → (state g new).now ≡ (state g old).now

@@ -1,7 +1,8 @@
 -- One request at a desk.
-use Rattle.std.proofs.Common.{◌≡◌, List, Option, Some, None, IfSome, MatchOption, inl, inr, refl, sym, ap, ◌∙◌, subst}
+use Rattle.std.proofs.Common.{◌≡◌, List, Option, Some, None, IfSome, IsTrue, MatchOption, inl, inr, refl, sym, ap, ◌∙◌, subst}
 use Rattle.sqlite_trees.specs.declared.store.Store.{Ghosts}
 use Rattle.sqlite.specs.Held.{Held, state}
+use Rattle.sqlite.specs.State.{HasCleanDisk}
 use Rattle.office_core.specs.Change.{LeadsOn, AllFit, applied_all}
 use Rattle.office_core.specs.Command.{accepts, next, reply_to, changes_of, checks}
 use Rattle.office_core.specs.Command.Decision.{IsDecision}
@@ -14,11 +15,12 @@ use Rattle.office_core.specs.declared.reply.Reply.{Reply as CoreReply}
 use Rattle.office_cells.specs.Spelled.{IsSpelled}
 use Rattle.office_rows.specs.Tables.{rows_of}
 use Rattle.office_tables.specs.Steps.{Follows, IsHonest}
+use Rattle.office_tables.specs.Schema.{office_schema}
 use Rattle.office_tables.specs.Tables.{HoldsOffice}
 use Rattle.office_tables.proofs.StepLemmas.{follows-refl, follows_then}
 use Rattle.office_changes.specs.Carries.{Carries}
-use Rattle.office_store.specs.Desk.{DeskState, HandlesAt, IsTold, Shows}
-use Rattle.office_store.specs.Requests.{Handles, answer_but, answer_to, office_but}
+use Rattle.office_store.specs.Desk.{DeskState, HandlesAt, IsTold, Shows, StandsFor}
+use Rattle.office_store.specs.Requests.{Handles, IsAccepted, answer_but, answer_to, office_but}
 use Rattle.office_store.specs.declared.requests.Answer.{Answer}
 use Rattle.office_store.specs.declared.requests.Answer.TheVariants.{Reply, Unavailable}
 use Rattle.office_store.specs.declared.requests.Request.{Request}
@@ -52,71 +54,119 @@ told_after None mid request answer kept told = elim told [
 ]
 told_after (Some o) mid request answer kept told = subst (λ k. IsTold k request answer) kept told
 
-module _ {S : Type 0} (g : Ghosts S) where
-  -- the office that is shown is the one that is kept
-  pub kept_is : (desk : DeskState S) (kept office : Office) → desk.kept ≡ Some kept → Shows g desk office → kept ≡ office
-  kept_is desk kept office is shows = subst (λ k. IfSome k (λ o. o ≡ office)) is shows.kept
+-- a request that is answered `Unavailable` is not accepted
+never_accepted : (request : Request) → IsAccepted request Unavailable → ⊥
+never_accepted (request.Office command) accepted = accepted
+never_accepted (request.Ask query) accepted = accepted
 
-  -- the tables are as they were, and so is what is kept
-  pub shows_still : (old new : Held S) (kept : Option Office) (office : Office) → IsHonest (state g new) → (state g new).now ≡ (state g old).now
-      → Shows g (record { conn = old; kept = kept }) office → Shows g (record { conn = new; kept = kept }) office
-  shows_still old new kept office honest same shows = record {
-    is_open = honest.1;
-    tables = subst (λ db. HoldsOffice db office) (sym same) shows.tables;
+module _ {S : Type 0} (g : Ghosts S) where
+  -- a desk stands for the office that it shows, and shows the one that it stands for while the connection is open
+  pub stands_if_shown : (desk : DeskState S) (office : Office) → Shows g desk office → StandsFor g desk office
+  stands_if_shown desk office shows = record {
+    tables = λ is_open. shows.tables;
     spelled = shows.spelled;
     lawful = shows.lawful;
     kept = shows.kept;
   }
 
+  pub shows_if_open : (desk : DeskState S) (office : Office) → IsTrue (state g desk.conn).is_open → StandsFor g desk office → Shows g desk office
+  shows_if_open desk office is_open stands = record {
+    is_open = is_open;
+    tables = stands.tables is_open;
+    spelled = stands.spelled;
+    lawful = stands.lawful;
+    kept = stands.kept;
+  }
+
+  -- the office that the desk stands for is the one that is kept
+  kept_is : (desk : DeskState S) (kept office : Office) → desk.kept ≡ Some kept → StandsFor g desk office → kept ≡ office
+  kept_is desk kept office is stands = subst (λ k. IfSome k (λ o. o ≡ office)) is stands.kept
+
+  -- the tables are as they were, as long as the connection is open
+  pub held_still : (old new : Held S) (kept : Option Office) (office : Office) → HasCleanDisk (state g new) → Follows (state g old) (state g new)
+      → (IsHonest (state g new) → (state g old).now.schema ≡ office_schema → (state g new).now ≡ (state g old).now)
+      → StandsFor g (record { conn = old; kept = kept }) office → IsTrue (state g new).is_open → HoldsOffice (state g new).now office
+  held_still old new kept office clean follows same stands is_open =
+      let held = stands.tables (follows.was_open clean is_open) in
+      subst (λ db. HoldsOffice db office) (sym (same (clean, is_open) held.schema)) held
+
+  -- and so is what is kept
+  pub stands_still : (old new : Held S) (kept : Option Office) (office : Office) → HasCleanDisk (state g new) → Follows (state g old) (state g new)
+      → (IsHonest (state g new) → (state g old).now.schema ≡ office_schema → (state g new).now ≡ (state g old).now)
+      → StandsFor g (record { conn = old; kept = kept }) office → StandsFor g (record { conn = new; kept = kept }) office
+  stands_still old new kept office clean follows same stands = record {
+    tables = held_still old new kept office clean follows same stands;
+    spelled = stands.spelled;
+    lawful = stands.lawful;
+    kept = stands.kept;
+  }
+
+  -- the tables are as they were, and the office that they hold is read
+  pub stands_read : (old new : Held S) (kept : Option Office) (office found : Office) → HasCleanDisk (state g new) → Follows (state g old) (state g new)
+      → (IsHonest (state g new) → (state g old).now.schema ≡ office_schema → (state g new).now ≡ (state g old).now)
+      → StandsFor g (record { conn = old; kept = kept }) office → found ≡ office → StandsFor g (record { conn = new; kept = Some found }) office
+  stands_read old new kept office found clean follows same stands is = record {
+    tables = held_still old new kept office clean follows same stands;
+    spelled = stands.spelled;
+    lawful = stands.lawful;
+    kept = is;
+  }
+
   -- nothing is changed
   pub unavailable : (old new : DeskState S) (request : Request) → Follows (state g old.conn) (state g new.conn)
-      → (IsHonest (state g new.conn) → (office : Office) → Shows g old office → Shows g new office) → HandlesAt g old request Unavailable new
+      → (HasCleanDisk (state g new.conn) → (office : Office) → StandsFor g old office → StandsFor g new office) → HandlesAt g old request Unavailable new
   unavailable old new request follows still = record {
     follows = follows;
     told = inr refl;
-    steps = λ honest office shows. (office, inr (refl, refl), still honest office shows);
+    stored = λ clean accepted. absurd (never_accepted request accepted);
+    steps = λ clean office stands. (office, inr (refl, refl), still clean office stands);
   }
 
   -- what is answered by the office that is kept, and changes nothing
-  pub answered : (desk : DeskState S) (kept : Office) (request : Request) (answer : Answer) → desk.kept ≡ Some kept → IsLawful kept → Handles kept request answer kept → HandlesAt g desk request answer desk
-  answered desk kept request answer is lawful handled = record {
+  pub answered : (desk : DeskState S) (kept : Office) (request : Request) (answer : Answer) → desk.kept ≡ Some kept → IsLawful kept → Handles kept request answer kept
+      → ¬ IsAccepted request answer → HandlesAt g desk request answer desk
+  answered desk kept request answer is lawful handled none = record {
     follows = follows-refl (state g desk.conn);
     told = elim handled [
       | inl done ↦ inl (kept, lawful, subst (λ k. IfSome k (λ o. o ≡ kept)) (sym is) refl, done.0)
       | inr want ↦ inr want.0
     ];
-    steps = λ honest office shows. (office, subst (λ o. Handles o request answer o) (kept_is desk kept office is shows) handled, shows);
+    stored = λ clean accepted. absurd (none accepted);
+    steps = λ clean office stands. (office, subst (λ o. Handles o request answer o) (kept_is desk kept office is stands) handled, stands);
   }
 
-  -- after what lets the desk show the same
+  -- after what lets the desk stand for the same
   pub handles_after : (old mid new : DeskState S) (request : Request) (answer : Answer) → Follows (state g old.conn) (state g mid.conn) → IfSome old.kept (λ kept. mid.kept ≡ Some kept)
-      → (IsHonest (state g mid.conn) → (office : Office) → Shows g old office → Shows g mid office) → HandlesAt g mid request answer new → HandlesAt g old request answer new
+      → (HasCleanDisk (state g mid.conn) → (office : Office) → StandsFor g old office → StandsFor g mid office) → HandlesAt g mid request answer new → HandlesAt g old request answer new
   handles_after old mid new request answer follows kept still h = record {
     follows = follows_then _ _ _ follows h.follows;
     told = told_after old.kept mid.kept request answer kept h.told;
-    steps = λ honest office shows. h.steps honest office (still (h.follows.clean honest.0, h.follows.was_open honest.0 honest.1) office shows);
+    stored = h.stored;
+    steps = λ clean office stands. h.steps clean office (still (h.follows.clean clean) office stands);
   }
 
   -- a command that is accepted: its changes are in the tables, and in the office that is kept, if one is
   pub carried_out : (old new : Held S) (kept : Office) (command : Command) (decision : Decision) (changes : List Change) (taken after : Option Office)
       → IsDecision (checks kept command) (reply_to kept command) (changes_of kept command) decision → LeadsOn kept (next kept command) decision.changes.items
-      → IsLawful kept → changes ≡ decision.changes.items → Follows (state g old) (state g new) → Carries kept (state g old) (state g new) changes
+      → IsLawful kept → changes ≡ decision.changes.items → Follows (state g old) (state g new) → (HasCleanDisk (state g new) → IsTrue (state g new).is_open)
+      → Carries kept (state g old) (state g new) changes
       → taken ≡ Some kept → MatchOption taken (after ≡ None) (λ o. IfSome after (λ n. n ≡ applied_all o changes))
       → HandlesAt g (record { conn = old; kept = Some kept }) (request.Office command) (Reply decision.reply) (record { conn = new; kept = after })
-  carried_out old new kept command decision changes taken after d leads lawful same follows stored took done = record {
+  carried_out old new kept command decision changes taken after d leads lawful same follows is_open stored took done = record {
     follows = follows;
     told = inl (kept, lawful, refl, accepted_answer kept command decision.reply d.accepted d.replied);
-    steps = λ honest office shows.
-        let is : kept ≡ office = shows.kept in
+    stored = λ clean accepted. is_open clean;
+    steps = λ clean office stands.
+        let is : kept ≡ office = stands.kept in
         let goes : applied_all kept changes ≡ next kept command = ap (applied_all kept) same ∙ leads.leads in
         let fits : AllFit kept kept changes = subst (AllFit kept kept) (sym same) leads.fits in
-        let spelled = subst (λ o. IsSpelled (rows_of o)) (sym is) shows.spelled in
-        let shown = stored.shown kept honest.0 fits spelled (subst (HoldsOffice (state g old).now) (sym is) shows.tables) in (
+        let spelled = subst (λ o. IsSpelled (rows_of o)) (sym is) stands.spelled in
+        let held = stands.tables (follows.was_open clean (is_open clean)) in
+        let shown = stored.shown kept clean fits spelled (subst (HoldsOffice (state g old).now) (sym is) held) in (
           next kept command,
           subst (λ o. Handles o (request.Office command) (Reply decision.reply) (next kept command)) is (accepted_handles kept command decision.reply d.accepted d.replied),
           record {
-            is_open = honest.1;
-            tables = subst (HoldsOffice (state g new).now) goes shown.0;
+            tables = λ now_open. subst (HoldsOffice (state g new).now) goes shown.0;
             spelled = subst (λ o. IsSpelled (rows_of o)) goes shown.1;
             lawful = leads.lawful;
             kept = subst (λ n. IfSome after (λ o. o ≡ n)) goes (kept_after taken after kept changes took done);

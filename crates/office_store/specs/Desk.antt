@@ -3,14 +3,15 @@ use Rattle.std.specs.Prelude.{◌≡◌, ◌⊎◌, false, Option, IsTrue, IfSom
 use Rattle.std.specs.Coded.{Coded, code_by, coded×, coded_option}
 use Rattle.sqlite_trees.specs.declared.store.Store.{Ghosts}
 use Rattle.sqlite.specs.Held.{Held, held_code, state}
+use Rattle.sqlite.specs.State.{HasCleanDisk}
 use Rattle.office_core.specs.Office.Invariants.{IsLawful}
 use Rattle.office_core.specs.contracts.office.Office as office
 use Rattle.office_core.specs.declared.office.Office.{Office}
 use Rattle.office_cells.specs.Spelled.{IsSpelled}
 use Rattle.office_rows.specs.Tables.{rows_of}
-use Rattle.office_tables.specs.Steps.{Follows, IsHonest}
+use Rattle.office_tables.specs.Steps.{Follows}
 use Rattle.office_tables.specs.Tables.{HoldsOffice}
-use Rattle.office_store.specs.Requests.{Handles, answer_to}
+use Rattle.office_store.specs.Requests.{Handles, IsAccepted, answer_to}
 use Rattle.office_store.specs.declared.requests.Answer.{Answer}
 use Rattle.office_store.specs.declared.requests.Answer.TheVariants.{Unavailable}
 use Rattle.office_store.specs.declared.requests.Request.{Request}
@@ -39,16 +40,26 @@ pub record Shows {S : Type 0} (g : Ghosts S) (desk : DeskState S) (office : Offi
   pub lawful : IsLawful office
   pub kept : IfSome desk.kept (λ kept. kept ≡ office)
 
+-- The same, also where a fault has shut the connection: as long as it is open, the tables are the rows of this office.
+pub record StandsFor {S : Type 0} (g : Ghosts S) (desk : DeskState S) (office : Office) : Type 0 where
+  pub tables : IsTrue (state g desk.conn).is_open → HoldsOffice (state g desk.conn).now office
+  pub spelled : IsSpelled (rows_of office)
+  pub lawful : IsLawful office
+  pub kept : IfSome desk.kept (λ kept. kept ≡ office)
+
 -- Whatever the disk does: the answer is that of a lawful office, of the one that was kept if one was, or `Unavailable`.
 abbrev pub IsTold : Option Office → Request → Answer → Type 0
 IsTold kept request answer =
     ((office : Office) × IsLawful office × IfSome kept (λ o. o ≡ office) × (answer ≡ answer_to office request))
     ⊎ (answer ≡ Unavailable)
 
--- A request at a desk. Where the disk is honest, the office that is shown has handled it, and the next one is shown.
+-- A request at a desk. Where the disk returned what was written, the office that the desk stands for has handled it,
+-- and the desk stands for the next one. Then a command is accepted only where the connection is open, so that the
+-- tables have its changes.
 pub record HandlesAt {S : Type 0} (g : Ghosts S) (old : DeskState S) (request : Request) (answer : Answer)
     (new : DeskState S) : Type 0 where
   pub follows : Follows (state g old.conn) (state g new.conn)
   pub told : IsTold old.kept request answer
-  pub steps : IsHonest (state g new.conn) → (office : Office) → Shows g old office
-      → (next : Office) × Handles office request answer next × Shows g new next
+  pub stored : HasCleanDisk (state g new.conn) → IsAccepted request answer → IsTrue (state g new.conn).is_open
+  pub steps : HasCleanDisk (state g new.conn) → (office : Office) → StandsFor g old office
+      → (next : Office) × Handles office request answer next × StandsFor g new next

@@ -43,6 +43,13 @@ Handles old request answer new =
     ((answer ≡ answer_to old request) × (new ≡ office_after old request))
     ⊎ ((answer ≡ Unavailable) × (new ≡ old))
 
+-- the request is a command, and was answered by its reply
+abbrev pub IsAccepted : Request → Answer → Type 0
+IsAccepted (request.Office command) (Reply reply) = ⊤
+IsAccepted (request.Office command) (Refused refusal) = ⊥
+IsAccepted (request.Office command) Unavailable = ⊥
+IsAccepted (request.Ask query) answer = ⊥
+
 -- the rows of the reply, if there is one, ascend
 abbrev pub AnswerAscends : Answer → Type 0
 AnswerAscends (Reply reply) = RowsAscend reply

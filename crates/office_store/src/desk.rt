@@ -1,15 +1,16 @@
 //! The desk: an office that is kept in the tables of a database.
 ghost use Rattle.std.specs.Prelude.{◌≡◌, IfErr, IfOk, IfSome, Some};
 ghost use Rattle.sqlite.specs.Held.{state};
+ghost use Rattle.sqlite.specs.State.{HasCleanDisk};
 ghost use Rattle.office_core.specs.Change.{LeadsOn};
 ghost use Rattle.office_core.specs.Command.{changes_of, checks, next, reply_to};
 ghost use Rattle.office_core.specs.Command.Decision.{IsDecision};
 ghost use Rattle.office_core.specs.Office.Invariants.{IsLawful};
 ghost use Rattle.office_core.specs.Replies.{RowsAscend};
 ghost use Rattle.office_core.specs.declared.office.Office.{Office as AnyOffice};
-ghost use Rattle.office_tables.specs.Steps.{Follows, IsHonest};
-ghost use Rattle.office_store.specs.Desk.{HandlesAt, Shows};
-ghost use Rattle.office_store.specs.Requests.{AnswerAscends, Handles};
+ghost use Rattle.office_tables.specs.Steps.{Follows};
+ghost use Rattle.office_store.specs.Desk.{HandlesAt, StandsFor};
+ghost use Rattle.office_store.specs.Requests.{AnswerAscends, Handles, IsAccepted};
 ghost use Rattle.office_store.specs.declared.requests.Request.TheVariants.{Office as Request-Office};
 
 mod adopting;
@@ -84,6 +85,7 @@ fn decided(alloc: Global, office: &Office, command: &Command) -> Result<Decision
         (λ decision. LeadsOn office.now (next office.now command.now) decision.changes.items) }
     ensures refused { IfErr result
         (λ answer. Handles office.now (Request-Office command.now) answer office.now) }
+    ensures no_reply { IfErr result (λ answer. ¬ IsAccepted (Request-Office command.now) answer) }
     ensures ascending { IfOk result (λ decision. RowsAscend decision.reply) }
     ensures no_rows { IfErr result AnswerAscends }
 {
@@ -98,8 +100,8 @@ impl<S: Alter> Desk<S> {
     fn recall(&mut self, alloc: Global) -> bool
         ensures follows { Follows (state S.Store self.old.conn) (state S.Store self.new.conn) }
         ensures kept { IfSome self.old.kept (λ kept. self.new.kept ≡ Some kept) }
-        ensures shows { IsHonest (state S.Store self.new.conn) → (office : AnyOffice)
-            → Shows S.Store self.old office → Shows S.Store self.new office }
+        ensures stands { HasCleanDisk (state S.Store self.new.conn) → (office : AnyOffice)
+            → StandsFor S.Store self.old office → StandsFor S.Store self.new office }
     {
         if self.kept.is_some() {
             return true;

@@ -1,4 +1,5 @@
 //! The register of rooms and people: a worked script, what a person sees, and lists that are too long.
+use crate::tests::at_desks::is_kept;
 use crate::tests::scripts::{answers_of_script, lines_of_script, rehearsed};
 use office_lines::Ending;
 use std::alloc::Global;
@@ -69,13 +70,15 @@ const ROUND: [(&str, &str); 18] = [
     ("close", "closed 1\n"),
 ];
 
-/// Whether an empty office hears the lines, gives their answers and ends with this status.
+/// Whether an empty office hears the lines, gives their answers and ends with this status, and a desk that is handed
+/// their requests at once keeps the same office.
 pub fn hears(rt: &HostRuntime, script: &[(&str, &str)], status: u8) -> Result<bool, Fail> {
     let lines = lines_of_script(rt.alloc(), script)?;
     let answers = answers_of_script(rt.alloc(), script, script.len())?;
     let (how, text) = rehearsed(rt.alloc(), lines.as_bytes());
     let ended = how.ending == Ending::Ended && how.status == status;
-    Ok(ended && text.as_slice() == answers.as_bytes())
+    let told = ended && text.as_slice() == answers.as_bytes();
+    Ok(told && is_kept(rt.alloc(), lines.as_str())?)
 }
 
 #[test]

@@ -1,4 +1,5 @@
 //! Rounds up to their results: who gets what, by the drawn order and the lists.
+use crate::tests::at_desks::is_kept;
 use crate::tests::scripts::rehearsed;
 use office_lines::Ending;
 use std::test::Fail;
@@ -29,7 +30,7 @@ const N2: (&str, &str, &str) = ("N2", "key00000000000n2", "");
 
 const N3: (&str, &str, &str) = ("N3", "key00000000000n3", "");
 
-// The text that a round is to end with, and whether it does.
+// Whether the round ends with its results, and a desk that is handed its requests at once keeps the same office.
 fn ends_as_worked(rt: &HostRuntime, round: &Round<'_>) -> Result<bool, Fail> {
     let mut lines = String::new(rt.alloc());
     for room in round.rooms {
@@ -53,7 +54,8 @@ fn ends_as_worked(rt: &HostRuntime, round: &Round<'_>) -> Result<bool, Fail> {
     }
     let (how, text) = rehearsed(rt.alloc(), lines.as_bytes());
     let ended = how.ending == Ending::Ended && how.status == 0;
-    Ok(ended && text.as_slice().ends_with(results.as_bytes()))
+    let told = ended && text.as_slice().ends_with(results.as_bytes());
+    Ok(told && is_kept(rt.alloc(), lines.as_str())?)
 }
 
 #[test]

@@ -1,14 +1,16 @@
 //! Desks over an office that a database holds.
-ghost use Rattle.std.specs.Prelude.{◌≡◌, false, IfErr, IfOk, IsErrAnd, MatchResult};
+ghost use Rattle.std.specs.Prelude.{◌≡◌, false, IfErr, IfOk, IsErrAnd, IsTrue, MatchResult, OnOk};
 ghost use Rattle.sqlite.specs.Held.{state};
+ghost use Rattle.sqlite.specs.State.{HasCleanDisk};
 ghost use Rattle.office_core.specs.Office.Invariants.{IsLawful};
 ghost use Rattle.office_core.specs.declared.office.Office.{Office as AnyOffice};
 ghost use Rattle.office_rows.specs.Tables.{rows_of};
 ghost use Rattle.office_cells.specs.Spelled.{IsSpelled};
 ghost use Rattle.office_tables.specs.Steps.{Follows, IsHonest};
 ghost use Rattle.office_tables.specs.Tables.{HoldsOffice};
-ghost use Rattle.office_load.specs.Finding.{AreDeclared, AreWhole, has_round};
-ghost use Rattle.office_store.specs.Adopting.{MayRefuse, desk_fault};
+ghost use Rattle.office_load.specs.Finding.{AreDeclared, AreWhole, names_round};
+ghost use Rattle.office_load.specs.Layout.{is_laid_out};
+ghost use Rattle.office_store.specs.Adopting.{IsFaultOf, MayRefuse, desk_fault};
 ghost use Rattle.office_store.specs.Desk.{Shows};
 
 use crate::desk::Desk;
@@ -18,21 +20,22 @@ use sqlite::{Alter, Connection};
 use std::alloc::Global;
 
 impl<S: Alter> Desk<S> {
-    /// A desk over a database whose tables are the rows of an office, which it shows. Each table that has one of the eight
-    /// names has to be declared as that table of an office. An office's tables are never answered `NotAnOffice` or
-    /// `OtherVersion`.
+    /// A desk over a database whose tables are the rows of an office, which it shows. Each table that has one of the
+    /// eight names has to be declared as that table of an office. An office's tables are never answered `NotAnOffice`
+    /// or `OtherVersion`.
     ///
     /// # Errors
     ///
-    /// `NotAnOffice` where there is no table of the round, and else only where its row holds no other version and the
-    /// tables are no office's rows. `OtherVersion` only where the row of the round holds that version. Else `Unavailable`,
-    /// also where one of the other tables is absent, or anything is declared beside them. The connection comes back with
-    /// its tables as they were.
+    /// `NotAnOffice` where nothing has the name of the table of the round, and else only where its row holds no other
+    /// version and the tables are no office's rows. `OtherVersion` only where the row of the round holds that version.
+    /// Else `Unavailable`, also where one of the other tables is absent, or anything is declared beside them. The
+    /// connection comes back with its tables as they were, unless a fault shut it.
     pub fn adopt(alloc: Global, connection: Connection<S>) -> Result<Desk<S>, Back<S>>
         requires { connection.in_transaction ≡ false }
         ensures follows { IfOk result
             (λ desk. Follows (state S.Store connection) (state S.Store desk.conn)) }
-        ensures shows { IfOk result (λ desk. IsHonest (state S.Store desk.conn)
+        ensures laid { OnOk result (IsTrue (is_laid_out (state S.Store connection).now.schema)) }
+        ensures shows { IfOk result (λ desk. HasCleanDisk (state S.Store desk.conn)
             → AreDeclared (state S.Store connection).now.schema
             → AreWhole (state S.Store connection).now.trees
             → (office : AnyOffice) × HoldsOffice (state S.Store connection).now office
@@ -43,15 +46,17 @@ impl<S: Alter> Desk<S> {
         ensures undone { IfErr result (λ back. IsHonest (state S.Store back.connection)
             → AreDeclared (state S.Store connection).now.schema
             → (state S.Store back.connection).now ≡ (state S.Store connection).now) }
-        ensures cause { IfErr result (λ back. IsHonest (state S.Store back.connection)
+        ensures allowed { IfErr result
+            (λ back. IsFaultOf (state S.Store connection).now.schema back.fault) }
+        ensures cause { IfErr result (λ back. HasCleanDisk (state S.Store back.connection)
             → AreDeclared (state S.Store connection).now.schema
             → MayRefuse (state S.Store connection).now back.fault) }
-        ensures absent { has_round (state S.Store connection).now.schema ≡ false → IsErrAnd result
+        ensures absent { names_round (state S.Store connection).now.schema ≡ false → IsErrAnd result
             (λ back. (back.fault ≡ DeskFault.NotAnOffice) × (back.connection ≡ connection)) }
         ensures accepts { (office : AnyOffice) → IsLawful office → IsSpelled (rows_of office)
             → HoldsOffice (state S.Store connection).now office → MatchResult result
-            (λ desk. IsHonest (state S.Store desk.conn) → Shows S.Store desk office)
-            (λ back. IsHonest (state S.Store back.connection)
+            (λ desk. HasCleanDisk (state S.Store desk.conn) → Shows S.Store desk office)
+            (λ back. HasCleanDisk (state S.Store back.connection)
             → back.fault ≡ DeskFault.Unavailable) }
     {
         let mut conn = connection;

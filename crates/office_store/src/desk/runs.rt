@@ -1,33 +1,38 @@
 //! Runs of requests at a desk.
 ghost use Rattle.std.specs.Prelude.{◌≡◌, ◌<◌, IfOk, MatchResult, OnErr, length};
 ghost use Rattle.sqlite.specs.Held.{state};
+ghost use Rattle.sqlite.specs.State.{HasCleanDisk};
 ghost use Rattle.sqlite.specs.Steps.{over_memory};
 ghost use Rattle.office_core.specs.declared.office.Office.{Office as AnyOffice};
-ghost use Rattle.office_tables.specs.Steps.{Follows, IsHonest};
-ghost use Rattle.office_store.specs.Desk.{Shows};
+ghost use Rattle.office_tables.specs.Steps.{Follows};
+ghost use Rattle.office_store.specs.Desk.{HandlesAt, Shows, StandsFor};
 ghost use Rattle.office_store.specs.LawfulSteps.{HandlesLawfully};
 ghost use Rattle.office_store.specs.Requests.{IsRun};
 
 use crate::desk::Desk;
 use crate::handling::handle_all;
 use crate::requests::{Answer, Request};
+use room_types::OutOfMemory;
 use sqlite::{Alter, MemStore};
-use std::alloc::{AllocError, Global};
+use std::alloc::Global;
 
 impl<S: Alter> Desk<S> {
-    /// Answers each request in turn. Memory for all answers is taken first, and none for no requests; where it is
-    /// refused, no request was handled. Where the disk is honest, the answers are those of a run of the office that the
-    /// desk shows, and then it shows the last office of that run.
+    /// Answers each request in turn, whatever the disk does. Memory for all answers is taken first, and none for no
+    /// requests; where it is refused, no request was handled. Where the disk returned what was written, the answers are
+    /// those of a run of the office that the desk stands for, and then it stands for the last office of that run, also
+    /// where a fault has shut the connection on the way.
     pub fn handle_all(
         &mut self,
         alloc: Global,
         requests: &[Request],
-    ) -> Result<Vec<Answer>, AllocError>
+    ) -> Result<Vec<Answer>, OutOfMemory>
         ensures follows { Follows (state S.Store self.old.conn) (state S.Store self.new.conn) }
-        ensures runs { IsHonest (state S.Store self.new.conn) → (office : AnyOffice)
-            → Shows S.Store self.old office → IfOk result (λ answers. (last : AnyOffice)
+        ensures answers { IfOk result (λ answers. IsRun (HandlesAt S.Store)
+            self.old requests.now answers.items self.new) }
+        ensures runs { HasCleanDisk (state S.Store self.new.conn) → (office : AnyOffice)
+            → StandsFor S.Store self.old office → IfOk result (λ answers. (last : AnyOffice)
             × IsRun HandlesLawfully office requests.now answers.items last
-            × Shows S.Store self.new last) }
+            × StandsFor S.Store self.new last) }
         ensures refused { OnErr result (self.new ≡ self.old) }
         ensures memory { OnErr result (0 < length requests.now) }
     {
@@ -42,7 +47,7 @@ pub fn handle_all_in_memory(
     desk: &mut Desk<MemStore>,
     alloc: Global,
     requests: &[Request],
-) -> Result<Vec<Answer>, AllocError>
+) -> Result<Vec<Answer>, OutOfMemory>
     ensures runs { (office : AnyOffice) → Shows over_memory desk.old office → MatchResult result
         (λ answers. (last : AnyOffice)
         × IsRun HandlesLawfully office requests.now answers.items last

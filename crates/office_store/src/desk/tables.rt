@@ -1,6 +1,7 @@
 //! Desks made over a connection, read back from its tables, and let go.
-ghost use Rattle.std.specs.Prelude.{◌≡◌, ◌⊎◌, false, IfErr, IfOk, IsErrAnd};
+ghost use Rattle.std.specs.Prelude.{◌≡◌, ◌⊎◌, false, IfErr, IfOk, IsErrAnd, IsTrue, OnOk};
 ghost use Rattle.sqlite.specs.Held.{state};
+ghost use Rattle.sqlite.specs.State.{HasCleanDisk};
 ghost use Rattle.sqlite.specs.Steps.{over_memory};
 ghost use Rattle.office_core.specs.Office.Invariants.{IsLawful};
 ghost use Rattle.office_core.specs.Office.{empty_office};
@@ -8,7 +9,7 @@ ghost use Rattle.office_core.specs.declared.office.Office.{Office as AnyOffice};
 ghost use Rattle.office_tables.specs.Schema.{no_schema};
 ghost use Rattle.office_tables.specs.Steps.{Follows, IsHonest};
 ghost use Rattle.office_create.specs.Names.{NameIsTaken};
-ghost use Rattle.office_store.specs.Desk.{Shows};
+ghost use Rattle.office_store.specs.Desk.{Shows, StandsFor};
 
 use crate::desk::Desk;
 use crate::desk::faults::{Back, DeskFault, Unavailable};
@@ -45,7 +46,7 @@ impl<S: Alter> Desk<S> {
         ensures follows { IfOk result
             (λ desk. Follows (state S.Store connection) (state S.Store desk.conn)) }
         ensures shows { IfOk result
-            (λ desk. IsHonest (state S.Store desk.conn) → Shows S.Store desk empty_office) }
+            (λ desk. HasCleanDisk (state S.Store desk.conn) → Shows S.Store desk empty_office) }
         ensures blank { IfOk result (λ _. (state S.Store connection).now.schema ≡ no_schema) }
         ensures outside { IfErr result (λ back. back.connection.in_transaction ≡ false) }
         ensures followed { IfErr result
@@ -75,19 +76,22 @@ impl<S: Alter> Desk<S> {
         }
     }
 
-    /// The office whose rows the tables hold, read from them. The desk goes on showing it.
+    /// The office whose rows the tables hold, read from them. The desk goes on standing for it, and the connection is
+    /// open where it was read.
     pub fn load(&mut self, alloc: Global) -> Result<Office, Unavailable>
         ensures follows { Follows (state S.Store self.old.conn) (state S.Store self.new.conn) }
-        ensures same { IsHonest (state S.Store self.new.conn) → (office : AnyOffice)
-            → Shows S.Store self.old office → Shows S.Store self.new office }
+        ensures is_open { OnOk result (HasCleanDisk (state S.Store self.new.conn)
+            → IsTrue (state S.Store self.new.conn).is_open) }
+        ensures same { HasCleanDisk (state S.Store self.new.conn) → (office : AnyOffice)
+            → StandsFor S.Store self.old office → StandsFor S.Store self.new office }
         ensures lawful { IfOk result (λ office. IsLawful office) }
-        ensures shown { IfOk result (λ found. IsHonest (state S.Store self.new.conn)
-            → (office : AnyOffice) → Shows S.Store self.old office → found ≡ office) }
+        ensures shown { IfOk result (λ found. HasCleanDisk (state S.Store self.new.conn)
+            → (office : AnyOffice) → StandsFor S.Store self.old office → found ≡ office) }
     {
-        match load(alloc, &mut self.conn) {
-            Ok(Some(office)) => Ok(office),
-            _ => Err(Unavailable),
-        }
+        let Ok(Some(office)) = load(alloc, &mut self.conn) else {
+            return Err(Unavailable);
+        };
+        Ok(office)
     }
 
     /// The connection, let go. Its tables are as they were.

@@ -72,8 +72,11 @@ fn takes_tables_of_its_own_version(rt: HostRuntime) -> Result<(), Fail> {
     let (fault, mut conn) = tried(alloc, conn);
     assert_eq!(rt; fault, Some(DeskFault::Unavailable));
     conn.execute_batch("DROP TABLE note; DROP TABLE round")?;
-    let (fault, _) = tried(alloc, conn);
+    let (fault, mut conn) = tried(alloc, conn);
     assert_eq!(rt; fault, Some(DeskFault::NotAnOffice));
+    conn.execute_batch("CREATE VIEW Round AS SELECT 1 AS one")?;
+    let (fault, _) = tried(alloc, conn);
+    assert_eq!(rt; fault, Some(DeskFault::Unavailable));
     Ok(())
 }
 
@@ -88,7 +91,8 @@ fn shows_the_office_that_a_desk_left(rt: HostRuntime) -> Result<(), Fail> {
     assert_eq!(rt; office.number, 1);
     assert_eq!(rt; office.phase, Phase::Ran);
     assert_eq!(rt; (office.rooms.len(), office.people.len()), (3, 3));
-    let shown = match desk.handle(alloc, &Request::Ask(Query::Results)) {
+    let answer = desk.handle(alloc, &Request::Ask(Query::Results));
+    let shown = match &answer {
         Answer::Reply(Reply::Results(rows)) => matches!(rows.as_slice(), [n, t1, t2]
             if is_row(n, "N", "V") && is_row(t1, "T1", "H2") && is_row(t2, "T2", "H1")),
         _ => false,

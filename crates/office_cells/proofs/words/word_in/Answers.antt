@@ -1,20 +1,18 @@
-use Rattle.std.proofs.Common.{◌≡◌, sym, ap, ◌∙◌}
-use Rattle.room_types.specs.Words.{word_of}
+use Rattle.std.proofs.Common.{◌∙◌}
 use Rattle.room_types.proofs.WordTexts.{word_utf8}
 use Rattle.office_cells.proofs.TextCells.{same_bytes, unread, shown_same}
 use Rattle.office_cells.proofs.words.word_in.Goals as goal
 
 pub returns-in_default-clause-told : goal.returns-in_default-clause-told
-returns-in_default-clause-told c w = (rw c.in_default.is at c.in_ok-text.ensures) (_, w.1, word_utf8 w.0)
+returns-in_default-clause-told c w = (rw c.in_default.is at c.str_in.ensures) (_, w.1, word_utf8 w.0)
 
 pub returns-in-Err-clause-told : goal.returns-in-Err-clause-told
 returns-in-Err-clause-told c w =
-    let cell = rw c.in-Some.is at c.in_ok-text.ensures in
-    unread c.as_str.result.now w.0 w.2 (c.as_str.ensures.value ∙ same_bytes _ _ _ cell w.1) c.in-Err.ensures.1
+    let cell = (rw c.in-Some.is at c.str_in.ensures).0 in
+    unread c.in-Some.text.now w.0 w.2 (same_bytes _ _ _ cell w.1) c.in-Err.ensures.1
 
 pub returns-then-ne-clause-told : goal.returns-then-ne-clause-told
 returns-then-ne-clause-told c w =
-    let cell = rw c.in-Some.is at c.in_ok-text.ensures in
-    let text = c.as_str.ensures.value ∙ same_bytes _ _ _ cell w.1 in
-    let again : c.as_str-3.result.now ≡ c.as_str.result.now = c.as_str-3.ensures.value ∙ sym c.as_str.ensures.value in
-    shown_same c.as_str-2.result.now c.as_str-3.result.now w.0 c.in-Ok.word w.2 (again ∙ text) (ap word_of again ∙ c.in-Ok.ensures) (c.as_str-2.ensures.value ∙ c.in-Ok-format.ensures.ok) c.if-ne.ensures
+    let cell = (rw c.in-Some.is at c.str_in.ensures).0 in
+    let text = same_bytes _ _ _ cell w.1 in
+    shown_same c.as_str.result.now c.in-Some.text.now w.0 c.in-Ok.word w.2 text c.in-Ok.ensures (c.as_str.ensures.value ∙ c.in-Ok-format.ensures.ok) c.if-ne.ensures

@@ -2,8 +2,8 @@ use Rattle.std.proofs.Common.{◌≡◌, ◌∙◌, ◌<◌, ℕ, List, [], map,
 use Rattle.clap.specs.Words.{App, HasKind, Kinds, fault_of, found_of, is_simple_and_free, rows_of, subcommand_of}
 use Rattle.clap.specs.Simple.{is_simple}
 use Rattle.office_cli.specs.Usage.{usage}
-use Rattle.office_words.specs.Understanding.{Understands}
-use Rattle.office_cli.specs.declared.usage.Program.{Program}
+use Rattle.office_words.specs.Understanding.{UnderstandsAs}
+use Rattle.office_cli.specs.Programs.{Line, line_of}
 use Rattle.office_cli.proofs.ProgramLemmas.{entered_is, fault_told, line_entered, some_words, usage_is_free, usage_is_simple}
 use Rattle.office_cli.proofs.program.program.Goals as goal
 
@@ -16,7 +16,7 @@ returns-in-Some-clause-understands c =
     let met = (c.in-Ok.ensures.matches (ap is_simple is ∙ usage_is_simple)).1 ∙ ap (λ (a : App). subcommand_of a words) is in
     let rows = rows_of (found_of c.in-Some.entries.now) in
     let entered = entered_is c.in-Ok.matches c.in-Some.name.now rows c.in-Some.ensures.name c.in-Some.ensures.rows in
-    subst (λ (o : Option Program). Understands o c.entered_line.result) (sym (line_entered words c.in-Some.name.now rows some taken (sym met ∙ entered))) c.entered_line.ensures
+    subst (λ (o : Option Line). UnderstandsAs line_of o c.entered_line.result) (sym (line_entered words c.in-Some.name.now rows some taken (sym met ∙ entered))) c.entered_line.ensures
 
 pub returns-clause-understands : goal.returns-clause-understands
 returns-clause-understands c =

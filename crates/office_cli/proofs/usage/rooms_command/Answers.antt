@@ -6,6 +6,10 @@ use Rattle.office_cli.proofs.usage.rooms_command.Goals as goal
 pub returns : goal.returns
 returns c =
     let top = λ (a : App). a.top in
+    let make = c.in_ok-make.ensures in
+    let hear = c.in_ok-hear.ensures in
     let words = c.in_ok-words.ensures in
-    let one = c.in_ok-subcommand.ensures.shape c.new-rehearse.ensures.local ∙ ap₂ with_subcommand c.plain_command.ensures.0 (ap top c.new-rehearse.ensures.app) in
-    IfOk-weaker c.subcommand-2.result _ _ (λ r h. h.shape words.1 ∙ ap₂ with_subcommand one (ap top words.0)) c.subcommand-2.ensures
+    let one = c.in_ok-subcommand.ensures.shape make.1 ∙ ap₂ with_subcommand c.plain_command.ensures.0 (ap top make.0) in
+    let two = c.in_ok-subcommand-2.ensures.shape hear.1 ∙ ap₂ with_subcommand one (ap top hear.0) in
+    let three = c.in_ok-subcommand-3.ensures.shape c.new-rehearse.ensures.local ∙ ap₂ with_subcommand two (ap top c.new-rehearse.ensures.app) in
+    IfOk-weaker c.subcommand-4.result _ _ (λ r h. h.shape words.1 ∙ ap₂ with_subcommand three (ap top words.0)) c.subcommand-4.ensures

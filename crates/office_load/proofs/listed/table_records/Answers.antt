@@ -5,7 +5,7 @@ use Rattle.sqlite.specs.Listing.{understood}
 use Rattle.sqlite.specs.State.{Shown}
 use Rattle.office_tables.specs.Schema.{office_schema}
 use Rattle.office_load.proofs.Listings.{shows_table, told_is, found_is, shown_is}
-use Rattle.office_load.proofs.StateLemmas.{reads_shown, reads_failed}
+use Rattle.office_load.proofs.StateLemmas.{reads_shown, reads_failed, shown_is_open}
 use Rattle.office_load.proofs.listed.table_records.Goals as goal
 
 pub returns-in_err-rows-clause-reads : goal.returns-in_err-rows-clause-reads
@@ -47,3 +47,6 @@ returns-in-Ok-clause-shown g c clean has =
     _ c.in-Ok.found
     (subst (λ l. MatchOption c.in-Ok.found (¬ All g.R.Record.is_form l) (λ read. map g.R.Record.columns read.items ≡ map g.R.Record.front l)) c.as_slice.ensures.value c.in-Ok.ensures.told)
     (subst (λ l. IfSome c.in-Ok.found (λ _. All g.R.Record.is_form l)) c.as_slice.ensures.value c.in-Ok.ensures.formed)
+
+pub returns-in-Ok-clause-is_open : goal.returns-in-Ok-clause-is_open
+returns-in-Ok-clause-is_open g c clean = shown_is_open c.query.result.now [] _ _ c.in_ok-rows.rows.items (c.in_ok-rows.ensures.ok clean)

@@ -1,5 +1,5 @@
-use Rattle.std.proofs.Common.{◌≡◌, ℕ, ◌<◌, ◌+◌, sym, ap, ◌∙◌, subst, refl, arith}
-use Rattle.office_tables.proofs.StepLemmas.{follows-refl, honest_before}
+use Rattle.std.proofs.Common.{ap, ◌∙◌, subst, refl, arith}
+use Rattle.office_tables.proofs.StepLemmas.{honest_before}
 use Rattle.sqlite.specs.Effect.{Database}
 use Rattle.sqlite.specs.Held.{state}
 use Rattle.office_load.specs.Numbers.{AreNumbered, tree_of}
@@ -15,10 +15,14 @@ loop-place-preserved g c =
     record {
       outside = c.rowids.ensures.outside;
       reads = reads_then start before after c.loop-place.invariant.reads c.rowids.ensures.reads;
-      risen = λ honest has.
-          let early = honest_before before after c.rowids.ensures.reads.follows honest in
+      opened = λ clean low. c.in_ok-rows.ensures.is_open clean;
+      risen = λ clean has.
+          let early = honest_before before after c.rowids.ensures.reads.follows (clean, c.in_ok-rows.ensures.is_open clean) in
           let same = c.loop-place.invariant.reads.same early has in
-          let here = numbered_if_read _ _ (c.in_ok-rows.ensures.shown honest.0 (ap (λ (d : Database). d.schema) same ∙ has)) (subst AreNumbered c.as_slice.ensures.value (c.if-not-rise.ensures refl)) in
-          next_place (λ k. AreNumbered (start.now.trees (tree_of k))) c.loop-place.place (c.loop-place.invariant.risen early has)
+          let here = numbered_if_read _ _ (c.in_ok-rows.ensures.shown clean (ap (λ (d : Database). d.schema) same ∙ has)) (subst AreNumbered c.as_slice.ensures.value (c.if-not-rise.ensures refl)) in
+          next_place (λ k. AreNumbered (start.now.trees (tree_of k))) c.loop-place.place (c.loop-place.invariant.risen early.0 has)
           (subst (λ (d : Database). AreNumbered (d.trees (tree_of c.loop-place.place))) same here);
     }
+
+pub returns-clause-is_open : goal.returns-clause-is_open
+returns-clause-is_open g c clean = c.loop-place.invariant.opened clean (omega arith)

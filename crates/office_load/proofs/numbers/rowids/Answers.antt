@@ -7,7 +7,7 @@ use Rattle.office_tables.specs.Schema.{office_schema}
 use Rattle.office_load.specs.Numbers.{only_rowid, rowid_text, tree_of}
 use Rattle.office_load.proofs.Listings.{shows_table}
 use Rattle.office_load.proofs.QueryMeanings.{rowids_listed}
-use Rattle.office_load.proofs.StateLemmas.{reads_shown, reads_failed}
+use Rattle.office_load.proofs.StateLemmas.{reads_shown, reads_failed, shown_is_open}
 use Rattle.office_load.proofs.numbers.rowids.Goals as goal
 
 pub returns-in_err-rows-clause-reads : goal.returns-in_err-rows-clause-reads
@@ -24,3 +24,6 @@ returns-clause-shown g c clean has =
     let old = state g.S.Store c.args.conn.now in
     let shown = subst (λ t. Shown t [] old (state g.S.Store c.query_all.new.self) c.in_ok-rows.rows.items) c.text_of.ensures (c.in_ok-rows.ensures.ok clean) in
     shows_table (rowid_text c.args.place) (tree_of c.args.place) only_rowid _ (rowids_listed c.args.place c.requires.known) old _ _ has shown
+
+pub returns-clause-is_open : goal.returns-clause-is_open
+returns-clause-is_open g c clean = shown_is_open c.text_of.result.now [] _ _ c.in_ok-rows.rows.items (c.in_ok-rows.ensures.ok clean)

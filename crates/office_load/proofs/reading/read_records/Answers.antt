@@ -7,72 +7,72 @@ use Rattle.office_load.proofs.FollowLemmas.{still_has}
 use Rattle.office_load.proofs.reading.read_records.Goals as goal
 
 pub returns-in_default-clause-found : goal.returns-in_default-clause-found
-returns-in_default-clause-found g c honest tables has spelled =
-    rw c.in_default.is at c.in_ok-rooms.ensures.found honest has.schema tables.rooms tables.people has.rows.rooms has.rows.people spelled.rooms spelled.people
+returns-in_default-clause-found g c clean tables has spelled =
+    rw c.in_default.is at c.in_ok-rooms.ensures.found clean has.schema tables.rooms tables.people has.rows.rooms has.rows.people spelled.rooms spelled.people
 
 pub returns-in_default-2-clause-found : goal.returns-in_default-2-clause-found
-returns-in_default-2-clause-found g c honest tables has spelled =
+returns-in_default-2-clause-found g c clean tables has spelled =
     let start = state g.S.Store c.args.conn.now in
     let one = state g.S.Store c.read_two.new.conn in
     let two = state g.S.Store c.read_two-2.new.conn in
-    let at_one = honest_before one two c.read_two-2.ensures.reads.follows honest in
+    let at_one = honest_before one two c.read_two-2.ensures.reads.follows (clean, c.in_ok-rounds.ensures.is_open clean) in
     let has_one = still_has start one tables c.read_two.ensures.reads at_one has in
-    rw c.in_default-2.is at c.in_ok-rounds.ensures.found honest has_one.schema tables.rounds tables.choices has_one.rows.rounds has_one.rows.choices spelled.rounds spelled.choices
+    rw c.in_default-2.is at c.in_ok-rounds.ensures.found clean has_one.schema tables.rounds tables.choices has_one.rows.rounds has_one.rows.choices spelled.rounds spelled.choices
 
 pub returns-in_default-3-clause-found : goal.returns-in_default-3-clause-found
-returns-in_default-3-clause-found g c honest tables has spelled =
+returns-in_default-3-clause-found g c clean tables has spelled =
     let start = state g.S.Store c.args.conn.now in
     let one = state g.S.Store c.read_two.new.conn in
     let two = state g.S.Store c.read_two-2.new.conn in
     let three = state g.S.Store c.read_two-3.new.conn in
-    let at_two = honest_before two three c.read_two-3.ensures.reads.follows honest in
+    let at_two = honest_before two three c.read_two-3.ensures.reads.follows (clean, c.in_ok-words.ensures.is_open clean) in
     let at_one = honest_before one two c.read_two-2.ensures.reads.follows at_two in
     let has_one = still_has start one tables c.read_two.ensures.reads at_one has in
     let has_two = still_has one two tables c.read_two-2.ensures.reads at_two has_one in
-    rw c.in_default-3.is at c.in_ok-words.ensures.found honest has_two.schema tables.words tables.results has_two.rows.words has_two.rows.results spelled.words spelled.results
+    rw c.in_default-3.is at c.in_ok-words.ensures.found clean has_two.schema tables.words tables.results has_two.rows.words has_two.rows.results spelled.words spelled.results
 
 pub returns-in_default-4-clause-found : goal.returns-in_default-4-clause-found
-returns-in_default-4-clause-found g c honest tables has spelled =
+returns-in_default-4-clause-found g c clean tables has spelled =
     let start = state g.S.Store c.args.conn.now in
     let one = state g.S.Store c.read_two.new.conn in
     let two = state g.S.Store c.read_two-2.new.conn in
     let three = state g.S.Store c.read_two-3.new.conn in
     let last = state g.S.Store c.table_records.new.conn in
-    let at_three = honest_before three last c.table_records.ensures.reads.follows honest in
+    let at_three = honest_before three last c.table_records.ensures.reads.follows (clean, c.in_ok-moves.ensures.is_open clean) in
     let at_two = honest_before two three c.read_two-3.ensures.reads.follows at_three in
     let at_one = honest_before one two c.read_two-2.ensures.reads.follows at_two in
     let has_one = still_has start one tables c.read_two.ensures.reads at_one has in
     let has_two = still_has one two tables c.read_two-2.ensures.reads at_two has_one in
     let has_three = still_has two three tables c.read_two-3.ensures.reads at_three has_two in
-    rw c.in_default-4.is at c.in_ok-moves.ensures.found honest.0 has_three.schema tables.moves has_three.rows.moves spelled.moves
+    rw c.in_default-4.is at c.in_ok-moves.ensures.found clean has_three.schema tables.moves has_three.rows.moves spelled.moves
 
 pub returns-clause-found : goal.returns-clause-found
-returns-clause-found g c honest tables has spelled =
+returns-clause-found g c clean tables has spelled =
     let start = state g.S.Store c.args.conn.now in
     let one = state g.S.Store c.read_two.new.conn in
     let two = state g.S.Store c.read_two-2.new.conn in
     let three = state g.S.Store c.read_two-3.new.conn in
     let last = state g.S.Store c.table_records.new.conn in
-    let at_three = honest_before three last c.table_records.ensures.reads.follows honest in
+    let at_three = honest_before three last c.table_records.ensures.reads.follows (clean, c.in_ok-moves.ensures.is_open clean) in
     let at_two = honest_before two three c.read_two-3.ensures.reads.follows at_three in
     let at_one = honest_before one two c.read_two-2.ensures.reads.follows at_two in
     let has_one = still_has start one tables c.read_two.ensures.reads at_one has in
     let has_two = still_has one two tables c.read_two-2.ensures.reads at_two has_one in
     let has_three = still_has two three tables c.read_two-3.ensures.reads at_three has_two in
-    let first = rw c.in-Some.is at c.in_ok-rooms.ensures.found at_one has.schema tables.rooms tables.people has.rows.rooms has.rows.people spelled.rooms spelled.people in
-    let second = rw c.in-Some-2.is at c.in_ok-rounds.ensures.found at_two has_one.schema tables.rounds tables.choices has_one.rows.rounds has_one.rows.choices spelled.rounds spelled.choices in
-    let third = rw c.in-Some-3.is at c.in_ok-words.ensures.found at_three has_two.schema tables.words tables.results has_two.rows.words has_two.rows.results spelled.words spelled.results in
-    let moves = rw c.in-Some-4.is at c.in_ok-moves.ensures.found honest.0 has_three.schema tables.moves has_three.rows.moves spelled.moves in
+    let first = rw c.in-Some.is at c.in_ok-rooms.ensures.found at_one.0 has.schema tables.rooms tables.people has.rows.rooms has.rows.people spelled.rooms spelled.people in
+    let second = rw c.in-Some-2.is at c.in_ok-rounds.ensures.found at_two.0 has_one.schema tables.rounds tables.choices has_one.rows.rounds has_one.rows.choices spelled.rounds spelled.choices in
+    let third = rw c.in-Some-3.is at c.in_ok-words.ensures.found at_three.0 has_two.schema tables.words tables.results has_two.rows.words has_two.rows.results spelled.words spelled.results in
+    let moves = rw c.in-Some-4.is at c.in_ok-moves.ensures.found clean has_three.schema tables.moves has_three.rows.moves spelled.moves in
     record { rooms = first.0; people = first.1; rounds = second.0; choices = second.1; words = third.0; results = third.1; moves = moves }
 
 pub returns-clause-shown : goal.returns-clause-shown
-returns-clause-shown g c honest has tables are =
+returns-clause-shown g c clean has tables are =
     let start = state g.S.Store c.args.conn.now in
     let one = state g.S.Store c.read_two.new.conn in
     let two = state g.S.Store c.read_two-2.new.conn in
     let three = state g.S.Store c.read_two-3.new.conn in
     let last = state g.S.Store c.table_records.new.conn in
-    let at_three = honest_before three last c.table_records.ensures.reads.follows honest in
+    let at_three = honest_before three last c.table_records.ensures.reads.follows (clean, c.in_ok-moves.ensures.is_open clean) in
     let at_two = honest_before two three c.read_two-3.ensures.reads.follows at_three in
     let at_one = honest_before one two c.read_two-2.ensures.reads.follows at_two in
     let same_one = c.read_two.ensures.reads.same at_one has in
@@ -81,10 +81,10 @@ returns-clause-shown g c honest has tables are =
     let has_two = ap (λ (d : Database). d.schema) same_two ∙ has in
     let same_three = c.read_two-3.ensures.reads.same at_three has_two ∙ same_two in
     let has_three = ap (λ (d : Database). d.schema) same_three ∙ has in
-    let first = rw c.in-Some.is at c.in_ok-rooms.ensures.shown at_one has in
-    let second = rw c.in-Some-2.is at c.in_ok-rounds.ensures.shown at_two has_one in
-    let third = rw c.in-Some-3.is at c.in_ok-words.ensures.shown at_three has_two in
-    let moves = rw c.in-Some-4.is at c.in_ok-moves.ensures.shown honest.0 has_three in
+    let first = rw c.in-Some.is at c.in_ok-rooms.ensures.shown at_one.0 has in
+    let second = rw c.in-Some-2.is at c.in_ok-rounds.ensures.shown at_two.0 has_one in
+    let third = rw c.in-Some-3.is at c.in_ok-words.ensures.shown at_three.0 has_two in
+    let moves = rw c.in-Some-4.is at c.in_ok-moves.ensures.shown clean has_three in
     record {
       rooms = shown_permuted _ _ _ _ _ _ are.rooms first.0;
       people = shown_permuted _ _ _ _ _ _ are.people first.1;

@@ -3,7 +3,7 @@ use Rattle.sqlite.specs.Held.{state}
 use Rattle.office_load.specs.Versions.{only_version}
 use Rattle.office_load.proofs.Listings.{shows_table}
 use Rattle.office_load.proofs.VersionMeanings.{versions_listed}
-use Rattle.office_load.proofs.StateLemmas.{reads_shown, reads_failed}
+use Rattle.office_load.proofs.StateLemmas.{reads_shown, reads_failed, shown_is_open}
 use Rattle.office_load.proofs.versions.versions.Goals as goal
 
 pub returns-in_err-rows-clause-reads : goal.returns-in_err-rows-clause-reads
@@ -17,3 +17,6 @@ returns-clause-reads g c =
 pub returns-clause-shown : goal.returns-clause-shown
 returns-clause-shown g c clean has =
     shows_table (codes "SELECT version FROM round") 6 only_version _ versions_listed (state g.S.Store c.args.conn.now) _ _ has (c.in_ok-rows.ensures.ok clean)
+
+pub returns-clause-is_open : goal.returns-clause-is_open
+returns-clause-is_open g c clean = shown_is_open (codes "SELECT version FROM round") [] _ _ c.in_ok-rows.rows.items (c.in_ok-rows.ensures.ok clean)

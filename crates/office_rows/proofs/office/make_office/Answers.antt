@@ -1,4 +1,5 @@
-use Rattle.std.proofs.Common.{Some, sym, subst, IsPermutation}
+use Rattle.std.proofs.Common.{Some, sym, subst, IsPermutation, arith}
+use Rattle.std.proofs.lemmas.List.Sorted.{length_permutation}
 use Rattle.room_types.proofs.Options.{none_some}
 use Rattle.office_rows.specs.Rows.{only_row}
 use Rattle.office_rows.specs.declared.records.RoundRecord.{RoundRecord}
@@ -6,26 +7,26 @@ use Rattle.office_rows.specs.Tables.{rows_of}
 use Rattle.office_rows.proofs.Rounds.{found_is}
 use Rattle.office_rows.proofs.office.make_office.Goals as goal
 
-pub returns-in_default-2 : goal.returns-in_default-2
+pub returns-in_default-2-clause-makes : goal.returns-in_default-2-clause-makes
 unfolding rows_of
-returns-in_default-2 c = record {
+returns-in_default-2-clause-makes c = record {
   told = tt;
   only = λ office lawful has.
       absurd (none_some _ _ c.in_default-2.is (c.in_ok-people.ensures.reads.only (record { people = office.people; withdrawn = office.withdrawn }) (record { withdrawers = lawful.lists.withdrawers }) has.people));
 }
 
-pub returns-in_default-read_round : goal.returns-in_default-read_round
+pub returns-in_default-read_round-clause-makes : goal.returns-in_default-read_round-clause-makes
 unfolding rows_of
-returns-in_default-read_round c = record {
+returns-in_default-read_round-clause-makes c = record {
   told = tt;
   only = λ office lawful has.
       let round : RoundRecord = record { number = office.number; phase = office.phase } in
       absurd (none_some _ _ c.in_default-read_round.is (c.read_round.ensures.only round tt (subst (λ l. IsPermutation (only_row round) l) (sym c.as_slice.ensures.value) has.rounds)));
 }
 
-pub returns : goal.returns
+pub returns-clause-makes : goal.returns-clause-makes
 unfolding rows_of
-returns c = record {
+returns-clause-makes c = record {
   told = record {
     rooms = (rw c.in-Some.is at c.in_ok-rooms.ensures.reads.told).1;
     people = (rw c.in-Some-2.is at c.in_ok-people.ensures.reads.told).1;
@@ -56,3 +57,9 @@ returns c = record {
         phase = (round i).phase;
       });
 }
+
+pub returns-clause-some : goal.returns-clause-some
+returns-clause-some c =
+    let round = c.in-Some-read_round.round in
+    let one = length_permutation (only_row round) c.args.records.rounds.items (subst (λ l. IsPermutation (only_row round) l) c.as_slice.ensures.value (rw c.in-Some-read_round.is at c.read_round.ensures.told).1) in
+    omega (arith, one)

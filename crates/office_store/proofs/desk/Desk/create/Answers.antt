@@ -4,9 +4,9 @@ use Rattle.office_store.proofs.EmptyLemmas.{spelled}
 use Rattle.office_store.proofs.desk.Desk.create.Goals as goal
 
 pub returns-in-Ok-clause-shows : goal.returns-in-Ok-clause-shows
-returns-in-Ok-clause-shows g c honest = record {
-  is_open = honest.1;
-  tables = c.in-Ok.ensures.made honest.0;
+returns-in-Ok-clause-shows g c clean = record {
+  is_open = c.in-Ok.ensures.is_open clean;
+  tables = c.in-Ok.ensures.made clean;
   spelled = spelled;
   lawful = subst IsLawful c.empty.ensures.empty c.empty.ensures.lawful;
   kept = c.empty.ensures.empty;

@@ -5,17 +5,17 @@ use Rattle.office_core.specs.Office.Invariants.{IsLawful}
 use Rattle.office_store.specs.Desk.{HandlesAt}
 use Rattle.office_store.specs.declared.requests.Answer.TheVariants.{Reply, Unavailable}
 use Rattle.office_store.specs.declared.requests.Request.TheVariants.{Office as Request-Office}
-use Rattle.office_store.proofs.DeskLemmas.{answered, carried_out, shows_still, unavailable}
+use Rattle.office_store.proofs.DeskLemmas.{answered, carried_out, stands_still, unavailable}
 use Rattle.office_store.proofs.desk.Desk.execute.Goals as goal
 
 pub returns-in_default-clause-handles : goal.returns-in_default-clause-handles
 returns-in_default-clause-handles g c =
-    unavailable g.S.Store c.args.self.now c.args.self.now (Request-Office c.args.command.now) (follows-refl (state g.S.Store c.args.self.now.conn)) (λ honest office shows. shows)
+    unavailable g.S.Store c.args.self.now c.args.self.now (Request-Office c.args.command.now) (follows-refl (state g.S.Store c.args.self.now.conn)) (λ clean office stands. stands)
 
 pub returns-in-Err-clause-handles : goal.returns-in-Err-clause-handles
 returns-in-Err-clause-handles g c =
     answered g.S.Store c.args.self.now c.in-Some.office (Request-Office c.args.command.now) c.in-Err.answer
-    (sym (ap (λ desk. desk.kept) c.self.view_is) ∙ c.in-Some.is) (subst (λ kept. IfSome kept (λ o. IsLawful o)) c.in-Some.is c.self.invariant.lawful) c.in-Err.ensures.refused
+    (sym (ap (λ desk. desk.kept) c.self.view_is) ∙ c.in-Some.is) (subst (λ kept. IfSome kept (λ o. IsLawful o)) c.in-Some.is c.self.invariant.lawful) c.in-Err.ensures.refused c.in-Err.ensures.no_reply
 
 pub returns-in_default-store_all-clause-handles : goal.returns-in_default-store_all-clause-handles
 returns-in_default-store_all-clause-handles g c =
@@ -24,7 +24,7 @@ returns-in_default-store_all-clause-handles g c =
     let kept = c.self.inside.kept in
     subst (λ desk. HandlesAt g.S.Store desk (Request-Office c.args.command.now) Unavailable (record { conn = new; kept = kept })) c.self.view_is
     (unavailable g.S.Store (record { conn = old; kept = kept }) (record { conn = new; kept = kept }) (Request-Office c.args.command.now) c.store_all.ensures.follows
-    (λ honest office shows. shows_still g.S.Store old new kept office honest (c.in_default-store_all.ensures.undone honest) shows))
+    (λ clean office stands. stands_still g.S.Store old new kept office clean c.store_all.ensures.follows (λ honest has. c.in_default-store_all.ensures.undone honest) stands))
 
 pub returns-clause-handles : goal.returns-clause-handles
 returns-clause-handles g c =
@@ -34,4 +34,4 @@ returns-clause-handles g c =
     subst (λ desk. HandlesAt g.S.Store desk (Request-Office c.args.command.now) (Reply c.in-Ok.decision.reply) (record { conn = new; kept = after }))
     (ap (λ kept. record { conn = old; kept = kept }) (sym c.in-Some.is) ∙ c.self.view_is)
     (carried_out g.S.Store old new c.in-Some.office c.args.command.now c.in-Ok.decision c.as_slice-changes.result.now c.take.result after
-    c.in-Ok.ensures.decides c.in-Ok.ensures.leads (subst (λ kept. IfSome kept (λ o. IsLawful o)) c.in-Some.is c.self.invariant.lawful) c.as_slice-changes.ensures.value c.store_all.ensures.follows c.in-Ok-store_all.ensures.stored (c.take.ensures.value ∙ c.in-Some.is) c.office_kept.ensures)
+    c.in-Ok.ensures.decides c.in-Ok.ensures.leads (subst (λ kept. IfSome kept (λ o. IsLawful o)) c.in-Some.is c.self.invariant.lawful) c.as_slice-changes.ensures.value c.store_all.ensures.follows c.in-Ok-store_all.ensures.is_open c.in-Ok-store_all.ensures.stored (c.take.ensures.value ∙ c.in-Some.is) c.office_kept.ensures)

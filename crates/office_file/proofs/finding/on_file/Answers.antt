@@ -1,5 +1,5 @@
 use Rattle.std.proofs.Common.{inr}
-use Rattle.office_file.proofs.finding.on_file_from.Goals as goal
+use Rattle.office_file.proofs.finding.on_file.Goals as goal
 
 pub returns-in-Ok-clause-shows : goal.returns-in-Ok-clause-shows
 returns-in-Ok-clause-shows g c = record {
@@ -18,6 +18,7 @@ returns-in-Err-clause-cause g c =
         opened = c.in_ok-connection.ensures.opened;
         follows = c.in-Err.ensures.followed;
         undone = c.in-Err.ensures.undone;
+        allowed = c.in-Err.ensures.allowed;
         cause = c.in-Err.ensures.cause;
       },
     )

@@ -1,0 +1,31 @@
+-- Words that a desk hears are heard by the office that it stands for.
+use Rattle.std.proofs.Common.{ℕ, List}
+use Rattle.sqlite.specs.Held.{state}
+use Rattle.sqlite_trees.specs.declared.store.Store.{Ghosts}
+use Rattle.office_cli.specs.AtDesk.{HearsWords}
+use Rattle.office_lines.proofs.StepLemmas.{words_shown}
+use Rattle.office_lines.specs.SingleLines.{DoesWords}
+use Rattle.office_store.proofs.DeskRunLemmas.{step_stands}
+use Rattle.office_store.specs.Desk.{DeskState, HandlesAt, StandsFor}
+use Rattle.office_store.specs.LawfulSteps.{HandlesLawfully}
+use Rattle.office_tables.proofs.StepLemmas.{follows-refl}
+use Rattle.office_tables.specs.Steps.{Follows}
+use Rattle.room_types.specs.Streams.{Output}
+use Rattle.room_types.specs.Texts.{Text}
+
+module _ {S : Type 0} (g : Ghosts S) where
+  -- the connection after the words follows the one before them
+  words_follow : (old new : DeskState S) (words : List Text) (status : ℕ) (out out' : Output) → DoesWords (HandlesAt g) old words status new out out'
+      → Follows (state g old.conn) (state g new.conn)
+  words_follow old new words status out out' heard =
+      (words_shown {K = Unit {0}} (HandlesAt g) (λ _ _ _ _. Unit {0}) (λ desk _. Follows (state g old.conn) (state g desk.conn)) old new
+      (λ request answer h k s. (tt, tt, h.follows)) words status out out' heard tt (follows-refl (state g old.conn))).2
+
+  pub hears : (old new : DeskState S) (words : List Text) (status : ℕ) (out out' : Output) → DoesWords (HandlesAt g) old words status new out out'
+      → HearsWords g old new words status out out'
+  hears old new words status out out' heard = record {
+    follows = words_follow old new words status out out' heard;
+    heard = heard;
+    done = λ clean office stands.
+        words_shown (HandlesAt g) HandlesLawfully (StandsFor g) old new (λ request answer h. step_stands g old new request answer h clean) words status out out' heard office stands;
+  }

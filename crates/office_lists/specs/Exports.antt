@@ -1,0 +1,77 @@
+-- Exports: rooms, people and moves as CSV.
+use Rattle.std.specs.Prelude.{◌≡◌, ℕ, List, [], ◌∷◌, map, codes, Option, unwrap_or}
+use Rattle.std.specs.List.{flat_map}
+use Rattle.std.specs.Fmt.{decimal}
+use Rattle.std.specs.List.Sorted.{IsStrictlySortedBy}
+use Rattle.std.specs.declared.cmp.Ordering.{Ordering}
+use Rattle.std.specs.Ordering.{nat_cmp, on, then_cmp}
+use Rattle.csv.specs.Writing.{default_writer, row_text}
+use Rattle.room_types.specs.Rows.{state_text}
+use Rattle.room_types.specs.Texts.{Text, text_cmp}
+use Rattle.room_types.specs.declared.moves.Move.{Move}
+use Rattle.room_types.specs.declared.rows.PersonRow.{PersonRow}
+use Rattle.room_types.specs.declared.rows.RoomRow.{RoomRow}
+use Rattle.office_lists.specs.MoveDay.{wave_text}
+use Rattle.office_lists.specs.Records.{Record, records_of}
+use Rattle.office_lists.specs.declared.exports.ExportKind.{ExportKind}
+use Rattle.office_lists.specs.declared.exports.ExportKind.TheVariants.{Rooms, People, Moves}
+
+-- the bytes of a record, as `csv` writes it by default: commas between the fields, quotes round a field where it needs
+-- them, a quote inside doubled, and a line feed at the end
+unfoldable pub record_bytes : Record → List ℕ
+record_bytes = row_text default_writer
+
+-- the bytes of an export, which is a list of records
+abbrev pub export_bytes : List Record → List ℕ
+export_bytes = flat_map record_bytes
+
+-- the first record of an export
+abbrev pub header_of : ExportKind → Record
+header_of Rooms = codes "room" ∷ codes "state" ∷ codes "tenant" ∷ []
+header_of People = codes "person" ∷ codes "name" ∷ codes "home" ∷ []
+header_of Moves = codes "round" ∷ codes "wave" ∷ codes "person" ∷ codes "from" ∷ codes "to" ∷ []
+
+-- the text, or an empty field
+abbrev pub or_empty : Option Text → Text
+or_empty text = unwrap_or text []
+
+abbrev pub room_fields : RoomRow → Record
+room_fields row = row.room ∷ state_text row.state ∷ or_empty row.tenant ∷ []
+
+abbrev pub person_fields : PersonRow → Record
+person_fields row = row.person ∷ row.name ∷ or_empty row.home ∷ []
+
+abbrev pub move_fields : Move → Record
+move_fields row =
+    decimal row.round ∷ wave_text row.wave ∷ row.person ∷ or_empty row.from ∷ or_empty row.to ∷ []
+
+-- an export: the header, and a record for each row
+abbrev pub export : {Row : Type 0} → ExportKind → (Row → Record) → List Row → List Record
+export kind fields rows = header_of kind ∷ map fields rows
+
+abbrev pub rooms_export : List RoomRow → List Record
+rooms_export = export Rooms room_fields
+
+abbrev pub people_export : List PersonRow → List Record
+people_export = export People person_fields
+
+abbrev pub moves_export : List Move → List Record
+moves_export = export Moves move_fields
+
+-- by round, and by identifier in one round
+abbrev pub by_round : Move → Move → Ordering
+by_round = then_cmp (on (λ move. move.round) nat_cmp) (on (λ move. move.person) text_cmp)
+
+-- the moves ascend by round, and by identifier in one round; none stands there twice
+abbrev pub AscendByRound : List Move → Type 0
+AscendByRound = IsStrictlySortedBy by_round
+
+-- read again, the bytes of an export are its records
+abbrev pub IsReadBack : List Record → Type 0
+IsReadBack records = records_of (export_bytes records) ≡ records
+
+-- each export is read back
+pub record AreReadBack : Type 0 where
+  pub rooms : (rows : List RoomRow) → IsReadBack (rooms_export rows)
+  pub people : (rows : List PersonRow) → IsReadBack (people_export rows)
+  pub moves : (rows : List Move) → IsReadBack (moves_export rows)

@@ -1,0 +1,147 @@
+//! Writing exports.
+ghost use Rattle.std.specs.Prelude.{◌≡◌, ◌<◌, IfErr, OnOk, length, take};
+ghost use Rattle.room_types.specs.Ascending.{AscendsBy};
+ghost use Rattle.room_types.specs.Streams.{Puts, output_of};
+ghost use Rattle.room_types.specs.Watched.{StopsAtFailure, watched_failed, watched_flushes};
+ghost use Rattle.office_lists.specs.Exports.{AscendByRound, export, export_bytes};
+ghost use Rattle.office_lists.specs.Exports.{moves_export, people_export, rooms_export};
+ghost use Rattle.office_lists.specs.Writing.{StopsAfter, has_failed, sent_of};
+
+use crate::exports::{ExportKind, ExportRow, head_bytes};
+use room_types::send::send;
+use room_types::{Move, PersonRow, RoomRow, Watched};
+use std::alloc::Global;
+use std::io::Write;
+
+/// Why an export came to an early end, and how many of its bytes were written before. They are its first ones.
+#[derive(Clone, Copy, Debug, PartialEq, Eq, Drop)]
+pub enum WriteEnd {
+    /// A write failed.
+    Fault { sent: u128 },
+    /// Memory was refused for the bytes of a record. All records before it were written.
+    OutOfMemory { sent: u128 },
+}
+
+/// Writes the export of these rooms, which ascend by code. It does not flush.
+///
+/// # Errors
+///
+/// `Fault` after a write that failed or took nothing, and `OutOfMemory`.
+pub fn write_rooms<W: Write>(
+    alloc: Global,
+    rows: &[RoomRow],
+    output: &mut Watched<W>,
+) -> Result<(), WriteEnd>
+    requires ascending { AscendsBy (λ row. row.room) rows.now }
+    ensures sent { OnOk result (Puts (output_of W.contents output.old)
+        (output_of W.contents output.new) (export_bytes (rooms_export rows.now))) }
+    ensures front { IfErr result (λ end. Puts (output_of W.contents output.old)
+        (output_of W.contents output.new)
+        (take (sent_of end) (export_bytes (rooms_export rows.now)))) }
+    ensures short { IfErr result (λ end. sent_of end < length (export_bytes (rooms_export rows.now))) }
+    ensures after { IfErr result (λ end. StopsAfter (rooms_export rows.now) end) }
+    ensures kept { OnOk result (watched_failed output.new ≡ watched_failed output.old) }
+    ensures failed { IfErr result
+        (λ end. watched_failed output.new ≡ has_failed (watched_failed output.old) end) }
+    ensures flushes { watched_flushes output.new ≡ watched_flushes output.old }
+    ensures stops { StopsAtFailure output.old output.new }
+{
+    write_list(alloc, ExportKind::Rooms, rows, output)
+}
+
+/// Writes the export of these people, who ascend by identifier. It does not flush.
+///
+/// # Errors
+///
+/// `Fault` after a write that failed or took nothing, and `OutOfMemory`.
+pub fn write_people<W: Write>(
+    alloc: Global,
+    rows: &[PersonRow],
+    output: &mut Watched<W>,
+) -> Result<(), WriteEnd>
+    requires ascending { AscendsBy (λ row. row.person) rows.now }
+    ensures sent { OnOk result (Puts (output_of W.contents output.old)
+        (output_of W.contents output.new) (export_bytes (people_export rows.now))) }
+    ensures front { IfErr result (λ end. Puts (output_of W.contents output.old)
+        (output_of W.contents output.new)
+        (take (sent_of end) (export_bytes (people_export rows.now)))) }
+    ensures short { IfErr result
+        (λ end. sent_of end < length (export_bytes (people_export rows.now))) }
+    ensures after { IfErr result (λ end. StopsAfter (people_export rows.now) end) }
+    ensures kept { OnOk result (watched_failed output.new ≡ watched_failed output.old) }
+    ensures failed { IfErr result
+        (λ end. watched_failed output.new ≡ has_failed (watched_failed output.old) end) }
+    ensures flushes { watched_flushes output.new ≡ watched_flushes output.old }
+    ensures stops { StopsAtFailure output.old output.new }
+{
+    write_list(alloc, ExportKind::People, rows, output)
+}
+
+/// Writes the export of these moves, which ascend by round and, in one round, by identifier. It does not flush.
+///
+/// # Errors
+///
+/// `Fault` after a write that failed or took nothing, and `OutOfMemory`.
+pub fn write_moves<W: Write>(
+    alloc: Global,
+    rows: &[Move],
+    output: &mut Watched<W>,
+) -> Result<(), WriteEnd>
+    requires ascending { AscendByRound rows.now }
+    ensures sent { OnOk result (Puts (output_of W.contents output.old)
+        (output_of W.contents output.new) (export_bytes (moves_export rows.now))) }
+    ensures front { IfErr result (λ end. Puts (output_of W.contents output.old)
+        (output_of W.contents output.new)
+        (take (sent_of end) (export_bytes (moves_export rows.now)))) }
+    ensures short { IfErr result (λ end. sent_of end < length (export_bytes (moves_export rows.now))) }
+    ensures after { IfErr result (λ end. StopsAfter (moves_export rows.now) end) }
+    ensures kept { OnOk result (watched_failed output.new ≡ watched_failed output.old) }
+    ensures failed { IfErr result
+        (λ end. watched_failed output.new ≡ has_failed (watched_failed output.old) end) }
+    ensures flushes { watched_flushes output.new ≡ watched_flushes output.old }
+    ensures stops { StopsAtFailure output.old output.new }
+{
+    write_list(alloc, ExportKind::Moves, rows, output)
+}
+
+// Writes an export record by record.
+fn write_list<R: ExportRow, W: Write>(
+    alloc: Global,
+    kind: ExportKind,
+    rows: &[R],
+    output: &mut Watched<W>,
+) -> Result<(), WriteEnd>
+    ensures sent { OnOk result (Puts (output_of W.contents output.old)
+        (output_of W.contents output.new) (export_bytes (export kind R.fields rows.now))) }
+    ensures front { IfErr result (λ end. Puts (output_of W.contents output.old)
+        (output_of W.contents output.new)
+        (take (sent_of end) (export_bytes (export kind R.fields rows.now)))) }
+    ensures short { IfErr result
+        (λ end. sent_of end < length (export_bytes (export kind R.fields rows.now))) }
+    ensures after { IfErr result (λ end. StopsAfter (export kind R.fields rows.now) end) }
+    ensures kept { OnOk result (watched_failed output.new ≡ watched_failed output.old) }
+    ensures failed { IfErr result
+        (λ end. watched_failed output.new ≡ has_failed (watched_failed output.old) end) }
+    ensures flushes { watched_flushes output.new ≡ watched_flushes output.old }
+    ensures stops { StopsAtFailure output.old output.new }
+{
+    let Ok(head) = head_bytes(alloc, kind) else {
+        return Err(WriteEnd::OutOfMemory { sent: 0 });
+    };
+    if let Err(part) = send(output, &head) {
+        return Err(WriteEnd::Fault { sent: part as u128 });
+    }
+    let mut sent = head.len() as u128;
+    for row in rows {
+        let Ok(bytes) = row.row_bytes(alloc) else {
+            return Err(WriteEnd::OutOfMemory { sent });
+        };
+        if let Err(part) = send(output, &bytes) {
+            return Err(WriteEnd::Fault {
+                sent: sent + part as u128,
+            });
+        }
+        sent += bytes.len() as u128;
+    }
+    Ok(())
+}
