@@ -7,12 +7,12 @@ use Rattle.resident_http.specs.Answers.{Answer}
 use Rattle.resident_http.specs.Bodies.{fault_data}
 use Rattle.resident_http.specs.declared.method.Method.{Method}
 
--- a status that is one fault's alone
+-- a status whose faults all have one name
 abbrev pub is_one_fault : ℕ → Bool
 is_one_fault status =
     list_any (λ known. known == status) (400 ∷ 403 ∷ 404 ∷ 405 ∷ 413 ∷ 417 ∷ 501 ∷ 503 ∷ [])
 
--- the name of that fault
+-- the name of the faults with this status
 abbrev pub name_of : ℕ → Text
 name_of status =
     if status == 400 then codes "BadRequest"

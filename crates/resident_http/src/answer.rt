@@ -9,11 +9,14 @@ use std::alloc::{AllocError, Global};
 use std::marker::Model;
 
 /// An answer over HTTP: the status, which is one of those that residents are answered with; the method to use in
-/// place of a wrong one, which goes with 405 alone; and the body, in JSON.
+/// place of a wrong one, which goes with 405 alone; and the body, which the head tells to be JSON.
 #[derive(Debug, Drop)]
 pub struct HttpAnswer {
+    /// The status.
     pub status: StatusCode,
+    /// The method to use in place of a wrong one.
     pub allow: Option<Method>,
+    /// The bytes of the body.
     pub body: Listing<u8>,
 }
 

@@ -50,10 +50,13 @@ pub enum AskState<'b> {
 /// profile counts: a head that is none of HTTP/1.0 or HTTP/1.1, or has more than `HEAD_LIMIT` bytes or `FIELD_LIMIT`
 /// fields, or a field `Host` too many or, in HTTP/1.1, too few (400); a field `Expect` (417); a field
 /// `Transfer-Encoding` (501); a field `Content-Length` too many or not in decimal digits (400), or above `BODY_LIMIT`
-/// (413). It takes no memory.
+/// (413). What a head is, is `httparse`'s grammar as it is by default: a line, for one, may end with a line feed alone.
+/// Bytes after the body are ignored. Of fewer than `HEAD_LIMIT` bytes without a whole head, where none can come, 400 is
+/// sure but in two cases: where they begin more than `FIELD_LIMIT` fields, or end within the target, more may be asked
+/// for in its place. It takes no memory.
 pub fn read_ask(bytes: &[u8]) -> AskState<'_>
     ensures asks { Asks bytes.now (seen result) }
-    // The faults found here have statuses of their own.
+    // The status of a fault that is found here is 400, 413, 417 or 501.
     ensures early { HasEarlyStatus (seen result) }
 
     // More is asked of few bytes alone, so that a reader needs room for no more.

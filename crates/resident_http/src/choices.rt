@@ -12,7 +12,7 @@ use std::alloc::Global;
 /// # Errors
 ///
 /// `BadValue` where the body is no such array; `TooManyChoices` or `RoomRepeated` where the codes are no list of
-/// choices; `OutOfMemory` where memory is refused, which is taken for a body that has bytes alone.
+/// choices; `OutOfMemory` where memory is refused, which is taken only where the body is not empty.
 pub fn choices_of_body(alloc: Global, body: &[u8]) -> Result<Choices, TypeFault>
     ensures value { IfOk result (λ choices. choices_of_body body.now ≡ Ok choices) }
     ensures fault { IfErr result (λ fault.

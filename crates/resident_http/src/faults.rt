@@ -22,7 +22,8 @@ impl HttpAnswer {
         }
     }
 
-    /// The answer of a fault, whose body tells its name.
+    /// The answer of a fault, whose body tells its name. The status is one that residents are answered with, and not
+    /// 405, whose answer is `wrong_method`; that the name goes with the status is the caller's to see to.
     ///
     /// # Errors
     ///
@@ -57,7 +58,7 @@ impl HttpAnswer {
     }
 }
 
-/// The name of the fault with this status, which no other fault has.
+/// The name of the faults with this status, where they have one name: it is none of 200, 409 and 422.
 pub fn fault_name(status: StatusCode) -> &'static str
     requires { is_one_fault status ≡ true }
     ensures { result.now ≡ name_of status }

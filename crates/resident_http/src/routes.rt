@@ -40,11 +40,19 @@ pub enum Routed<'b> {
     /// No path of this name.
     Unknown,
     /// The path is asked by another method.
-    WrongMethod { allow: Method },
-    /// The request has no key.
+    WrongMethod {
+        /// The method to use.
+        allow: Method,
+    },
+    /// No key was handed in: the request has no field with one, several, or one whose value is no key.
     Forbidden,
-    /// What the path stands for, asked with this key.
-    To { route: Route, key: &'b str },
+    /// The path stands for something, and a key was handed in.
+    To {
+        /// What the path stands for.
+        route: Route,
+        /// The key, as it was handed in.
+        key: &'b str,
+    },
 }
 
 /// What a request of this method, path and key asks for: the path counts first, then its method, then the key.

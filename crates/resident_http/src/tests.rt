@@ -1,4 +1,4 @@
-//! What no clause says: requests and answers to the byte, from the profile of residents' HTTP.
+//! Worked requests and answers to the byte, with ample memory.
 mod answers;
 mod asks;
 mod routes;

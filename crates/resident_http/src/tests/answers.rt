@@ -11,7 +11,33 @@ use room_types::{
 };
 use std::alloc::Global;
 
-// The reason and the name of each status that is one fault's alone.
+// The reason and each name of the statuses whose faults have several names.
+const NAMED_FAULTS: [(StatusCode, &str, &str); 6] = [
+    (StatusCode::CONFLICT, "409 Conflict", "BadPhase"),
+    (StatusCode::CONFLICT, "409 Conflict", "Withdrawn"),
+    (
+        StatusCode::UNPROCESSABLE_ENTITY,
+        "422 Unprocessable Entity",
+        "TooManyChoices",
+    ),
+    (
+        StatusCode::UNPROCESSABLE_ENTITY,
+        "422 Unprocessable Entity",
+        "RoomRepeated",
+    ),
+    (
+        StatusCode::UNPROCESSABLE_ENTITY,
+        "422 Unprocessable Entity",
+        "UnknownRoom",
+    ),
+    (
+        StatusCode::UNPROCESSABLE_ENTITY,
+        "422 Unprocessable Entity",
+        "RoomShut",
+    ),
+];
+
+// The reason and the name of each status whose faults have one name; 405 has a test of its own.
 const FAULTS: [(StatusCode, &str, &str); 7] = [
     (StatusCode::BAD_REQUEST, "400 Bad Request", "BadRequest"),
     (StatusCode::FORBIDDEN, "403 Forbidden", "Forbidden"),
@@ -104,14 +130,31 @@ fn faults_with_their_reasons_and_names(rt: HostRuntime) -> Result<(), TypeFault>
     let alloc = rt.alloc();
     for (status, line, name) in FAULTS {
         let answer = HttpAnswer::fault(alloc, status, fault_name(status))?;
-        let length = name.len() + 12;
-        let wanted = format!(in alloc;
-            "HTTP/1.1 {line}\r\nContent-Type: application/json\r\nContent-Length: {length}\r\nConnection: close\r\n\r\n{{\"error\":\"{name}\"}}"
-        )?;
+        let wanted = fault_text(alloc, line, name)?;
         assert_eq!(rt; answer_bytes(alloc, &answer)?.as_slice(), wanted.as_bytes());
     }
     let unavailable = HttpAnswer::fault(alloc, StatusCode::SERVICE_UNAVAILABLE, "Unavailable")?;
     assert_eq!(rt; answer_bytes(alloc, &unavailable)?.as_slice(), UNAVAILABLE);
+    Ok(())
+}
+
+// The text of a fault's answer without the field `Allow`.
+fn fault_text(alloc: Global, line: &str, name: &str) -> Result<String, OutOfMemory> {
+    let length = name.len() + 12;
+    let text = format!(in alloc;
+        "HTTP/1.1 {line}\r\nContent-Type: application/json\r\nContent-Length: {length}\r\nConnection: close\r\n\r\n{{\"error\":\"{name}\"}}"
+    )?;
+    Ok(text)
+}
+
+#[test]
+fn faults_with_several_names(rt: HostRuntime) -> Result<(), TypeFault> {
+    let alloc = rt.alloc();
+    for (status, line, name) in NAMED_FAULTS {
+        let answer = HttpAnswer::fault(alloc, status, name)?;
+        let wanted = fault_text(alloc, line, name)?;
+        assert_eq!(rt; answer_bytes(alloc, &answer)?.as_slice(), wanted.as_bytes());
+    }
     Ok(())
 }
 
@@ -187,6 +230,9 @@ const BAD_BODIES: [&[u8]; 12] = [
     b"[\"H2\" \"H1\"]",
 ];
 
+// Bodies in which H2 stands twice.
+const REPEATED: [&[u8]; 2] = [b"[\"H2\",\"H2\"]", b"[\"H2\",\"V\",\"H2\"]"];
+
 #[test]
 fn lists_of_rooms_are_read(rt: HostRuntime) -> Result<(), TypeFault> {
     let alloc = rt.alloc();
@@ -195,6 +241,11 @@ fn lists_of_rooms_are_read(rt: HostRuntime) -> Result<(), TypeFault> {
     let spaced = choices_of_body(alloc, b" [ \"H2\" , \"\\u0056\" ]\r\n\t ")?;
     assert_eq!(rt; spaced.as_slice(), rooms(alloc, &["H2", "V"])?.as_slice());
     assert_eq!(rt; choices_of_body(alloc, b"[]")?.as_slice().len(), 0);
+    let most = listed(alloc, 40, "]")?;
+    assert_eq!(rt;
+        choices_of_body(alloc, most.as_bytes())?.as_slice().len(),
+        40
+    );
     Ok(())
 }
 
@@ -204,8 +255,12 @@ fn other_bodies_are_refused(rt: HostRuntime) -> Result<(), TypeFault> {
     for body in BAD_BODIES {
         assert!(rt; matches!(choices_of_body(alloc, body), Err(TypeFault::BadValue)));
     }
-    let repeated = choices_of_body(alloc, b"[\"H2\",\"V\",\"H2\"]");
-    assert!(rt; matches!(repeated, Err(TypeFault::RoomRepeated(_))));
+    for body in REPEATED {
+        match choices_of_body(alloc, body) {
+            Err(TypeFault::RoomRepeated(code)) => assert_eq!(rt; code, room(alloc, "H2")?),
+            Err(_) | Ok(_) => panic!(rt; "a room that stands twice is not told"),
+        }
+    }
     let many = listed(alloc, 41, "]")?;
     assert!(rt;
         matches!(

@@ -1,5 +1,6 @@
 //! What bytes ask: requests that are read, and the first fault of others.
 use crate::ask::{AskState, HEAD_LIMIT, read_ask};
+use crate::choices::choices_of_body;
 use std::test::Fail;
 
 // A list of rooms is handed in.
@@ -11,7 +12,7 @@ const REQUEST: &[u8] = b"PUT /me/choices HTTP/1.1\r\n\
     [\"H2\"]";
 
 // Heads without a body, and the status with which each is refused.
-const FAULTS: [(&[u8], u16); 24] = [
+const FAULTS: [(&[u8], u16); 25] = [
     (b"GET /me HTTP/1.1\r\nExpect: 100-continue\r\n\r\n", 400),
     (b"GET /me HTTP/1.1\r\nHost: a\r\nHost: a\r\n\r\n", 400),
     (b"GET /me HTTP/1.0\r\nHost: a\r\nhost: b\r\n\r\n", 400),
@@ -58,6 +59,10 @@ const FAULTS: [(&[u8], u16); 24] = [
     ),
     (
         b"PUT /none HTTP/1.1\r\nHost: a\r\nContent-Length: 1025\r\n\r\n",
+        413,
+    ),
+    (
+        b"PUT /me/choices HTTP/1.1\r\nHost: a\r\nContent-Length: 1025\r\n\r\n",
         413,
     ),
     (
@@ -165,7 +170,7 @@ fn paths_and_keys(rt: HostRuntime) {
                 assert_eq!(rt; path, wanted_path);
                 assert_eq!(rt; key, wanted_key);
             }
-            AskState::More | AskState::Fault(_) => panic!(rt; "no request of {wanted_path}"),
+            AskState::More | AskState::Fault(_) => panic!(rt; "a request is not read"),
         }
     }
 }
@@ -182,9 +187,32 @@ fn bodies_by_their_length(rt: HostRuntime) {
 }
 
 #[test]
+fn the_longest_body(rt: HostRuntime) -> Result<(), Fail> {
+    let alloc = rt.alloc();
+    let head = b"PUT /me/choices HTTP/1.1\r\nHost: a\r\nContent-Length: 1024\r\n\r\n[\"H2\"]";
+    let mut bytes = Vec::from_slice(alloc, head.as_slice())?;
+    for _ in 1..1_018 {
+        bytes.push(b' ')?;
+    }
+    assert!(rt; is_more(&bytes));
+    bytes.push(b' ')?;
+    match body_of(&bytes) {
+        Some(body) => {
+            assert_eq!(rt; body.len(), 1_024);
+            match choices_of_body(alloc, body) {
+                Ok(choices) => assert_eq!(rt; choices.as_slice().len(), 1),
+                Err(_) => panic!(rt; "the list is not read"),
+            }
+        }
+        None => panic!(rt; "the request is not read"),
+    }
+    Ok(())
+}
+
+#[test]
 fn heads_up_to_their_limits(rt: HostRuntime) -> Result<(), Fail> {
     let mut head = Vec::from_slice(rt.alloc(), b"GET / HTTP/1.1\r\nHost: ")?;
-    while head.len() < HEAD_LIMIT - 4 {
+    for _ in head.len()..HEAD_LIMIT - 4 {
         head.push(b'a')?;
     }
     assert!(rt; is_more(&head));
@@ -211,5 +239,33 @@ fn fields_up_to_their_limit(rt: HostRuntime) -> Result<(), Fail> {
     assert_eq!(rt; body_of(&head), Some(b"".as_slice()));
     more.extend_from_slice(b"A: b\r\n\r\n")?;
     assert_eq!(rt; status_of(&more), Some(400));
+    Ok(())
+}
+
+// Of bytes that come to be refused with 400: none of their fronts is a request, and once a front is refused, all longer
+// ones are.
+fn is_refused_from_some_front(bytes: &[u8]) -> bool {
+    let mut refused = false;
+    for length in 0..bytes.len() + 1 {
+        let front = &bytes[..length];
+        let refused_now = status_of(front) == Some(400);
+        if refused && !refused_now || !refused_now && !is_more(front) {
+            return false;
+        }
+        refused = refused_now;
+    }
+    refused
+}
+
+#[test]
+fn fronts_of_what_is_refused(rt: HostRuntime) -> Result<(), Fail> {
+    let mut head = Vec::from_slice(rt.alloc(), b"GET / HTTP/1.1\r\nHost: a\r\n")?;
+    for _ in 1..65 {
+        head.extend_from_slice(b"A: b\r\n")?;
+    }
+    head.extend_from_slice(b"\r\n")?;
+    assert!(rt; is_refused_from_some_front(&head));
+    assert!(rt; is_refused_from_some_front(b"GET /\xff HTTP/1.1\r\nHost: a\r\n\r\n"));
+    assert!(rt; !is_refused_from_some_front(REQUEST));
     Ok(())
 }
