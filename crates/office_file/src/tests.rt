@@ -50,7 +50,10 @@ fn makes_an_office_once(rt: HostRuntime) -> Result<(), Fail> {
     make_folder(&rt, "office_file_once")?;
     let path = "office_file_once/office.db";
     assert_eq!(rt; fault(create_file(&rt, path, Wary)), None);
-    assert_eq!(rt; fault(create_file(&rt, path, Wary)), Some(DeskFault::AlreadyThere));
+    assert_eq!(rt;
+        fault(create_file(&rt, path, Wary)),
+        Some(DeskFault::AlreadyThere)
+    );
     fs::remove_dir_all(&rt, "office_file_once")?;
     Ok(())
 }
@@ -78,9 +81,18 @@ fn finds_the_office_again(rt: HostRuntime) -> Result<(), Fail> {
     make_folder(&rt, "office_file_again")?;
     let path = "office_file_again/office.db";
     assert_eq!(rt; fault(create_file(&rt, path, Wary)), None);
-    assert_eq!(rt; room_added(rt.alloc(), on_file(&rt, path, Wary))?, Some((0, 1)));
-    assert_eq!(rt; fault(create_file(&rt, path, Wary)), Some(DeskFault::AlreadyThere));
-    assert_eq!(rt; room_added(rt.alloc(), on_file(&rt, path, Wary))?, Some((1, 1)));
+    assert_eq!(rt;
+        room_added(rt.alloc(), on_file(&rt, path, Wary))?,
+        Some((0, 1))
+    );
+    assert_eq!(rt;
+        fault(create_file(&rt, path, Wary)),
+        Some(DeskFault::AlreadyThere)
+    );
+    assert_eq!(rt;
+        room_added(rt.alloc(), on_file(&rt, path, Wary))?,
+        Some((1, 1))
+    );
     fs::remove_dir_all(&rt, "office_file_again")?;
     Ok(())
 }
