@@ -1,0 +1,41 @@
+#!/usr/bin/env bash
+# A whole small year over an office in a file, one line of the program after the other, and what SQLite's own shell then finds
+# in the file (Debian: apt-get install sqlite3). Run it as examples/files.sh; it must print examples/files.out.
+set -euo pipefail
+here=$(CDPATH= cd -- "$(dirname -- "$0")" && pwd)
+folder=$(mktemp -d)
+trap 'rm -rf "$folder"' EXIT
+office=$folder/office.db
+
+# Runs the program, tells which line it was, and its status where that is not 0.
+rooms() {
+    echo "> rooms $*"
+    "$here/../rooms" "$@" || echo "(status $?)"
+}
+
+# One line of the office.
+tell() {
+    echo "> $1"
+    local words
+    read -r -a words <<<"$1"
+    "$here/../rooms" do --db "$office" "${words[@]}" || echo "(status $?)"
+}
+
+look() {
+    echo "sqlite3> $1"
+    sqlite3 -readonly "$office" "$1"
+}
+
+cd "$folder"
+rooms new --db office.db
+rooms new --db office.db
+rooms do --db missing.db rooms
+while read -r line; do
+    case $line in "" | "#"*) ;; *) tell "$line" ;; esac
+done <"$here/year.txt"
+look "PRAGMA integrity_check;"
+look "PRAGMA foreign_key_check;"
+look "SELECT name FROM sqlite_schema WHERE type = 'table' ORDER BY name;"
+look "SELECT id, name, home FROM person ORDER BY id;"
+look "SELECT * FROM round;"
+look "SELECT * FROM move ORDER BY round, person;"
