@@ -6,9 +6,9 @@ use Rattle.office_store.specs.LawfulSteps.{HandlesLawfully}
 use Rattle.office_lines.specs.declared.ending.Ending.{Ending}
 use Rattle.office_words.specs.declared.word_fault.WordFault.{WordFault}
 use Rattle.office_words.specs.declared.word_fault.WordFault.TheVariants.{NotUnderstood, OutOfMemory}
-use Rattle.office_cli.specs.InFile.{DoesInFile, MakesInFile}
+use Rattle.office_cli.specs.InFile.{DoesInFile, ExportsInFile, MakesInFile, ServesInFile}
 use Rattle.office_cli.specs.Programs.{Line, program_of}
-use Rattle.office_cli.specs.Programs.Line.{makes, does, rehearses, prints}
+use Rattle.office_cli.specs.Programs.Line.{makes, does, rehearses, prints, exports, serves}
 use Rattle.office_lines.specs.Rehearsals.{Rehearses}
 use Rattle.room_types.specs.Streams.{Input, Output}
 use Rattle.office_lines.specs.Saying.{Says, SaysUnavailable}
@@ -38,6 +38,8 @@ module _ {D : Type 0} (g : Ghosts D) (contents : Image) where
   DoesLine (Some (does path words)) status input input' out out' error error' = DoesInFile g contents words status out out' × (error' ≡ error) × (input' ≡ input)
   DoesLine (Some rehearses) status input input' out out' error error' = RehearsesAnew status input input' out out' × (error' ≡ error)
   DoesLine (Some (prints seed count)) status input input' out out' error error' = Says (words_text seed count) 0 status out out' × (error' ≡ error) × (input' ≡ input)
+  DoesLine (Some (exports path kind)) status input input' out out' error error' = ExportsInFile g contents kind status out out' × (error' ≡ error) × (input' ≡ input)
+  DoesLine (Some (serves path port count)) status input input' out out' error error' = ServesInFile g contents port count status out out' × (error' ≡ error) × (input' ≡ input)
   DoesLine None status input input' out out' error error' = Refuses NotUnderstood status out out' error error' × (input' ≡ input)
 
   -- What the words ask for is done. Or memory is wanting to read them; no words take none.

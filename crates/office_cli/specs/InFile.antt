@@ -6,13 +6,17 @@ use Rattle.sqlite.specs.State.{HasCleanDisk}
 use Rattle.sqlite_disk.specs.declared.Disk.{Ghosts}
 use Rattle.sqlite_store.specs.declared.store.FileStore.{FileStore}
 use Rattle.sqlite_wal.specs.Recovery.{Image}
+use Rattle.office_cli.specs.AtDesk.{EndsExport, SendsExport}
 use Rattle.office_cli.specs.DeskFaults.{RefusesDesk}
 use Rattle.office_core.specs.Office.{empty_office}
 use Rattle.office_core.specs.declared.office.Office.{Office}
-use Rattle.office_file.specs.Adopted.{IsFileFault}
+use Rattle.office_export.specs.Exports.{exported}
+use Rattle.office_file.specs.Adopted.{BeginsFound, IsFileFault}
 use Rattle.office_file.specs.Files.{BeginsBlank, IsCreateFault, IsOpenedOver}
 use Rattle.office_lines.specs.Saying.{Says}
 use Rattle.office_lines.specs.SingleLines.{DoesWords}
+use Rattle.office_lists.specs.Exports.{export_bytes}
+use Rattle.office_lists.specs.declared.exports.ExportKind.{ExportKind}
 use Rattle.office_load.specs.Finding.{AreDeclared, AreWhole}
 use Rattle.office_store.specs.Desk.{DeskState, HandlesAt, Shows, StandsFor}
 use Rattle.office_store.specs.LawfulSteps.{HandlesLawfully}
@@ -20,6 +24,7 @@ use Rattle.office_store.specs.declared.desk.faults.DeskFault.{DeskFault}
 use Rattle.office_tables.specs.Steps.{Follows}
 use Rattle.office_tables.specs.Tables.{HoldsOffice}
 use Rattle.office_texts.specs.OutputLines.{line_of}
+use Rattle.resident_server.specs.Serving.{ServesPort}
 use Rattle.room_types.specs.Streams.{Output}
 use Rattle.room_types.specs.Texts.{Text}
 
@@ -65,4 +70,36 @@ module _ {D : Type 0} (g : Ghosts D) (contents : Image) where
   abbrev pub DoesInFile : List Text → ℕ → Output → Output → Type 0
   DoesInFile words status out out' =
       DoesFound words status out out'
+      ⊎ ((fault : DeskFault) × IsFileFault {g = g} contents (Err fault) × RefusesDesk fault status out out')
+
+  -- A desk over the database that an opening found writes the export. Where the disk returned what was written, and the
+  -- tables were declared as those of an office, they were the rows of an office, whose export it is.
+  pub record ExportsFound (kind : ExportKind) (status : ℕ) (out out' : Output) : Type 0 where
+    pub found : Held (FileStore D g)
+    pub opened : IsOpenedOver contents found
+    pub last : FileDesk
+    pub follows : Follows (file_state found) (file_state last.conn)
+    pub told : EndsExport kind status out out'
+    pub done : HasCleanDisk (file_state last.conn) → AreDeclared (file_state found).now.schema
+        → AreWhole (file_state found).now.trees
+        → (office : Office) × HoldsOffice (file_state found).now office
+        × SendsExport (export_bytes (exported kind office)) status out out' × StandsFor over_files last office
+
+  -- the export of the office in the file is written, or it is said why there is no office
+  abbrev pub ExportsInFile : ExportKind → ℕ → Output → Output → Type 0
+  ExportsInFile kind status out out' =
+      ExportsFound kind status out out'
+      ⊎ ((fault : DeskFault) × IsFileFault {g = g} contents (Err fault) × RefusesDesk fault status out out')
+
+  -- A desk over the database that an opening found, which begins with what the file held, serves residents.
+  pub record ServesFound (port count status : ℕ) (out out' : Output) : Type 0 where
+    pub desk : FileDesk
+    pub last : FileDesk
+    pub begins : BeginsFound contents desk
+    pub serves : ServesPort over_files desk last port count status out out'
+
+  -- residents are served by the office in the file, or it is said why there is none
+  abbrev pub ServesInFile : ℕ → ℕ → ℕ → Output → Output → Type 0
+  ServesInFile port count status out out' =
+      ServesFound port count status out out'
       ⊎ ((fault : DeskFault) × IsFileFault {g = g} contents (Err fault) × RefusesDesk fault status out out')

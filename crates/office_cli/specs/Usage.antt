@@ -40,9 +40,20 @@ number low high name = record (option name) { parser = Some (parser.Signed (pos 
 abbrev pub words_usage : App
 words_usage = with_rule (with_rule (new_app (codes "words")) (option (codes "seed"))) (number 0 2000 (codes "count"))
 
+-- one word in its place, which has to be there
+abbrev pub operand : Text → Rule
+operand name = record (new_rule name) { action = Some Set; required = true }
+
+abbrev pub export_usage : App
+export_usage = with_rule (with_rule (new_app (codes "export")) (option (codes "db"))) (operand (codes "kind"))
+
+abbrev pub serve_usage : App
+serve_usage = with_rule (with_rule (with_rule (new_app (codes "serve")) (option (codes "db"))) (number 1 65535 (codes "port")))
+    (number 1 1000000 (codes "count"))
+
 abbrev pub usage : App
-usage = with_subcommand (with_subcommand (with_subcommand (with_subcommand plain_usage new_usage.top) do_usage.top)
-    rehearse_usage.top) words_usage.top
+usage = with_subcommand (with_subcommand (with_subcommand (with_subcommand (with_subcommand (with_subcommand plain_usage
+    new_usage.top) do_usage.top) rehearse_usage.top) words_usage.top) export_usage.top) serve_usage.top
 
 -- the command is this one, and no argument of it is global
 abbrev pub IsCommand : App → Command → Type 0

@@ -7,7 +7,7 @@ ghost use Rattle.office_cli.specs.InFile.{no_contents};
 ghost use Rattle.office_lines.specs.Lines.{read_limit};
 ghost use Rattle.sqlite_wal.specs.Files.{image_at};
 
-use crate::in_file::{do_in_file, make_in_file};
+use crate::in_file::{do_in_file, export_in_file, make_in_file, serve_in_file};
 use crate::program::program;
 use crate::usage::Program;
 use crate::word_lines::words_text;
@@ -76,6 +76,16 @@ pub fn carry_out_from<'a, S: Start, R: Read, W: Write, E: Write>(
             Ok(text) => say(output, text.as_str(), ACCEPTED),
             Err(_) => refuse(WordFault::OutOfMemory, output, error),
         },
+        Ok(Program::Export { database, kind }) => {
+            export_in_file(rt, database, start, kind, output)
+        }
+        Ok(
+            Program::Serve {
+                database,
+                port,
+                count,
+            },
+        ) => serve_in_file(rt, database, start, port, count, output),
         Err(fault) => refuse(fault, output, error),
     }
 }

@@ -1,13 +1,15 @@
 //! The words after the program's name.
-ghost use Rattle.std.specs.Prelude.{◌≡◌, ◌≢◌, ◌<◌, IfErr, length, map, option_map};
+ghost use Rattle.std.specs.Prelude.{◌≡◌, ◌≢◌, ◌<◌, ◌≤◌, IfErr, IfSome, length, map, option_map};
 ghost use Rattle.clap.specs.Words.{all_of, first_of, found_of, kind_of, rows_of};
-ghost use Rattle.office_cli.specs.Programs.{do_line, entered_line, line_of, new_line, number_of, program_of, words_line};
+ghost use Rattle.office_cli.specs.Programs.{do_line, entered_line, export_line, kind_named, line_of, new_line, number_of};
+ghost use Rattle.office_cli.specs.Programs.{program_of, serve_line, words_line};
 ghost use Rattle.office_words.specs.Understanding.{UnderstandsAs};
 
 use crate::seeds::seed_of;
-use crate::usage::{Program, WORDS_LIMIT, rooms_command};
+use crate::usage::{CONNECTIONS_LIMIT, PORT_LIMIT, Program, WORDS_LIMIT, rooms_command};
 use clap::error::ErrorKind;
 use clap::{ArgMatches, Error};
+use office_lists::ExportKind;
 use office_words::WordFault;
 use std::alloc::Global;
 
@@ -46,6 +48,8 @@ fn entered_line<'a>(
         "do" => do_line(alloc, entries),
         "rehearse" => Ok(Program::Rehearse),
         "words" => understood(words_line(entries)),
+        "export" => understood(export_line(entries)),
+        "serve" => understood(serve_line(entries)),
         _ => Err(WordFault::NotUnderstood),
     }
 }
@@ -82,8 +86,41 @@ fn words_line<'a>(entries: &ArgMatches<'a>) -> Option<Program<'a>>
     ensures { option_map line_of result ≡ words_line (rows_of (found_of entries.now)) }
 {
     let seed = seed_of(text(entries, "seed")?)?;
-    let count = number(entries, "count", WORDS_LIMIT)?;
+    let count = number(entries, "count", 0, WORDS_LIMIT)?;
     Some(Program::Words { seed, count })
+}
+
+fn export_line<'a>(entries: &ArgMatches<'a>) -> Option<Program<'a>>
+    ensures { option_map line_of result ≡ export_line (rows_of (found_of entries.now)) }
+{
+    let database = text(entries, "db")?;
+    let kind = kind_named(text(entries, "kind")?)?;
+    Some(Program::Export { database, kind })
+}
+
+// The export of this name.
+fn kind_named(name: &str) -> Option<ExportKind>
+    ensures { result ≡ kind_named name.now }
+{
+    match name {
+        "rooms" => Some(ExportKind::Rooms),
+        "people" => Some(ExportKind::People),
+        "moves" => Some(ExportKind::Moves),
+        _ => None,
+    }
+}
+
+fn serve_line<'a>(entries: &ArgMatches<'a>) -> Option<Program<'a>>
+    ensures { option_map line_of result ≡ serve_line (rows_of (found_of entries.now)) }
+{
+    let database = text(entries, "db")?;
+    let port = number(entries, "port", 1, PORT_LIMIT)?;
+    let count = number(entries, "count", 1, CONNECTIONS_LIMIT)?;
+    Some(Program::Serve {
+        database,
+        port: port as u16,
+        count,
+    })
 }
 
 // The text that the argument was given.
@@ -102,12 +139,18 @@ fn texts<'m, 'a>(entries: &'m ArgMatches<'a>, id: &str) -> Option<&'m [&'a str]>
     entries.get_strs(id)
 }
 
-// The number up to `most` that the argument was given.
-fn number(entries: &ArgMatches, id: &str, most: u32) -> Option<u32>
-    ensures { result ≡ number_of 0 most id.now (rows_of (found_of entries.now)) }
+// The number from `least` to `most` that the argument was given.
+fn number(entries: &ArgMatches, id: &str, least: u32, most: u32) -> Option<u32>
+    ensures given { result ≡ number_of least most id.now (rows_of (found_of entries.now)) }
+    ensures within { IfSome result (λ n. n ≤ most) }
 {
     match entries.get_one::<u32>(id) {
-        Some(n) => { if n > most { None } else { Some(n) } }
+        Some(n) => {
+            if n < least {
+                return None;
+            }
+            if n > most { None } else { Some(n) }
+        }
         None => None,
     }
 }

@@ -3,6 +3,7 @@ mod at_desks;
 mod compared;
 mod draw;
 mod example;
+mod exports;
 mod failing;
 mod file_lines;
 mod lines;

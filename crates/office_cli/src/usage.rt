@@ -1,10 +1,12 @@
 //! The lines of the program, as `clap` reads them.
 ghost use Rattle.std.specs.Prelude.{◌≡◌, IfOk, false};
 ghost use Rattle.clap.specs.Words.{app_of, rule_of};
-ghost use Rattle.office_cli.specs.Usage.{IsCommand, do_usage, new_usage, option as option_rule, plain_usage, usage, words_usage};
+ghost use Rattle.office_cli.specs.Usage.{IsCommand, do_usage, export_usage, new_usage, operand as operand_rule};
+ghost use Rattle.office_cli.specs.Usage.{option as option_rule, plain_usage, serve_usage, usage, words_usage};
 
 use crate::seeds::Seed;
 use clap::{Arg, ArgAction, Command};
+use office_lists::ExportKind;
 use std::alloc::{AllocError, Global};
 
 /// A line of the program.
@@ -26,10 +28,27 @@ pub enum Program<'a> {
         seed: Seed,
         count: u32,
     },
+    /// The office in the file of this path is exported as CSV.
+    Export {
+        database: &'a str,
+        kind: ExportKind,
+    },
+    /// So many connections on this port of 127.0.0.1 are served by the office in the file of this path.
+    Serve {
+        database: &'a str,
+        port: u16,
+        count: u32,
+    },
 }
 
 /// How many words are printed at most.
 pub const WORDS_LIMIT: u32 = 2000;
+
+/// The greatest port.
+pub const PORT_LIMIT: u32 = 65_535;
+
+/// How many connections are served at most.
+pub const CONNECTIONS_LIMIT: u32 = 1_000_000;
 
 /// The program with its subcommands.
 pub fn rooms_command<'a>(alloc: Global) -> Result<Command<'a>, AllocError>
@@ -39,11 +58,15 @@ pub fn rooms_command<'a>(alloc: Global) -> Result<Command<'a>, AllocError>
     let hear = do_command(alloc)?;
     let rehearse = Command::new(alloc, "rehearse");
     let words = words_command(alloc)?;
+    let export = export_command(alloc)?;
+    let serve = serve_command(alloc)?;
     plain_command(alloc)
         .subcommand(make)?
         .subcommand(hear)?
         .subcommand(rehearse)?
-        .subcommand(words)
+        .subcommand(words)?
+        .subcommand(export)?
+        .subcommand(serve)
 }
 
 // `new --db FILE`.
@@ -72,6 +95,36 @@ fn words_command<'a>(alloc: Global) -> Result<Command<'a>, AllocError>
     let seed = option(alloc, "seed");
     let count = option(alloc, "count").value_parser(clap::value_parser!(u32).range(0..=2000));
     Command::new(alloc, "words").arg(seed)?.arg(count)
+}
+
+// `export --db FILE KIND`.
+fn export_command<'a>(alloc: Global) -> Result<Command<'a>, AllocError>
+    ensures { IfOk result (IsCommand export_usage) }
+{
+    Command::new(alloc, "export")
+        .arg(option(alloc, "db"))?
+        .arg(operand(alloc, "kind"))
+}
+
+// One word in its place, which has to be there.
+fn operand<'a>(alloc: Global, name: &'a str) -> Arg<'a>
+    ensures rule { rule_of result ≡ operand_rule name.entry.now }
+    ensures local { result.global ≡ false }
+{
+    Arg::new(alloc, name).action(ArgAction::Set).required(true)
+}
+
+// `serve --db FILE --port N --count K`.
+fn serve_command<'a>(alloc: Global) -> Result<Command<'a>, AllocError>
+    ensures { IfOk result (IsCommand serve_usage) }
+{
+    let database = option(alloc, "db");
+    let port = option(alloc, "port").value_parser(clap::value_parser!(u32).range(1..=65535));
+    let count = option(alloc, "count").value_parser(clap::value_parser!(u32).range(1..=1000000));
+    Command::new(alloc, "serve")
+        .arg(database)?
+        .arg(port)?
+        .arg(count)
 }
 
 // `--name VALUE`, which has to be there.

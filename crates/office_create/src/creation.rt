@@ -1,5 +1,5 @@
 //! Making an office in a database.
-ghost use Rattle.std.specs.Prelude.{◌≡◌, false, Err, OnOk, OnErr, IfErr, IsTrue};
+ghost use Rattle.std.specs.Prelude.{◌≡◌, ◌≢◌, false, Err, OnOk, OnErr, IfErr, IsTrue};
 ghost use Rattle.sqlite.specs.Held.{state};
 ghost use Rattle.sqlite.specs.State.{HasCleanDisk};
 ghost use Rattle.office_core.specs.Office.{empty_office};
@@ -20,7 +20,7 @@ use sqlite::{Alter, Connection, Error, Transaction};
 pub enum CreateFault {
     /// The database or memory did not serve, or something is declared, though under none of the eight names.
     Unavailable,
-    /// A table, an index or a view has the name of one of the eight tables of an office.
+    /// A table, an index, a view or a trigger has the name of one of the eight tables of an office.
     AlreadyThere,
 }
 
@@ -29,7 +29,8 @@ pub enum CreateFault {
 /// # Errors
 ///
 /// `AlreadyThere` exactly where one of the names is taken. Else `Unavailable`, where something else is declared, or
-/// where the database or memory did not serve. The tables are then as they were, unless a fault shut the connection.
+/// where the database or memory did not serve. The tables are then as they were, unless a fault shut the connection or, over a
+/// file, the disk did not return what was written. Where anything is declared, no statement runs.
 pub fn create<S: Alter>(conn: &mut Connection<S>) -> Result<(), CreateFault>
     requires { conn.old.in_transaction ≡ false }
     ensures outside { conn.new.in_transaction ≡ false }
@@ -45,6 +46,9 @@ pub fn create<S: Alter>(conn: &mut Connection<S>) -> Result<(), CreateFault>
         → NameIsTaken (state S.Store conn.old).now) }
     ensures told { NameIsTaken (state S.Store conn.old).now
         → (result ≡ Err CreateFault.AlreadyThere) × (conn.new ≡ conn.old) }
+    ensures foreign { ¬ NameIsTaken (state S.Store conn.old).now
+        → (state S.Store conn.old).now.schema ≢ no_schema
+        → (result ≡ Err CreateFault.Unavailable) × (conn.new ≡ conn.old) }
 {
     if is_taken(conn.schema()) {
         return Err(CreateFault::AlreadyThere);

@@ -6,7 +6,8 @@ ghost use Rattle.office_tables.specs.Schema.{no_schema};
 use sqlite_catalog::layout::is_used;
 use sqlite_schema::schema::Schema;
 
-/// Whether a table, an index or a view has the name of a table of an office.
+/// Whether a table, an index, a view or a trigger has the name of a table of an office. A trigger is listed among the views, as
+/// a table is that the engine does not understand.
 pub(crate) fn is_taken(schema: &Schema) -> bool
     ensures { result ≡ is_taken schema.now }
 {

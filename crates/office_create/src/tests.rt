@@ -23,10 +23,21 @@ fn makes_the_tables_once(rt: HostRuntime) -> Result<(), Fail> {
 #[test]
 fn leaves_what_others_declared(rt: HostRuntime) -> Result<(), Fail> {
     let mut conn = Connection::open_in_memory(rt.alloc())?;
-    conn.execute("CREATE TABLE note(text TEXT)", &[])?;
+    conn.execute_batch("CREATE TABLE note(text TEXT); INSERT INTO note VALUES ('Dear Tim')")?;
     let outside = conn.is_autocommit();
     assert!(rt; outside);
     assert_eq!(rt; create(&mut conn), Err(CreateFault::Unavailable));
+    let notes: i64 = conn
+        .query_row("SELECT count(*) FROM note WHERE text = 'Dear Tim'", &[])?
+        .get(0)?;
+    assert_eq!(rt; notes, 1);
+    let others: i64 = conn
+        .query_row(
+            "SELECT count(*) FROM sqlite_schema WHERE name <> 'note'",
+            &[],
+        )?
+        .get(0)?;
+    assert_eq!(rt; others, 0);
     Ok(())
 }
 

@@ -4,7 +4,7 @@ use Rattle.sqlite_disk.specs.declared.Disk.{Ghosts}
 use Rattle.sqlite_store.specs.declared.store.FileStore.{FileStore}
 use Rattle.sqlite_wal.specs.Recovery.{Image}
 use Rattle.sqlite.specs.Files.{file_state}
-use Rattle.sqlite.specs.Held.{Held}
+use Rattle.sqlite.specs.Held.{Held, IsNew}
 use Rattle.sqlite.specs.Start.{FindsIn}
 use Rattle.sqlite.specs.State.{HasCleanDisk, IsLive, Opens, State}
 use Rattle.office_create.specs.Names.{NameIsTaken}
@@ -21,10 +21,23 @@ pub record Finds (contents : Image) (s : State) : Type 0 where
   pub live : IsLive s
   pub found : FindsIn contents s
 
+module _ {D : Type 0} {g : Ghosts D} where
+  -- The database of a connection is refused for this: `AlreadyThere` exactly where a name is taken. Its tables are then as
+  -- they were, as long as no fault shuts the connection.
+  pub record MayRefuseNew (connection refused : Held (FileStore D g)) (fault : DeskFault) : Type 0 where
+    pub follows : Follows (file_state connection) (file_state refused)
+    pub undone : IsHonest (file_state refused) → (file_state refused).now ≡ (file_state connection).now
+    pub cause : (fault ≡ Unavailable) ⊎ ((fault ≡ AlreadyThere) × NameIsTaken (file_state connection).now)
+    pub taken : NameIsTaken (file_state connection).now → fault ≡ AlreadyThere
+
+  abbrev pub RefusesNew : Held (FileStore D g) → Result (DeskState (FileStore D g)) DeskFault → Type 0
+  RefusesNew connection result = IfErr result (λ fault. (refused : Held (FileStore D g)) × MayRefuseNew connection refused fault)
+
 module _ {D : Type 0} {g : Ghosts D} (contents : Image) where
-  -- a connection just opened over files that held this, where the disk returned what they held
-  abbrev pub IsOpenedOver : Held (FileStore D g) → Type 0
-  IsOpenedOver connection = HasCleanDisk (file_state connection) → Finds contents (file_state connection)
+  -- a connection just opened, over files that held this where the disk returned what they held
+  pub record IsOpenedOver (connection : Held (FileStore D g)) : Type 0 where
+    pub fresh : IsNew connection
+    pub finds : HasCleanDisk (file_state connection) → Finds contents (file_state connection)
 
   -- the desk goes on from an opening that found nothing declared
   pub record BeginsBlank (desk : DeskState (FileStore D g)) : Type 0 where
@@ -33,16 +46,8 @@ module _ {D : Type 0} {g : Ghosts D} (contents : Image) where
     pub blank : (file_state connection).now.schema ≡ no_schema
     pub follows : Follows (file_state connection) (file_state desk.conn)
 
-  -- What an opening found is refused for this. Its tables are then as they were found, as long as no fault shuts the
-  -- connection.
-  pub record MayRefuseNew (connection refused : Held (FileStore D g)) (fault : DeskFault) : Type 0 where
-    pub opened : IsOpenedOver connection
-    pub follows : Follows (file_state connection) (file_state refused)
-    pub undone : IsHonest (file_state refused) → (file_state refused).now ≡ (file_state connection).now
-    pub cause : (fault ≡ Unavailable) ⊎ ((fault ≡ AlreadyThere) × NameIsTaken (file_state connection).now)
-
   -- the files were not opened, or what an opening found is refused
   abbrev pub IsCreateFault : Result (DeskState (FileStore D g)) DeskFault → Type 0
   IsCreateFault result =
-      IfErr result (λ fault. (fault ≡ Unavailable) ⊎ ((connection : Held (FileStore D g)) × (refused : Held (FileStore D g))
-      × MayRefuseNew connection refused fault))
+      IfErr result (λ fault. (fault ≡ Unavailable) ⊎ ((connection : Held (FileStore D g)) × IsOpenedOver connection
+      × (refused : Held (FileStore D g)) × MayRefuseNew connection refused fault))

@@ -1,28 +1,31 @@
 //! An empty office in a file.
-ghost use Rattle.std.specs.Prelude.{IfOk};
+ghost use Rattle.std.specs.Prelude.{◌≡◌, false, IfOk, IsErrAnd, OnOk, Some};
 ghost use Rattle.sqlite_wal.specs.Files.{image_at};
 ghost use Rattle.sqlite.specs.Files.{file_state, over_files};
 ghost use Rattle.sqlite.specs.State.{HasCleanDisk};
 ghost use Rattle.office_core.specs.Office.{empty_office};
-ghost use Rattle.office_file.specs.Files.{BeginsBlank, IsCreateFault};
+ghost use Rattle.office_create.specs.Names.{NameIsTaken};
+ghost use Rattle.office_file.specs.Files.{BeginsBlank, IsCreateFault, RefusesNew};
 ghost use Rattle.office_store.specs.Desk.{Shows};
+ghost use Rattle.office_tables.specs.Schema.{no_schema};
+ghost use Rattle.office_tables.specs.Steps.{Follows};
 
-use crate::opening::open;
+use crate::opening::{FileConnection, open_file};
 use office_store::{Desk, DeskFault};
 use sqlite::{FileFrom, FileStore, Start};
+use std::alloc::Global;
 
 /// A desk over a file and its log, which held what `S` stands for.
 pub type FileDesk<S> = Desk<FileStore<FileFrom<S>>>;
 
 /// A desk over the file at this path, in which it makes the tables of the empty office. A missing file is made. `start`
-/// stands for what the file and its log held, which no code can know: a caller that is generic in it promises what it
-/// promises for any contents, and the outermost one names `Wary`, which supposes nothing of a write that is cut off.
+/// stands for what the file and its log held, as for `open_file`.
 ///
 /// # Errors
 ///
-/// `AlreadyThere` only where a table, an index or a view of the file has one of the eight names. Else `Unavailable`:
-/// the path names no file that can be opened, the file is no database, other tables are there, or the disk or memory
-/// did not serve. The tables of the file stay as they were.
+/// `AlreadyThere` only where a table, an index, a view or a trigger of the file has one of the eight names. Else
+/// `Unavailable`: the path names no file that can be opened, the file is no database, other tables are there, or the
+/// disk or memory did not serve. The tables of the file stay as they were.
 pub fn create_file<S: Start>(
     rt: &HostRuntime,
     path: &str,
@@ -30,11 +33,37 @@ pub fn create_file<S: Start>(
 ) -> Result<FileDesk<S>, DeskFault>
     ensures shows { IfOk result
         (λ desk. HasCleanDisk (file_state desk.conn) → Shows over_files desk empty_office) }
+    ensures kept { IfOk result (λ desk. desk.kept ≡ Some empty_office) }
     ensures blank { IfOk result (BeginsBlank (image_at S.Start)) }
     ensures cause { IsCreateFault (image_at S.Start) result }
 {
-    let connection = open(rt, path, start)?;
-    match Desk::create(rt.alloc(), connection) {
+    let connection = open_file(rt, path, start)?;
+    create_over(rt.alloc(), connection)
+}
+
+/// A desk over the database of this connection, in which it makes the tables of the empty office. It is `Desk::create`, but
+/// that a connection which is refused is let go.
+///
+/// # Errors
+///
+/// `AlreadyThere` exactly where a table, an index, a view or a trigger has one of the eight names. Else `Unavailable`:
+/// something else is declared, or the disk or memory did not serve. The tables of the file stay as they were.
+pub fn create_over<S: Start>(
+    alloc: Global,
+    connection: FileConnection<S>,
+) -> Result<FileDesk<S>, DeskFault>
+    requires { connection.in_transaction ≡ false }
+    ensures follows { IfOk result
+        (λ desk. Follows (file_state connection) (file_state desk.conn)) }
+    ensures shows { IfOk result
+        (λ desk. HasCleanDisk (file_state desk.conn) → Shows over_files desk empty_office) }
+    ensures kept { IfOk result (λ desk. desk.kept ≡ Some empty_office) }
+    ensures blank { OnOk result ((file_state connection).now.schema ≡ no_schema) }
+    ensures taken { NameIsTaken (file_state connection).now
+        → IsErrAnd result (λ fault. fault ≡ DeskFault.AlreadyThere) }
+    ensures refuses { RefusesNew connection result }
+{
+    match Desk::create(alloc, connection) {
         Ok(desk) => Ok(desk),
         Err(back) => Err(back.fault),
     }

@@ -4,11 +4,12 @@
 pub mod closing;
 pub mod creating;
 pub mod finding;
-mod opening;
+pub mod opening;
 
 pub use crate::closing::let_go;
-pub use crate::creating::{FileDesk, create_file};
-pub use crate::finding::on_file;
+pub use crate::creating::{FileDesk, create_file, create_over};
+pub use crate::finding::{adopt_over, on_file};
+pub use crate::opening::{FileConnection, open_file, open_present_file};
 
 #[cfg(test)]
 mod tests;

@@ -240,6 +240,7 @@ module _ {H : Type 0} (handles : H → Request → Answer → H → Type 0) wher
       record {
         answers = h.said ∷ [];
         run = rw (one_unended s.partial_line some) (t.handler, h.step, refl);
+        partial_line = h.partial_line;
         written = rw text h.written;
         flushed = h.flushes;
         failed = h.failed;

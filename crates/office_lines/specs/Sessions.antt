@@ -112,10 +112,11 @@ module _ {H : Type 0} (handles : H → Request → Answer → H → Type 0) wher
     pub all : sent + unsent ≡ length (text_of said)
     pub suits : Suits ending (before.sent + sent) sent unsent 0
 
-  -- The last line, if one has begun, was answered, its text went out, and the output was flushed so often in all.
+  -- The last line, if one has begun, was answered and is gone, its text went out, and the output was flushed so often in all.
   pub record Finished (before after : State H) (flushes : ℕ) : Type 0 where
     pub answers : List Said
     pub run : Run handles before.handler (unended before.partial_line) answers after.handler
+    pub partial_line : after.partial_line ≡ []
     pub written : Puts before.out after.out (texts_of answers)
     pub flushed : after.out.flushes ≡ flushes
     pub failed : after.out.failed ≡ before.out.failed

@@ -8,16 +8,17 @@ use Rattle.office_texts.specs.declared.said.Said.TheVariants.{NotUnderstood}
 use Rattle.office_lines.specs.Lines.{is_line_end, is_short}
 use Rattle.office_lines.specs.Runs.{Step}
 use Rattle.office_lines.specs.Saying.{Says, SaysUnavailable}
-use Rattle.office_texts.specs.Texts.{status_of, text_of}
+use Rattle.office_texts.specs.Texts.{is_constant, status_of, text_of}
 use Rattle.office_words.specs.Values.{joined}
 use Rattle.room_types.specs.Streams.{Output}
 use Rattle.room_types.specs.Texts.{Text}
 
--- What is said goes out, with its status. Or memory is wanting for its text, which has bytes: none goes out, and the status is 3.
+-- What is said goes out, with its status. Or memory is wanting to make its text, which has bytes: none goes out, and the status
+-- is 3.
 abbrev pub Tells : Said → ℕ → Output → Output → Type 0
 Tells said status out out' =
     Says (text_of said) (status_of said) status out out'
-    ⊎ ((status ≡ 3) × (0 < length (text_of said)) × (out' ≡ out))
+    ⊎ ((status ≡ 3) × (is_constant said ≡ false) × (0 < length (text_of said)) × (out' ≡ out))
 
 -- it holds a line feed, so it is not one line
 abbrev pub is_broken : Text → Bool
@@ -29,7 +30,7 @@ module _ {H : Type 0} (handles : H → Request → Answer → H → Type 0) wher
   abbrev pub DoesText : H → Text → ℕ → H → Output → Output → Type 0
   DoesText old text status new out out' =
       ((is_broken text ≡ false) × (is_short text ≡ true) × (said : Said) × Step handles old text said new × Tells said status out out')
-      ⊎ ((is_broken text ≡ true) × (new ≡ old) × Tells NotUnderstood status out out')
+      ⊎ ((is_broken text ≡ true) × (new ≡ old) × Says (text_of NotUnderstood) 2 status out out')
       ⊎ ((is_broken text ≡ false) × (is_short text ≡ false) × (new ≡ old) × (status ≡ 3) × (out' ≡ out))
 
   -- The words are joined by one space and heard as a line. Or memory is wanting to join them, and nothing is handled.

@@ -9,7 +9,7 @@ use crate::hearing::hear;
 use crate::limits::LINE_LIMIT;
 use crate::say::say;
 use office_store::Handler;
-use office_texts::{Said, UNAVAILABLE, status_of, text_of};
+use office_texts::{NOT_UNDERSTOOD, Said, UNAVAILABLE, status_of, text_of};
 use room_types::Watched;
 use std::alloc::Global;
 use std::io::Write;
@@ -52,7 +52,7 @@ pub fn do_line<H: Handler, W: Write>(
     ensures ready { H.is_ready handler.new }
 {
     if is_broken(line) {
-        return tell(alloc, &Said::NotUnderstood, output);
+        return say(output, "not understood\n", NOT_UNDERSTOOD);
     }
     if line.len() > LINE_LIMIT {
         return UNAVAILABLE;

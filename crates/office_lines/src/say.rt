@@ -1,6 +1,6 @@
 //! A text is said, with its status.
 ghost use Rattle.room_types.specs.Streams.{output_of};
-ghost use Rattle.room_types.specs.Watched.{IsFresh, StopsAtFailure};
+ghost use Rattle.room_types.specs.Watched.{StopsAtFailure};
 ghost use Rattle.office_lines.specs.Saying.{Says};
 
 use office_texts::UNAVAILABLE;
@@ -10,7 +10,6 @@ use std::io::Write;
 
 /// Writes the text and flushes. The exit status is this one, and 3 where the device fails.
 pub fn say<W: Write>(output: &mut Watched<W>, text: &str, status: u8) -> u8
-    requires fresh { IsFresh output.old }
     ensures no_late_write { StopsAtFailure output.old output.new }
     ensures says { Says text.now status result (output_of W.contents output.old)
         (output_of W.contents output.new) }

@@ -42,7 +42,7 @@ pub enum FindFault {
 /// `NotAnOffice` where nothing has the name of the table of the round, and else only where its row holds no other
 /// version and the tables are no office's rows; `OtherVersion` only where the row of the round holds that version.
 /// `Unavailable` comes from the database or from memory, and where the eight tables do not stand there, in their order,
-/// alone.
+/// alone. There no statement runs.
 pub fn find<S: Alter>(alloc: Global, conn: &mut Connection<S>) -> Result<Office, FindFault>
     requires { conn.old.in_transaction ≡ false }
     ensures outside { conn.new.in_transaction ≡ false }
@@ -66,6 +66,7 @@ pub fn find<S: Alter>(alloc: Global, conn: &mut Connection<S>) -> Result<Office,
     ensures laid { OnOk result (IsTrue (is_laid_out (state S.Store conn.old).now.schema)) }
     ensures absent { names_round (state S.Store conn.old).now.schema ≡ false
         → (result ≡ Err FindFault.NotAnOffice) × (conn.new ≡ conn.old) }
+    ensures unread { is_laid_out (state S.Store conn.old).now.schema ≡ false → conn.new ≡ conn.old }
     ensures found { HasCleanDisk (state S.Store conn.new) → (office : Books) → IsLawful office
         → IsSpelled (rows_of office) → HoldsOffice (state S.Store conn.old).now office
         → MatchResult result (λ found. found ≡ office) (λ fault. fault ≡ FindFault.Unavailable) }

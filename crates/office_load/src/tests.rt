@@ -35,6 +35,22 @@ INSERT INTO result VALUES ('T1', 'R1');
 INSERT INTO move VALUES (1, 'T1', NULL, 'H1', 1);
 INSERT INTO move VALUES (1, 'N9', 'H1', 'S1', NULL);";
 
+// Statements that leave no office's rows, each with one that mends it.
+const BREAKS: [(&str, &str); 3] = [
+    (
+        "UPDATE result SET room = 'H1'",
+        "UPDATE result SET room = 'R1'",
+    ),
+    (
+        "UPDATE word SET hex = '00000000000000FF'",
+        "UPDATE word SET hex = '00000000000000ff'",
+    ),
+    (
+        "UPDATE round SET version = 2",
+        "UPDATE round SET version = 1",
+    ),
+];
+
 // Whether the tables are those of the office above.
 fn is_office(alloc: Global, conn: &mut Connection<MemStore>) -> Result<bool, Fail> {
     let outside = conn.is_autocommit();
@@ -56,14 +72,13 @@ fn loads_what_the_documented_statements_wrote(rt: HostRuntime) -> Result<(), Fai
     conn.execute_batch(STATEMENTS)?;
     let whole = is_office(rt.alloc(), &mut conn)?;
     assert!(rt; whole);
-    for broken in [
-        "UPDATE result SET room = 'H1'",
-        "UPDATE word SET hex = '00000000000000FF'",
-        "UPDATE round SET version = 2",
-    ] {
-        conn.execute_batch(broken)?;
+    for (breaks, mends) in BREAKS {
+        conn.execute_batch(breaks)?;
         let still = is_office(rt.alloc(), &mut conn)?;
         assert!(rt; !still);
+        conn.execute_batch(mends)?;
+        let again = is_office(rt.alloc(), &mut conn)?;
+        assert!(rt; again);
     }
     Ok(())
 }

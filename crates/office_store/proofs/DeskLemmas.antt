@@ -1,5 +1,5 @@
 -- One request at a desk.
-use Rattle.std.proofs.Common.{◌≡◌, List, Option, Some, None, IfSome, IsTrue, MatchOption, inl, inr, refl, sym, ap, ◌∙◌, subst}
+use Rattle.std.proofs.Common.{◌≡◌, true, false, List, Option, Some, None, IsSome, IfSome, IsTrue, MatchOption, inl, inr, refl, sym, ap, ◌∙◌, subst}
 use Rattle.sqlite_trees.specs.declared.store.Store.{Ghosts}
 use Rattle.sqlite.specs.Held.{Held, state}
 use Rattle.sqlite.specs.State.{HasCleanDisk}
@@ -19,7 +19,10 @@ use Rattle.office_tables.specs.Schema.{office_schema}
 use Rattle.office_tables.specs.Tables.{HoldsOffice}
 use Rattle.office_tables.proofs.StepLemmas.{follows-refl, follows_then}
 use Rattle.office_changes.specs.Carries.{Carries}
-use Rattle.office_store.specs.Desk.{DeskState, HandlesAt, IsTold, Shows, StandsFor}
+use Rattle.office_store.proofs.CertainLemmas.{accepted_is_stored}
+use Rattle.office_store.specs.Keeping.{changes_take_memory}
+use Rattle.office_store.specs.Desk.{DeskState, HandlesAt, IsTold, KeepsOn, Shows, StandsFor, reaches_tables}
+use Rattle.office_store.specs.Certain.{is_certain}
 use Rattle.office_store.specs.Requests.{Handles, IsAccepted, answer_but, answer_to, office_but}
 use Rattle.office_store.specs.declared.requests.Answer.{Answer}
 use Rattle.office_store.specs.declared.requests.Answer.TheVariants.{Reply, Unavailable}
@@ -53,6 +56,47 @@ told_after None mid request answer kept told = elim told [
   | inr none ↦ inr none
 ]
 told_after (Some o) mid request answer kept told = subst (λ k. IsTold k request answer) kept told
+
+-- an office that is kept stays so, and has answered what is certain
+pub stays_kept : (office : Office) (request : Request) (answer : Answer) → Handles office request answer office → (is_certain office request ≡ true → answer ≡ answer_to office request)
+    → KeepsOn office request answer (Some office)
+stays_kept office request answer handled certain = record { certain = certain; stays = λ none. refl; goes_on = handled; lost = λ none. absurd (cc) }
+
+-- none is kept after changes of the office that was taken
+lost_after : (taken after : Option Office) (office : Office) (changes : List Change) → taken ≡ Some office
+    → IfSome taken (λ o. after ≡ None → changes_take_memory o changes ≡ true) → after ≡ None → changes_take_memory office changes ≡ true
+lost_after taken after office changes e h = subst (λ t. IfSome t (λ o. after ≡ None → changes_take_memory o changes ≡ true)) e h
+
+-- nothing is asked of what is kept where nothing is
+pub none_keeps : (kept : Option Office) (request : Request) (answer : Answer) (next : Option Office) → kept ≡ None → IfSome kept (λ office. KeepsOn office request answer next)
+none_keeps kept request answer next none = subst (λ k. IfSome k (λ office. KeepsOn office request answer next)) (sym none) tt
+
+-- none was kept where none is kept now
+pub none_before : (old mid : Option Office) → IfSome old (λ kept. mid ≡ Some kept) → mid ≡ None → old ≡ None
+none_before None mid kept none = refl
+none_before (Some o) mid kept none = absurd (cc)
+
+-- the office that is kept next, if one is, has handled the command
+goes_on_after : (office next : Office) (request : Request) (answer : Answer) (after : Option Office) → Handles office request answer next → IfSome after (λ n. n ≡ next)
+    → IfSome after (λ n. Handles office request answer n)
+goes_on_after office next request answer None handled is = tt
+goes_on_after office next request answer (Some n) handled is = subst (λ o. Handles office request answer o) (sym is) handled
+
+-- what is done with the office that is kept is done with the one that was
+keeps_after : (old mid : Option Office) (request : Request) (answer : Answer) (next : Option Office) → IfSome old (λ kept. mid ≡ Some kept)
+    → IfSome mid (λ office. KeepsOn office request answer next) → IfSome old (λ office. KeepsOn office request answer next)
+keeps_after None mid request answer next kept keeps = tt
+keeps_after (Some o) mid request answer next kept keeps = subst (λ k. IfSome k (λ office. KeepsOn office request answer next)) kept keeps
+
+-- what is done where an office is kept is done where the same one is kept next
+pub through : (old mid : Option Office) (A B C : Type 0) → IfSome old (λ kept. mid ≡ Some kept) → IfSome old (λ kept. A) → IfSome mid (λ kept. B) → (A → B → C)
+    → IfSome old (λ kept. C)
+through None mid A B C kept a b both = tt
+through (Some o) mid A B C kept a b both = both a (subst (λ k. IfSome k (λ o. B)) kept b)
+
+-- nothing is kept, so nothing is said
+pub none_said : (kept : Option Office) (A : Type 0) → kept ≡ None → IfSome kept (λ o. A)
+none_said kept A none = subst (λ k. IfSome k (λ o. A)) (sym none) tt
 
 -- a request that is answered `Unavailable` is not accepted
 never_accepted : (request : Request) → IsAccepted request Unavailable → ⊥
@@ -114,33 +158,47 @@ module _ {S : Type 0} (g : Ghosts S) where
 
   -- nothing is changed
   pub unavailable : (old new : DeskState S) (request : Request) → Follows (state g old.conn) (state g new.conn)
+      → IfSome old.kept (λ office. KeepsOn office request Unavailable new.kept)
+      → IfSome old.kept (λ office. reaches_tables request Unavailable ≡ false → new.conn ≡ old.conn)
       → (HasCleanDisk (state g new.conn) → (office : Office) → StandsFor g old office → StandsFor g new office) → HandlesAt g old request Unavailable new
-  unavailable old new request follows still = record {
+  unavailable old new request follows keeps untouched still = record {
     follows = follows;
     told = inr refl;
+    keeps = keeps;
+    untouched = untouched;
+    remembers = λ told none. absurd (told refl);
     stored = λ clean accepted. absurd (never_accepted request accepted);
     steps = λ clean office stands. (office, inr (refl, refl), still clean office stands);
   }
 
   -- what is answered by the office that is kept, and changes nothing
   pub answered : (desk : DeskState S) (kept : Office) (request : Request) (answer : Answer) → desk.kept ≡ Some kept → IsLawful kept → Handles kept request answer kept
-      → ¬ IsAccepted request answer → HandlesAt g desk request answer desk
-  answered desk kept request answer is lawful handled none = record {
+      → (is_certain kept request ≡ true → answer ≡ answer_to kept request) → ¬ IsAccepted request answer → HandlesAt g desk request answer desk
+  answered desk kept request answer is lawful handled certain none = record {
     follows = follows-refl (state g desk.conn);
     told = elim handled [
       | inl done ↦ inl (kept, lawful, subst (λ k. IfSome k (λ o. o ≡ kept)) (sym is) refl, done.0)
       | inr want ↦ inr want.0
     ];
+    keeps = subst (λ k. IfSome k (λ office. KeepsOn office request answer k)) (sym is) (stays_kept kept request answer handled certain);
+    untouched = subst (λ k. IfSome k (λ o. reaches_tables request answer ≡ false → desk.conn ≡ desk.conn)) (sym is) (λ none. refl);
+    remembers = λ told accepted. subst (λ k. IsSome k) (sym is) refl;
     stored = λ clean accepted. absurd (none accepted);
     steps = λ clean office stands. (office, subst (λ o. Handles o request answer o) (kept_is desk kept office is stands) handled, stands);
   }
 
   -- after what lets the desk stand for the same
   pub handles_after : (old mid new : DeskState S) (request : Request) (answer : Answer) → Follows (state g old.conn) (state g mid.conn) → IfSome old.kept (λ kept. mid.kept ≡ Some kept)
+      → IfSome old.kept (λ kept. mid.conn ≡ old.conn)
       → (HasCleanDisk (state g mid.conn) → (office : Office) → StandsFor g old office → StandsFor g mid office) → HandlesAt g mid request answer new → HandlesAt g old request answer new
-  handles_after old mid new request answer follows kept still h = record {
+  handles_after old mid new request answer follows kept same still h = record {
     follows = follows_then _ _ _ follows h.follows;
     told = told_after old.kept mid.kept request answer kept h.told;
+    keeps = keeps_after old.kept mid.kept request answer new.kept kept h.keeps;
+    untouched =
+        through old.kept mid.kept (mid.conn ≡ old.conn) (reaches_tables request answer ≡ false → new.conn ≡ mid.conn)
+        (reaches_tables request answer ≡ false → new.conn ≡ old.conn) kept same h.untouched (λ first then none. then none ∙ first);
+    remembers = h.remembers;
     stored = h.stored;
     steps = λ clean office stands. h.steps clean office (still (h.follows.clean clean) office stands);
   }
@@ -151,10 +209,24 @@ module _ {S : Type 0} (g : Ghosts S) where
       → IsLawful kept → changes ≡ decision.changes.items → Follows (state g old) (state g new) → (HasCleanDisk (state g new) → IsTrue (state g new).is_open)
       → Carries kept (state g old) (state g new) changes
       → taken ≡ Some kept → MatchOption taken (after ≡ None) (λ o. IfSome after (λ n. n ≡ applied_all o changes))
+      → IfSome taken (λ o. after ≡ None → changes_take_memory o changes ≡ true)
       → HandlesAt g (record { conn = old; kept = Some kept }) (request.Office command) (Reply decision.reply) (record { conn = new; kept = after })
-  carried_out old new kept command decision changes taken after d leads lawful same follows is_open stored took done = record {
+  carried_out old new kept command decision changes taken after d leads lawful same follows is_open stored took done lost = record {
     follows = follows;
     told = inl (kept, lawful, refl, accepted_answer kept command decision.reply d.accepted d.replied);
+    keeps =
+        let goes : applied_all kept changes ≡ next kept command = ap (applied_all kept) same ∙ leads.leads in
+        record {
+          certain = accepted_is_stored kept command (Reply decision.reply) d.accepted;
+          stays = λ none. absurd (none tt);
+          goes_on =
+              goes_on_after kept (next kept command) (request.Office command) (Reply decision.reply) after
+              (accepted_handles kept command decision.reply d.accepted d.replied)
+              (subst (λ n. IfSome after (λ o. o ≡ n)) goes (kept_after taken after kept changes took done));
+          lost = λ none. subst (λ all. changes_take_memory kept all ≡ true) (same ∙ d.changed) (lost_after taken after kept changes took lost none);
+        };
+    untouched = λ none. absurd (cc);
+    remembers = λ told none. absurd (none tt);
     stored = λ clean accepted. is_open clean;
     steps = λ clean office stands.
         let is : kept ≡ office = stands.kept in

@@ -1,4 +1,5 @@
 mod AdoptLemmas
+mod CertainLemmas
 mod DeskLemmas
 pub mod DeskRunLemmas
 mod EmptyLemmas

@@ -1,5 +1,5 @@
 -- What a desk shows, and what it does with a request.
-use Rattle.std.specs.Prelude.{◌≡◌, ◌⊎◌, false, Option, IsTrue, IfSome, refl}
+use Rattle.std.specs.Prelude.{◌≡◌, ◌⊎◌, Bool, true, false, Option, Some, None, IsSome, IsTrue, IfSome, refl}
 use Rattle.std.specs.Coded.{Coded, code_by, coded×, coded_option}
 use Rattle.sqlite_trees.specs.declared.store.Store.{Ghosts}
 use Rattle.sqlite.specs.Held.{Held, held_code, state}
@@ -11,10 +11,13 @@ use Rattle.office_cells.specs.Spelled.{IsSpelled}
 use Rattle.office_rows.specs.Tables.{rows_of}
 use Rattle.office_tables.specs.Steps.{Follows}
 use Rattle.office_tables.specs.Tables.{HoldsOffice}
+use Rattle.office_store.specs.Certain.{is_certain}
+use Rattle.office_store.specs.Keeping.{keeping_takes_memory}
 use Rattle.office_store.specs.Requests.{Handles, IsAccepted, answer_to}
 use Rattle.office_store.specs.declared.requests.Answer.{Answer}
-use Rattle.office_store.specs.declared.requests.Answer.TheVariants.{Unavailable}
+use Rattle.office_store.specs.declared.requests.Answer.TheVariants.{Reply, Refused, Unavailable}
 use Rattle.office_store.specs.declared.requests.Request.{Request}
+use Rattle.office_store.specs.declared.requests.Request.TheVariants as request
 
 -- the connection, and the office that is kept beside it, if one is
 pub record DeskState (S : Type 0) : Type 0 where
@@ -53,13 +56,33 @@ IsTold kept request answer =
     ((office : Office) × IsLawful office × IfSome kept (λ o. o ≡ office) × (answer ≡ answer_to office request))
     ⊎ (answer ≡ Unavailable)
 
+-- Whatever the disk does, an office that is kept answers what needs neither memory nor the disk. Unless a command is
+-- accepted it is still kept, and what is kept then is the office that has handled the request. None is kept only where
+-- memory is taken to apply the changes of the command.
+pub record KeepsOn (office : Office) (request : Request) (answer : Answer) (next : Option Office) : Type 0 where
+  pub certain : is_certain office request ≡ true → answer ≡ answer_to office request
+  pub stays : ¬ IsAccepted request answer → next ≡ Some office
+  pub goes_on : IfSome next (λ after. Handles office request answer after)
+  pub lost : next ≡ None → keeping_takes_memory office request ≡ true
+
+-- a request that has this answer may reach the tables: a command that is accepted, or for which they did not serve
+abbrev pub reaches_tables : Request → Answer → Bool
+reaches_tables (request.Office command) (Reply reply) = true
+reaches_tables (request.Office command) (Refused refusal) = false
+reaches_tables (request.Office command) Unavailable = true
+reaches_tables (request.Ask query) answer = false
+
 -- A request at a desk. Where the disk returned what was written, the office that the desk stands for has handled it,
 -- and the desk stands for the next one. Then a command is accepted only where the connection is open, so that the
--- tables have its changes.
+-- tables have its changes. An office that is kept answers queries, and refuses, without its tables. Whatever is answered
+-- is answered by an office that is kept then, unless a command is accepted.
 pub record HandlesAt {S : Type 0} (g : Ghosts S) (old : DeskState S) (request : Request) (answer : Answer)
     (new : DeskState S) : Type 0 where
   pub follows : Follows (state g old.conn) (state g new.conn)
   pub told : IsTold old.kept request answer
+  pub keeps : IfSome old.kept (λ office. KeepsOn office request answer new.kept)
+  pub untouched : IfSome old.kept (λ office. reaches_tables request answer ≡ false → new.conn ≡ old.conn)
+  pub remembers : ¬ (answer ≡ Unavailable) → ¬ IsAccepted request answer → IsSome new.kept
   pub stored : HasCleanDisk (state g new.conn) → IsAccepted request answer → IsTrue (state g new.conn).is_open
   pub steps : HasCleanDisk (state g new.conn) → (office : Office) → StandsFor g old office
       → (next : Office) × Handles office request answer next × StandsFor g new next

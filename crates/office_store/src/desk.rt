@@ -1,5 +1,5 @@
 //! The desk: an office that is kept in the tables of a database.
-ghost use Rattle.std.specs.Prelude.{◌≡◌, IfErr, IfOk, IfSome, Some};
+ghost use Rattle.std.specs.Prelude.{◌≡◌, true, false, IfErr, IfOk, IfSome, None, Some};
 ghost use Rattle.sqlite.specs.Held.{state};
 ghost use Rattle.sqlite.specs.State.{HasCleanDisk};
 ghost use Rattle.office_core.specs.Change.{LeadsOn};
@@ -9,11 +9,13 @@ ghost use Rattle.office_core.specs.Office.Invariants.{IsLawful};
 ghost use Rattle.office_core.specs.Replies.{RowsAscend};
 ghost use Rattle.office_core.specs.declared.office.Office.{Office as AnyOffice};
 ghost use Rattle.office_tables.specs.Steps.{Follows};
+ghost use Rattle.office_store.specs.Certain.{is_certain};
 ghost use Rattle.office_store.specs.Desk.{HandlesAt, StandsFor};
-ghost use Rattle.office_store.specs.Requests.{AnswerAscends, Handles, IsAccepted};
+ghost use Rattle.office_store.specs.Requests.{AnswerAscends, Handles, IsAccepted, answer_to};
 ghost use Rattle.office_store.specs.declared.requests.Request.TheVariants.{Office as Request-Office};
 
 mod adopting;
+mod exporting;
 mod faults;
 mod keeping;
 mod runs;
@@ -85,6 +87,9 @@ fn decided(alloc: Global, office: &Office, command: &Command) -> Result<Decision
         (λ decision. LeadsOn office.now (next office.now command.now) decision.changes.items) }
     ensures refused { IfErr result
         (λ answer. Handles office.now (Request-Office command.now) answer office.now) }
+    ensures certain { IfErr result
+        (λ answer. is_certain office.now (Request-Office command.now) ≡ true
+        → answer ≡ answer_to office.now (Request-Office command.now)) }
     ensures no_reply { IfErr result (λ answer. ¬ IsAccepted (Request-Office command.now) answer) }
     ensures ascending { IfOk result (λ decision. RowsAscend decision.reply) }
     ensures no_rows { IfErr result AnswerAscends }
@@ -100,6 +105,8 @@ impl<S: Alter> Desk<S> {
     fn recall(&mut self, alloc: Global) -> bool
         ensures follows { Follows (state S.Store self.old.conn) (state S.Store self.new.conn) }
         ensures kept { IfSome self.old.kept (λ kept. self.new.kept ≡ Some kept) }
+        ensures untouched { IfSome self.old.kept (λ kept. self.new.conn ≡ self.old.conn) }
+        ensures none { result ≡ false → self.old.kept ≡ None }
         ensures stands { HasCleanDisk (state S.Store self.new.conn) → (office : AnyOffice)
             → StandsFor S.Store self.old office → StandsFor S.Store self.new office }
     {

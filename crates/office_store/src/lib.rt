@@ -1,4 +1,4 @@
-//! Requests to the office, and who handles them.
+//! The desk: an office that is kept in the tables of a database, the requests that it handles, and its answers.
 #![tactic(auto)]
 
 pub mod desk;
@@ -11,6 +11,7 @@ pub use crate::desk::{Back, Desk, DeskFault, Unavailable, handle_all_in_memory};
 pub use crate::handler::Handler;
 pub use crate::handling::handle_all;
 pub use crate::requests::{Answer, Request};
+pub use office_export::ExportEnd;
 
 #[cfg(test)]
 mod tests;

@@ -1,5 +1,6 @@
 //! Requests with ample memory.
 mod adopting;
+mod exporting;
 
 use crate::{Answer, Back, Desk, DeskFault, Request, handle_all, handle_all_in_memory};
 use office_core::{Command, Query, Refusal, Reply};

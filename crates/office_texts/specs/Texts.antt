@@ -1,5 +1,5 @@
 -- What is printed for a line, and the statuses of lines.
-use Rattle.std.specs.Prelude.{ℕ, ⊤, [], ◌∷◌, codes}
+use Rattle.std.specs.Prelude.{ℕ, Bool, true, false, ⊤, [], ◌∷◌, codes}
 use Rattle.room_types.specs.Texts.{Text}
 use Rattle.office_store.specs.Requests.{AnswerAscends}
 use Rattle.office_store.specs.declared.requests.Answer.TheVariants.{Reply, Refused, Unavailable}
@@ -16,6 +16,14 @@ text_of (Answered (Reply reply)) = reply_text reply
 text_of (Answered (Refused refusal)) = refusal_text refusal
 text_of (Answered Unavailable) = line_of (codes "unavailable" ∷ [])
 text_of NotUnderstood = line_of (codes "not understood" ∷ [])
+
+-- the text is always the same, so it need not be made
+abbrev pub is_constant : Said → Bool
+is_constant Nothing = true
+is_constant (Answered (Reply reply)) = false
+is_constant (Answered (Refused refusal)) = false
+is_constant (Answered Unavailable) = true
+is_constant NotUnderstood = true
 
 -- the rows of the reply that is said, if there is one, ascend
 abbrev pub SaidAscends : Said → Type 0

@@ -1,14 +1,15 @@
 //! What is said of lines, and the statuses of lines.
-ghost use Rattle.std.specs.Prelude.{◌≡◌, ◌<◌, IfOk, OnErr, length, string_bytes};
-ghost use Rattle.office_texts.specs.Texts.{text_of as text-of, status_of as status-of, SaidAscends};
+ghost use Rattle.std.specs.Prelude.{◌≡◌, ◌<◌, IfOk, OnErr, false, length};
+ghost use Rattle.std.specs.Cow.{cow_str_bytes};
+ghost use Rattle.office_texts.specs.Texts.{text_of as text-of, status_of as status-of, SaidAscends, is_constant};
 
-use crate::output_lines::line;
 use crate::refusals::text_of_refusal;
 use crate::replies::text_of_reply;
 use crate::said::Said;
 use office_store::Answer;
 use room_types::OutOfMemory;
 use std::alloc::Global;
+use std::borrow::CowStr;
 
 /// The status of a reply.
 pub const ACCEPTED: u8 = 0;
@@ -22,19 +23,22 @@ pub const NOT_UNDERSTOOD: u8 = 2;
 /// The status where memory or a device failed.
 pub const UNAVAILABLE: u8 = 3;
 
-/// The lines that are printed, where the rows of a reply ascend, as handlers give them. Where they have no bytes, no
-/// memory is taken.
-pub fn text_of(alloc: Global, said: &Said) -> Result<String, OutOfMemory>
+/// The lines that are printed, where the rows of a reply ascend, as handlers give them. A constant text is lent and takes no
+/// memory, so that want of memory can be told without any; nor does a text without bytes.
+pub fn text_of(alloc: Global, said: &Said) -> Result<CowStr<'static, Global>, OutOfMemory>
     requires ascending { SaidAscends said.now }
-    ensures text { IfOk result (λ text. string_bytes text ≡ text-of said.now) }
+    ensures text { IfOk result (λ text. cow_str_bytes text ≡ text-of said.now) }
+    ensures made { OnErr result (is_constant said.now ≡ false) }
     ensures memory { OnErr result (0 < length (text-of said.now)) }
 {
     match said {
-        Said::Nothing => Ok(String::new(alloc)),
-        Said::Answered(Answer::Reply(reply)) => text_of_reply(alloc, reply),
-        Said::Answered(Answer::Refused(refusal)) => text_of_refusal(alloc, refusal),
-        Said::Answered(Answer::Unavailable) => line(alloc, "unavailable\n"),
-        Said::NotUnderstood => line(alloc, "not understood\n"),
+        Said::Nothing => Ok(CowStr::Borrowed("")),
+        Said::Answered(Answer::Reply(reply)) => Ok(CowStr::Owned(text_of_reply(alloc, reply)?)),
+        Said::Answered(Answer::Refused(refusal)) => {
+            Ok(CowStr::Owned(text_of_refusal(alloc, refusal)?))
+        }
+        Said::Answered(Answer::Unavailable) => Ok(CowStr::Borrowed("unavailable\n")),
+        Said::NotUnderstood => Ok(CowStr::Borrowed("not understood\n")),
     }
 }
 

@@ -117,7 +117,7 @@ is_drawn_word word = is_some (word_of word)
 -- and only where there are as many as the request has. Nothing is copied of a number, or where no word may stand.
 abbrev pub copies : Verb → List Text → Bool
 copies verb.Room rest = is_some (add_room rest)
-copies verb.Person rest = nat_le 2 (length rest) && first_in is_person_id rest
+copies verb.Person rest = nat_le 3 (length rest) && first_in is_person_id rest
 copies verb.Home rest = length rest == 2 && first_in is_person_id rest
 copies verb.Leave rest = is_some (leave rest)
 copies verb.Remove rest = is_some (remove rest)

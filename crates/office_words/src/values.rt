@@ -17,7 +17,7 @@ use std::alloc::Global;
 pub const ROUND_DIGITS: usize = 4;
 
 /// The value that a word is in its grammar. Memory is taken for such a word alone.
-pub fn value_of<G: Grammar>(alloc: Global, word: &str) -> Result<Text<G>, WordFault>
+pub(crate) fn value_of<G: Grammar>(alloc: Global, word: &str) -> Result<Text<G>, WordFault>
     ensures understands { Understands (in_grammar G.is_text word.now) result }
     ensures memory { WantsMemoryOnlyIf (G.is_text word.now) result }
 {
@@ -29,7 +29,7 @@ pub fn value_of<G: Grammar>(alloc: Global, word: &str) -> Result<Text<G>, WordFa
 }
 
 /// The value that the only word is in its grammar. Memory is taken for such a word alone.
-pub fn only_value<G: Grammar>(alloc: Global, words: &[&str]) -> Result<Text<G>, WordFault>
+pub(crate) fn only_value<G: Grammar>(alloc: Global, words: &[&str]) -> Result<Text<G>, WordFault>
     ensures understands { Understands
         (only G.is_text (map (λ word. word.now) words.now)) result }
     ensures memory { WantsMemoryOnlyIf
@@ -42,7 +42,7 @@ pub fn only_value<G: Grammar>(alloc: Global, words: &[&str]) -> Result<Text<G>, 
 }
 
 /// The name that the words are, joined by one space.
-pub fn name_of(alloc: Global, words: &[&str]) -> Result<Name, WordFault>
+pub(crate) fn name_of(alloc: Global, words: &[&str]) -> Result<Name, WordFault>
     ensures { Understands (in_grammar is_name (joined (map (λ word. word.now) words.now))) result }
 {
     let name = words.join(alloc, " ")?;
@@ -50,7 +50,7 @@ pub fn name_of(alloc: Global, words: &[&str]) -> Result<Name, WordFault>
 }
 
 /// The list of rooms that the words are.
-pub fn choices_of(alloc: Global, words: &[&str]) -> Result<Choices, WordFault>
+pub(crate) fn choices_of(alloc: Global, words: &[&str]) -> Result<Choices, WordFault>
     ensures { Understands (choices_in (map (λ word. word.now) words.now)) result }
 {
     let codes = all_codes(alloc, words)?;
@@ -73,7 +73,7 @@ fn all_codes(alloc: Global, words: &[&str]) -> Result<Vec<RoomCode>, WordFault>
 }
 
 /// The words of a draw that the words are. Memory is taken once the first of them is one.
-pub fn drawn_words(alloc: Global, words: &[&str]) -> Result<Listing<Word>, WordFault>
+pub(crate) fn drawn_words(alloc: Global, words: &[&str]) -> Result<Listing<Word>, WordFault>
     ensures understands { Understands (all_of word_of (map (λ word. word.now) words.now)) result }
     ensures memory { WantsMemoryOnlyIf
         (first_in is_drawn_word (map (λ word. word.now) words.now)) result }
@@ -96,7 +96,7 @@ fn drawn_word(word: &str) -> Result<Word, WordFault>
 }
 
 /// The number of a round that a word of digits is. It takes no memory.
-pub fn round_of(word: &str) -> Result<u16, WordFault>
+pub(crate) fn round_of(word: &str) -> Result<u16, WordFault>
     ensures understands { Understands (round_number word.now) result }
     ensures memory { WantsMemoryOnlyIf false result }
 {

@@ -77,7 +77,7 @@ fn add_person(alloc: Global, words: &[&str]) -> Result<Request, WordFault>
         result }
 {
     match words {
-        [person, key, name @ ..] => {
+        [person, key, name @ ..] if !name.is_empty() => {
             let person = value_of(alloc, person)?;
             let key = value_of(alloc, key)?;
             let name = name_of(alloc, name)?;

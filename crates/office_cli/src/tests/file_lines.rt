@@ -93,7 +93,73 @@ fn keeps_a_year_in_a_file(rt: HostRuntime) -> Result<(), Fail> {
         assert_eq!(rt; printed.as_slice(), answer.as_bytes(), "{line}");
         assert!(rt; told.is_empty());
     }
+    for (kind, text) in [
+        (
+            "rooms",
+            "room,state,tenant\nH1,occupied,T2\nH2,occupied,T1\nV,occupied,N\n",
+        ),
+        (
+            "people",
+            "person,name,home\nN,Nan Now,V\nT1,Tim Tan,H2\nT2,Tom Tao,H1\n",
+        ),
+        (
+            "moves",
+            "round,wave,person,from,to\n1,1,N,,V\n1,swap,T1,H1,H2\n1,swap,T2,H2,H1\n",
+        ),
+    ] {
+        let (status, printed, told) = carried(&rt, &["export", "--db", path, kind]);
+        assert_eq!(rt; status, 0, "{kind}");
+        assert_eq!(rt; printed.as_slice(), text.as_bytes(), "{kind}");
+        assert!(rt; told.is_empty());
+    }
     fs::remove_dir_all(&rt, "lines_year")?;
+    Ok(())
+}
+
+// Faults come in the order of the program's line, the file and the export.
+#[test]
+fn tells_why_there_is_no_export(rt: HostRuntime) -> Result<(), Fail> {
+    make_folder(&rt, "lines_export")?;
+    fs::write(&rt, "lines_export/empty", b"".as_slice())?;
+    for (words, status, printed, error) in [
+        (
+            ["export", "--db", "lines_export/empty", "choices"].as_slice(),
+            2,
+            "",
+            NOT_A_LINE,
+        ),
+        (
+            ["export", "--db", "lines_export/empty"].as_slice(),
+            2,
+            "",
+            NOT_A_LINE,
+        ),
+        (
+            ["export", "--db", "lines_export/empty", "rooms", "people"].as_slice(),
+            2,
+            "",
+            NOT_A_LINE,
+        ),
+        (["export", "rooms"].as_slice(), 2, "", NOT_A_LINE),
+        (
+            ["export", "--db", "lines_export/missing", "rooms"].as_slice(),
+            3,
+            "unavailable\n",
+            "",
+        ),
+        (
+            ["export", "rooms", "--db", "lines_export/empty"].as_slice(),
+            1,
+            "refused 21 NotAnOffice\n",
+            "",
+        ),
+    ] {
+        let (ended, text, told) = carried(&rt, words);
+        assert_eq!(rt; ended, status);
+        assert_eq!(rt; text.as_slice(), printed.as_bytes());
+        assert_eq!(rt; told.as_slice(), error.as_bytes());
+    }
+    fs::remove_dir_all(&rt, "lines_export")?;
     Ok(())
 }
 

@@ -1,5 +1,5 @@
 //! Desks over an office that a database holds.
-ghost use Rattle.std.specs.Prelude.{◌≡◌, false, IfErr, IfOk, IsErrAnd, IsTrue, MatchResult, OnOk};
+ghost use Rattle.std.specs.Prelude.{◌≡◌, false, IfErr, IfOk, IsErrAnd, IsSome, IsTrue, MatchResult, OnOk};
 ghost use Rattle.sqlite.specs.Held.{state};
 ghost use Rattle.sqlite.specs.State.{HasCleanDisk};
 ghost use Rattle.office_core.specs.Office.Invariants.{IsLawful};
@@ -29,11 +29,13 @@ impl<S: Alter> Desk<S> {
     /// `NotAnOffice` where nothing has the name of the table of the round, and else only where its row holds no other
     /// version and the tables are no office's rows. `OtherVersion` only where the row of the round holds that version.
     /// Else `Unavailable`, also where one of the other tables is absent, or anything is declared beside them. The
-    /// connection comes back with its tables as they were, unless a fault shut it.
+    /// connection comes back. Where the eight tables do not stand there, in their order, alone, no statement has run on it;
+    /// else its tables are as they were, unless a fault shut it.
     pub fn adopt(alloc: Global, connection: Connection<S>) -> Result<Desk<S>, Back<S>>
         requires { connection.in_transaction ≡ false }
         ensures follows { IfOk result
             (λ desk. Follows (state S.Store connection) (state S.Store desk.conn)) }
+        ensures kept { IfOk result (λ desk. IsSome desk.kept) }
         ensures laid { OnOk result (IsTrue (is_laid_out (state S.Store connection).now.schema)) }
         ensures shows { IfOk result (λ desk. HasCleanDisk (state S.Store desk.conn)
             → AreDeclared (state S.Store connection).now.schema
@@ -51,6 +53,8 @@ impl<S: Alter> Desk<S> {
         ensures cause { IfErr result (λ back. HasCleanDisk (state S.Store back.connection)
             → AreDeclared (state S.Store connection).now.schema
             → MayRefuse (state S.Store connection).now back.fault) }
+        ensures unread { is_laid_out (state S.Store connection).now.schema ≡ false
+            → IsErrAnd result (λ back. back.connection ≡ connection) }
         ensures absent { names_round (state S.Store connection).now.schema ≡ false → IsErrAnd result
             (λ back. (back.fault ≡ DeskFault.NotAnOffice) × (back.connection ≡ connection)) }
         ensures accepts { (office : AnyOffice) → IsLawful office → IsSpelled (rows_of office)

@@ -12,17 +12,19 @@ pub enum DeskFault {
     /// new office something else stands there; for one that is looked for, one of the tables is absent or not
     /// understood, they were made in another order, or something stands beside them.
     Unavailable,
-    /// Nothing has the name of the table of the round, or the tables are not the rows of an office.
+    /// No table, index, view or trigger has the name of the table of the round, or the tables are not the rows of an office.
     NotAnOffice,
     /// The row of the round holds this version, which is not the one of this program.
     OtherVersion(i64),
-    /// A table, an index or a view has one of the names of the tables.
+    /// A table, an index, a view or a trigger has one of the names of the eight tables.
     AlreadyThere,
 }
 
-/// A connection that comes back with its tables as they were, and why there is no desk over it.
+/// A connection over which no desk was made, and why.
 #[derive(Drop)]
 pub struct Back<S: Alter> {
+    /// Why there is no desk.
     pub fault: DeskFault,
+    /// The connection that was handed in, outside a transaction. Its tables are as they were, unless a fault shut it.
     pub connection: Connection<S>,
 }

@@ -41,7 +41,8 @@ impl<S: Alter> Desk<S> {
 }
 
 /// Answers each request in turn, over a database in memory. The answers are those of a run of the office that the desk
-/// shows, and the tables hold the last office of that run. Where memory for the answers is refused, no request was
+/// shows, and the tables hold the last office of that run. At a desk that shows no office they are those of its own
+/// steps, each of a lawful office or `Unavailable`. Where memory for the answers is refused, no request was
 /// handled; for no requests none is taken.
 pub fn handle_all_in_memory(
     desk: &mut Desk<MemStore>,
@@ -53,6 +54,9 @@ pub fn handle_all_in_memory(
         × IsRun HandlesLawfully office requests.now answers.items last
         × Shows over_memory desk.new last)
         (λ _. desk.new ≡ desk.old) }
+    ensures answers { IfOk result (λ answers. IsRun (HandlesAt over_memory)
+        desk.old requests.now answers.items desk.new) }
+    ensures refused { OnErr result (desk.new ≡ desk.old) }
     ensures memory { OnErr result (0 < length requests.now) }
 {
     handle_all(alloc, desk, requests)

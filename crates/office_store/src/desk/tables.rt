@@ -1,5 +1,5 @@
 //! Desks made over a connection, read back from its tables, and let go.
-ghost use Rattle.std.specs.Prelude.{◌≡◌, ◌⊎◌, false, IfErr, IfOk, IsErrAnd, IsTrue, OnOk};
+ghost use Rattle.std.specs.Prelude.{◌≡◌, ◌≢◌, ◌⊎◌, false, IfErr, IfOk, IsErrAnd, IsTrue, OnOk, Some};
 ghost use Rattle.sqlite.specs.Held.{state};
 ghost use Rattle.sqlite.specs.State.{HasCleanDisk};
 ghost use Rattle.sqlite.specs.Steps.{over_memory};
@@ -22,7 +22,8 @@ use std::alloc::Global;
 impl Desk<MemStore> {
     /// A desk over a new database in memory, which shows the empty office.
     pub fn in_memory(alloc: Global) -> Result<Desk<MemStore>, Unavailable>
-        ensures { IfOk result (λ desk. Shows over_memory desk empty_office) }
+        ensures shows { IfOk result (λ desk. Shows over_memory desk empty_office) }
+        ensures kept { IfOk result (λ desk. desk.kept ≡ Some empty_office) }
     {
         let Ok(connection) = Connection::open_in_memory(alloc) else {
             return Err(Unavailable);
@@ -35,18 +36,22 @@ impl Desk<MemStore> {
 }
 
 impl<S: Alter> Desk<S> {
-    /// A desk over a database, in which it makes the tables of the empty office.
+    /// A desk over a database in which nothing is declared. It makes the tables of the empty office there, and keeps that
+    /// office.
     ///
     /// # Errors
     ///
-    /// `AlreadyThere` exactly where one of the names is taken, and else `Unavailable`, also where other tables are
-    /// there. The connection comes back with its tables as they were.
+    /// `AlreadyThere` exactly where a table, an index, a view or a trigger has one of the eight names. Else `Unavailable`:
+    /// something is declared under other names, or the disk or memory did not serve. The connection comes back. Where a name
+    /// is taken, or anything else is declared, it is the one that was handed in; else its tables are as they were, unless a
+    /// fault shut it.
     pub fn create(alloc: Global, connection: Connection<S>) -> Result<Desk<S>, Back<S>>
         requires { connection.in_transaction ≡ false }
         ensures follows { IfOk result
             (λ desk. Follows (state S.Store connection) (state S.Store desk.conn)) }
         ensures shows { IfOk result
             (λ desk. HasCleanDisk (state S.Store desk.conn) → Shows S.Store desk empty_office) }
+        ensures kept { IfOk result (λ desk. desk.kept ≡ Some empty_office) }
         ensures blank { IfOk result (λ _. (state S.Store connection).now.schema ≡ no_schema) }
         ensures outside { IfErr result (λ back. back.connection.in_transaction ≡ false) }
         ensures followed { IfErr result
@@ -58,6 +63,9 @@ impl<S: Alter> Desk<S> {
             × NameIsTaken (state S.Store connection).now)) }
         ensures taken { NameIsTaken (state S.Store connection).now → IsErrAnd result
             (λ back. (back.fault ≡ DeskFault.AlreadyThere) × (back.connection ≡ connection)) }
+        ensures foreign { ¬ NameIsTaken (state S.Store connection).now
+            → (state S.Store connection).now.schema ≢ no_schema → IsErrAnd result
+            (λ back. (back.fault ≡ DeskFault.Unavailable) × (back.connection ≡ connection)) }
     {
         let mut conn = connection;
         match create(&mut conn) {
@@ -82,6 +90,7 @@ impl<S: Alter> Desk<S> {
         ensures follows { Follows (state S.Store self.old.conn) (state S.Store self.new.conn) }
         ensures is_open { OnOk result (HasCleanDisk (state S.Store self.new.conn)
             → IsTrue (state S.Store self.new.conn).is_open) }
+        ensures kept { self.new.kept ≡ self.old.kept }
         ensures same { HasCleanDisk (state S.Store self.new.conn) → (office : AnyOffice)
             → StandsFor S.Store self.old office → StandsFor S.Store self.new office }
         ensures lawful { IfOk result (λ office. IsLawful office) }

@@ -10,7 +10,7 @@ use Rattle.office_cli.proofs.carry_out.rehearse_anew.Goals as goal
 pub returns-in-Ok-clause-rehearses : goal.returns-in-Ok-clause-rehearses
 returns-in-Ok-clause-rehearses g c =
     let shown = rehearsal_shown (HandlesAt over_memory) HandlesLawfully (Shows over_memory) step_in_memory c.rehearse.result.ending c.rehearse.result.status c.in-Ok.desk c.rehearse.new.handler _ _ _ _
-    c.rehearse.ensures.rehearses empty_office c.in-Ok.ensures in
+    c.rehearse.ensures.rehearses empty_office c.in-Ok.ensures.shows in
     inl (c.rehearse.result.ending, shown.0, shown.1)
 
 pub returns-in-Err-clause-rehearses : goal.returns-in-Err-clause-rehearses

@@ -18,6 +18,11 @@ returns-clause-undone g c honest declared =
     let has = subst (λ s. AreDeclared s → s ≡ office_schema) c.schema-2.ensures.value (c.is_laid_out.ensures.whole c.if-not-is_laid_out.false) declared in
     c.read.ensures.reads.same honest has
 
+pub returns-clause-unread : goal.returns-clause-unread
+returns-clause-unread g c unlaid =
+    let laid = ap is_laid_out (sym c.schema-2.ensures.value) ∙ sym c.is_laid_out.ensures.tested ∙ c.if-not-is_laid_out.false in
+    absurd (true≢false (sym laid ∙ unlaid))
+
 pub returns-clause-held : goal.returns-clause-held
 returns-clause-held g c =
     let start = state g.S.Store c.args.conn.now in

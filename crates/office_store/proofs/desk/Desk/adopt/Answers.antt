@@ -1,4 +1,4 @@
-use Rattle.std.proofs.Common.{Some, sym, ap, ◌∙◌, subst}
+use Rattle.std.proofs.Common.{Some, sym, ap, ◌∙◌, subst, true≢false}
 use Rattle.sqlite.specs.Held.{state}
 use Rattle.office_store.specs.Adopting.{IsFaultOf, MayRefuse, desk_fault}
 use Rattle.office_store.specs.Desk.{Shows}
@@ -27,3 +27,9 @@ pub returns-in-Err-clause-allowed : goal.returns-in-Err-clause-allowed
 returns-in-Err-clause-allowed g c =
     let schema = (state g.S.Store c.args.connection).now.schema in
     subst (IsFaultOf schema) (sym c.desk_fault.ensures) (fault_of schema c.in-Err.fault c.in-Err.ensures.allowed)
+
+pub returns-in-Ok-clause-unread : goal.returns-in-Ok-clause-unread
+returns-in-Ok-clause-unread g c unlaid = absurd (true≢false (sym c.in-Ok.ensures.laid ∙ unlaid))
+
+pub returns-in-Err-clause-unread : goal.returns-in-Err-clause-unread
+returns-in-Err-clause-unread g c unlaid = c.find.ensures.unread unlaid

@@ -1,21 +1,24 @@
-use Rattle.std.proofs.Common.{◌≡◌, Some, IfSome, sym, ap, ◌∙◌, subst}
+use Rattle.std.proofs.Common.{◌≡◌, true, false, Some, IfSome, inr, refl, sym, ap, ◌∙◌, subst}
 use Rattle.office_tables.proofs.StepLemmas.{follows-refl}
 use Rattle.sqlite.specs.Held.{state}
 use Rattle.office_core.specs.Office.Invariants.{IsLawful}
-use Rattle.office_store.specs.Desk.{HandlesAt}
+use Rattle.office_store.specs.Desk.{HandlesAt, KeepsOn}
 use Rattle.office_store.specs.declared.requests.Answer.TheVariants.{Reply, Unavailable}
 use Rattle.office_store.specs.declared.requests.Request.TheVariants.{Office as Request-Office}
-use Rattle.office_store.proofs.DeskLemmas.{answered, carried_out, stands_still, unavailable}
+use Rattle.office_store.proofs.CertainLemmas.{accepted_is_stored}
+use Rattle.office_store.proofs.DeskLemmas.{answered, carried_out, none_keeps, none_said, stands_still, stays_kept, unavailable}
 use Rattle.office_store.proofs.desk.Desk.execute.Goals as goal
 
 pub returns-in_default-clause-handles : goal.returns-in_default-clause-handles
 returns-in_default-clause-handles g c =
-    unavailable g.S.Store c.args.self.now c.args.self.now (Request-Office c.args.command.now) (follows-refl (state g.S.Store c.args.self.now.conn)) (λ clean office stands. stands)
+    unavailable g.S.Store c.args.self.now c.args.self.now (Request-Office c.args.command.now) (follows-refl (state g.S.Store c.args.self.now.conn))
+    (none_keeps c.args.self.now.kept (Request-Office c.args.command.now) Unavailable c.args.self.now.kept (sym (ap (λ desk. desk.kept) c.self.view_is) ∙ c.in_default.is))
+    (none_said c.args.self.now.kept (true ≡ false → c.args.self.now.conn ≡ c.args.self.now.conn) (sym (ap (λ desk. desk.kept) c.self.view_is) ∙ c.in_default.is)) (λ clean office stands. stands)
 
 pub returns-in-Err-clause-handles : goal.returns-in-Err-clause-handles
 returns-in-Err-clause-handles g c =
     answered g.S.Store c.args.self.now c.in-Some.office (Request-Office c.args.command.now) c.in-Err.answer
-    (sym (ap (λ desk. desk.kept) c.self.view_is) ∙ c.in-Some.is) (subst (λ kept. IfSome kept (λ o. IsLawful o)) c.in-Some.is c.self.invariant.lawful) c.in-Err.ensures.refused c.in-Err.ensures.no_reply
+    (sym (ap (λ desk. desk.kept) c.self.view_is) ∙ c.in-Some.is) (subst (λ kept. IfSome kept (λ o. IsLawful o)) c.in-Some.is c.self.invariant.lawful) c.in-Err.ensures.refused c.in-Err.ensures.certain c.in-Err.ensures.no_reply
 
 pub returns-in_default-store_all-clause-handles : goal.returns-in_default-store_all-clause-handles
 returns-in_default-store_all-clause-handles g c =
@@ -24,6 +27,9 @@ returns-in_default-store_all-clause-handles g c =
     let kept = c.self.inside.kept in
     subst (λ desk. HandlesAt g.S.Store desk (Request-Office c.args.command.now) Unavailable (record { conn = new; kept = kept })) c.self.view_is
     (unavailable g.S.Store (record { conn = old; kept = kept }) (record { conn = new; kept = kept }) (Request-Office c.args.command.now) c.store_all.ensures.follows
+    (subst (λ k. IfSome k (λ office. KeepsOn office (Request-Office c.args.command.now) Unavailable k)) (sym c.in-Some.is)
+    (stays_kept c.in-Some.office (Request-Office c.args.command.now) Unavailable (inr (refl, refl)) (accepted_is_stored c.in-Some.office c.args.command.now Unavailable c.in-Ok.ensures.decides.accepted)))
+    (subst (λ k. IfSome k (λ office. true ≡ false → new ≡ old)) (sym c.in-Some.is) (λ none. absurd (cc)))
     (λ clean office stands. stands_still g.S.Store old new kept office clean c.store_all.ensures.follows (λ honest has. c.in_default-store_all.ensures.undone honest) stands))
 
 pub returns-clause-handles : goal.returns-clause-handles
@@ -34,4 +40,4 @@ returns-clause-handles g c =
     subst (λ desk. HandlesAt g.S.Store desk (Request-Office c.args.command.now) (Reply c.in-Ok.decision.reply) (record { conn = new; kept = after }))
     (ap (λ kept. record { conn = old; kept = kept }) (sym c.in-Some.is) ∙ c.self.view_is)
     (carried_out g.S.Store old new c.in-Some.office c.args.command.now c.in-Ok.decision c.as_slice-changes.result.now c.take.result after
-    c.in-Ok.ensures.decides c.in-Ok.ensures.leads (subst (λ kept. IfSome kept (λ o. IsLawful o)) c.in-Some.is c.self.invariant.lawful) c.as_slice-changes.ensures.value c.store_all.ensures.follows c.in-Ok-store_all.ensures.is_open c.in-Ok-store_all.ensures.stored (c.take.ensures.value ∙ c.in-Some.is) c.office_kept.ensures)
+    c.in-Ok.ensures.decides c.in-Ok.ensures.leads (subst (λ kept. IfSome kept (λ o. IsLawful o)) c.in-Some.is c.self.invariant.lawful) c.as_slice-changes.ensures.value c.store_all.ensures.follows c.in-Ok-store_all.ensures.is_open c.in-Ok-store_all.ensures.stored (c.take.ensures.value ∙ c.in-Some.is) c.office_kept.ensures.kept c.office_kept.ensures.lost)

@@ -1,0 +1,203 @@
+"""Lets `rooms do` fail while it works on a file, and looks at what the file holds afterwards.
+
+Each line of a small year is told to copies of an office's file, and each of these runs meets a fault at a drawn place:
+
+- `kill`: it is killed (SIGKILL) after a drawn part of the time that the line takes;
+- `limit`: its files may not grow past a drawn size, so that a write is refused, or kills it where the signal is not ignored;
+- `full`: it works on a small disk in memory of which a drawn part is left free (this mounts a tmpfs, which root alone may).
+
+Then the file is opened again where nothing fails: `sqlite3` has to find it whole, and what the program tells of it has to be
+the office before the line or the one after it, and the one after it where the line's whole answer had come. The year goes on
+with a copy that met no fault. Without `sqlite3` the file is opened by the program alone.
+"""
+
+import random
+import resource
+import shutil
+import signal
+import subprocess
+import sys
+import tempfile
+import time
+from collections import Counter
+from contextlib import contextmanager
+from pathlib import Path
+
+ASKED = ("rooms", "people", "round", "order", "results", "moves 1", "moves 2", "me key00000000000t1", "whatif T1 V")
+ENDS = ("", "-wal")
+PAGE = 4096
+DISK = 4 << 20
+
+
+def kept_words(path):
+    """The lines of a script that are requests, each as its words."""
+    lines = (line.strip() for line in path.read_text(encoding="utf-8").splitlines())
+    return [line.split() for line in lines if line and not line.startswith("#")]
+
+
+def copy_office(source, target):
+    """A copy of an office: its file and the log beside it."""
+    for end in ENDS:
+        old, new = Path(f"{source}{end}"), Path(f"{target}{end}")
+        new.unlink(missing_ok=True)
+        if old.exists():
+            shutil.copyfile(old, new)
+
+
+def bytes_of(office):
+    """How many bytes the longer of an office's file and log has."""
+    return max((path.stat().st_size for end in ENDS if (path := Path(f"{office}{end}")).exists()), default=0)
+
+
+class Killed:
+    """A run is killed after a drawn time."""
+
+    def __init__(self, folder, draws):
+        self.victim, self.draws = folder / "victim.db", draws
+
+    def meet(self, words, took, _):
+        """What came out of a run that met the fault."""
+        run = subprocess.Popen(words, stdout=subprocess.PIPE, text=True)
+        time.sleep(self.draws.uniform(0, took * 1.1))
+        run.kill()
+        return run.communicate()[0]
+
+
+class Limited:
+    """The files of a run may not grow past a drawn size."""
+
+    def __init__(self, folder, draws):
+        self.victim, self.draws = folder / "victim.db", draws
+
+    def meet(self, words, _, longest):
+        """What came out of a run that met the fault."""
+        most, kills = self.draws.randrange(longest + PAGE), self.draws.random() < 0.5
+
+        def prepare():
+            signal.signal(signal.SIGXFSZ, signal.SIG_DFL if kills else signal.SIG_IGN)
+            resource.setrlimit(resource.RLIMIT_FSIZE, (most, most))
+
+        done = subprocess.run(words, stdout=subprocess.PIPE, text=True, check=False, preexec_fn=prepare)
+        return done.stdout
+
+
+class Full:
+    """A run works on a disk of which a drawn part is left free."""
+
+    def __init__(self, folder, draws):
+        self.disk, self.draws = folder / "disk", draws
+        self.victim = self.disk / "victim.db"
+
+    def meet(self, words, _, longest):
+        """What came out of a run that met the fault."""
+        ballast = self.disk / "ballast"
+        free = shutil.disk_usage(self.disk).free
+        left = self.draws.randrange(longest // PAGE + 2) * PAGE
+        ballast.write_bytes(bytes(max(0, free - left)))
+        try:
+            done = subprocess.run(words, stdout=subprocess.PIPE, text=True, check=False)
+        finally:
+            ballast.unlink()
+        return done.stdout
+
+
+@contextmanager
+def small_disk(folder):
+    """A small disk in memory, gone at the end."""
+    disk = folder / "disk"
+    disk.mkdir()
+    subprocess.run(["mount", "-t", "tmpfs", "-o", f"size={DISK}", "tmpfs", str(disk)], check=True)
+    try:
+        yield
+    finally:
+        subprocess.run(["umount", str(disk)], check=True)
+
+
+class Trial:
+    """The program, the fault that it meets, a folder to work in, and what was seen."""
+
+    def __init__(self, program, fault, folder):
+        self.program, self.fault, self.folder, self.seen = program, fault, folder, Counter()
+
+    def words(self, office, words):
+        """The program's own words for a line on this office."""
+        return [self.program, "do", "--db", str(office), *words]
+
+    def told(self, office, words):
+        """What the program answers to a line on this office, and how long it takes."""
+        began = time.monotonic()
+        done = subprocess.run(self.words(office, words), capture_output=True, text=True, check=False)
+        return done.stdout, time.monotonic() - began
+
+    def shown(self, office):
+        """All that the program tells of the office, asked of a copy."""
+        copy = self.folder / "shown.db"
+        copy_office(office, copy)
+        return tuple(self.told(copy, line.split())[0] for line in ASKED)
+
+    def is_whole(self, office):
+        """Whether `sqlite3` finds nothing wrong with a copy of the file and its log."""
+        if not shutil.which("sqlite3"):
+            return True
+        copy = self.folder / "whole.db"
+        copy_office(office, copy)
+        asked = "PRAGMA integrity_check; PRAGMA foreign_key_check;"
+        done = subprocess.run(["sqlite3", str(copy), asked], capture_output=True, text=True, check=False)
+        return done.stdout.strip() in ("ok", "") and not done.stderr
+
+    def line(self, office, words, times):
+        """Lets runs of one line fail, and leaves the office after it."""
+        after = self.folder / "after.db"
+        copy_office(office, after)
+        before_shown, (answer, took) = self.shown(office), self.told(after, words)
+        after_shown, longest = self.shown(after), bytes_of(after)
+        for _ in range(times):
+            victim = self.fault.victim
+            copy_office(office, victim)
+            came = self.fault.meet(self.words(victim, words), took, longest)
+            self.judge(victim, words, came, answer, before_shown, after_shown)
+        copy_office(after, office)
+
+    def judge(self, victim, words, came, answer, before_shown, after_shown):
+        """Counts a run that met the fault, or ends at what must not be."""
+        shown, changed, line = self.shown(victim), after_shown != before_shown, " ".join(words)
+        if not self.is_whole(victim):
+            sys.exit(f"not whole after {line}")
+        if shown not in (before_shown, after_shown):
+            sys.exit(f"neither before nor after: {line}")
+        if came == answer and shown != after_shown:
+            sys.exit(f"answered and lost: {line}")
+        if came not in answer and came != "unavailable\n":
+            sys.exit(f"another answer: {line}: {came}")
+        self.seen["runs"] += 1
+        self.seen["answered"] += came == answer
+        self.seen["told that it is unavailable"] += came == "unavailable\n"
+        self.seen["kept, and not answered"] += changed and came != answer and shown == after_shown
+        self.seen["nothing kept"] += changed and shown == before_shown
+
+
+def tried(program, fault, folder, script, times):
+    """Tells a year to an office, each line with so many runs that fail; gives what was seen."""
+    trial, office = Trial(program, fault, folder), folder / "office.db"
+    subprocess.run([program, "new", "--db", str(office)], check=True, stdout=subprocess.DEVNULL)
+    for words in kept_words(Path(script)):
+        trial.line(office, words, times)
+    return trial.seen
+
+
+def main(way, program, script, times):
+    """Tries one way to fail, and prints what was seen."""
+    draws = random.Random(1999)
+    with tempfile.TemporaryDirectory() as name:
+        folder = Path(name)
+        if way == "full":
+            with small_disk(folder):
+                seen = tried(program, Full(folder, draws), folder, script, times)
+        else:
+            fault = {"kill": Killed, "limit": Limited}[way](folder, draws)
+            seen = tried(program, fault, folder, script, times)
+    print(f"{way}: " + ", ".join(f"{what} {count}" for what, count in seen.items()))
+
+
+if __name__ == "__main__":
+    main(sys.argv[1], sys.argv[2], sys.argv[3], int(sys.argv[4]))

@@ -1,0 +1,10 @@
+mod Joining
+mod Meanings
+mod Moving
+mod Ordering
+mod Peopling
+mod Rising
+mod Rooming
+mod Sending
+mod Stepping
+mod Tenants

@@ -1,8 +1,0 @@
-use Rattle.office_file.proofs.opening.open.Goals as goal
-
-pub returns-in-Ok-clause-opened : goal.returns-in-Ok-clause-opened
-returns-in-Ok-clause-opened g c clean = record {
-  opened = (c.in-Ok.ensures.opened clean).0;
-  live = (c.in-Ok.ensures.opened clean).1;
-  found = c.in-Ok.ensures.found clean;
-}

@@ -1,0 +1,5 @@
+mod Carried
+mod DeskConversations
+mod LetterLemmas
+mod OwnReplies
+mod Streams

@@ -1,0 +1,163 @@
+use Rattle.std.proofs.Common.{◌≡◌, ◌<◌, ◌-◌, length, take, drop, rules, tests, arith, ◌∙◌, refl}
+use Rattle.std.proofs.KnownBytes.{Consumes-kept, Consumes-nil}
+use Rattle.std.proofs.Math.Bool.{or-false}
+use Rattle.std.proofs.lemmas.List.{length-take-le, length-take, length-drop}
+use Rattle.room_types.proofs.StreamLemmas.{kept_by_write}
+use Rattle.resident_http.specs.Asks.{more, seen}
+use Rattle.resident_desk.specs.Conversations.{connection_of}
+use Rattle.resident_desk.proofs.Streams.{converses-responded, counted_last, counted_within, ended_told, length-put_into, not_more, or_neither, read_into, read_none, untouched-more, untouched-refl}
+use Rattle.resident_desk.proofs.conversation.converse.Goals as goal
+
+pub returns-then-filled-eq0-clause-few : goal.returns-then-filled-eq0-clause-few
+returns-then-filled-eq0-clause-few g c =
+    let i = c.reads.invariant in
+    let few = c.in-More.ensures.few refl in
+    let size = i.size in
+    let within = i.within in
+    let count = length-take-le c.reads.filled c.reads.buffer (omega arith) in
+    rw c.in-Ok-eq0.ensures.reads (counted_last _ _ i.reads (omega (arith, few, count)))
+
+pub returns-then-filled-eq0-clause-converses : goal.returns-then-filled-eq0-clause-converses
+returns-then-filled-eq0-clause-converses g c =
+    let i = c.reads.invariant in
+    let h = c.in-Ok-eq0.ensures in
+    let room : 0 < length c.read_some.new.buf = omega (arith, c.read_some.auto.buf) in
+    record {
+      read = read_none _ _ _ _ _ _ c.in-Ok-eq0.field-0-test (rw c.if-filled-eq0.true at i.read) h.bytes.0;
+      at_end = h.bytes.1 c.in-Ok-eq0.field-0-test room;
+      ended = ended_told _ _ c.read_some.new.buf c.in-Ok-eq0.field-0 h.ended c.in-Ok-eq0.field-0-test room;
+      untouched = untouched-more _ _ _ i.untouched h.kept h.taken h.flushes h.pending;
+      same = i.same;
+    }
+
+pub returns-in-Ok-eq0-clause-few : goal.returns-in-Ok-eq0-clause-few
+returns-in-Ok-eq0-clause-few g c =
+    let i = c.reads.invariant in
+    let few = c.in-More.ensures.few refl in
+    let size = i.size in
+    let within = i.within in
+    let count = length-take-le c.reads.filled c.reads.buffer (omega arith) in
+    rw c.respond.ensures.reads (rw c.in-Ok-eq0.ensures.reads (counted_last _ _ i.reads (omega (arith, few, count))))
+
+pub returns-in-Ok-eq0-clause-converses : goal.returns-in-Ok-eq0-clause-converses
+returns-in-Ok-eq0-clause-converses g c =
+    let contents = g.T.Write.contents in
+    let remaining = g.T.Read.remaining in
+    let i = c.reads.invariant in
+    let h = c.in-Ok-eq0.ensures in
+    let few = c.in-More.ensures.few refl in
+    let size = i.size in
+    let within = i.within in
+    let read_before = i.reads in
+    let bytes = take c.reads.filled c.reads.buffer in
+    let count : length bytes ≡ c.reads.filled = length-take-le c.reads.filled c.reads.buffer (omega arith) in
+    let some : 0 < length bytes = omega (arith, count, c.if-filled-eq0.false) in
+    let room : 0 < length c.read_some.new.buf = omega (arith, c.read_some.auto.buf, few, count) in
+    let end = h.bytes.1 c.in-Ok-eq0.field-0-test room in
+    let once = h.reads in
+    let then_none = c.respond.ensures.reads in
+    let told = ended_told _ _ c.read_some.new.buf c.in-Ok-eq0.field-0 (c.respond.ensures.ended ∙ h.ended) c.in-Ok-eq0.field-0-test room in
+    converses-responded g.H.Handler.handles c.respond.result _ _
+    (connection_of remaining contents c.args.stream.now) (connection_of remaining contents c.read_some.new.self) (connection_of remaining contents c.respond.new.stream)
+    bytes more
+    (read_none _ _ _ bytes _ _ c.in-Ok-eq0.field-0-test i.read h.bytes.0)
+    c.respond.ensures.kept
+    (untouched-more _ _ _ i.untouched h.kept h.taken h.flushes h.pending)
+    (omega (arith, within, count))
+    (omega (arith, once, then_none, read_before, count))
+    c.in-More.ensures.asks
+    (λ e. (some, told, end))
+    (rw i.same at c.respond.ensures.responds)
+
+pub reads-init : goal.reads-init
+reads-init g c = record {
+  size = search rules;
+  within = omega arith;
+  read = Consumes-nil _;
+  untouched = untouched-refl _;
+  reads = omega (arith, c.requires.fresh.reads);
+  failed = c.requires.fresh.failed;
+  ended = refl;
+  no_late = λ e d. refl;
+  same = refl;
+  ready = c.requires.ready;
+}
+
+pub reads-preserved : goal.reads-preserved
+reads-preserved g c =
+    let i = c.reads.invariant in
+    let h = c.in-Ok.ensures in
+    let size = i.size in
+    let within = i.within in
+    let fits = h.bound.0 in
+    let filled = c.reads.filled in
+    let kept : length c.read_some.new.buf ≡ 9216 - filled = omega (arith, c.read_some.auto.buf, length-take (9216 - filled) (drop filled c.reads.buffer), length-drop filled c.reads.buffer) in
+    let some : c.in-Ok.n ≡ 0 → ⊥ = search (rules, tests) in
+    let more_than_none : 0 < c.in-Ok.n = search (rules, tests) in
+    record {
+      size = length-put_into c.reads.buffer c.read_some.new.buf filled (9216 - filled) (omega arith) kept ∙ i.size;
+      within = omega (arith, fits, kept);
+      read = read_into _ _ _ c.reads.buffer c.read_some.new.buf filled c.in-Ok.n _ (omega arith) fits i.read h.bytes.0;
+      untouched = untouched-more _ _ _ i.untouched h.kept h.taken h.flushes h.pending;
+      reads = rw h.reads (counted_within _ _ _ i.reads i.within some);
+      failed = h.failed ∙ or-false _ ∙ i.failed;
+      ended = h.ended ∙ kept_by_write _ _ c.in-Ok.n more_than_none ∙ i.ended;
+      no_late = λ e d. h.late ∙ or_neither _ _ _ i.failed (i.ended ∙ d) ∙ i.no_late e d;
+      same = i.same;
+      ready = i.ready;
+    }
+
+pub returns-in-Err-clause-few : goal.returns-in-Err-clause-few
+returns-in-Err-clause-few g c =
+    let i = c.reads.invariant in
+    let few = c.in-More.ensures.few refl in
+    let size = i.size in
+    let within = i.within in
+    let count = length-take-le c.reads.filled c.reads.buffer (omega arith) in
+    rw c.in-Err.ensures.reads (counted_last _ _ i.reads (omega (arith, few, count)))
+
+pub returns-in_default : goal.returns-in_default
+returns-in_default g c =
+    let contents = g.T.Write.contents in
+    let remaining = g.T.Read.remaining in
+    let i = c.reads.invariant in
+    let size = i.size in
+    let within = i.within in
+    let read_before = i.reads in
+    let then_none = c.respond-in_default.ensures.reads in
+    let bytes = take c.reads.filled c.reads.buffer in
+    let count : length bytes ≡ c.reads.filled = length-take-le c.reads.filled c.reads.buffer (omega arith) in
+    record {
+      few = rw then_none (omega (arith, read_before, within));
+      no_late = λ e d. c.respond-in_default.ensures.late ∙ i.no_late e d;
+      converses = converses-responded g.H.Handler.handles c.respond-in_default.result _ _
+          (connection_of remaining contents c.args.stream.now) (connection_of remaining contents c.reads.stream) (connection_of remaining contents c.respond-in_default.new.stream)
+          bytes (seen c.read_ask.result) i.read c.respond-in_default.ensures.kept i.untouched
+          (omega (arith, within, count))
+          (omega (arith, then_none, read_before, count))
+          c.read_ask.ensures.asks
+          (λ e. absurd (not_more c.read_ask.result c.in_default.not-More e))
+          (rw i.same at c.respond-in_default.ensures.responds);
+      ready = c.respond-in_default.ensures.ready;
+    }
+
+pub returns-in-Err-clause-converses : goal.returns-in-Err-clause-converses
+returns-in-Err-clause-converses g c =
+    let i = c.reads.invariant in
+    let h = c.in-Err.ensures in
+    let size = i.size in
+    let within = i.within in
+    let read_before = i.reads in
+    let once = h.reads in
+    let bytes = take c.reads.filled c.reads.buffer in
+    let count : length bytes ≡ c.reads.filled = length-take-le c.reads.filled c.reads.buffer (omega arith) in
+    record {
+      bytes = bytes;
+      read = Consumes-kept _ _ _ bytes i.read h.bytes;
+      limit = omega (arith, within, count);
+      each = omega (arith, once, read_before, count);
+      asks = c.in-More.ensures.asks;
+      failed = search (rules, tests);
+      untouched = untouched-more _ _ _ i.untouched h.kept h.taken h.flushes h.pending;
+      same = i.same;
+    }

@@ -1,0 +1,15 @@
+use Rattle.std.proofs.Common.{subst}
+use Rattle.room_types.specs.Streams.{output_of}
+use Rattle.resident_desk.specs.Conversations.{Delivers}
+use Rattle.resident_desk.specs.Dues.{unavailable_answer}
+use Rattle.resident_desk.proofs.conversation.respond.Goals as goal
+
+pub returns-in-Err-clause-responds : goal.returns-in-Err-clause-responds
+returns-in-Err-clause-responds g c =
+    let contents = g.T.Write.contents in
+    record {
+      answer = unavailable_answer;
+      answers = c.in-Err.ensures.answers;
+      delivers = subst (λ bytes. Delivers c.deliver-in-Err.result 503 bytes (output_of contents c.args.stream.now) (output_of contents c.deliver-in-Err.new.stream))
+          c.unavailable_is_an_answer.ensures c.deliver-in-Err.ensures.delivers;
+    }

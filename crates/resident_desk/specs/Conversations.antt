@@ -1,0 +1,105 @@
+-- A conversation with a resident over a stream, by how it ended.
+use Rattle.std.specs.Prelude.{◌≡◌, ◌⊎◌, ℕ, ◌+◌, ◌<◌, ◌≤◌, Bool}
+use Rattle.std.specs.Prelude.{true, false, List, [], length, take, Option, OnSome}
+use Rattle.std.specs.Io.KnownBytes.{Consumes, IsAtEnd, Keeps}
+use Rattle.room_types.specs.Streams.{Input, Output, Puts, input_of, output_of}
+use Rattle.room_types.specs.Watched.{counted, watched_ended}
+use Rattle.room_types.specs.declared.watched.Watched.{Watched}
+use Rattle.office_store.specs.declared.requests.Answer.{Answer as DeskAnswer}
+use Rattle.office_store.specs.declared.requests.Request.{Request}
+use Rattle.resident_http.specs.Answers.{Answer, bytes_of}
+use Rattle.resident_http.specs.Asks.{Asked, Asks, more}
+use Rattle.resident_desk.specs.Serving.{Answers}
+use Rattle.resident_desk.specs.declared.served.Served.{Served}
+use Rattle.resident_desk.specs.declared.served.Served.TheVariants.{Answered, ReadFault, Silent, WriteFault}
+
+-- how many bytes of a connection are looked at, and how often it is read at most
+abbrev pub connection_limit : ℕ
+connection_limit = 9216
+
+-- a stream: as a reader, as a writer, and whether a read has found its end
+pub record Connection : Type 0 where
+  pub input : Input
+  pub output : Output
+  pub ended : Bool
+
+abbrev pub connection_of : {T : Type 0} → (T → Option (List ℕ)) → (T → Option (List ℕ)) → Watched T → Connection
+connection_of remaining contents w = record {
+  input = input_of remaining w;
+  output = output_of contents w;
+  ended = watched_ended w;
+}
+
+-- Nothing was written or flushed.
+pub record IsUntouched (before after : Output) : Type 0 where
+  pub kept : Keeps before.contents after.contents
+  pub taken : after.taken ≡ before.taken
+  pub flushes : after.flushes ≡ before.flushes
+  pub pending : after.pending ≡ before.pending
+
+-- All bytes went out and were flushed, once, and nothing failed.
+pub record IsDelivered (bytes : List ℕ) (before after : Output) : Type 0 where
+  pub written : Puts before after bytes
+  pub flushed : after.flushes ≡ counted before.flushes 1
+  pub clear : after.pending ≡ false
+  pub well : after.failed ≡ false
+
+-- So many of the bytes went out, and a write failed; or all of them, and the flush failed.
+abbrev pub IsCut : ℕ → List ℕ → Output → Output → Type 0
+IsCut sent bytes before after =
+    (after.failed ≡ true)
+    × (((sent < length bytes) × Puts before after (take sent bytes) × (after.flushes ≡ before.flushes))
+    ⊎ ((sent ≡ length bytes) × Puts before after bytes × (after.flushes ≡ counted before.flushes 1)))
+
+-- The bytes of an answer of this status went out, or a front of them.
+abbrev pub Delivers : Served → ℕ → List ℕ → Output → Output → Type 0
+Delivers (Answered told) status bytes before after = (told ≡ status) × IsDelivered bytes before after
+Delivers (WriteFault sent) status bytes before after = IsCut sent bytes before after
+Delivers Silent status bytes before after = ⊥
+Delivers ReadFault status bytes before after = ⊥
+
+module _ {H : Type 0} (handles : H → Request → DeskAnswer → H → Type 0) where
+  -- What was asked has an answer, and its bytes went out, or a front of them.
+  pub record Responds (asked : Asked) (old new : H) (served : Served) (before after : Output) : Type 0 where
+    pub answer : Answer
+    pub answers : Answers handles asked old answer new
+    pub delivers : Delivers served answer.status (bytes_of answer) before after
+
+  -- These bytes were read, by at most one read more than there are bytes, and what they ask was answered. Where they ask for
+  -- more, the stream had ended after at least one byte.
+  pub record Replies (old new : H) (served : Served) (before after : Connection) : Type 0 where
+    pub bytes : List ℕ
+    pub asked : Asked
+    pub read : Consumes before.input.remaining after.input.remaining bytes
+    pub limit : length bytes ≤ connection_limit
+    pub each : after.input.reads ≤ length bytes + 1
+    pub asks : Asks bytes asked
+    pub ended : asked ≡ more → (0 < length bytes) × (after.ended ≡ true)
+        × OnSome before.input.remaining (IsAtEnd after.input.remaining)
+    pub responds : Responds asked old new served before.output after.output
+
+  -- The stream had ended before any byte.
+  pub record IsSilent (old new : H) (before after : Connection) : Type 0 where
+    pub read : Consumes before.input.remaining after.input.remaining []
+    pub at_end : IsAtEnd after.input.remaining
+    pub ended : after.ended ≡ true
+    pub untouched : IsUntouched before.output after.output
+    pub same : new ≡ old
+
+  -- The bytes that were read ask for more, and a read failed.
+  pub record CannotRead (old new : H) (before after : Connection) : Type 0 where
+    pub bytes : List ℕ
+    pub read : Consumes before.input.remaining after.input.remaining bytes
+    pub limit : length bytes ≤ connection_limit
+    pub each : after.input.reads ≤ length bytes + 1
+    pub asks : Asks bytes more
+    pub failed : after.input.failed ≡ true
+    pub untouched : IsUntouched before.output after.output
+    pub same : new ≡ old
+
+  -- by how it ended
+  abbrev pub Converses : Served → H → H → Connection → Connection → Type 0
+  Converses (Answered status) old new before after = Replies old new (Answered status) before after
+  Converses Silent old new before after = IsSilent old new before after
+  Converses ReadFault old new before after = CannotRead old new before after
+  Converses (WriteFault sent) old new before after = Replies old new (WriteFault sent) before after

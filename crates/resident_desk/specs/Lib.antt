@@ -1,0 +1,5 @@
+pub mod Conversations
+pub mod Dues
+pub mod Letters
+pub mod OwnReply
+pub mod Serving

@@ -1,0 +1,252 @@
+//! What was asked, put to whoever handles requests, and answered.
+ghost use Rattle.std.specs.Prelude.{◌≡◌, option_map};
+ghost use Rattle.resident_http.specs.Asks.{HasEarlyStatus, seen};
+ghost use Rattle.resident_http.specs.Bodies.{choices_of_body};
+ghost use Rattle.resident_http.specs.Routes.{seen_wanted, wanted_of};
+ghost use Rattle.resident_desk.specs.Dues.{list_fault, rooms_answer, standing_answer};
+ghost use Rattle.resident_desk.specs.Letters.{WithAnswer};
+ghost use Rattle.resident_desk.specs.Serving.{Admits, Answers, AnswersWanted, Commands, Does, Greets, IsDue};
+ghost use Rattle.resident_desk.specs.Serving.{ListsRooms, Records, Withdraws};
+
+use crate::drafts::Drafts;
+use crate::letters::{
+    Letter, NoLetter, fault_letter, one_fault_letter, success_letter, wrong_method_letter,
+};
+use http::StatusCode;
+use office_core::{Command, Query, Reply, Standing};
+use office_store::{Answer, Handler, Request};
+use resident_http::{
+    AskState, Route, Routed, choices_body, choices_of_body, rooms_body, route_request,
+    standing_body, withdrawn_body,
+};
+use room_types::{Key, Listing, PersonId, RoomRow, TypeFault};
+use std::alloc::Global;
+
+/// The letter to what was asked. Where more bytes are asked for, no more come.
+pub fn answer_ask<H: Handler>(
+    alloc: Global,
+    handler: &mut H,
+    asked: &AskState<'_>,
+) -> Result<Letter, NoLetter>
+    requires ready { H.is_ready handler.old }
+    requires early { HasEarlyStatus (seen asked.now) }
+    ensures answers { WithAnswer result (λ answer.
+        Answers H.handles (seen asked.now) handler.old answer handler.new) }
+    ensures ready { H.is_ready handler.new }
+{
+    match asked {
+        AskState::More => one_fault_letter(alloc, StatusCode::BAD_REQUEST),
+        AskState::Fault(status) => one_fault_letter(alloc, *status),
+        AskState::Ask {
+            method,
+            path,
+            key,
+            body,
+            ..
+        } => answer_request(alloc, handler, method, path, *key, body),
+    }
+}
+
+// The letter to a request: its path counts first, then its method, then its key.
+fn answer_request<H: Handler>(
+    alloc: Global,
+    handler: &mut H,
+    method: &[u8],
+    path: &str,
+    key: Option<&str>,
+    body: &[u8],
+) -> Result<Letter, NoLetter>
+    requires ready { H.is_ready handler.old }
+    ensures answers { WithAnswer result (λ answer. AnswersWanted H.handles
+        (wanted_of method.now path.now (option_map (λ k. k.now) key.entry)) body.now
+        handler.old answer handler.new) }
+    ensures ready { H.is_ready handler.new }
+{
+    let routed = route_request(alloc, method, path, key)?;
+    answer_routed(alloc, handler, routed, body)
+}
+
+// The letter to what is wanted by a path, a method and a key.
+fn answer_routed<H: Handler>(
+    alloc: Global,
+    handler: &mut H,
+    routed: Routed<'_>,
+    body: &[u8],
+) -> Result<Letter, NoLetter>
+    requires ready { H.is_ready handler.old }
+    ensures answers { WithAnswer result (λ answer. AnswersWanted H.handles
+        (seen_wanted routed.entry) body.now handler.old answer handler.new) }
+    ensures ready { H.is_ready handler.new }
+{
+    match routed {
+        Routed::Unknown => one_fault_letter(alloc, StatusCode::NOT_FOUND),
+        Routed::WrongMethod { allow } => wrong_method_letter(alloc, allow),
+        Routed::Forbidden => one_fault_letter(alloc, StatusCode::FORBIDDEN),
+        Routed::To { route, key } => admit(alloc, handler, route, key, body),
+    }
+}
+
+// The letter to whoever has this key: the desk is asked first whose it is.
+fn admit<H: Handler>(
+    alloc: Global,
+    handler: &mut H,
+    route: Route,
+    key: &str,
+    body: &[u8],
+) -> Result<Letter, NoLetter>
+    requires ready { H.is_ready handler.old }
+    ensures answers { WithAnswer result (λ answer.
+        Admits H.handles route key.now body.now handler.old answer handler.new) }
+    ensures ready { H.is_ready handler.new }
+{
+    // A key that a request hands in is in its grammar, so that only memory can be refused.
+    let Ok(key) = Key::read(alloc, key) else {
+        return Err(NoLetter);
+    };
+    let me = handler.handle(alloc, &Request::Ask(Query::Me(key)));
+    greet(alloc, handler, route, &me, body)
+}
+
+// The letter, once the desk has told whose the key is.
+fn greet<H: Handler>(
+    alloc: Global,
+    handler: &mut H,
+    route: Route,
+    me: &Answer,
+    body: &[u8],
+) -> Result<Letter, NoLetter>
+    requires ready { H.is_ready handler.old }
+    ensures answers { WithAnswer result (λ answer.
+        Greets H.handles route body.now me.now handler.old answer handler.new) }
+    ensures ready { H.is_ready handler.new }
+{
+    match me {
+        Answer::Reply(Reply::Me(standing)) => answer_owner(alloc, handler, route, standing, body),
+        Answer::Refused(_) => one_fault_letter(alloc, StatusCode::FORBIDDEN),
+        _ => Err(NoLetter),
+    }
+}
+
+// The letter to the owner of the key.
+fn answer_owner<H: Handler>(
+    alloc: Global,
+    handler: &mut H,
+    route: Route,
+    standing: &Standing,
+    body: &[u8],
+) -> Result<Letter, NoLetter>
+    requires ready { H.is_ready handler.old }
+    ensures answers { WithAnswer result (λ answer.
+        Does H.handles route standing.now body.now handler.old answer handler.new) }
+    ensures ready { H.is_ready handler.new }
+{
+    match route {
+        Route::Standing => tell_standing(alloc, standing),
+        Route::Rooms => tell_rooms(alloc, handler),
+        Route::Withdrawal => withdraw(alloc, handler, &standing.person),
+        Route::Choices => record_choices(alloc, handler, &standing.person, body),
+    }
+}
+
+// The letter that tells the person's own record.
+fn tell_standing(alloc: Global, standing: &Standing) -> Result<Letter, NoLetter>
+    ensures { WithAnswer result (IsDue (standing_answer standing.now)) }
+{
+    success_letter(alloc, standing_body(alloc, standing)?)
+}
+
+// The letter that tells the rooms.
+fn tell_rooms<H: Handler>(alloc: Global, handler: &mut H) -> Result<Letter, NoLetter>
+    requires ready { H.is_ready handler.old }
+    ensures answers { WithAnswer result (λ answer.
+        ListsRooms H.handles handler.old answer handler.new) }
+    ensures ready { H.is_ready handler.new }
+{
+    match handler.handle(alloc, &Request::Ask(Query::Rooms)) {
+        Answer::Reply(Reply::Rooms(rows)) => rooms_letter(alloc, rows.as_slice()),
+        _ => Err(NoLetter),
+    }
+}
+
+// The letter that tells these rows.
+fn rooms_letter(alloc: Global, rows: &[RoomRow]) -> Result<Letter, NoLetter>
+    ensures { WithAnswer result (IsDue (rooms_answer rows.now)) }
+{
+    success_letter(alloc, rooms_body(alloc, rows)?)
+}
+
+// The letter to a withdrawal from the round.
+fn withdraw<H: Handler>(
+    alloc: Global,
+    handler: &mut H,
+    person: &PersonId,
+) -> Result<Letter, NoLetter>
+    requires ready { H.is_ready handler.old }
+    ensures answers { WithAnswer result (λ answer.
+        Withdraws H.handles person.now handler.old answer handler.new) }
+    ensures ready { H.is_ready handler.new }
+{
+    let body = withdrawn_body(alloc)?;
+    let person = person.copy()?;
+    carry_out(alloc, handler, Command::Withdraw { person }, body)
+}
+
+// The letter to a list that is handed in.
+fn record_choices<H: Handler>(
+    alloc: Global,
+    handler: &mut H,
+    person: &PersonId,
+    body: &[u8],
+) -> Result<Letter, NoLetter>
+    requires ready { H.is_ready handler.old }
+    ensures answers { WithAnswer result (λ answer. Records H.handles person.now
+        (choices_of_body body.now) handler.old answer handler.new) }
+    ensures ready { H.is_ready handler.new }
+{
+    match choices_of_body(alloc, body) {
+        Ok(choices) => {
+            let told = choices_body(alloc, choices.as_slice())?;
+            let person = person.copy()?;
+            carry_out(
+                alloc,
+                handler,
+                Command::SetChoices { person, choices },
+                told,
+            )
+        }
+        Err(fault) => list_fault_letter(alloc, &fault),
+    }
+}
+
+// The letter to a body that is no list.
+fn list_fault_letter(alloc: Global, fault: &TypeFault) -> Result<Letter, NoLetter>
+    ensures { WithAnswer result (IsDue (list_fault fault.now)) }
+{
+    match fault {
+        TypeFault::BadValue => one_fault_letter(alloc, StatusCode::BAD_REQUEST),
+        TypeFault::OutOfMemory => Err(NoLetter),
+        TypeFault::TooManyChoices => {
+            fault_letter(alloc, StatusCode::UNPROCESSABLE_ENTITY, "TooManyChoices")
+        }
+        TypeFault::RoomRepeated(_) => {
+            fault_letter(alloc, StatusCode::UNPROCESSABLE_ENTITY, "RoomRepeated")
+        }
+    }
+}
+
+// Hands a command to the desk, once each of its answers is made.
+fn carry_out<H: Handler>(
+    alloc: Global,
+    handler: &mut H,
+    command: Command,
+    success: Listing<u8>,
+) -> Result<Letter, NoLetter>
+    requires ready { H.is_ready handler.old }
+    ensures answers { WithAnswer result (λ answer.
+        Commands H.handles command success handler.old answer handler.new) }
+    ensures ready { H.is_ready handler.new }
+{
+    let drafts = Drafts::new(alloc, success)?;
+    let answer = handler.handle(alloc, &Request::Office(command));
+    drafts.letter_for(&answer)
+}

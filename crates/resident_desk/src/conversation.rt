@@ -1,0 +1,86 @@
+//! One conversation: a request is read from a stream, and answered on it.
+ghost use Rattle.std.specs.Prelude.{◌≡◌, ◌≤◌, false};
+ghost use Rattle.std.specs.Io.KnownBytes.{Keeps};
+ghost use Rattle.room_types.specs.Streams.{output_of};
+ghost use Rattle.room_types.specs.Watched.{IsFresh, StopsAtEnd, watched_ended, watched_failed};
+ghost use Rattle.room_types.specs.Watched.{watched_inner, watched_late, watched_reads};
+ghost use Rattle.resident_http.specs.Asks.{HasEarlyStatus, seen};
+ghost use Rattle.resident_desk.specs.Conversations.{Converses, Responds, connection_limit, connection_of};
+
+use crate::answering::answer_ask;
+use crate::delivery::deliver;
+use crate::served::Served;
+use http::StatusCode;
+use office_store::Handler;
+use resident_http::laws::unavailable_is_an_answer;
+use resident_http::{AskState, UNAVAILABLE, read_ask};
+use room_types::{Stream, Watched};
+use std::alloc::Global;
+
+/// How many bytes of a connection are looked at: those of the longest head and the longest body.
+pub const CONNECTION_LIMIT: usize = 9_216;
+
+/// Reads one request from the stream, lets it be handled, and writes its answer with one flush after it. It reads until
+/// the request is whole, refused, or the stream has ended, each time into what is left of a fixed space, and takes no
+/// memory for it. Memory that is refused is answered with 503, and then nothing has changed. Nothing is asked of the stream
+/// once it has failed, and nothing is read once it has ended.
+pub fn converse<H: Handler, T: Stream>(
+    alloc: Global,
+    handler: &mut H,
+    stream: &mut Watched<T>,
+) -> Served
+    requires ready { H.is_ready handler.old }
+    requires fresh { IsFresh stream.old }
+    ensures few { watched_reads stream.new ≤ connection_limit }
+    ensures no_late { StopsAtEnd stream.old stream.new }
+    ensures converses { Converses H.handles result handler.old handler.new
+        (connection_of T.remaining T.contents stream.old)
+        (connection_of T.remaining T.contents stream.new) }
+    ensures ready { H.is_ready handler.new }
+{
+    let mut buffer = [0u8; CONNECTION_LIMIT];
+    let mut filled = 0;
+    'reads: loop {
+        match read_ask(&buffer[..filled]) {
+            AskState::More => match stream.read_some(&mut buffer[filled..]) {
+                Ok(0) => {
+                    if filled == 0 {
+                        return Served::Silent;
+                    }
+                    return respond(alloc, handler, stream, &AskState::More);
+                }
+                Ok(n) => filled += n,
+                Err(_) => return Served::ReadFault,
+            },
+            asked => return respond(alloc, handler, stream, &asked),
+        }
+    }
+}
+
+// Answers what was asked; where more bytes are asked for, no more come.
+fn respond<H: Handler, T: Stream>(
+    alloc: Global,
+    handler: &mut H,
+    stream: &mut Watched<T>,
+    asked: &AskState<'_>,
+) -> Served
+    requires ready { H.is_ready handler.old }
+    requires early { HasEarlyStatus (seen asked.now) }
+    requires failed { watched_failed stream.old ≡ false }
+    ensures responds { Responds H.handles (seen asked.now) handler.old handler.new result
+        (output_of T.contents stream.old) (output_of T.contents stream.new) }
+    ensures kept { Keeps (T.remaining (watched_inner stream.old))
+        (T.remaining (watched_inner stream.new)) }
+    ensures reads { watched_reads stream.new ≡ watched_reads stream.old }
+    ensures ended { watched_ended stream.new ≡ watched_ended stream.old }
+    ensures late { watched_late stream.new ≡ watched_late stream.old }
+    ensures ready { H.is_ready handler.new }
+{
+    match answer_ask(alloc, handler, asked) {
+        Ok(letter) => deliver(stream, letter.status, &letter.bytes),
+        Err(_) => {
+            unavailable_is_an_answer();
+            deliver(stream, StatusCode::SERVICE_UNAVAILABLE, UNAVAILABLE)
+        }
+    }
+}

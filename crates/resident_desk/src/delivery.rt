@@ -1,0 +1,60 @@
+//! The bytes of an answer, written to a stream.
+ghost use Rattle.std.specs.Prelude.{◌≡◌, ◌<◌, length, take, IfErr, OnErr, OnOk, true, false};
+ghost use Rattle.std.specs.Io.KnownBytes.{Keeps};
+ghost use Rattle.room_types.specs.Streams.{Puts, output_of};
+ghost use Rattle.room_types.specs.Watched.{watched_ended, watched_failed, watched_flushes, watched_inner};
+ghost use Rattle.room_types.specs.Watched.{watched_late, watched_reads};
+ghost use Rattle.resident_desk.specs.Conversations.{Delivers};
+
+use crate::served::Served;
+use http::StatusCode;
+use room_types::{Stream, Watched};
+
+/// Writes the whole answer, and flushes.
+pub fn deliver<T: Stream>(stream: &mut Watched<T>, status: StatusCode, text: &[u8]) -> Served
+    requires { watched_failed stream.old ≡ false }
+    ensures delivers { Delivers result status text.now
+        (output_of T.contents stream.old) (output_of T.contents stream.new) }
+    ensures kept { Keeps (T.remaining (watched_inner stream.old))
+        (T.remaining (watched_inner stream.new)) }
+    ensures reads { watched_reads stream.new ≡ watched_reads stream.old }
+    ensures ended { watched_ended stream.new ≡ watched_ended stream.old }
+    ensures late { watched_late stream.new ≡ watched_late stream.old }
+{
+    if let Err(sent) = send_all(stream, text) {
+        return Served::WriteFault { sent };
+    }
+    match stream.flush_all() {
+        Ok(()) => Served::Answered { status },
+        Err(_) => Served::WriteFault { sent: text.len() },
+    }
+}
+
+// Writes the whole text, or says how many bytes of it went out before a write failed. A write that takes none has failed.
+fn send_all<T: Stream>(stream: &mut Watched<T>, text: &[u8]) -> Result<(), usize>
+    requires { watched_failed stream.old ≡ false }
+    ensures sent { OnOk result (Puts
+        (output_of T.contents stream.old) (output_of T.contents stream.new) text.now) }
+    ensures front { IfErr result (λ sent. Puts
+        (output_of T.contents stream.old) (output_of T.contents stream.new) (take sent text.now)) }
+    ensures short { IfErr result (λ sent. sent < length text.now) }
+    ensures well { OnOk result (watched_failed stream.new ≡ false) }
+    ensures failed { OnErr result (watched_failed stream.new ≡ true) }
+    ensures flushes { watched_flushes stream.new ≡ watched_flushes stream.old }
+    ensures kept { Keeps (T.remaining (watched_inner stream.old))
+        (T.remaining (watched_inner stream.new)) }
+    ensures reads { watched_reads stream.new ≡ watched_reads stream.old }
+    ensures ended { watched_ended stream.new ≡ watched_ended stream.old }
+    ensures late { watched_late stream.new ≡ watched_late stream.old }
+{
+    // Once it was read, the count is known to fit.
+    let _taken = stream.taken();
+    let mut sent = 0;
+    while sent < text.len() {
+        match stream.write_some(&text[sent..]) {
+            Ok(0) | Err(_) => return Err(sent),
+            Ok(n) => sent += n,
+        }
+    }
+    Ok(())
+}

@@ -1,0 +1,53 @@
+//! The answers that a command can get, made before it is handed to the desk.
+ghost use Rattle.resident_desk.specs.Dues.{command_answer};
+ghost use Rattle.resident_desk.specs.Letters.{AreDrafts, WithAnswer};
+
+use crate::letters::{Letter, NoLetter, fault_letter, success_letter};
+use http::StatusCode;
+use office_core::Refusal;
+use office_store::Answer;
+use room_types::Listing;
+use std::alloc::Global;
+
+/// A letter for each answer that a resident's command can get. They are made before the command is handed over, so that
+/// no memory is wanted for its answer once it stands.
+#[derive(Drop)]
+pub struct Drafts {
+    pub success: Letter,
+    pub bad_phase: Letter,
+    pub withdrawn: Letter,
+    pub unknown_room: Letter,
+    pub room_shut: Letter,
+}
+
+impl Drafts {
+    ghost use Rattle.std.specs.Prelude.{◌≡◌, ℕ, IfOk, List};
+
+    /// The letters, where success has this body.
+    pub fn new(alloc: Global, body: Listing<u8>) -> Result<Drafts, NoLetter>
+        ensures { IfOk result (λ drafts. AreDrafts drafts body) }
+    {
+        Ok(Drafts {
+            success: success_letter(alloc, body)?,
+            bad_phase: fault_letter(alloc, StatusCode::CONFLICT, "BadPhase")?,
+            withdrawn: fault_letter(alloc, StatusCode::CONFLICT, "Withdrawn")?,
+            unknown_room: fault_letter(alloc, StatusCode::UNPROCESSABLE_ENTITY, "UnknownRoom")?,
+            room_shut: fault_letter(alloc, StatusCode::UNPROCESSABLE_ENTITY, "RoomShut")?,
+        })
+    }
+
+    /// The letter that goes with the desk's answer.
+    pub fn letter_for(self, answer: &Answer) -> Result<Letter, NoLetter>
+        ensures { (body : List ℕ) → AreDrafts self body
+            → WithAnswer result (λ due. due ≡ command_answer body answer.now) }
+    {
+        match answer {
+            Answer::Reply(_) => Ok(self.success),
+            Answer::Refused(Refusal::BadPhase(_)) => Ok(self.bad_phase),
+            Answer::Refused(Refusal::Withdrawn) => Ok(self.withdrawn),
+            Answer::Refused(Refusal::UnknownRoom(_)) => Ok(self.unknown_room),
+            Answer::Refused(Refusal::RoomShut(_)) => Ok(self.room_shut),
+            Answer::Refused(_) | Answer::Unavailable => Err(NoLetter),
+        }
+    }
+}

@@ -1,0 +1,18 @@
+//! The conversation with a resident: one request is read from a connection, handled at the desk, and answered.
+#![tactic(auto)]
+
+mod answering;
+pub mod conversation;
+mod delivery;
+mod drafts;
+pub mod laws;
+mod letters;
+pub mod served;
+pub mod serving;
+
+pub use crate::conversation::{CONNECTION_LIMIT, converse};
+pub use crate::served::Served;
+pub use crate::serving::{serve_one, serve_one_in_memory};
+
+#[cfg(test)]
+mod tests;

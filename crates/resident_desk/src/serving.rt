@@ -1,0 +1,66 @@
+//! A conversation with a resident, at the desk.
+ghost use Rattle.std.specs.Prelude.{◌≤◌};
+ghost use Rattle.sqlite.specs.Held.{state};
+ghost use Rattle.sqlite.specs.State.{HasCleanDisk};
+ghost use Rattle.sqlite.specs.Steps.{over_memory};
+ghost use Rattle.office_core.specs.declared.office.Office.{Office as AnyOffice};
+ghost use Rattle.office_store.specs.Desk.{HandlesAt, Shows, StandsFor};
+ghost use Rattle.office_store.specs.Requests.{Handles};
+ghost use Rattle.office_tables.specs.Steps.{Follows};
+ghost use Rattle.room_types.specs.Watched.{IsFresh, StopsAtEnd, watched_reads};
+ghost use Rattle.resident_desk.specs.Conversations.{Converses, connection_limit, connection_of};
+
+use crate::conversation::converse;
+use crate::served::Served;
+use office_store::Desk;
+use room_types::{Stream, Watched};
+use sqlite::{Alter, MemStore};
+use std::alloc::Global;
+
+/// Serves one resident: reads one request, has it handled at the desk, and writes its answer, as `converse` does. Where
+/// the disk returned what was written, the answer is what the office that the desk stands for serves to the bytes that were
+/// read, and then the desk stands for the office after it, also where the answer could not be written.
+pub fn serve_one<S: Alter, T: Stream>(
+    alloc: Global,
+    desk: &mut Desk<S>,
+    stream: &mut Watched<T>,
+) -> Served
+    requires fresh { IsFresh stream.old }
+    ensures few { watched_reads stream.new ≤ connection_limit }
+    ensures no_late { StopsAtEnd stream.old stream.new }
+    ensures follows { Follows (state S.Store desk.old.conn) (state S.Store desk.new.conn) }
+    ensures converses { Converses (HandlesAt S.Store) result desk.old desk.new
+        (connection_of T.remaining T.contents stream.old)
+        (connection_of T.remaining T.contents stream.new) }
+    ensures serves { HasCleanDisk (state S.Store desk.new.conn) → (office : AnyOffice)
+        → StandsFor S.Store desk.old office → (next : AnyOffice)
+        × Converses Handles result office next
+        (connection_of T.remaining T.contents stream.old)
+        (connection_of T.remaining T.contents stream.new)
+        × StandsFor S.Store desk.new next }
+{
+    converse(alloc, desk, stream)
+}
+
+/// The same over a database in memory, where nothing has to be said of a disk: the answer is what the office that the desk
+/// shows serves to the bytes that were read, and then the desk shows the office after it.
+pub fn serve_one_in_memory<T: Stream>(
+    alloc: Global,
+    desk: &mut Desk<MemStore>,
+    stream: &mut Watched<T>,
+) -> Served
+    requires fresh { IsFresh stream.old }
+    ensures few { watched_reads stream.new ≤ connection_limit }
+    ensures no_late { StopsAtEnd stream.old stream.new }
+    ensures converses { Converses (HandlesAt over_memory) result desk.old desk.new
+        (connection_of T.remaining T.contents stream.old)
+        (connection_of T.remaining T.contents stream.new) }
+    ensures serves { (office : AnyOffice) → Shows over_memory desk.old office
+        → (next : AnyOffice)
+        × Converses Handles result office next
+        (connection_of T.remaining T.contents stream.old)
+        (connection_of T.remaining T.contents stream.new)
+        × Shows over_memory desk.new next }
+{
+    converse(alloc, desk, stream)
+}

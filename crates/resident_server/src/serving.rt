@@ -1,0 +1,117 @@
+//! Connections are met one after the other, and a resident is served on each.
+ghost use Rattle.std.specs.Prelude.{◌≡◌, ◌+◌, ◌-◌, ◌^◌, ◌<◌, ℕ, IfOk, false, string_bytes};
+ghost use Rattle.room_types.specs.Streams.{output_of};
+ghost use Rattle.room_types.specs.Watched.{StopsAtFailure, watched_failed, watched_pending};
+ghost use Rattle.resident_server.specs.Counting.{asked_of, failed_of};
+ghost use Rattle.resident_server.specs.Serving.{MeetsEach, ServesAll, ServesPort};
+ghost use Rattle.resident_server.specs.Texts.{listening_text, served_text};
+
+use crate::counted::Counted;
+use crate::listener::Listener;
+use office_lines::say::say;
+use office_store::Desk;
+use office_texts::{ACCEPTED, UNAVAILABLE};
+use resident_desk::serve_one;
+use room_types::Watched;
+use sqlite::Alter;
+use std::alloc::{AllocError, Global};
+use std::io::Write;
+use std::net::{Ipv4Addr, SocketAddr, TcpListener};
+
+/// Listens on this port of 127.0.0.1, and serves residents as `serve_listener` does. Where the port can't be bound,
+/// `unavailable` is said. Gives the exit status.
+pub fn serve_port<S: Alter, W: Write>(
+    rt: &HostRuntime,
+    desk: &mut Desk<S>,
+    port: u16,
+    count: u32,
+    output: &mut Watched<W>,
+) -> u8
+    ensures no_late_write { StopsAtFailure output.old output.new }
+    ensures serves { ServesPort S.Store desk.old desk.new port count result
+        (output_of W.contents output.old) (output_of W.contents output.new) }
+{
+    match TcpListener::bind(rt, SocketAddr::from((Ipv4Addr::LOCALHOST, port))) {
+        Ok(listener) => {
+            let mut listener = Counted::new(listener);
+            serve_listener(rt.alloc(), desk, &mut listener, port, count, output)
+        }
+        Err(_) => say(output, "unavailable\n", UNAVAILABLE),
+    }
+}
+
+/// Says `listening on 127.0.0.1:PORT`, meets so many connections one after the other, and says `served COUNT`. Both lines are
+/// made first, so that memory is wanting before anybody is served or not at all. Where the first line can't be said, nobody
+/// is served. Gives the exit status.
+pub fn serve_listener<S: Alter, L: Listener, W: Write>(
+    alloc: Global,
+    desk: &mut Desk<S>,
+    listener: &mut Counted<L>,
+    port: u16,
+    count: u32,
+    output: &mut Watched<W>,
+) -> u8
+    requires unasked { asked_of listener.old ≡ 0 }
+    ensures no_late_write { StopsAtFailure output.old output.new }
+    ensures serves { ServesAll S.Store desk.old desk.new port count (failed_of listener.new) result
+        (output_of W.contents output.old) (output_of W.contents output.new) }
+{
+    let Ok(lines) = make_lines(alloc, port, count) else {
+        return say(output, "unavailable\n", UNAVAILABLE);
+    };
+    if say(output, lines.listening.as_str(), ACCEPTED) != ACCEPTED {
+        return UNAVAILABLE;
+    }
+    serve_each(alloc, desk, listener, output, count);
+    say(output, lines.served.as_str(), ACCEPTED)
+}
+
+/// Meets so many connections one after the other, and serves the resident on each. A connection that could not be accepted
+/// counts. What was said on the output is flushed before the first is asked for.
+pub fn serve_each<S: Alter, L: Listener, W>(
+    alloc: Global,
+    desk: &mut Desk<S>,
+    listener: &mut Counted<L>,
+    output: &Watched<W>,
+    count: u32,
+)
+    requires unasked { asked_of listener.old ≡ 0 }
+    requires flushed { watched_pending output.now ≡ false }
+    ensures asked { asked_of listener.new ≡ count }
+    ensures meets { MeetsEach S.Store desk.old desk.new count (failed_of listener.new) }
+{
+    'connections: for _ in 0..count {
+        meet_one(alloc, desk, listener);
+    }
+}
+
+// Meets one connection more: the resident is served on it, if it could be accepted.
+fn meet_one<S: Alter, L: Listener>(alloc: Global, desk: &mut Desk<S>, listener: &mut Counted<L>)
+    requires fits { asked_of listener.old < 2 ^ 64 - 1 }
+    ensures asked { asked_of listener.new ≡ asked_of listener.old + 1 }
+    ensures meets { (first : _) (count : ℕ)
+        → MeetsEach S.Store first desk.old count (failed_of listener.old)
+        → MeetsEach S.Store first desk.new (count + 1) (failed_of listener.new) }
+{
+    let stream = match listener.accept() {
+        Some(stream) => stream,
+        None => return,
+    };
+    let _served = serve_one(alloc, desk, &mut Watched::new(stream));
+}
+
+// What is said before and after.
+#[derive(Drop)]
+struct Lines {
+    listening: String,
+    served: String,
+}
+
+fn make_lines(alloc: Global, port: u16, count: u32) -> Result<Lines, AllocError>
+    ensures listening { IfOk result (λ lines. string_bytes lines.listening ≡ listening_text port) }
+    ensures served { IfOk result (λ lines. string_bytes lines.served ≡ served_text count) }
+{
+    let listening = format!(in alloc; "listening on 127.0.0.1:{port}\n")?;
+    let served = format!(in alloc; "served {count}\n")?;
+    Ok(Lines { listening, served })
+}

@@ -1,0 +1,25 @@
+"""Tries all that stands round `rooms serve`, end to end: python3 deploy/trial PROGRAM FOLDER.
+
+The folder gets the photographs of the page. It ends at the first thing that is not as it should be, and leaves nothing running.
+Debian: apt-get install haproxy chromium chromium-driver python3-selenium sqlite3 openssl.
+"""
+
+import sys
+from pathlib import Path
+
+# The repository stays as it is.
+sys.dont_write_bytecode = True
+
+from burst import try_burst
+from limits import try_limits
+from page import try_page
+
+if __name__ == "__main__":
+    if len(sys.argv) != 3:
+        sys.exit("usage: python3 deploy/trial PROGRAM FOLDER")
+    folder = Path(sys.argv[2])
+    folder.mkdir(parents=True, exist_ok=True)
+    try_page(sys.argv[1], folder)
+    try_burst(sys.argv[1])
+    try_limits(sys.argv[1])
+    print("all is as it should be")

@@ -1,0 +1,89 @@
+"""Runs a page of documentation: its lines of `./rooms` and `curl`, and its Python, compared with the answers beside them."""
+
+import re
+import shlex
+import socket
+import subprocess
+import sys
+import tempfile
+from pathlib import Path
+
+
+def blocks(page):
+    """The blocks of code of a page, each with the word that stands behind its fence."""
+    return [(word, text.splitlines()) for word, text in re.findall(r"(?m)^```(\w*)\n(.*?)^```$", page, re.S)]
+
+
+class Run:
+    """A run of the page."""
+
+    def __init__(self, program, folder, port):
+        self.program, self.folder, self.port = program, folder, port
+        self.server, self.printed, self.compared = None, "", 0
+
+    def line(self, text):
+        """Runs a line; what it prints is awaited next."""
+        words = shlex.split(text.replace("8080", self.port))
+        if words[0] == "./rooms":
+            words[0] = self.program
+        if "serve" in words:
+            self.end_server()
+            self.server = subprocess.Popen(words, cwd=self.folder, stdout=subprocess.PIPE, text=True)
+            if self.server.stdout.readline() != f"listening on 127.0.0.1:{self.port}\n":
+                sys.exit("the server does not listen")
+            return
+        if words[0] == self.program:
+            self.end_server()
+        self.printed = subprocess.run(words, cwd=self.folder, check=True, capture_output=True, text=True).stdout
+
+    def compare(self, lines):
+        """What was printed is what stands on the page."""
+        if self.printed.splitlines() != lines:
+            sys.exit(f"printed {self.printed!r}, and the page has {lines!r}")
+        self.compared += 1
+
+    def end_server(self):
+        """The server has met all its connections, and ends by itself."""
+        if self.server:
+            server, self.server = self.server, None
+            told, _ = server.communicate(timeout=20)
+            if server.returncode != 0 or not re.fullmatch(r"served \d+\n", told):
+                sys.exit(f"the server ended with {server.returncode}, {told!r}")
+
+    def block(self, word, lines):
+        if word == "python":
+            code = "\n".join(lines).replace("8080", self.port)
+            self.printed = subprocess.run([sys.executable, "-c", code], check=True, capture_output=True, text=True).stdout
+            return
+        answers = []
+        for text in lines:
+            if not text.startswith(("./rooms ", "curl ")):
+                answers.append(text)
+                continue
+            if answers:
+                self.compare(answers)
+                answers = []
+            self.line(text)
+        if answers:
+            self.compare(answers)
+
+
+def main(program, page):
+    with socket.socket() as probe, tempfile.TemporaryDirectory() as folder:
+        probe.bind(("127.0.0.1", 0))
+        port = str(probe.getsockname()[1])
+        probe.close()
+        run = Run(str(Path(program).resolve()), folder, port)
+        try:
+            for word, lines in blocks(Path(page).read_text(encoding="utf-8")):
+                run.block(word, lines)
+            run.end_server()
+        finally:
+            if run.server:
+                run.server.kill()
+                run.server.wait()
+    print(f"{run.compared} answers are as the page has them")
+
+
+if __name__ == "__main__":
+    main(sys.argv[1], sys.argv[2])
