@@ -2,8 +2,6 @@
 #![tactic(auto)]
 
 pub mod lots;
-#[cfg(test)]
-mod tests;
 pub mod words;
 
 pub use crate::lots::{one_drawn_order, order};

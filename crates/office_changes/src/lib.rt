@@ -11,6 +11,3 @@ mod store;
 mod words;
 
 pub use crate::store::store_all;
-
-#[cfg(test)]
-mod tests;

@@ -1,18 +1,9 @@
-//! The program `rooms`: lines of text are heard and answered, and the words of its command line are read.
+//! The program `rooms`: its words and its streams are handed to what carries them out.
 #![tactic(auto)]
 
 ghost use Rattle.std.specs.Prelude.{◌≡◌, ◌<◌, IfOk, OnErr, drop, length, map, string_bytes};
 
-pub mod at_desk;
-pub mod carry_out;
-pub mod desk_faults;
-pub mod in_file;
-pub mod program;
-pub mod seeds;
-pub mod usage;
-pub mod word_lines;
-
-use crate::carry_out::refuse;
+use office_program::carry_out::{carry_out, refuse};
 use office_words::WordFault;
 use room_types::Watched;
 use std::alloc::{AllocError, Global};
@@ -25,13 +16,7 @@ fn main(rt: HostRuntime) -> ExitCode {
     let mut error = Watched::new(rt.stderr());
     let status = match words_of_system(&rt) {
         Ok(words) => match texts_after_name(rt.alloc(), &words) {
-            Ok(texts) => crate::carry_out::carry_out(
-                &rt,
-                &texts,
-                &mut input,
-                &mut output,
-                &mut error,
-            ),
+            Ok(texts) => carry_out(&rt, &texts, &mut input, &mut output, &mut error),
             Err(_) => refuse(WordFault::OutOfMemory, &mut output, &mut error),
         },
         Err(fault) => refuse(fault, &mut output, &mut error),
@@ -68,6 +53,3 @@ fn texts_after_name<'a>(alloc: Global, words: &'a [String]) -> Result<Vec<&'a st
     }
     Ok(texts)
 }
-
-#[cfg(test)]
-mod tests;

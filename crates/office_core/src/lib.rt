@@ -25,6 +25,3 @@ pub use crate::query::answer::answer;
 pub use crate::refusal::Refusal;
 pub use crate::reply::{OrderRow, Reply, Standing};
 pub use crate::soundness::sound;
-
-#[cfg(test)]
-mod tests;

@@ -4,8 +4,6 @@ mod moves;
 mod register;
 mod results;
 mod round;
-#[cfg(test)]
-mod tests;
 mod words;
 
 ghost use Rattle.std.specs.Prelude.{◌≡◌, ◌<◌, ◌⊎◌, true, length, IfOk, OnErr};

@@ -4,7 +4,5 @@
 pub mod creation;
 mod names;
 mod tables;
-#[cfg(test)]
-mod tests;
 
 pub use crate::creation::{CreateFault, create};

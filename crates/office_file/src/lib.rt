@@ -10,6 +10,3 @@ pub use crate::closing::let_go;
 pub use crate::creating::{FileDesk, create_file, create_over};
 pub use crate::finding::{adopt_over, on_file};
 pub use crate::opening::{FileConnection, open_file, open_present_file};
-
-#[cfg(test)]
-mod tests;

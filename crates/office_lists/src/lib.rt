@@ -10,8 +10,6 @@ pub mod leaving;
 pub mod move_day;
 mod reading;
 pub mod tables;
-#[cfg(test)]
-mod tests;
 mod writing;
 
 pub use crate::entries::{ChoicesEntry, PersonEntry};

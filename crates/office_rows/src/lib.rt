@@ -17,6 +17,3 @@ pub use crate::people::{People, read_people};
 pub use crate::records::{ChoiceRecord, OfficeRecords, PersonRecord, RoundRecord};
 pub use crate::round::read_round;
 pub use crate::tables::read_table;
-
-#[cfg(test)]
-mod tests;

@@ -12,6 +12,3 @@ pub use crate::handler::Handler;
 pub use crate::handling::handle_all;
 pub use crate::requests::{Answer, Request};
 pub use office_export::ExportEnd;
-
-#[cfg(test)]
-mod tests;

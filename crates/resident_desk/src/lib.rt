@@ -13,6 +13,3 @@ pub mod serving;
 pub use crate::conversation::{CONNECTION_LIMIT, converse};
 pub use crate::served::Served;
 pub use crate::serving::{serve_one, serve_one_in_memory};
-
-#[cfg(test)]
-mod tests;

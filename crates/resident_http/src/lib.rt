@@ -18,6 +18,3 @@ pub use crate::choices::choices_of_body;
 pub use crate::faults::fault_name;
 pub use crate::method::Method;
 pub use crate::routes::{Route, Routed, route_request};
-
-#[cfg(test)]
-mod tests;

@@ -8,6 +8,3 @@ pub mod serving;
 pub use crate::counted::Counted;
 pub use crate::listener::Listener;
 pub use crate::serving::{serve_each, serve_listener, serve_port};
-
-#[cfg(test)]
-mod tests;

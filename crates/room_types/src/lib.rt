@@ -31,6 +31,3 @@ pub use crate::table::{Copied, Table};
 pub use crate::text::{Grammar, Text};
 pub use crate::watched::Watched;
 pub use crate::word::{WORD_DIGITS, Word};
-
-#[cfg(test)]
-mod tests;

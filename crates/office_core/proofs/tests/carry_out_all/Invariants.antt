@@ -1,6 +1,0 @@
-use Rattle.office_core.specs.Office.Invariants.{IsLawful}
-use Rattle.office_core.proofs.tests.carry_out_all.Given as goal
-
--- the office is lawful after each command
-abbrev pub invariant-loop-command : goal.invariant-loop-command
-invariant-loop-command l = IsLawful l.office

@@ -1,0 +1,80 @@
+-- What is done at a desk, and what is said where there is none.
+use Rattle.std.specs.Prelude.{◌≡◌, ◌⊎◌, ℕ, List, [], ◌∷◌, Result, Ok, Err, codes}
+use Rattle.sqlite.specs.Held.{state}
+use Rattle.sqlite.specs.State.{HasCleanDisk}
+use Rattle.sqlite_trees.specs.declared.store.Store.{Ghosts}
+use Rattle.office_program.specs.DeskFaults.{RefusesDesk}
+use Rattle.office_core.specs.declared.office.Office.{Office}
+use Rattle.office_export.specs.Ending.{PutsCount, PutsFront}
+use Rattle.office_export.specs.Exports.{exported}
+use Rattle.office_lines.specs.Saying.{Says}
+use Rattle.office_lines.specs.SingleLines.{DoesWords}
+use Rattle.office_lists.specs.Exports.{export_bytes, header_of}
+use Rattle.office_lists.specs.Records.{Record}
+use Rattle.office_lists.specs.declared.exports.ExportKind.{ExportKind}
+use Rattle.office_load.specs.Reading.{OnlyReads}
+use Rattle.office_store.specs.Desk.{DeskState, HandlesAt, StandsFor}
+use Rattle.office_store.specs.LawfulSteps.{HandlesLawfully}
+use Rattle.office_store.specs.declared.desk.faults.DeskFault.{DeskFault}
+use Rattle.office_tables.specs.Steps.{Follows}
+use Rattle.office_texts.specs.OutputLines.{line_of}
+use Rattle.resident_server.specs.Serving.{ServesPort}
+use Rattle.room_types.specs.Streams.{Output}
+use Rattle.room_types.specs.Texts.{Text}
+
+-- `ok` is said where a desk was made, and else why there is none
+abbrev pub TellsMade : {S : Type 0} → Result (DeskState S) DeskFault → ℕ → Output → Output → Type 0
+TellsMade (Ok desk) status out out' = Says (line_of (codes "ok" ∷ [])) 0 status out out'
+TellsMade (Err fault) status out out' = RefusesDesk fault status out out'
+
+-- The whole export went out, one flush followed, and the status is 0, or 3 where the flush failed. Or a front of it went out,
+-- none followed, and the status is 3.
+abbrev pub SendsExport : List ℕ → ℕ → Output → Output → Type 0
+SendsExport bytes status out out' =
+    Says bytes 0 status out out'
+    ⊎ ((status ≡ 3) × (out'.flushes ≡ out.flushes) × (sent : ℕ) × PutsFront out out' sent bytes)
+
+-- Whatever the disk did: a header and records went out, and one flush followed, as above. Or so many bytes went out, none
+-- followed, and the status is 3.
+abbrev pub EndsExport : ExportKind → ℕ → Output → Output → Type 0
+EndsExport kind status out out' =
+    ((records : List Record) × Says (export_bytes (header_of kind ∷ records)) 0 status out out')
+    ⊎ ((status ≡ 3) × (out'.flushes ≡ out.flushes) × (sent : ℕ) × PutsCount out out' sent)
+
+module _ {S : Type 0} (g : Ghosts S) where
+  -- The desk hears the words as a line, and is then the new one. Where the disk returned what was written, the office that
+  -- the desk stood for has done the line, and the desk stands for the office after it.
+  pub record HearsWords (old new : DeskState S) (words : List Text) (status : ℕ) (out out' : Output) : Type 0 where
+    pub follows : Follows (state g old.conn) (state g new.conn)
+    pub heard : DoesWords (HandlesAt g) old words status new out out'
+    pub done : HasCleanDisk (state g new.conn) → (office : Office) → StandsFor g old office
+        → (next : Office) × DoesWords HandlesLawfully office words status next out out' × StandsFor g new next
+
+  -- The desk writes the export, and is then the new one. Where the disk returned what was written, it is the export of the
+  -- office that the desk stood for, and the desk stands for that office still.
+  pub record ExportsDesk (old new : DeskState S) (kind : ExportKind) (status : ℕ) (out out' : Output) : Type 0 where
+    pub reads : OnlyReads (state g old.conn) (state g new.conn)
+    pub told : EndsExport kind status out out'
+    pub done : HasCleanDisk (state g new.conn) → (office : Office) → StandsFor g old office
+        → SendsExport (export_bytes (exported kind office)) status out out' × StandsFor g new office
+
+  -- the desk that was found writes the export, or it is said why none was found
+  abbrev pub ExportsAt : Result (DeskState S) DeskFault → Result (DeskState S) DeskFault → ExportKind → ℕ → Output → Output → Type 0
+  ExportsAt (Ok old) (Ok new) kind status out out' = ExportsDesk old new kind status out out'
+  ExportsAt (Err fault) (Err same) kind status out out' = (same ≡ fault) × RefusesDesk fault status out out'
+  ExportsAt (Ok old) (Err fault) kind status out out' = ⊥
+  ExportsAt (Err fault) (Ok new) kind status out out' = ⊥
+
+  -- the desk that was found hears the words, or it is said why none was found
+  abbrev pub DoesAt : Result (DeskState S) DeskFault → Result (DeskState S) DeskFault → List Text → ℕ → Output → Output → Type 0
+  DoesAt (Ok old) (Ok new) words status out out' = HearsWords old new words status out out'
+  DoesAt (Err fault) (Err same) words status out out' = (same ≡ fault) × RefusesDesk fault status out out'
+  DoesAt (Ok old) (Err fault) words status out out' = ⊥
+  DoesAt (Err fault) (Ok new) words status out out' = ⊥
+
+  -- residents are served at the desk that was found, or it is said why none was found
+  abbrev pub ServesAt : Result (DeskState S) DeskFault → Result (DeskState S) DeskFault → ℕ → ℕ → ℕ → Output → Output → Type 0
+  ServesAt (Ok old) (Ok new) port count status out out' = ServesPort g old new port count status out out'
+  ServesAt (Err fault) (Err same) port count status out out' = (same ≡ fault) × RefusesDesk fault status out out'
+  ServesAt (Ok old) (Err fault) port count status out out' = ⊥
+  ServesAt (Err fault) (Ok new) port count status out out' = ⊥

@@ -1,0 +1,100 @@
+-- The lines of the program, and the line that words are.
+use Rattle.std.specs.Prelude.{ℕ, Bool, true, false, List, [], ◌∷◌, Option, Some, None, codes, if◌then◌else◌, map, option_and_then, option_map}
+use Rattle.std.specs.Str.{bytes_eq}
+use Rattle.std.specs.Str.Parse.{digits_value, without_leading_plus}
+use Rattle.clap.specs.ValueTests.{is_unsigned_in}
+use Rattle.clap.specs.Words.{Kinds, Row, all_of, fault_of, first_of, one_of, subcommand_of}
+use Rattle.office_program.specs.declared.usage.Program.{Program}
+use Rattle.office_program.specs.declared.usage.Program.TheVariants as program
+use Rattle.office_program.specs.Seeds.{seed_of}
+use Rattle.office_program.specs.Usage.{usage}
+use Rattle.office_lists.specs.declared.exports.ExportKind.{ExportKind}
+use Rattle.office_lists.specs.declared.exports.ExportKind.TheVariants.{Rooms, People, Moves}
+use Rattle.room_types.specs.Texts.{Text}
+
+-- A line of the program: an office is made in the file of a path, the office in such a file hears words as a line, lines are
+-- rehearsed, so many words of a seed are printed, the office in a file is exported, or it serves on a port so many connections.
+pub data Line : Type 0 where
+  makes : Text → Line
+  does : Text → List Text → Line
+  rehearses : Line
+  prints : List ℕ → ℕ → Line
+  exports : Text → ExportKind → Line
+  serves : Text → ℕ → ℕ → Line
+
+-- what was read is seen as this line
+abbrev pub line_of : Program → Line
+line_of (program.New path) = makes path.now
+line_of (program.Do path words) = does path.now (map (λ word. word.now) words.items)
+line_of program.Rehearse = rehearses
+line_of (program.Words seed count) = prints seed count
+line_of (program.Export path kind) = exports path.now kind
+line_of (program.Serve path port count) = serves path.now port count
+
+-- The number that a text is in decimal, where it lies in the bounds. The text of a number is as `clap` reads it: an integer
+-- with a sign, whose minus is dropped where the bounds begin at 0 (`-0` is 0).
+abbrev pub number_between : ℕ → ℕ → Text → Option ℕ
+number_between low high text = if is_unsigned_in low high text then Some (digits_value 10 (without_leading_plus text)) else None
+
+-- the number that an argument was given
+abbrev pub number_of : ℕ → ℕ → Text → List Row → Option ℕ
+number_of low high id rows = option_and_then (number_between low high) (one_of id rows)
+
+-- `new --db FILE`
+abbrev pub new_line : List Row → Option Line
+new_line rows = option_map makes (first_of (codes "db") rows)
+
+-- `do --db FILE WORD..`
+abbrev pub do_line : List Row → Option Line
+do_line rows = option_and_then (λ path. option_map (does path) (all_of (codes "word") rows)) (first_of (codes "db") rows)
+
+-- `words --seed HEX --count N`
+abbrev pub words_line : List Row → Option Line
+words_line rows = option_and_then (λ seed. option_map (prints seed) (number_of 0 2000 (codes "count") rows)) (option_and_then seed_of (first_of (codes "seed") rows))
+
+-- the export of this name
+abbrev pub kind_named : Text → Option ExportKind
+kind_named name =
+    if bytes_eq name (codes "rooms") then Some Rooms
+    else if bytes_eq name (codes "people") then Some People
+    else if bytes_eq name (codes "moves") then Some Moves
+    else None
+
+-- `export --db FILE KIND`
+abbrev pub export_line : List Row → Option Line
+export_line rows =
+    option_and_then (λ path. option_map (exports path) (option_and_then kind_named (first_of (codes "kind") rows)))
+    (first_of (codes "db") rows)
+
+-- `serve --db FILE --port N --count K`
+abbrev pub serve_line : List Row → Option Line
+serve_line rows = option_and_then (λ path. option_and_then (λ port. option_map (serves path port) (number_of 1 1000000 (codes "count") rows))
+    (number_of 1 65535 (codes "port") rows)) (first_of (codes "db") rows)
+
+-- the line of a subcommand with its entries
+abbrev pub entered_line : Text × List Row → Option Line
+entered_line (name, rows) = if bytes_eq name (codes "new") then new_line rows
+    else if bytes_eq name (codes "do") then do_line rows
+    else if bytes_eq name (codes "rehearse") then Some rehearses
+    else if bytes_eq name (codes "words") then words_line rows
+    else if bytes_eq name (codes "export") then export_line rows
+    else if bytes_eq name (codes "serve") then serve_line rows
+    else None
+
+abbrev pub has_none : Kinds → Bool
+has_none [] = true
+has_none (kind ∷ kinds) = false
+
+-- `clap` finds no fault in the words
+unfoldable pub is_taken : List Text → Bool
+is_taken words = has_none (fault_of usage words)
+
+-- the subcommand and the entries that `clap` states for the words
+unfoldable pub entered : List Text → Option (Text × List Row)
+entered words = subcommand_of usage words
+
+-- the line that the words are, if any; no words are the line `rehearse`
+abbrev pub program_of : List Text → Option Line
+program_of [] = Some rehearses
+program_of (word ∷ rest) =
+    if is_taken (word ∷ rest) then option_and_then entered_line (entered (word ∷ rest)) else None

@@ -1,0 +1,114 @@
+//! What is done at a desk, and what is said where there is none.
+ghost use Rattle.std.specs.Prelude.{map};
+ghost use Rattle.room_types.specs.Streams.{output_of};
+ghost use Rattle.room_types.specs.Watched.{IsFresh, StopsAtFailure};
+ghost use Rattle.office_program.specs.AtDesk.{DoesAt, ExportsAt, ExportsDesk, ServesAt, TellsMade};
+
+use crate::desk_faults::refuse_desk;
+use office_lines::do_line::do_words;
+use office_lines::say::say;
+use office_lists::ExportKind;
+use office_store::{Desk, DeskFault};
+use office_texts::{ACCEPTED, UNAVAILABLE};
+use resident_server::serve_port;
+use room_types::Watched;
+use sqlite::Alter;
+use std::alloc::Global;
+use std::io::Write;
+
+/// Says `ok` where an office was made, and else why it was not. Gives the exit status.
+pub fn say_made<S: Alter, W: Write>(
+    alloc: Global,
+    made: &Result<Desk<S>, DeskFault>,
+    output: &mut Watched<W>,
+) -> u8
+    requires fresh_output { IsFresh output.old }
+    ensures no_late_write { StopsAtFailure output.old output.new }
+    ensures tells { TellsMade made.now result (output_of W.contents output.old)
+        (output_of W.contents output.new) }
+{
+    match made {
+        Ok(_) => say(output, "ok\n", ACCEPTED),
+        Err(fault) => refuse_desk(alloc, *fault, output),
+    }
+}
+
+/// Does the line that these words are at the desk that was found. Where none was found, that is said, and no line is heard.
+/// Gives the exit status.
+pub fn do_at<S: Alter, W: Write>(
+    alloc: Global,
+    found: &mut Result<Desk<S>, DeskFault>,
+    words: &[&str],
+    output: &mut Watched<W>,
+) -> u8
+    requires fresh_output { IsFresh output.old }
+    ensures no_late_write { StopsAtFailure output.old output.new }
+    ensures does { DoesAt S.Store found.old found.new (map (λ word. word.now) words.now) result
+        (output_of W.contents output.old) (output_of W.contents output.new) }
+{
+    match found {
+        Ok(desk) => do_words(alloc, desk, words, output),
+        Err(fault) => refuse_desk(alloc, *fault, output),
+    }
+}
+
+/// Writes an export of the office at the desk that was found, and flushes. An export that comes to an early end is left as
+/// it is: its front stands, nothing more is said, and the status is 3. Where no desk was found, that is said. Gives the exit
+/// status.
+pub fn export_at<S: Alter, W: Write>(
+    alloc: Global,
+    found: &mut Result<Desk<S>, DeskFault>,
+    kind: ExportKind,
+    output: &mut Watched<W>,
+) -> u8
+    requires fresh_output { IsFresh output.old }
+    ensures no_late_write { StopsAtFailure output.old output.new }
+    ensures exports { ExportsAt S.Store found.old found.new kind result
+        (output_of W.contents output.old) (output_of W.contents output.new) }
+{
+    match found {
+        Ok(desk) => export_desk(alloc, desk, kind, output),
+        Err(fault) => refuse_desk(alloc, *fault, output),
+    }
+}
+
+// The same at a desk.
+fn export_desk<S: Alter, W: Write>(
+    alloc: Global,
+    desk: &mut Desk<S>,
+    kind: ExportKind,
+    output: &mut Watched<W>,
+) -> u8
+    requires fresh_output { IsFresh output.old }
+    ensures no_late_write { StopsAtFailure output.old output.new }
+    ensures exports { ExportsDesk S.Store desk.old desk.new kind result
+        (output_of W.contents output.old) (output_of W.contents output.new) }
+{
+    match desk.export(alloc, kind, output) {
+        Ok(()) => match output.flush() {
+            Ok(()) => ACCEPTED,
+            Err(_) => UNAVAILABLE,
+        },
+        Err(_end) => UNAVAILABLE,
+    }
+}
+
+/// Serves residents at the desk that was found, so many connections on this port. Where none was found, that is said, and
+/// nobody is served. Gives the exit status.
+pub fn serve_at<S: Alter, W: Write>(
+    rt: &HostRuntime,
+    found: &mut Result<Desk<S>, DeskFault>,
+    port: u16,
+    count: u32,
+    output: &mut Watched<W>,
+) -> u8
+    requires fresh_output { IsFresh output.old }
+    ensures no_late_write { StopsAtFailure output.old output.new }
+    ensures serves { ServesAt S.Store found.old found.new port count result
+        (output_of W.contents output.old) (output_of W.contents output.new) }
+{
+    match found {
+        Ok(desk) => serve_port(rt, desk, port, count, output),
+        Err(fault) => refuse_desk(rt.alloc(), *fault, output),
+    }
+}

@@ -1,0 +1,37 @@
+//! The words of a draw, as they are printed.
+ghost use Rattle.std.specs.Prelude.{◌≡◌, IfOk, string_bytes};
+ghost use Rattle.std.specs.List.{flat_map};
+ghost use Rattle.office_program.specs.WordLines.{words_of_seed, word_line, words_text};
+
+use crate::seeds::Seed;
+use draw_order::words_from;
+use rand_chacha::ChaCha20Rng;
+use rand_core::SeedableRng;
+use room_types::{OutOfMemory, Word};
+use std::alloc::Global;
+
+/// The first words of the generator of this seed, one on a line.
+pub fn words_text(alloc: Global, seed: Seed, count: usize) -> Result<String, OutOfMemory>
+    ensures { IfOk result (λ text. string_bytes text ≡ words_text seed count) }
+{
+    let words = words_of_seed(alloc, seed, count)?;
+    lines_of(alloc, words.as_slice())
+}
+
+fn words_of_seed(alloc: Global, seed: Seed, count: usize) -> Result<Vec<Word>, OutOfMemory>
+    ensures { IfOk result (λ words. words.items ≡ words_of_seed seed count) }
+{
+    let mut generator = ChaCha20Rng::from_seed(seed);
+    words_from(alloc, &mut generator, count)
+}
+
+// Each word on a line.
+fn lines_of(alloc: Global, words: &[Word]) -> Result<String, OutOfMemory>
+    ensures { IfOk result (λ text. string_bytes text ≡ flat_map word_line words.now) }
+{
+    let mut text = String::new(alloc);
+    for word in words {
+        writeln!(text, "{word}")?;
+    }
+    Ok(text)
+}

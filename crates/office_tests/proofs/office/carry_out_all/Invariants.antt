@@ -1,0 +1,6 @@
+use Rattle.office_core.specs.Office.Invariants.{IsLawful}
+use Rattle.office_tests.proofs.office.carry_out_all.Given as goal
+
+-- the office is lawful after each command
+abbrev pub invariant-loop-command : goal.invariant-loop-command
+invariant-loop-command l = IsLawful l.office

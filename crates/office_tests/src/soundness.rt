@@ -1,0 +1,17 @@
+//! The test of an office, with ample memory.
+use office_core::{Office, sound};
+use room_types::{OutOfMemory, Phase};
+use std::process::Abort;
+
+// Between rounds nothing is left over, and a round has a number.
+#[test]
+fn tells_lawful_offices(rt: HostRuntime) -> Result<(), OutOfMemory> {
+    let alloc = rt.alloc();
+    let mut office = Office::empty(alloc);
+    assert!(rt; sound(alloc, &office)?);
+    office.phase = Phase::Opened;
+    assert!(rt; !sound(alloc, &office)?);
+    office.number = 1;
+    assert!(rt; sound(alloc, &office)?);
+    Ok(())
+}

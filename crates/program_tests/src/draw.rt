@@ -1,0 +1,48 @@
+//! The draw: equal words by identifier, and a wrong number of words before the right one.
+use crate::register::hears;
+use std::test::Fail;
+
+const DRAW: [(&str, &str); 14] = [
+    ("person E3 key00000000000e3 Cy Coy", "ok\n"),
+    ("person E1 key00000000000e1 Ann Ash", "ok\n"),
+    ("person E2 key00000000000e2 Bo", "ok\n"),
+    ("open", "round 1 open\n"),
+    ("order", "refused 1 BadPhase open\n"),
+    ("close", "closed 3\n"),
+    (
+        "draw 0000000000000001 0000000000000002",
+        "refused 12 WrongWordCount want 3 got 2\n",
+    ),
+    ("round", "round 1 closed people 3 withdrawn 0\n"),
+    (
+        "draw 0000000000000005 0000000000000005 000000000000000",
+        "not understood\n",
+    ),
+    (
+        "draw 0000000000000005 0000000000000005 0000000000000000",
+        "drawn 3\n",
+    ),
+    (
+        "order",
+        "   1 0000000000000000 E3\n   2 0000000000000005 E1\n   3 0000000000000005 E2\n",
+    ),
+    ("order E1", "not understood\n"),
+    ("cancel", "cancelled\n"),
+    ("round", "round 1 idle people 3 withdrawn 0\n"),
+];
+
+// Nobody takes part, so there is nothing to print.
+const NOBODY: [(&str, &str); 5] = [
+    ("open", "round 1 open\n"),
+    ("close", "closed 0\n"),
+    ("draw", "drawn 0\n"),
+    ("order", ""),
+    ("cancel", "cancelled\n"),
+];
+
+#[test]
+fn draws_words(rt: HostRuntime) -> Result<(), Fail> {
+    assert!(rt; hears(&rt, &DRAW, 2)?);
+    assert!(rt; hears(&rt, &NOBODY, 0)?);
+    Ok(())
+}

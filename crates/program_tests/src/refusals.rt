@@ -1,0 +1,121 @@
+//! Each command and each query with each of its refusals, as far as a line can ask for it.
+use crate::register::hears;
+use crate::scripts::rehearsed;
+use office_lines::Ending;
+use std::test::Fail;
+
+const REFUSALS: [(&str, &str); 72] = [
+    // Rooms, one of them shut, a tenant and a newcomer.
+    ("room H1", "ok\n"),
+    ("room H2", "ok\n"),
+    ("room S", "ok\n"),
+    ("shut S", "shut\n"),
+    ("person T key000000000000t Tim", "ok\n"),
+    ("person N key000000000000n Nia", "ok\n"),
+    ("home T H1", "ok\n"),
+    // The register, between rounds.
+    ("room H1", "refused 4 DuplicateRoom\n"),
+    (
+        "person T key000000000000x Tom",
+        "refused 5 DuplicatePerson\n",
+    ),
+    (
+        "person T key000000000000t Tom",
+        "refused 5 DuplicatePerson\n",
+    ),
+    ("person X key000000000000t Tom", "refused 6 KeyInUse\n"),
+    ("home X H2", "refused 2 UnknownPerson\n"),
+    ("home T S", "refused 9 HasHome\n"),
+    ("home N X", "refused 3 UnknownRoom X\n"),
+    ("home N S", "refused 7 RoomShut S\n"),
+    ("home N H1", "refused 8 RoomTaken\n"),
+    ("leave X", "refused 2 UnknownPerson\n"),
+    ("leave N", "refused 10 NoHome\n"),
+    ("remove X", "refused 2 UnknownPerson\n"),
+    ("remove T", "refused 9 HasHome\n"),
+    ("shut X", "refused 3 UnknownRoom X\n"),
+    ("shut S", "refused 7 RoomShut S\n"),
+    ("reopen X", "refused 3 UnknownRoom X\n"),
+    ("reopen H1", "refused 18 NotShut\n"),
+    ("me key000000000000x", "refused 2 UnknownPerson\n"),
+    ("moves 0", "refused 17 NoSuchRound\n"),
+    // No round is under way.
+    ("choose X S", "refused 1 BadPhase idle\n"),
+    ("withdraw X", "refused 1 BadPhase idle\n"),
+    ("close", "refused 1 BadPhase idle\n"),
+    ("draw", "refused 1 BadPhase idle\n"),
+    ("run", "refused 1 BadPhase idle\n"),
+    ("publish", "refused 1 BadPhase idle\n"),
+    ("settle", "refused 1 BadPhase idle\n"),
+    ("cancel", "refused 1 BadPhase idle\n"),
+    ("order", "refused 1 BadPhase idle\n"),
+    ("results", "refused 1 BadPhase idle\n"),
+    ("whatif X S", "refused 1 BadPhase idle\n"),
+    ("open", "round 1 open\n"),
+    // The round is open.
+    ("home X S", "refused 1 BadPhase open\n"),
+    ("leave X", "refused 1 BadPhase open\n"),
+    ("remove X", "refused 1 BadPhase open\n"),
+    ("open", "refused 1 BadPhase open\n"),
+    ("person W key000000000000w Wes", "ok\n"),
+    ("withdraw W", "withdrawn\n"),
+    ("choose X S", "refused 2 UnknownPerson\n"),
+    ("choose W S", "refused 11 Withdrawn\n"),
+    ("choose T H2 X S", "refused 3 UnknownRoom X\n"),
+    ("choose T H2 S X", "refused 7 RoomShut S\n"),
+    ("withdraw X", "refused 2 UnknownPerson\n"),
+    ("moves 1", "refused 17 NoSuchRound\n"),
+    ("close", "closed 2\n"),
+    // The lists are final.
+    ("room H1", "refused 1 BadPhase closed\n"),
+    (
+        "person T key000000000000t Tom",
+        "refused 1 BadPhase closed\n",
+    ),
+    ("shut X", "refused 1 BadPhase closed\n"),
+    ("reopen X", "refused 1 BadPhase closed\n"),
+    ("close", "refused 1 BadPhase closed\n"),
+    (
+        "draw 0000000000000001",
+        "refused 12 WrongWordCount want 2 got 1\n",
+    ),
+    ("draw 0000000000000001 0000000000000002", "drawn 2\n"),
+    // The words are drawn.
+    ("draw", "refused 1 BadPhase drawn\n"),
+    ("results", "refused 1 BadPhase drawn\n"),
+    ("whatif X S", "refused 1 BadPhase drawn\n"),
+    ("run", "ran 2\n"),
+    // The results are there.
+    ("run", "refused 1 BadPhase ran\n"),
+    ("settle", "refused 1 BadPhase ran\n"),
+    ("whatif X S", "refused 2 UnknownPerson\n"),
+    ("whatif W S", "refused 16 NotInRound\n"),
+    ("whatif T H2 X S", "refused 3 UnknownRoom X\n"),
+    ("whatif T H2 S X", "refused 7 RoomShut S\n"),
+    ("publish", "published 2\n"),
+    ("publish", "refused 1 BadPhase published\n"),
+    ("cancel", "refused 1 BadPhase published\n"),
+    ("settle", "settled 0\n"),
+];
+
+#[test]
+fn refuses_each_command(rt: HostRuntime) -> Result<(), Fail> {
+    assert!(rt; hears(&rt, &REFUSALS, 1)?);
+    Ok(())
+}
+
+#[test]
+fn refuses_one_round_too_many(rt: HostRuntime) -> Result<(), Fail> {
+    let mut lines = String::new(rt.alloc());
+    for _round in 0..9999 {
+        lines.push_str("open\ncancel\n")?;
+    }
+    lines.push_str("open\n")?;
+    let (how, text) = rehearsed(rt.alloc(), lines.as_bytes());
+    assert_eq!(rt; how.ending, Ending::Ended);
+    assert!(rt;
+        text.as_slice()
+            .ends_with(b"round 9999 open\ncancelled\nrefused 13 LimitReached\n")
+    );
+    Ok(())
+}

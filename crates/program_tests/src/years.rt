@@ -1,0 +1,172 @@
+//! Whole rounds: nobody takes part, withdrawn and displaced tenants, days of moving, and other lists.
+use crate::register::hears;
+use std::test::Fail;
+
+const NOBODY: [(&str, &str); 10] = [
+    ("room A", "ok\n"),
+    ("open", "round 1 open\n"),
+    ("close", "closed 0\n"),
+    ("draw", "drawn 0\n"),
+    ("run", "ran 0\n"),
+    ("results", "person        room\n"),
+    ("publish", "published 0\n"),
+    ("settle", "settled 0\n"),
+    ("moves 1", "wave  person        from      to\n"),
+    ("round", "round 1 idle people 0 withdrawn 0\n"),
+];
+
+const WITHDRAWN_TENANT: [(&str, &str); 20] = [
+    ("room H1", "ok\n"),
+    ("room H2", "ok\n"),
+    ("person T1 key00000000000t1 Tim Tan", "ok\n"),
+    ("person T2 key00000000000t2 Tom Tao", "ok\n"),
+    ("home T1 H1", "ok\n"),
+    ("home T2 H2", "ok\n"),
+    ("open", "round 1 open\n"),
+    ("choose T1 H2", "chosen H2\n"),
+    ("choose T2", "chosen\n"),
+    ("withdraw T2", "withdrawn\n"),
+    ("withdraw T2", "withdrawn\n"),
+    ("choose T2 H1", "refused 11 Withdrawn\n"),
+    ("close", "closed 1\n"),
+    ("draw 0000000000000007", "drawn 1\n"),
+    ("run", "ran 1\n"),
+    ("results", "person        room\nT1            H1\n"),
+    ("whatif T2 H1", "refused 16 NotInRound\n"),
+    ("publish", "published 1\n"),
+    ("settle", "settled 0\n"),
+    ("round", "round 1 idle people 2 withdrawn 0\n"),
+];
+
+const DISPLACED_TENANT: [(&str, &str); 14] = [
+    ("room H1", "ok\n"),
+    ("room V", "ok\n"),
+    ("room W", "ok\n"),
+    ("person T1 key00000000000t1 Tim Tan", "ok\n"),
+    ("home T1 H1", "ok\n"),
+    ("person N key000000000000n Ned Nye", "ok\n"),
+    ("open", "round 1 open\n"),
+    ("choose N V", "chosen V\n"),
+    ("choose T1 V H1 W", "chosen V H1 W\n"),
+    ("shut H1", "shut displaced T1\n"),
+    ("close", "closed 2\n"),
+    ("draw 0000000000000001 0000000000000002", "drawn 2\n"),
+    ("run", "ran 2\n"),
+    (
+        "results",
+        "person        room\nN             V\nT1            W\n",
+    ),
+];
+
+// A swap with a newcomer behind it, up to the day of moving, with what T1 sees on the way.
+const SWAP: [(&str, &str); 30] = [
+    ("room H1", "ok\n"),
+    ("room H2", "ok\n"),
+    ("room V", "ok\n"),
+    ("person T1 key00000000000t1 Tim Tan", "ok\n"),
+    ("person T2 key00000000000t2 Tom Tao", "ok\n"),
+    ("person N key000000000000n Ned Nye", "ok\n"),
+    ("home T1 H1", "ok\n"),
+    ("home T2 H2", "ok\n"),
+    ("open", "round 1 open\n"),
+    ("choose T1 H2", "chosen H2\n"),
+    ("choose T2 H1", "chosen H1\n"),
+    ("choose N H1 V", "chosen H1 V\n"),
+    ("run", "refused 1 BadPhase open\n"),
+    ("close", "closed 3\n"),
+    (
+        "draw 0000000000000001 0000000000000002 0000000000000003",
+        "drawn 3\n",
+    ),
+    ("results", "refused 1 BadPhase drawn\n"),
+    ("run", "ran 3\n"),
+    (
+        "me key00000000000t1",
+        "person T1\nname Tim Tan\nhome H1\nround 1 ran\nchoices H2\nwithdrawn no\nresult hidden\n",
+    ),
+    ("whatif N V", "would get V\n"),
+    ("whatif T1 V H2", "would get V\n"),
+    ("whatif T1 H9", "refused 3 UnknownRoom H9\n"),
+    ("moves 1", "refused 17 NoSuchRound\n"),
+    ("publish", "published 3\n"),
+    (
+        "me key00000000000t1",
+        "person T1\nname Tim Tan\nhome H1\nround 1 published\nchoices H2\nwithdrawn no\nresult H2\n",
+    ),
+    ("cancel", "refused 1 BadPhase published\n"),
+    ("settle", "settled 3\n"),
+    (
+        "moves 1",
+        "wave  person        from      to\n1     N             none      V\nswap  T1            H1        H2\nswap  T2            H2        H1\n",
+    ),
+    (
+        "rooms",
+        "room      state     tenant\nH1        occupied  T2\nH2        occupied  T1\nV         occupied  N\n",
+    ),
+    ("open", "round 2 open\n"),
+    ("cancel", "cancelled\n"),
+];
+
+const CHAIN: [(&str, &str); 17] = [
+    ("room H1", "ok\n"),
+    ("room H2", "ok\n"),
+    ("room V", "ok\n"),
+    ("person T1 key00000000000t1 Tim Tan", "ok\n"),
+    ("person T2 key00000000000t2 Tom Tao", "ok\n"),
+    ("home T1 H1", "ok\n"),
+    ("home T2 H2", "ok\n"),
+    ("open", "round 1 open\n"),
+    ("choose T1 H2", "chosen H2\n"),
+    ("choose T2 V", "chosen V\n"),
+    ("close", "closed 2\n"),
+    ("draw 0000000000000001 0000000000000002", "drawn 2\n"),
+    ("run", "ran 2\n"),
+    ("whatif T1", "would get H1\n"),
+    ("publish", "published 2\n"),
+    ("settle", "settled 2\n"),
+    (
+        "moves 1",
+        "wave  person        from      to\n1     T2            H2        V\n2     T1            H1        H2\n",
+    ),
+];
+
+// A vacated room goes by priority, and the last newcomer gets none, by another list too.
+const NO_ROOM: [(&str, &str); 15] = [
+    ("room H1", "ok\n"),
+    ("room V", "ok\n"),
+    ("person T1 key00000000000t1 Tim Tan", "ok\n"),
+    ("home T1 H1", "ok\n"),
+    ("person N1 key00000000000n1 Ned Nye", "ok\n"),
+    ("person N2 key00000000000n2 Nan Noe", "ok\n"),
+    ("open", "round 1 open\n"),
+    ("choose T1 V", "chosen V\n"),
+    ("choose N1 H1", "chosen H1\n"),
+    ("choose N2 H1", "chosen H1\n"),
+    ("close", "closed 3\n"),
+    (
+        "draw 0000000000000002 0000000000000003 0000000000000001",
+        "drawn 3\n",
+    ),
+    ("run", "ran 3\n"),
+    (
+        "results",
+        "person        room\nN1            H1\nN2            none\nT1            V\n",
+    ),
+    ("whatif N2 V H1", "would get none\n"),
+];
+
+#[test]
+fn hears_whole_rounds(rt: HostRuntime) -> Result<(), Fail> {
+    assert!(rt; hears(&rt, &NOBODY, 0)?);
+    assert!(rt; hears(&rt, &WITHDRAWN_TENANT, 1)?);
+    assert!(rt; hears(&rt, &DISPLACED_TENANT, 0)?);
+    assert!(rt; hears(&rt, &NO_ROOM, 0)?);
+    Ok(())
+}
+
+#[test]
+fn hears_days_of_moving(rt: HostRuntime) -> Result<(), Fail> {
+    assert!(rt; hears(&rt, &SWAP, 1)?);
+    assert!(rt; hears(&rt, &CHAIN, 0)?);
+    Ok(())
+}

@@ -1,0 +1,9 @@
+//! Residents' requests and their answers to the byte, conversations over a desk in memory, and connections in turn.
+#![tactic(auto)]
+
+#[cfg(test)]
+mod desk;
+#[cfg(test)]
+mod http;
+#[cfg(test)]
+mod server;

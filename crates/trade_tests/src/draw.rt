@@ -1,0 +1,91 @@
+ghost use Rattle.std.specs.Prelude.{ℕ, ◌+◌, ◌%◌, ◌^◌};
+ghost use Rattle.rand_core.specs.Steps.{stream_of, steps_u32};
+
+use draw_order::{order, words_from};
+use rand_core::Rng;
+use rand_core::utils::{self, NextWord};
+use room_types::{PersonId, Word};
+use std::alloc::Global;
+use std::marker::Model;
+use std::process::Abort;
+use std::test::Fail;
+
+// Gives 1, 2, 3 and so on, as words of 32 bits.
+#[derive(Drop)]
+struct Counting {
+    last: u32,
+}
+
+impl Model for Counting {
+    ghost Value = { ℕ };
+
+    ghost view = { λ a. a.last };
+}
+
+impl NextWord<u32> for Counting {
+    ghost step = { λ last. ((last + 1) % 2 ^ 32, (last + 1) % 2 ^ 32) };
+
+    fn next_word(&mut self) -> u32 {
+        self.last = self.last.wrapping_add(1);
+        self.last
+    }
+}
+
+impl Rng for Counting {
+    ghost stream = { stream_of (steps_u32 (λ last. ((last + 1) % 2 ^ 32, (last + 1) % 2 ^ 32))) };
+
+    fn next_u32(&mut self) -> u32 {
+        self.next_word()
+    }
+
+    fn next_u64(&mut self) -> u64 {
+        utils::next_u64_via_u32(self)
+    }
+
+    fn fill_bytes(&mut self, dst: &mut [u8]) {
+        utils::fill_bytes_via_u32(self, dst)
+    }
+}
+
+#[test]
+fn the_first_half_of_a_word_is_the_low_one(rt: HostRuntime) -> Result<(), Fail> {
+    let mut generator = Counting { last: 0 };
+    let words = words_from(rt.alloc(), &mut generator, 2)?;
+    assert_eq!(rt; words.len(), 2);
+    assert_eq!(rt; words[0].value(), 0x0000_0002_0000_0001);
+    assert_eq!(rt; words[1].value(), 0x0000_0004_0000_0003);
+    assert_eq!(rt; generator.next_u32(), 5);
+    Ok(())
+}
+
+#[test]
+fn no_words_are_drawn_for_nobody(rt: HostRuntime) -> Result<(), Fail> {
+    let mut generator = Counting { last: 0 };
+    let words = words_from(rt.alloc(), &mut generator, 0)?;
+    assert!(rt; words.is_empty());
+    assert_eq!(rt; generator.next_u32(), 1);
+    Ok(())
+}
+
+#[test]
+fn equal_words_by_identifier(rt: HostRuntime) -> Result<(), Fail> {
+    let alloc = rt.alloc();
+    let lots = vec![in alloc;
+        (person(&rt, alloc, "E1"), Word::new(5)),
+        (person(&rt, alloc, "E2"), Word::new(5)),
+        (person(&rt, alloc, "E3"), Word::new(0)),
+    ]?;
+    let people = order(alloc, &lots)?;
+    assert_eq!(rt; people.len(), 3);
+    assert_eq!(rt; people[0].as_str(), "E3");
+    assert_eq!(rt; people[1].as_str(), "E1");
+    assert_eq!(rt; people[2].as_str(), "E2");
+    Ok(())
+}
+
+fn person(rt: &impl Abort, alloc: Global, text: &str) -> PersonId {
+    match PersonId::read(alloc, text) {
+        Ok(person) => person,
+        Err(_) => panic!(rt; "{text} is no identifier"),
+    }
+}

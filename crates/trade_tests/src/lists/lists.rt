@@ -1,0 +1,192 @@
+//! Lists as other programs write them, good and bad.
+use office_lists::{Cause, ListFault, read_choices, read_people, read_rooms};
+use std::alloc::Global;
+use std::process::Abort;
+use std::test::Fail;
+
+#[test]
+fn a_list_of_rooms(rt: HostRuntime) -> Result<(), Fail> {
+    let alloc = rt.alloc();
+    for list in [
+        b"room\nH1\nA-2\n".as_slice(),
+        b"room\r\nH1\r\nA-2".as_slice(),
+        b"\xEF\xBB\xBF\"room\"\rH1\r\n\n\"A-2\"\r".as_slice(),
+    ] {
+        let rooms = read(&rt, read_rooms(alloc, list));
+        assert_eq!(rt; rooms.len(), 2);
+        assert_eq!(rt; rooms[0].as_str(), "H1");
+        assert_eq!(rt; rooms[1].as_str(), "A-2");
+    }
+    let none = read(&rt, read_rooms(alloc, b"room"));
+    assert!(rt; none.is_empty());
+    Ok(())
+}
+
+// As Python's csv writes it, with the mark of utf-8-sig.
+#[test]
+fn a_list_of_people(rt: HostRuntime) -> Result<(), Fail> {
+    let list =
+        b"\xEF\xBB\xBFperson,name,key,home\r\nE1,J\xC3\xB6rg M\xC3\xBCller,key00000000000e1,H1\r\nE2,\"Bo, \"\"B.\"\" \xC3\x96z\",key00000000000e2,\r\n";
+    let people = read(&rt, read_people(rt.alloc(), list));
+    assert_eq!(rt; people.len(), 2);
+    assert_eq!(rt; people[0].person.as_str(), "E1");
+    assert_eq!(rt; people[0].name.as_str(), "Jörg Müller");
+    assert_eq!(rt; people[0].key.as_str(), "key00000000000e1");
+    assert!(rt; matches!(&people[0].home, Some(home) if home.as_str() == "H1"));
+    assert_eq!(rt; people[1].name.as_str(), "Bo, \"B.\" Öz");
+    assert!(rt; people[1].home.is_none());
+    Ok(())
+}
+
+#[test]
+fn people_of_a_first_import(rt: HostRuntime) -> Result<(), Fail> {
+    let list =
+        b"\xEF\xBB\xBFperson,name,key,home\r\nE1,Ann Ash,key00000000000e1,H1\r\nE2,\"Bo, B.\",key00000000000e2,\r\nE3,Cy Coy,key00000000000e3,\r\n";
+    let people = read(&rt, read_people(rt.alloc(), list));
+    assert_eq!(rt; people.len(), 3);
+    assert_eq!(rt; people[1].name.as_str(), "Bo, B.");
+    assert_eq!(rt; people[2].person.as_str(), "E3");
+    Ok(())
+}
+
+// The second list as Python's csv writes it, with every field in quotes.
+#[test]
+fn a_list_of_choices(rt: HostRuntime) -> Result<(), Fail> {
+    let alloc = rt.alloc();
+    let choices = read(&rt, read_choices(alloc, b"person,choices\nT1,H2 V"));
+    assert_eq!(rt; choices.len(), 1);
+    assert_eq!(rt; choices[0].person.as_str(), "T1");
+    let rooms = choices[0].choices.as_slice();
+    assert_eq!(rt; rooms.len(), 2);
+    assert_eq!(rt; rooms[0].as_str(), "H2");
+    assert_eq!(rt; rooms[1].as_str(), "V");
+    let list = b"\"person\",\"choices\"\n\"T1\",\"H2 V\"\n\"T2\",\"\"\n\"T1\",\"V\"\n";
+    let choices = read(&rt, read_choices(alloc, list));
+    assert_eq!(rt; choices.len(), 3);
+    assert!(rt; choices[1].choices.as_slice().is_empty());
+    assert_eq!(rt; choices[2].person.as_str(), "T1");
+    Ok(())
+}
+
+#[test]
+fn no_header(rt: HostRuntime) -> Result<(), Fail> {
+    let alloc = rt.alloc();
+    for list in [
+        b"".as_slice(),
+        b"\xEF\xBB\xBF".as_slice(),
+        b"\r\n\n".as_slice(),
+        b"Room\nH1".as_slice(),
+        b" room\nH1".as_slice(),
+        b"room,\nH1".as_slice(),
+        b"H1\nroom\n".as_slice(),
+        b"\xFF\xFEr\0o\0o\0m\0\n\0H\01\0\n\0".as_slice(),
+    ] {
+        expect(&rt, read_rooms(alloc, list), 0, Cause::Header);
+    }
+    let semicolons = b"person;choices\r\nT1;H2 V\r\n";
+    expect(&rt, read_choices(alloc, semicolons), 0, Cause::Header);
+    Ok(())
+}
+
+#[test]
+fn bad_rooms(rt: HostRuntime) -> Result<(), Fail> {
+    let alloc = rt.alloc();
+    expect(
+        &rt,
+        read_rooms(alloc, b"room\nH1,x\n"),
+        1,
+        Cause::FieldCount,
+    );
+    expect(
+        &rt,
+        read_rooms(alloc, b"room\nH1,\xFF\n"),
+        1,
+        Cause::FieldCount,
+    );
+    expect(&rt, read_rooms(alloc, b"room\n\xFF"), 1, Cause::NotText);
+    expect(&rt, read_rooms(alloc, b"room\nh1"), 1, Cause::BadField(1));
+    expect(
+        &rt,
+        read_rooms(alloc, b"room\nH1\n H2\n"),
+        2,
+        Cause::BadField(1),
+    );
+    expect(
+        &rt,
+        read_rooms(alloc, b"room\nH\"1\n"),
+        1,
+        Cause::BadField(1),
+    );
+    expect(
+        &rt,
+        read_rooms(alloc, b"room\n\"\"\nh1\nH1,x"),
+        1,
+        Cause::BadField(1),
+    );
+    Ok(())
+}
+
+// The third list has a line feed in a name, as Python's csv writes it.
+#[test]
+fn bad_people(rt: HostRuntime) -> Result<(), Fail> {
+    let alloc = rt.alloc();
+    let short = b"person,name,key,home\nE1,Ann";
+    expect(&rt, read_people(alloc, short), 1, Cause::FieldCount);
+    let short_key = b"person,name,key,home\nE1,Ann,key,H1";
+    expect(&rt, read_people(alloc, short_key), 1, Cause::BadField(3));
+    let two_lines = b"person,name,key,home\r\nE1,\"Ann\nAsh\",key00000000000e1,\r\n";
+    expect(&rt, read_people(alloc, two_lines), 1, Cause::BadField(2));
+    let no_room = b"person,name,key,home\nE1,Ann,key00000000000e1,h1\n";
+    expect(&rt, read_people(alloc, no_room), 1, Cause::BadField(4));
+    Ok(())
+}
+
+#[test]
+fn bad_choices(rt: HostRuntime) -> Result<(), Fail> {
+    let alloc = rt.alloc();
+    let two_spaces = b"person,choices\nT1,H2  V";
+    expect(&rt, read_choices(alloc, two_spaces), 1, Cause::BadField(2));
+    let repeated = b"person,choices\nT1,H2 H2\n";
+    expect(&rt, read_choices(alloc, repeated), 1, Cause::BadField(2));
+    let at_the_end = b"person,choices\nT1,V \nt1,V\n";
+    expect(&rt, read_choices(alloc, at_the_end), 1, Cause::BadField(2));
+    let nobody = b"person,choices\n,H2";
+    expect(&rt, read_choices(alloc, nobody), 1, Cause::BadField(1));
+    Ok(())
+}
+
+#[test]
+fn long_lists(rt: HostRuntime) -> Result<(), Fail> {
+    let alloc = rt.alloc();
+    let mut list = Vec::new(alloc);
+    list.extend_from_slice(b"room\n")?;
+    for _ in 0..10_000 {
+        list.extend_from_slice(b"A1\n")?;
+    }
+    assert_eq!(rt; read(&rt, read_rooms(alloc, &list)).len(), 10_000);
+    list.extend_from_slice(b"A1")?;
+    expect(&rt, read_rooms(alloc, &list), 10_001, Cause::TooMany);
+    let mut list = Vec::new(alloc);
+    list.extend_from_slice(b"room\n")?;
+    for _ in 0..262_140 {
+        list.push(b'A')?;
+    }
+    expect(&rt, read_rooms(alloc, &list), 1, Cause::BadField(1));
+    Ok(())
+}
+
+// What was read, of a list that is good.
+fn read<T: Drop>(rt: &impl Abort, list: Result<Vec<T>, ListFault>) -> Vec<T> {
+    match list {
+        Ok(entries) => entries,
+        Err(_) => panic!(rt; "the list is good"),
+    }
+}
+
+// The list is bad in this record, for this cause.
+fn expect<T: Drop>(rt: &impl Abort, list: Result<Vec<T>, ListFault>, at: u32, cause: Cause) {
+    match list {
+        Ok(_) => panic!(rt; "the list is bad"),
+        Err(fault) => assert!(rt; fault == ListFault::Bad { at, cause }),
+    }
+}

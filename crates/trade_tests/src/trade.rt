@@ -1,0 +1,54 @@
+//! What no clause says: that the definitions give what they should at worked examples, and that calls succeed.
+mod compared;
+mod faults;
+mod groups;
+mod large;
+mod lines;
+mod literature;
+mod worked;
+
+use trade_line::bench::Bench;
+use trade_line::fault::TradeFault;
+use trade_line::line::Line;
+use trade_line::out_of_memory::OutOfMemory;
+use trade_line::outcome::Outcome;
+use trade_line::problem::Problem;
+use trade_line::trade::run;
+use std::alloc::Global;
+
+fn problem_of(
+    alloc: Global,
+    rooms: usize,
+    homes: &[Option<usize>],
+    lists: &[&[usize]],
+) -> Result<Problem, TradeFault> {
+    let mut recorded = Vec::new(alloc);
+    for list in lists {
+        recorded.push(Vec::from_slice(alloc, list)?)?;
+    }
+    Problem::new(
+        alloc,
+        homes.len(),
+        rooms,
+        Vec::from_slice(alloc, homes)?,
+        recorded,
+    )
+}
+
+fn outcome_over<L: Line>(alloc: Global, problem: &Problem) -> Result<Outcome, OutOfMemory> {
+    let line = L::whole(alloc, problem.people())?;
+    let bench = Bench::new(alloc, problem)?;
+    Ok(run(problem, line, bench))
+}
+
+fn rooms_of(
+    alloc: Global,
+    problem: &Problem,
+    outcome: &Outcome,
+) -> Result<Vec<Option<usize>>, OutOfMemory> {
+    let mut rooms = Vec::new(alloc);
+    for person in 0..problem.people() {
+        rooms.push(outcome.room_of(person))?;
+    }
+    Ok(rooms)
+}

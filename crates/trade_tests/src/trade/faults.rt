@@ -1,0 +1,99 @@
+//! The faults of problems and lists.
+use super::{outcome_over, problem_of, rooms_of};
+use trade_line::fault::TradeFault;
+use trade_line::line::VecLine;
+use trade_line::out_of_memory::OutOfMemory;
+use trade_line::what_if::run_with_list;
+use std::alloc::Global;
+use std::test::Fail;
+
+fn fault_of(
+    alloc: Global,
+    rooms: usize,
+    homes: &[Option<usize>],
+    lists: &[&[usize]],
+) -> Option<TradeFault> {
+    problem_of(alloc, rooms, homes, lists).err()
+}
+
+#[test]
+fn first_fault_of_a_problem_is_answered(rt: HostRuntime) -> Result<(), Fail> {
+    let alloc = rt.alloc();
+    assert_eq!(rt;
+        fault_of(alloc, 2, &[None, None], &[&[2], &[]]),
+        Some(TradeFault::BadIndex)
+    );
+    assert_eq!(rt;
+        fault_of(alloc, 2, &[Some(2), None], &[&[], &[]]),
+        Some(TradeFault::BadIndex)
+    );
+    assert_eq!(rt;
+        fault_of(alloc, 2, &[None, None], &[&[]]),
+        Some(TradeFault::BadIndex)
+    );
+    assert_eq!(rt;
+        fault_of(alloc, 2, &[Some(0), Some(0)], &[&[1, 1], &[]]),
+        Some(TradeFault::HomeShared)
+    );
+    assert_eq!(rt;
+        fault_of(alloc, 2, &[Some(1), None], &[&[1], &[0, 0]]),
+        Some(TradeFault::ListRepeats)
+    );
+    assert_eq!(rt;
+        fault_of(alloc, 2, &[None, None], &[&[1, 1], &[]]),
+        Some(TradeFault::ListRepeats)
+    );
+    assert_eq!(rt;
+        fault_of(alloc, 2, &[Some(0), None], &[&[0], &[]]),
+        Some(TradeFault::OwnRoomListed)
+    );
+    let swap = problem_of(alloc, 2, &[Some(0), Some(1)], &[&[1], &[0]])?;
+    let outcome = outcome_over::<VecLine>(alloc, &swap)?;
+    assert_eq!(rt;
+        rooms_of(alloc, &swap, &outcome)?.as_slice(),
+        [Some(1), Some(0)].as_slice()
+    );
+    Ok(())
+}
+
+#[test]
+fn first_fault_of_a_list_is_answered(rt: HostRuntime) -> Result<(), Fail> {
+    let alloc = rt.alloc();
+    let problem = problem_of(alloc, 2, &[Some(0), Some(1)], &[&[1], &[0]])?;
+    let faults: [(usize, &[usize], TradeFault); 4] = [
+        (2, &[], TradeFault::BadIndex),
+        (0, &[2, 2], TradeFault::BadIndex),
+        (0, &[1, 0, 1], TradeFault::ListRepeats),
+        (0, &[1, 0], TradeFault::OwnRoomListed),
+    ];
+    for (person, list, fault) in faults {
+        assert_eq!(rt;
+            run_with_list(alloc, &problem, person, Vec::from_slice(alloc, list)?),
+            Err(fault)
+        );
+    }
+    Ok(())
+}
+
+#[test]
+fn faults_are_told_in_words(rt: HostRuntime) -> Result<(), Fail> {
+    let alloc = rt.alloc();
+    let faults = [
+        (
+            TradeFault::BadIndex,
+            "a home or a list is missing, or a number is out of range",
+        ),
+        (TradeFault::HomeShared, "two people have the same home"),
+        (TradeFault::ListRepeats, "a list has a room twice"),
+        (TradeFault::OwnRoomListed, "a person lists their own home"),
+        (TradeFault::OutOfMemory, "memory was refused"),
+    ];
+    for (fault, words) in faults {
+        assert_eq!(rt; format!(in alloc; "{fault}")?.as_str(), words);
+    }
+    assert_eq!(rt;
+        format!(in alloc; "{}", OutOfMemory)?.as_str(),
+        "memory was refused"
+    );
+    Ok(())
+}

@@ -1,0 +1,184 @@
+//! Worked runs: the rooms, asks and looks of the line, and the rooms of the plain program.
+use super::{outcome_over, problem_of, rooms_of};
+use trade_line::fault::TradeFault;
+use trade_line::line::{Line, VecLine};
+use trade_line::linked_line::LinkedLine;
+use trade_line::plain::top_trading_cycles;
+use trade_line::problem::Problem;
+use trade_line::what_if::run_with_list;
+use std::alloc::Global;
+use std::process::Abort;
+use std::test::Fail;
+
+struct Worked<'a> {
+    story: &'a str,
+    rooms: usize,
+    homes: &'a [Option<usize>],
+    lists: &'a [&'a [usize]],
+    gets: &'a [Option<usize>],
+    asks: u128,
+    looks: u128,
+}
+
+const WORKED: [Worked<'static>; 12] = [
+    Worked {
+        story: "nobody",
+        rooms: 0,
+        homes: &[],
+        lists: &[],
+        gets: &[],
+        asks: 0,
+        looks: 0,
+    },
+    Worked {
+        story: "chain into a vacant room",
+        rooms: 3,
+        homes: &[Some(0), Some(1)],
+        lists: &[&[1], &[2]],
+        gets: &[Some(1), Some(2)],
+        asks: 3,
+        looks: 3,
+    },
+    Worked {
+        story: "swap with a newcomer behind",
+        rooms: 3,
+        homes: &[Some(0), Some(1), None],
+        lists: &[&[1], &[0], &[0, 2]],
+        gets: &[Some(1), Some(0), Some(2)],
+        asks: 3,
+        looks: 4,
+    },
+    Worked {
+        story: "newcomer asks first",
+        rooms: 3,
+        homes: &[None, Some(0), Some(1)],
+        lists: &[&[0, 2], &[1], &[0]],
+        gets: &[Some(2), Some(1), Some(0)],
+        asks: 4,
+        looks: 5,
+    },
+    Worked {
+        story: "two pairs swap",
+        rooms: 5,
+        homes: &[None, Some(0), Some(1), Some(2), Some(3)],
+        lists: &[&[0, 4], &[1], &[0], &[3], &[2]],
+        gets: &[Some(4), Some(1), Some(0), Some(3), Some(2)],
+        asks: 6,
+        looks: 7,
+    },
+    Worked {
+        story: "newcomers alone",
+        rooms: 2,
+        homes: &[None, None, None],
+        lists: &[&[0], &[0, 1], &[1]],
+        gets: &[Some(0), Some(1), None],
+        asks: 3,
+        looks: 4,
+    },
+    Worked {
+        story: "vacated room goes by priority",
+        rooms: 2,
+        homes: &[Some(0), None, None],
+        lists: &[&[1], &[0], &[0]],
+        gets: &[Some(1), Some(0), None],
+        asks: 3,
+        looks: 3,
+    },
+    Worked {
+        story: "three in a ring",
+        rooms: 3,
+        homes: &[Some(0), Some(1), Some(2)],
+        lists: &[&[1], &[2], &[0]],
+        gets: &[Some(1), Some(2), Some(0)],
+        asks: 3,
+        looks: 3,
+    },
+    Worked {
+        story: "two swap and the first finds a vacant room",
+        rooms: 4,
+        homes: &[Some(0), Some(1), Some(2)],
+        lists: &[&[1, 3], &[2], &[1]],
+        gets: &[Some(3), Some(2), Some(1)],
+        asks: 4,
+        looks: 5,
+    },
+    Worked {
+        story: "two swap and the first stays",
+        rooms: 3,
+        homes: &[Some(0), Some(1), Some(2)],
+        lists: &[&[1], &[2], &[1]],
+        gets: &[Some(0), Some(2), Some(1)],
+        asks: 4,
+        looks: 4,
+    },
+    Worked {
+        story: "a better trade apart",
+        rooms: 3,
+        homes: &[Some(2), Some(0), Some(1)],
+        lists: &[&[0], &[1, 2], &[0]],
+        gets: &[Some(2), Some(1), Some(0)],
+        asks: 4,
+        looks: 4,
+    },
+    Worked {
+        story: "cursors, where reading again would take nine looks",
+        rooms: 3,
+        homes: &[None, Some(0), Some(1), Some(2)],
+        lists: &[&[0, 1, 2], &[], &[], &[]],
+        gets: &[None, Some(0), Some(1), Some(2)],
+        asks: 7,
+        looks: 6,
+    },
+];
+
+fn gives_the_rooms<L: Line>(rt: &impl Abort, alloc: Global, worked: &Worked) -> Result<(), Fail> {
+    let problem = problem_of(alloc, worked.rooms, worked.homes, worked.lists)?;
+    let outcome = outcome_over::<L>(alloc, &problem)?;
+    let story = worked.story;
+    assert_eq!(rt;
+        rooms_of(alloc, &problem, &outcome)?.as_slice(),
+        worked.gets,
+        "{story}"
+    );
+    assert_eq!(rt; outcome.asks(), worked.asks, "{story}");
+    assert_eq!(rt; outcome.looks(), worked.looks, "{story}");
+    assert_eq!(rt; outcome.room_of(problem.people()), None, "{story}");
+    let plain = top_trading_cycles(alloc, &problem)?;
+    assert_eq!(rt; plain.as_slice(), worked.gets, "{story}");
+    Ok(())
+}
+
+fn gives_the_worked_rooms<L: Line>(rt: &impl Abort, alloc: Global) -> Result<(), Fail> {
+    for worked in &WORKED {
+        gives_the_rooms::<L>(rt, alloc, worked)?;
+    }
+    Ok(())
+}
+
+#[test]
+fn line_and_plain_program_give_the_worked_rooms(rt: HostRuntime) -> Result<(), Fail> {
+    gives_the_worked_rooms::<VecLine>(&rt, rt.alloc())?;
+    gives_the_worked_rooms::<LinkedLine>(&rt, rt.alloc())
+}
+
+fn would_get(
+    alloc: Global,
+    problem: &Problem,
+    person: usize,
+    list: &[usize],
+) -> Result<Option<usize>, TradeFault> {
+    run_with_list(alloc, problem, person, Vec::from_slice(alloc, list)?)
+}
+
+#[test]
+fn another_list_gives_the_worked_rooms(rt: HostRuntime) -> Result<(), Fail> {
+    let alloc = rt.alloc();
+    let first = problem_of(alloc, 3, &[None, Some(0), Some(1)], &[&[0, 2], &[1], &[0]])?;
+    assert_eq!(rt; would_get(alloc, &first, 0, &[2]), Ok(Some(2)));
+    assert_eq!(rt; would_get(alloc, &first, 1, &[2, 1]), Ok(Some(2)));
+    let vacated = problem_of(alloc, 2, &[Some(0), None, None], &[&[1], &[0], &[0]])?;
+    assert_eq!(rt; would_get(alloc, &vacated, 2, &[1, 0]), Ok(None));
+    let chain = problem_of(alloc, 3, &[Some(0), Some(1)], &[&[1], &[2]])?;
+    assert_eq!(rt; would_get(alloc, &chain, 0, &[]), Ok(Some(0)));
+    Ok(())
+}

@@ -1,0 +1,188 @@
+//! Each call once with ample memory, and worked values.
+use room_types::grammars::RoomCodes;
+use room_types::{Listing, Move, PersonId, RoomCode, Table, TypeFault, Watched, Wave, Word};
+use std::alloc::Global;
+use std::io;
+use std::io::{Error, ErrorKind, Read, Write};
+use std::process::Abort;
+
+mod streams;
+mod worked;
+
+#[test]
+fn compares_by_bytes(rt: HostRuntime) -> Result<(), TypeFault> {
+    let alloc = rt.alloc();
+    let short = RoomCode::read(alloc, "H1")?;
+    let long = RoomCode::read(alloc, "H10")?;
+    let other = RoomCode::read(alloc, "H2")?;
+    assert!(rt; short < long && long < other && short != other);
+    assert!(rt; Word::new(1) < Word::new(2));
+    Ok(())
+}
+
+// The codes R and a number, from 1 up to so many.
+fn codes(alloc: Global, count: usize) -> Result<Vec<RoomCode>, TypeFault> {
+    let mut codes = Vec::new(alloc);
+    for number in 1..=count {
+        let text = format!(in alloc; "R{number}")?;
+        let code = RoomCode::read(alloc, text.as_str())?;
+        codes.push(code).map_err(|_| TypeFault::OutOfMemory)?;
+    }
+    Ok(codes)
+}
+
+#[test]
+fn copies_moves(rt: HostRuntime) -> Result<(), TypeFault> {
+    let alloc = rt.alloc();
+    let moved = Move {
+        round: 3,
+        person: PersonId::read(alloc, "T1")?,
+        from: None,
+        to: Some(RoomCode::read(alloc, "H1")?),
+        wave: Wave::Nth(2),
+    };
+    let copy = moved.copy()?;
+    assert!(rt; copy.round == 3 && copy.person == moved.person && copy.from.is_none());
+    assert!(rt; copy.to == moved.to && copy.wave == Wave::Nth(2));
+    Ok(())
+}
+
+#[test]
+fn keeps_tables(rt: HostRuntime) -> Result<(), TypeFault> {
+    let alloc = rt.alloc();
+    let mut table: Table<RoomCodes, bool> = Table::new(alloc);
+    for code in codes(alloc, 12)? {
+        table.insert(code, false)?;
+    }
+    let code = RoomCode::read(alloc, "R2")?;
+    table.insert(code.copy()?, true)?;
+    assert_eq!(rt; table.len(), 12);
+    assert_eq!(rt; table.get(&code), Some(&true));
+    let mut copy = table.copy()?;
+    table.remove(&code);
+    assert!(rt; !table.contains_key(&code) && copy.contains_key(&code));
+    let mut ascending = String::new(alloc);
+    for (room, _) in table.iter() {
+        ascending.push_str(room.as_str())?;
+    }
+    assert_eq!(rt; ascending.as_str(), "R1R10R11R12R3R4R5R6R7R8R9");
+    assert_eq!(rt; copy.take(&code), Some(true));
+    assert_eq!(rt; copy.take(&code), None);
+    copy.clear();
+    assert_eq!(rt; copy.len(), 0);
+    Ok(())
+}
+
+#[test]
+fn keeps_listings(rt: HostRuntime) -> Result<(), TypeFault> {
+    let alloc = rt.alloc();
+    assert_eq!(rt; Listing::new(codes(alloc, 3)?).as_slice().len(), 3);
+    let mut listing = Listing::empty(alloc);
+    listing.push(RoomCode::read(alloc, "R1")?)?;
+    assert_eq!(rt; listing.len(), 1);
+    Ok(())
+}
+
+// A device that counts the calls of it and the bytes that they lend, and fails at its second call alone.
+#[derive(Drop)]
+struct Faulty {
+    calls: u32,
+    lent: usize,
+}
+
+impl Faulty {
+    fn answer(&mut self, lent: usize) -> io::Result<()> {
+        self.calls = self.calls.saturating_add(1);
+        self.lent = self.lent.saturating_add(lent);
+        if self.calls == 2 {
+            return Err(Error::from(ErrorKind::Other));
+        }
+        Ok(())
+    }
+}
+
+impl Read for Faulty {
+    fn read(&mut self, buf: &mut [u8]) -> io::Result<usize> {
+        self.answer(buf.len())?;
+        Ok(0)
+    }
+}
+
+impl Write for Faulty {
+    fn write(&mut self, buf: &[u8]) -> io::Result<usize> {
+        self.answer(buf.len())?;
+        Ok(buf.len())
+    }
+
+    fn flush(&mut self) -> io::Result<()> {
+        self.answer(0)
+    }
+}
+
+fn new_device() -> Faulty {
+    Faulty { calls: 0, lent: 0 }
+}
+
+fn watched_faulty() -> Watched<Faulty> {
+    Watched::new(new_device())
+}
+
+// The kind of the error, if there is one.
+fn kind<T: Drop>(answer: io::Result<T>) -> Option<ErrorKind> {
+    answer.err().map(|error| error.kind())
+}
+
+// What a call of a faulty device is to answer, the first being 1.
+fn wanted_at(call: u32) -> Option<ErrorKind> {
+    if call == 2 {
+        return Some(ErrorKind::Other);
+    }
+    None
+}
+
+// Each of ten calls of a watched device, also after a failure, is one of the device, with all bytes, and has its
+// answer. A failure that one more call would hide is told.
+#[test]
+fn passes_calls_on(rt: HostRuntime) {
+    let mut input = watched_faulty();
+    let mut output = watched_faulty();
+    let mut flushed = watched_faulty();
+    for call in 1..=10 {
+        let wanted = wanted_at(call);
+        assert_eq!(rt; kind(input.read(&mut [0u8; 3])), wanted);
+        assert_eq!(rt; kind(output.write(b"ab")), wanted);
+        assert_eq!(rt; kind(flushed.flush()), wanted);
+    }
+    assert!(rt; input.failed() && input.late() && input.reads() == 10);
+    assert!(rt; output.failed() && output.late() && output.taken() == 18);
+    assert!(rt; flushed.failed() && flushed.late() && flushed.flushes() == 10);
+    let (input, output, flushed) = (
+        input.into_inner(),
+        output.into_inner(),
+        flushed.into_inner(),
+    );
+    assert!(rt; (input.calls, input.lent) == (10, 30) && (output.calls, output.lent) == (10, 20));
+    assert_eq!(rt; flushed.calls, 10);
+}
+
+#[test]
+fn watches_streams(rt: HostRuntime) -> io::Result<()> {
+    let mut input = Watched::new("ab".as_bytes());
+    let mut byte = [0u8; 1];
+    for taken in [1, 1, 0] {
+        assert_eq!(rt; input.read(&mut byte)?, taken);
+    }
+    assert!(rt; input.reads() == 3 && !input.failed() && input.taken() == 0);
+    assert!(rt; input.ended() && !input.late());
+    let mut space = [0u8; 3];
+    let mut output = Watched::new(&mut space[..]);
+    assert_eq!(rt; output.write(b"abcd")?, 3);
+    assert!(rt; !output.failed() && output.taken() == 3 && output.pending());
+    output.flush()?;
+    assert!(rt; output.flushes() == 1 && !output.pending());
+    assert_eq!(rt; output.write(b"")?, 0);
+    assert!(rt; !output.failed());
+    assert_eq!(rt; output.write(b"d")?, 0);
+    assert!(rt; output.failed() && output.taken() == 3);
+    Ok(())
+}

@@ -1,0 +1,100 @@
+//! A reader and a writer as one stream.
+use super::{Faulty, kind, new_device, wanted_at};
+use room_types::send::send;
+use room_types::stream::Pair;
+use room_types::{Stream, Watched};
+use std::io;
+use std::io::{Read, Write};
+
+#[test]
+fn passes_on_what_a_stream_gives(rt: HostRuntime) -> io::Result<()> {
+    let mut stream = Watched::new(Pair {
+        reader: b"ab".as_slice(),
+        writer: Vec::new(rt.alloc()),
+    });
+    let mut byte = [0u8; 1];
+    assert_eq!(rt; stream.read_some(&mut byte)?, 1);
+    assert_eq!(rt; byte[0], b'a');
+    assert_eq!(rt; stream.write_some(b"xy")?, 2);
+    assert!(rt; stream.pending() && !stream.failed());
+    stream.flush_all()?;
+    assert!(rt; !stream.pending());
+    assert_eq!(rt;
+        (stream.reads(), stream.taken(), stream.flushes()),
+        (1, 2, 1)
+    );
+    assert_eq!(rt; stream.into_inner().writer.as_slice(), b"xy".as_slice());
+    Ok(())
+}
+
+#[test]
+fn sends_texts(rt: HostRuntime) -> io::Result<()> {
+    let mut output = Watched::new(Vec::new(rt.alloc()));
+    assert_eq!(rt; send(&mut output, b"room H1"), Ok(()));
+    assert!(rt; output.pending());
+    output.flush()?;
+    assert!(rt; !output.pending());
+    let mut space = [0u8; 3];
+    let mut full = Watched::new(&mut space[..]);
+    assert_eq!(rt; send(&mut full, b"room"), Err(3));
+    assert_eq!(rt; output.into_inner().as_slice(), b"room H1".as_slice());
+    Ok(())
+}
+
+fn faulty_pair() -> Pair<Faulty, Faulty> {
+    Pair {
+        reader: new_device(),
+        writer: new_device(),
+    }
+}
+
+// That these are ten calls of the reader, with three bytes each, ten of the writer, with two, and ten flushes.
+fn are_all_passed_on(
+    input: Pair<Faulty, Faulty>,
+    output: Pair<Faulty, Faulty>,
+    flushed: Pair<Faulty, Faulty>,
+) -> bool {
+    let read = (input.reader.calls, input.reader.lent) == (10, 30) && input.writer.calls == 0;
+    let written = (output.writer.calls, output.writer.lent) == (10, 20) && output.reader.calls == 0;
+    let cleared = flushed.writer.calls == 10 && flushed.reader.calls == 0;
+    read && written && cleared
+}
+
+// Each call of a pair is one of its reader or of its writer alone, also after a failure, and has its answer.
+#[test]
+fn pairs_pass_calls_on(rt: HostRuntime) {
+    let mut input = faulty_pair();
+    let mut output = faulty_pair();
+    let mut flushed = faulty_pair();
+    for call in 1..=10 {
+        let wanted = wanted_at(call);
+        assert_eq!(rt; kind(input.read(&mut [0u8; 3])), wanted);
+        assert_eq!(rt; kind(output.write(b"ab")), wanted);
+        assert_eq!(rt; kind(flushed.flush()), wanted);
+    }
+    assert!(rt; are_all_passed_on(input, output, flushed));
+}
+
+// The same of the calls of a stream that is watched.
+#[test]
+fn watched_pairs_pass_calls_on(rt: HostRuntime) {
+    let mut input = Watched::new(faulty_pair());
+    let mut output = Watched::new(faulty_pair());
+    let mut flushed = Watched::new(faulty_pair());
+    for call in 1..=10 {
+        let wanted = wanted_at(call);
+        assert_eq!(rt; kind(input.read_some(&mut [0u8; 3])), wanted);
+        assert_eq!(rt; kind(output.write_some(b"ab")), wanted);
+        assert_eq!(rt; kind(flushed.flush_all()), wanted);
+    }
+    assert!(rt; input.failed() && input.reads() == 10);
+    assert!(rt; output.failed() && output.taken() == 18);
+    assert!(rt; flushed.failed() && flushed.flushes() == 10);
+    assert!(rt;
+        are_all_passed_on(
+            input.into_inner(),
+            output.into_inner(),
+            flushed.into_inner()
+        )
+    );
+}
