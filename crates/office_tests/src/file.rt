@@ -1,6 +1,6 @@
 //! Offices in files. A desk is let go by one call, since each place where a file may be closed is proved by itself.
-use office_file::{FileDesk, create_file, let_go, on_file};
 use office_core::{Command, Reply};
+use office_file::{FileDesk, create_file, let_go, on_file};
 use office_store::{Answer, DeskFault, Request};
 use room_types::RoomCode;
 use sqlite::Wary;

@@ -2,8 +2,8 @@
 mod adopting;
 mod exporting;
 
-use office_store::{Answer, Back, Desk, DeskFault, Request, handle_all, handle_all_in_memory};
 use office_core::{Command, Query, Refusal, Reply};
+use office_store::{Answer, Back, Desk, DeskFault, Request, handle_all, handle_all_in_memory};
 use room_types::RoomCode;
 use std::test::Fail;
 

@@ -1,8 +1,8 @@
 //! Exports of an office that has heard lines, at a desk in memory.
-use office_program::at_desk::export_at;
 use crate::failing::FailingWriter;
 use office_lines::rehearse::rehearse;
 use office_lists::ExportKind;
+use office_program::at_desk::export_at;
 use office_store::{Desk, DeskFault};
 use room_types::Watched;
 use sqlite::MemStore;

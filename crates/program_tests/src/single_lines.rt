@@ -1,7 +1,7 @@
 //! Single lines at a desk in memory, as they stand among the words of the program.
-use office_program::desk_faults::refuse_desk;
 use crate::failing::FailingWriter;
 use office_lines::do_line::{do_line, do_words};
+use office_program::desk_faults::refuse_desk;
 use office_store::{Desk, DeskFault};
 use room_types::Watched;
 use sqlite::MemStore;

@@ -1,9 +1,9 @@
 //! The words after the program's name.
+use crate::failing::FailingReader;
+use office_core::{Command, Query};
 use office_program::carry_out::carry_out;
 use office_program::program::program;
-use crate::failing::FailingReader;
 use office_program::usage::Program;
-use office_core::{Command, Query};
 use office_store::Request;
 use office_words::{WordFault, words_to_command};
 use room_types::Watched;

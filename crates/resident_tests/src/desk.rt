@@ -4,9 +4,9 @@ mod faults;
 mod sockets;
 mod talks;
 
-use resident_desk::{Served, serve_one};
 use office_store::{Desk, Handler};
 use office_words::{Sentence, read_line};
+use resident_desk::{Served, serve_one};
 use room_types::stream::Pair;
 use room_types::{Stream, Watched};
 use sqlite::MemStore;

@@ -4,6 +4,6 @@
 #[cfg(test)]
 mod desk;
 #[cfg(test)]
-mod http;
+mod requests;
 #[cfg(test)]
 mod server;

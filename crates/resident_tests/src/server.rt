@@ -1,9 +1,9 @@
 //! Residents, served over connections that are scripted, and over a socket.
+use office_lines::do_line::do_line;
+use office_store::Desk;
 use resident_server::counted::Counted;
 use resident_server::listener::Listener;
 use resident_server::serving::serve_listener;
-use office_lines::do_line::do_line;
-use office_store::Desk;
 use room_types::Watched;
 use room_types::stream::Pair;
 use sqlite::MemStore;

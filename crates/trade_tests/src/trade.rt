@@ -7,6 +7,7 @@ mod lines;
 mod literature;
 mod worked;
 
+use std::alloc::Global;
 use trade_line::bench::Bench;
 use trade_line::fault::TradeFault;
 use trade_line::line::Line;
@@ -14,7 +15,6 @@ use trade_line::out_of_memory::OutOfMemory;
 use trade_line::outcome::Outcome;
 use trade_line::problem::Problem;
 use trade_line::trade::run;
-use std::alloc::Global;
 
 fn problem_of(
     alloc: Global,

@@ -1,6 +1,6 @@
 //! Desks over databases that are handed in, with ample memory.
-use office_store::{Answer, Back, Desk, DeskFault, Handler, Request};
 use office_core::{Command, Query, Reply};
+use office_store::{Answer, Back, Desk, DeskFault, Handler, Request};
 use room_types::{Choices, Key, Listing, Name, PersonId, Phase, ResultRow, RoomCode, Word};
 use sqlite::{Connection, MemStore};
 use std::alloc::Global;

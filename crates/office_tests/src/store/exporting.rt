@@ -1,7 +1,7 @@
 //! Exports of desks in memory.
-use office_store::{Answer, Desk, ExportEnd, Request};
 use office_core::Command;
 use office_lists::ExportKind;
+use office_store::{Answer, Desk, ExportEnd, Request};
 use room_types::{Key, Name, PersonId, RoomCode, Watched};
 use std::alloc::Global;
 use std::io;

@@ -1,8 +1,8 @@
 //! Streams in pieces, at their end, and that fail.
 use super::failing::{NarrowWriter, PiecewiseReader};
 use super::{ANSWER, REQUEST, open_round, served};
-use resident_desk::{Served, serve_one};
 use http::StatusCode;
+use resident_desk::{Served, serve_one};
 use room_types::Watched;
 use room_types::stream::Pair;
 use std::test::Fail;

@@ -1,7 +1,7 @@
 //! A conversation over a real socket, both of whose ends are in this process.
 use super::{ANSWER, REQUEST, open_round};
-use resident_desk::{Served, serve_one};
 use http::StatusCode;
+use resident_desk::{Served, serve_one};
 use room_types::Watched;
 use std::io::{Read, Write};
 use std::net::{TcpListener, TcpStream};

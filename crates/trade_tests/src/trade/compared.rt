@@ -2,13 +2,13 @@
 ghost use Rattle.std.specs.Prelude.{◌<◌};
 
 use super::{outcome_over, problem_of, rooms_of};
+use std::alloc::Global;
+use std::test::Fail;
 use trade_line::fault::TradeFault;
 use trade_line::line::VecLine;
 use trade_line::linked_line::LinkedLine;
 use trade_line::plain::top_trading_cycles;
 use trade_line::problem::Problem;
-use std::alloc::Global;
-use std::test::Fail;
 
 // All lists of different rooms out of three.
 const LISTS: [&[usize]; 16] = [

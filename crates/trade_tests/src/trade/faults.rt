@@ -1,11 +1,11 @@
 //! The faults of problems and lists.
 use super::{outcome_over, problem_of, rooms_of};
+use std::alloc::Global;
+use std::test::Fail;
 use trade_line::fault::TradeFault;
 use trade_line::line::VecLine;
 use trade_line::out_of_memory::OutOfMemory;
 use trade_line::what_if::run_with_list;
-use std::alloc::Global;
-use std::test::Fail;
 
 fn fault_of(
     alloc: Global,

@@ -1,8 +1,8 @@
 //! What the laws on other lists and on the strict core leave open, at small markets.
 use super::problem_of;
-use trade_line::plain::top_trading_cycles;
 use std::alloc::Global;
 use std::test::Fail;
+use trade_line::plain::top_trading_cycles;
 
 struct Twice {
     story: &'static str,

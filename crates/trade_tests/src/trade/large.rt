@@ -1,12 +1,12 @@
 //! Large runs: how many asks and looks they take.
 use super::outcome_over;
+use std::alloc::Global;
+use std::process::Abort;
+use std::test::Fail;
 use trade_line::fault::TradeFault;
 use trade_line::line::{Line, VecLine};
 use trade_line::linked_line::LinkedLine;
 use trade_line::problem::Problem;
-use std::alloc::Global;
-use std::process::Abort;
-use std::test::Fail;
 
 const TENANTS: usize = 2000;
 

@@ -1,10 +1,10 @@
 //! The calls of a line, through the bound.
-use trade_line::line::{Line, VecLine};
-use trade_line::linked_line::LinkedLine;
-use trade_line::out_of_memory::OutOfMemory;
 use std::alloc::Global;
 use std::process::Abort;
 use std::test::Fail;
+use trade_line::line::{Line, VecLine};
+use trade_line::linked_line::LinkedLine;
+use trade_line::out_of_memory::OutOfMemory;
 
 const PEOPLE: usize = 5;
 

@@ -1,12 +1,12 @@
 //! Runs in the manner of the literature's worked examples, each solved by hand: rooms, asks and looks.
 use super::{outcome_over, problem_of, rooms_of};
+use std::alloc::Global;
+use std::process::Abort;
+use std::test::Fail;
 use trade_line::line::{Line, VecLine};
 use trade_line::linked_line::LinkedLine;
 use trade_line::plain::top_trading_cycles;
 use trade_line::problem::Problem;
-use std::alloc::Global;
-use std::process::Abort;
-use std::test::Fail;
 
 // What was found by hand.
 #[derive(Clone, Copy)]

@@ -1,14 +1,14 @@
 //! Worked runs: the rooms, asks and looks of the line, and the rooms of the plain program.
 use super::{outcome_over, problem_of, rooms_of};
+use std::alloc::Global;
+use std::process::Abort;
+use std::test::Fail;
 use trade_line::fault::TradeFault;
 use trade_line::line::{Line, VecLine};
 use trade_line::linked_line::LinkedLine;
 use trade_line::plain::top_trading_cycles;
 use trade_line::problem::Problem;
 use trade_line::what_if::run_with_list;
-use std::alloc::Global;
-use std::process::Abort;
-use std::test::Fail;
 
 struct Worked<'a> {
     story: &'a str,

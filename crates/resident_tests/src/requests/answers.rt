@@ -1,11 +1,11 @@
 //! The bytes of answers, and the bodies of requests.
+use http::StatusCode;
+use office_core::Standing;
 use resident_http::answer::{HttpAnswer, UNAVAILABLE, answer_bytes};
 use resident_http::bodies::{choices_body, rooms_body, standing_body, withdrawn_body};
 use resident_http::choices::choices_of_body;
 use resident_http::faults::fault_name;
 use resident_http::method::Method;
-use http::StatusCode;
-use office_core::Standing;
 use room_types::{
     Choices, Listing, Name, OutOfMemory, PersonId, Phase, RoomCode, RoomRow, State, TypeFault,
 };
