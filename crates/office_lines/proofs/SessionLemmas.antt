@@ -22,11 +22,6 @@ use Rattle.office_lines.proofs.LineLemmas.{ended_from-append, partial_from-appen
 use Rattle.office_lines.proofs.RunLemmas.{Run-append, greatest_status-append, texts_of-append, texts_front-within, texts_front-append, texts_front-more}
 use Rattle.room_types.proofs.StreamLemmas.{Puts-nil, Puts-trans, Puts-kept}
 
--- none but the first
-pub or_neither : (a b c : Bool) → b ≡ false → c ≡ false → (a || b || c) ≡ a
-or_neither true b c p q = refl
-or_neither false b c p q = rw (p, q) refl
-
 -- one read more than gave a byte each
 pub read_once : (reads reads' counter bytes : ℕ) → reads' ≡ counted reads 1 → reads ≡ counter → counter ≤ bytes → counter < 2 ^ 32 → reads' ≤ bytes + 1
 read_once reads reads' counter bytes e c each few = omega (arith, e, c, each, few)

@@ -73,10 +73,6 @@ ended_told before after buf n told none some =
     let nothing : (n == 0) ≡ true = search (rules, tests) in
     told ∙ ap (λ t. before || (t && n == 0)) room ∙ ap (λ t. before || (true && t)) nothing ∙ or-true before
 
-pub or_neither : (a b c : Bool) → b ≡ false → c ≡ false → (a || b || c) ≡ a
-or_neither true b c p q = refl
-or_neither false b c p q = rw (p, q) refl
-
 -- ---- what went out
 
 pub untouched-refl : (o : Output) → IsUntouched o o

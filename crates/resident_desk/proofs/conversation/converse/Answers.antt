@@ -1,11 +1,12 @@
 use Rattle.std.proofs.Common.{◌≡◌, ◌<◌, ◌-◌, length, take, drop, rules, tests, arith, ◌∙◌, refl}
 use Rattle.std.proofs.KnownBytes.{Consumes-kept, Consumes-nil}
 use Rattle.std.proofs.Math.Bool.{or-false}
+use Rattle.std.proofs.lemmas.Bool.{or_from}
 use Rattle.std.proofs.lemmas.List.{length-take-le, length-take, length-drop}
-use Rattle.room_types.proofs.StreamLemmas.{kept_by_write}
+use Rattle.room_types.proofs.StreamLemmas.{kept_by_write, or_known}
 use Rattle.resident_http.specs.Asks.{more, seen}
 use Rattle.resident_desk.specs.Conversations.{connection_of}
-use Rattle.resident_desk.proofs.Streams.{converses-responded, counted_last, counted_within, ended_told, length-put_into, not_more, or_neither, read_into, read_none, untouched-more, untouched-refl}
+use Rattle.resident_desk.proofs.Streams.{converses-responded, counted_last, counted_within, ended_told, length-put_into, not_more, read_into, read_none, untouched-more, untouched-refl}
 use Rattle.resident_desk.proofs.conversation.converse.Goals as goal
 
 pub returns-then-filled-eq0-clause-few : goal.returns-then-filled-eq0-clause-few
@@ -102,7 +103,7 @@ reads-preserved g c =
       reads = rw h.reads (counted_within _ _ _ i.reads i.within some);
       failed = h.failed ∙ or-false _ ∙ i.failed;
       ended = h.ended ∙ kept_by_write _ _ c.in-Ok.n more_than_none ∙ i.ended;
-      no_late = λ e d. h.late ∙ or_neither _ _ _ i.failed (i.ended ∙ d) ∙ i.no_late e d;
+      no_late = λ e d. h.late ∙ or_known _ _ (or_from _ _ i.failed (i.ended ∙ d)) ∙ i.no_late e d;
       same = i.same;
       ready = i.ready;
     }
