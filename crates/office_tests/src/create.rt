@@ -41,6 +41,47 @@ fn leaves_what_others_declared(rt: HostRuntime) -> Result<(), Fail> {
     Ok(())
 }
 
+// What one row in each table answers.
+const ADDED: [(&str, i64); 7] = [
+    (
+        "SELECT count(*) FROM room WHERE code = 'H1' AND shut = 0",
+        1,
+    ),
+    (
+        "SELECT count(*) FROM person WHERE id = 'T1' AND home = 'H1' AND withdrawn = 1",
+        1,
+    ),
+    (
+        "SELECT count(*) FROM choice WHERE person = 'T1' AND place = 0 AND room = 'H1'",
+        1,
+    ),
+    (
+        "SELECT count(*) FROM word WHERE hex = '00000000000000ff'",
+        1,
+    ),
+    (
+        "SELECT count(*) FROM result WHERE person = 'T1' AND room IS NULL",
+        1,
+    ),
+    (
+        "SELECT count(*) FROM move WHERE round = 1 AND to_room = 'H1' AND wave = 2",
+        1,
+    ),
+    (
+        "SELECT count(*) FROM round WHERE version = 1 AND number = 1 AND phase = 'ran'",
+        1,
+    ),
+];
+
+// What the tables answer once their rows are gone.
+const CLEARED: [(&str, i64); 5] = [
+    ("SELECT count(*) FROM room WHERE shut = 1", 1),
+    ("SELECT count(*) FROM person", 0),
+    ("SELECT count(*) FROM choice", 0),
+    ("SELECT count(*) FROM word", 0),
+    ("SELECT count(*) FROM result", 0),
+];
+
 #[test]
 fn writes_rows(rt: HostRuntime) -> Result<(), Fail> {
     let mut conn = Connection::open_in_memory(rt.alloc())?;
@@ -51,52 +92,11 @@ fn writes_rows(rt: HostRuntime) -> Result<(), Fail> {
     let room = RoomCode::read(rt.alloc(), "H1")?;
     let person = PersonId::read(rt.alloc(), "T1")?;
     add(rt.alloc(), &mut tx, &person, &room)?;
-    let added = has_rows(
-        &mut tx,
-        &[
-            (
-                "SELECT count(*) FROM room WHERE code = 'H1' AND shut = 0",
-                1,
-            ),
-            (
-                "SELECT count(*) FROM person WHERE id = 'T1' AND home = 'H1' AND withdrawn = 1",
-                1,
-            ),
-            (
-                "SELECT count(*) FROM choice WHERE person = 'T1' AND place = 0 AND room = 'H1'",
-                1,
-            ),
-            (
-                "SELECT count(*) FROM word WHERE hex = '00000000000000ff'",
-                1,
-            ),
-            (
-                "SELECT count(*) FROM result WHERE person = 'T1' AND room IS NULL",
-                1,
-            ),
-            (
-                "SELECT count(*) FROM move WHERE round = 1 AND to_room = 'H1' AND wave = 2",
-                1,
-            ),
-            (
-                "SELECT count(*) FROM round WHERE version = 1 AND number = 1 AND phase = 'ran'",
-                1,
-            ),
-        ],
-    )?;
+    let added = has_rows(&mut tx, &ADDED)?;
     assert!(rt; added);
     replace(rt.alloc(), &mut tx, &person, &room)?;
     clear(&mut tx, &person, &room)?;
-    let cleared = has_rows(
-        &mut tx,
-        &[
-            ("SELECT count(*) FROM room WHERE shut = 1", 1),
-            ("SELECT count(*) FROM person", 0),
-            ("SELECT count(*) FROM choice", 0),
-            ("SELECT count(*) FROM word", 0),
-            ("SELECT count(*) FROM result", 0),
-        ],
-    )?;
+    let cleared = has_rows(&mut tx, &CLEARED)?;
     assert!(rt; cleared);
     tx.commit()?;
     Ok(())

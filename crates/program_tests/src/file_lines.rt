@@ -193,84 +193,79 @@ fn tells_why_there_is_no_office(rt: HostRuntime) -> Result<(), Fail> {
     Ok(())
 }
 
+// Words of the program, with the status of their line and what is printed.
+const LINES: [(&[&str], u8, &str); 14] = [
+    (
+        &["do", "--db", "lines_words/office.db", "room", "A"],
+        0,
+        "ok\n",
+    ),
+    (
+        &["do", "--db", "lines_words/office.db", "room B"],
+        0,
+        "ok\n",
+    ),
+    (
+        &["do", "room", "--db", "lines_words/office.db", "C"],
+        0,
+        "ok\n",
+    ),
+    (
+        &["do", "room", "D", "--db=lines_words/office.db"],
+        0,
+        "ok\n",
+    ),
+    (
+        &["do", "--db", "lines_words/office.db", "--", "room", "E"],
+        0,
+        "ok\n",
+    ),
+    (
+        &["do", "--db", "lines_words/office.db", "room", "A"],
+        1,
+        "refused 4 DuplicateRoom\n",
+    ),
+    (
+        &["do", "--db", "lines_words/office.db", "help"],
+        2,
+        "not understood\n",
+    ),
+    (
+        &["do", "--db", "lines_words/office.db", "room"],
+        2,
+        "not understood\n",
+    ),
+    (
+        &["do", "--db", "lines_words/office.db", "--", "room", "-A"],
+        2,
+        "not understood\n",
+    ),
+    (
+        &["do", "--db", "lines_words/office.db", "room", "F\n"],
+        2,
+        "not understood\n",
+    ),
+    (
+        &["do", "--db", "lines_words/office.db", "room F\nroom G"],
+        2,
+        "not understood\n",
+    ),
+    (&["do", "--db", "lines_words/office.db", "# room F"], 0, ""),
+    (&["do", "--db", "lines_words/office.db", ""], 0, ""),
+    (
+        &["do", "--db", "lines_words/office.db", "rooms"],
+        0,
+        "room      state     tenant\nA         free      none\nB         free      none\nC         free      none\nD         free      none\nE         free      none\n",
+    ),
+];
+
 // The words after `--db FILE` are one line, however they are cut into words. What is no line is answered on standard
 // output.
 #[test]
 fn hears_the_words_as_one_line(rt: HostRuntime) -> Result<(), Fail> {
     make_folder(&rt, "lines_words")?;
     carried(&rt, &["new", "--db", "lines_words/office.db"]);
-    for (words, status, printed) in [
-        (
-            ["do", "--db", "lines_words/office.db", "room", "A"].as_slice(),
-            0,
-            "ok\n",
-        ),
-        (
-            ["do", "--db", "lines_words/office.db", "room B"].as_slice(),
-            0,
-            "ok\n",
-        ),
-        (
-            ["do", "room", "--db", "lines_words/office.db", "C"].as_slice(),
-            0,
-            "ok\n",
-        ),
-        (
-            ["do", "room", "D", "--db=lines_words/office.db"].as_slice(),
-            0,
-            "ok\n",
-        ),
-        (
-            ["do", "--db", "lines_words/office.db", "--", "room", "E"].as_slice(),
-            0,
-            "ok\n",
-        ),
-        (
-            ["do", "--db", "lines_words/office.db", "room", "A"].as_slice(),
-            1,
-            "refused 4 DuplicateRoom\n",
-        ),
-        (
-            ["do", "--db", "lines_words/office.db", "help"].as_slice(),
-            2,
-            "not understood\n",
-        ),
-        (
-            ["do", "--db", "lines_words/office.db", "room"].as_slice(),
-            2,
-            "not understood\n",
-        ),
-        (
-            ["do", "--db", "lines_words/office.db", "--", "room", "-A"].as_slice(),
-            2,
-            "not understood\n",
-        ),
-        (
-            ["do", "--db", "lines_words/office.db", "room", "F\n"].as_slice(),
-            2,
-            "not understood\n",
-        ),
-        (
-            ["do", "--db", "lines_words/office.db", "room F\nroom G"].as_slice(),
-            2,
-            "not understood\n",
-        ),
-        (
-            ["do", "--db", "lines_words/office.db", "# room F"].as_slice(),
-            0,
-            "",
-        ),
-        (
-            ["do", "--db", "lines_words/office.db", ""].as_slice(),
-            0,
-            "",
-        ),
-        (
-            ["do", "--db", "lines_words/office.db", "rooms"].as_slice(),
-            0,
-            "room      state     tenant\nA         free      none\nB         free      none\nC         free      none\nD         free      none\nE         free      none\n",
-        ),
-    ] {
+    for (words, status, printed) in LINES {
         let (ended, text, told) = carried(&rt, words);
         assert_eq!(rt; ended, status, "{printed}");
         assert_eq!(rt; text.as_slice(), printed.as_bytes());
