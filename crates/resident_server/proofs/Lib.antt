@@ -1,2 +1,1 @@
-pub mod MeetingLemmas
 pub mod SayingLemmas

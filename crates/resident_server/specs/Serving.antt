@@ -1,5 +1,7 @@
 -- Residents who are served, one connection after the other.
-use Rattle.std.specs.Prelude.{◌≡◌, ◌⊎◌, ◌+◌, ℕ, false, List, [], ◌∷◌, length, Option, Some, None}
+use Rattle.std.specs.Prelude.{◌≡◌, ◌⊎◌, ⊤, ℕ, zero, suc, false, List, Option, Some, None}
+use Rattle.std.specs.declared.net.tcp.TcpListener.{TcpListener}
+use Rattle.std.specs.declared.net.tcp.TcpStream.{TcpStream}
 use Rattle.sqlite.specs.Held.{state}
 use Rattle.sqlite.specs.State.{HasCleanDisk}
 use Rattle.sqlite_trees.specs.declared.store.Store.{Ghosts}
@@ -7,14 +9,13 @@ use Rattle.office_core.specs.declared.office.Office.{Office}
 use Rattle.office_lines.specs.Saying.{Says, SaysUnavailable}
 use Rattle.office_store.specs.Desk.{DeskState, HandlesAt, StandsFor}
 use Rattle.office_store.specs.Requests.{Handles}
-use Rattle.office_store.specs.declared.requests.Answer.{Answer}
-use Rattle.office_store.specs.declared.requests.Request.{Request}
 use Rattle.office_tables.specs.Steps.{Follows}
-use Rattle.resident_desk.specs.Conversations.{Connection, Converses}
+use Rattle.resident_desk.specs.Conversations.{Connection, Converses, connection_of}
 use Rattle.resident_desk.specs.declared.served.Served.{Served}
-use Rattle.resident_server.specs.Counting.{failures_in}
 use Rattle.resident_server.specs.Texts.{listening_text, served_text}
 use Rattle.room_types.specs.Streams.{Output}
+use Rattle.room_types.specs.Watched.{watched_inner}
+use Rattle.room_types.specs.declared.watched.Watched.{Watched}
 
 -- a connection that was just accepted: nothing was read from it, written to it or flushed
 pub record IsNew (connection : Connection) : Type 0 where
@@ -24,45 +25,52 @@ pub record IsNew (connection : Connection) : Type 0 where
   pub flushes : connection.output.flushes ≡ 0
   pub ended : connection.ended ≡ false
 
--- how many of the connections could not be accepted
-abbrev pub failures : List (Option Served) → ℕ
-failures [] = 0
-failures (met ∷ others) = failures_in met + failures others
-
-module _ {H : Type 0} (handles : H → Request → Answer → H → Type 0) where
-  -- a conversation over a connection of its own, which ended so
-  abbrev pub Talks : H → Served → H → Type 0
-  Talks old served new = (before : Connection) × (after : Connection) × IsNew before × Converses handles served old new before after
-
-  -- From the old one on, each connection in turn could not be accepted, and nothing happened, or had its conversation; and the
-  -- new one is left.
-  abbrev pub TalkInTurn : H → List (Option Served) → H → Type 0
-  TalkInTurn old [] new = new ≡ old
-  TalkInTurn old (None ∷ others) new = TalkInTurn old others new
-  TalkInTurn old (Some served ∷ others) new = (between : H) × Talks old served between × TalkInTurn between others new
-
 module _ {S : Type 0} (g : Ghosts S) where
-  -- So many connections were met at a desk, and so many of them could not be accepted. Where the disk returned what was written,
-  -- the office that the desk stood for has had these conversations, and the desk stands for the office after them.
-  pub record MeetsEach (old new : DeskState S) (count failed : ℕ) : Type 0 where
-    pub met : List (Option Served)
-    pub each : length met ≡ count
-    pub lost : failures met ≡ failed
+  -- A conversation at a desk. Where the disk returned what was written, the office that the desk stood for has had it, and the
+  -- desk stands for the office after it.
+  pub record Talks (old new : DeskState S) (before after : Connection) : Type 0 where
+    pub served : Served
     pub follows : Follows (state g old.conn) (state g new.conn)
-    pub at_desk : TalkInTurn (HandlesAt g) old met new
+    pub at_desk : Converses (HandlesAt g) served old new before after
     pub serves : HasCleanDisk (state g new.conn) → (office : Office) → StandsFor g old office
-        → (last : Office) × TalkInTurn Handles office met last × StandsFor g new last
+        → (next : Office) × Converses Handles served office next before after × StandsFor g new next
 
-  -- It was said on which port the server listens, and flushed; then each connection was met, and it was said how many they
-  -- were. Or memory was wanting for what is said, or it could not be said that the server listens; then nobody was served.
-  abbrev pub ServesAll : DeskState S → DeskState S → ℕ → ℕ → ℕ → ℕ → Output → Output → Type 0
-  ServesAll old new port count failed status out out' =
-      ((said : Output) × Says (listening_text port) 0 0 out said × MeetsEach old new count failed × Says (served_text count) 0 status said out')
-      ⊎ ((new ≡ old) × (status ≡ 3) × Says (listening_text port) 0 status out out')
-      ⊎ ((new ≡ old) × SaysUnavailable status out out')
+  module _ {L T : Type 0} (remaining contents : T → Option (List ℕ)) (comes : L → Output → Option T → L → Type 0) (goes : L → Watched T → L → Type 0) (said : Output) where
+    -- A connection came, it had its conversation, and was let go.
+    pub record Serves (listener : L) (old : DeskState S) (listener' : L) (new : DeskState S) : Type 0 where
+      pub between : L
+      pub before : Watched T
+      pub after : Watched T
+      pub came : comes listener said (Some (watched_inner before)) between
+      pub begins : IsNew (connection_of remaining contents before)
+      pub talks : Talks old new (connection_of remaining contents before) (connection_of remaining contents after)
+      pub gone : goes between after listener'
 
-  -- the same, or the port can't be listened on
+    -- A connection was asked for: one was served, or none could be accepted and nothing happened.
+    abbrev pub MeetsOne : L → DeskState S → L → DeskState S → Type 0
+    MeetsOne listener old listener' new =
+        Serves listener old listener' new ⊎ (comes listener said None listener' × (new ≡ old))
+
+    -- so many, one after the other
+    unfoldable pub MeetsEach : L → DeskState S → ℕ → L → DeskState S → Type 0
+    MeetsEach listener old zero listener' new = (listener' ≡ listener) × (new ≡ old)
+    MeetsEach listener old (suc count) listener' new =
+        (middle : L) × (between : DeskState S) × MeetsEach listener old count middle between × MeetsOne middle between listener' new
+
+  module _ {L T : Type 0} (remaining contents : T → Option (List ℕ)) (comes : L → Output → Option T → L → Type 0) (goes : L → Watched T → L → Type 0) where
+    -- It was said on which port the server listens, and flushed; then each connection was met, with nothing more said until it was
+    -- said how many they were. Or memory was wanting for what is said, or it could not be said that the server listens; then
+    -- no connection was asked for.
+    abbrev pub ServesAll : L → DeskState S → L → DeskState S → ℕ → ℕ → ℕ → Output → Output → Type 0
+    ServesAll listener old listener' new port count status out out' =
+        ((said : Output) × Says (listening_text port) 0 0 out said × MeetsEach remaining contents comes goes said listener old count listener' new
+        × Says (served_text count) 0 status said out')
+        ⊎ ((listener' ≡ listener) × (new ≡ old) × (status ≡ 3) × Says (listening_text port) 0 status out out')
+        ⊎ ((listener' ≡ listener) × (new ≡ old) × SaysUnavailable status out out')
+
+  -- the same by a listener of the system, of whose connections nothing is known, or the port can't be listened on
   abbrev pub ServesPort : DeskState S → DeskState S → ℕ → ℕ → ℕ → Output → Output → Type 0
   ServesPort old new port count status out out' =
-      ((failed : ℕ) × ServesAll old new port count failed status out out')
+      ((listener : TcpListener) × (listener' : TcpListener)
+      × ServesAll {L = TcpListener} {T = TcpStream} (λ _. None) (λ _. None) (λ _ _ _ _. ⊤) (λ _ _ _. ⊤) listener old listener' new port count status out out')
       ⊎ ((new ≡ old) × SaysUnavailable status out out')

@@ -1,12 +1,10 @@
 //! Connections are met one after the other, and a resident is served on each.
-ghost use Rattle.std.specs.Prelude.{◌≡◌, ◌+◌, ◌-◌, ◌^◌, ◌<◌, ℕ, IfOk, false, string_bytes};
+ghost use Rattle.std.specs.Prelude.{◌≡◌, IfOk, string_bytes};
 ghost use Rattle.room_types.specs.Streams.{output_of};
-ghost use Rattle.room_types.specs.Watched.{StopsAtFailure, watched_failed, watched_pending};
-ghost use Rattle.resident_server.specs.Counting.{asked_of, failed_of};
-ghost use Rattle.resident_server.specs.Serving.{MeetsEach, ServesAll, ServesPort};
+ghost use Rattle.room_types.specs.Watched.{StopsAtFailure};
+ghost use Rattle.resident_server.specs.Serving.{MeetsEach, MeetsOne, ServesAll, ServesPort};
 ghost use Rattle.resident_server.specs.Texts.{listening_text, served_text};
 
-use crate::counted::Counted;
 use crate::listener::Listener;
 use office_lines::say::say;
 use office_store::Desk;
@@ -32,28 +30,25 @@ pub fn serve_port<S: Alter, W: Write>(
         (output_of W.contents output.old) (output_of W.contents output.new) }
 {
     match TcpListener::bind(rt, SocketAddr::from((Ipv4Addr::LOCALHOST, port))) {
-        Ok(listener) => {
-            let mut listener = Counted::new(listener);
-            serve_listener(rt.alloc(), desk, &mut listener, port, count, output)
-        }
+        Ok(mut listener) => serve_listener(rt.alloc(), desk, &mut listener, port, count, output),
         Err(_) => say(output, "unavailable\n", UNAVAILABLE),
     }
 }
 
 /// Says `listening on 127.0.0.1:PORT`, meets so many connections one after the other, and says `served COUNT`. Both lines are
-/// made first, so that memory is wanting before anybody is served or not at all. Where the first line can't be said, nobody
-/// is served. Gives the exit status.
+/// made first, so that memory is wanting before anybody is served or not at all. Where the first line can't be said, no
+/// connection is asked for. Gives the exit status.
 pub fn serve_listener<S: Alter, L: Listener, W: Write>(
     alloc: Global,
     desk: &mut Desk<S>,
-    listener: &mut Counted<L>,
+    listener: &mut L,
     port: u16,
     count: u32,
     output: &mut Watched<W>,
 ) -> u8
-    requires unasked { asked_of listener.old ≡ 0 }
     ensures no_late_write { StopsAtFailure output.old output.new }
-    ensures serves { ServesAll S.Store desk.old desk.new port count (failed_of listener.new) result
+    ensures serves { ServesAll S.Store L.Stream.remaining L.Stream.contents L.comes L.goes
+        listener.old desk.old listener.new desk.new port count result
         (output_of W.contents output.old) (output_of W.contents output.new) }
 {
     let Ok(lines) = make_lines(alloc, port, count) else {
@@ -67,37 +62,39 @@ pub fn serve_listener<S: Alter, L: Listener, W: Write>(
 }
 
 /// Meets so many connections one after the other, and serves the resident on each. A connection that could not be accepted
-/// counts. What was said on the output is flushed before the first is asked for.
-pub fn serve_each<S: Alter, L: Listener, W>(
+/// counts. What was said is on the output.
+pub fn serve_each<S: Alter, L: Listener, W: Write>(
     alloc: Global,
     desk: &mut Desk<S>,
-    listener: &mut Counted<L>,
-    output: &Watched<W>,
+    listener: &mut L,
+    said: &Watched<W>,
     count: u32,
 )
-    requires unasked { asked_of listener.old ≡ 0 }
-    requires flushed { watched_pending output.now ≡ false }
-    ensures asked { asked_of listener.new ≡ count }
-    ensures meets { MeetsEach S.Store desk.old desk.new count (failed_of listener.new) }
+    ensures meets { MeetsEach S.Store L.Stream.remaining L.Stream.contents L.comes L.goes
+        (output_of W.contents said.now) listener.old desk.old count listener.new desk.new }
 {
     'connections: for _ in 0..count {
-        meet_one(alloc, desk, listener);
+        meet_one(alloc, desk, listener, said);
     }
 }
 
-// Meets one connection more: the resident is served on it, if it could be accepted.
-fn meet_one<S: Alter, L: Listener>(alloc: Global, desk: &mut Desk<S>, listener: &mut Counted<L>)
-    requires fits { asked_of listener.old < 2 ^ 64 - 1 }
-    ensures asked { asked_of listener.new ≡ asked_of listener.old + 1 }
-    ensures meets { (first : _) (count : ℕ)
-        → MeetsEach S.Store first desk.old count (failed_of listener.old)
-        → MeetsEach S.Store first desk.new (count + 1) (failed_of listener.new) }
+// Meets one connection: the resident is served on it, if it could be accepted.
+fn meet_one<S: Alter, L: Listener, W: Write>(
+    alloc: Global,
+    desk: &mut Desk<S>,
+    listener: &mut L,
+    said: &Watched<W>,
+)
+    ensures meets { MeetsOne S.Store L.Stream.remaining L.Stream.contents L.comes L.goes
+        (output_of W.contents said.now) listener.old desk.old listener.new desk.new }
 {
-    let stream = match listener.accept() {
+    let stream = match listener.accept(said) {
         Some(stream) => stream,
         None => return,
     };
-    let _served = serve_one(alloc, desk, &mut Watched::new(stream));
+    let mut connection = Watched::new(stream);
+    let _served = serve_one(alloc, desk, &mut connection);
+    listener.let_go(connection);
 }
 
 // What is said before and after.

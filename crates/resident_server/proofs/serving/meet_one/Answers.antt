@@ -1,21 +1,20 @@
-use Rattle.std.proofs.Common.{◌≡◌, ◌+◌, ℕ, subst, sym, arith}
-use Rattle.resident_server.specs.Counting.{failed_of}
-use Rattle.resident_server.specs.Serving.{MeetsEach}
-use Rattle.resident_server.proofs.MeetingLemmas.{meets_lost, meets_more}
+use Rattle.std.proofs.Common.{◌∙◌, Some, ap, inl, subst, sym}
+use Rattle.room_types.specs.Streams.{output_of}
 use Rattle.resident_server.proofs.serving.meet_one.Goals as goal
 
-pub returns-in-None-clause-meets : goal.returns-in-None-clause-meets
-returns-in-None-clause-meets g c = λ first count m.
-    let failed : failed_of c.accept.new.self ≡ failed_of c.args.listener.now + 1 = omega (arith, c.in-None.ensures.failed) in
-    subst (λ (n : ℕ). MeetsEach g.S.Store first c.args.desk.now (count + 1) n) (sym failed)
-    (meets_lost g.S.Store first c.args.desk.now count (failed_of c.args.listener.now) m)
-
-pub returns-clause-meets : goal.returns-clause-meets
-returns-clause-meets g c = λ first count m.
+pub returns : goal.returns
+returns g c =
+    let opened = c.new-connection.ensures in
     let talk = c.serve_one-served in
-    let failed : failed_of c.accept.new.self ≡ failed_of c.args.listener.now = omega (arith, c.in-Some.ensures.failed) in
-    let begins = c.new.ensures in
-    subst (λ (n : ℕ). MeetsEach g.S.Store first talk.new.desk (count + 1) n) (sym failed)
-    (meets_more g.S.Store first c.args.desk.now talk.new.desk count (failed_of c.args.listener.now) talk.result _ _ m
-    (record { failed = begins.failed; reads = begins.reads; taken = begins.taken; flushes = begins.flushes; ended = begins.ended })
-    talk.ensures.follows talk.ensures.converses talk.ensures.serves)
+    record {
+      meets = inl (record {
+        between = c.accept.new.self;
+        before = c.new-connection.result;
+        after = talk.new.stream;
+        came = subst (λ stream. g.L.Listener.comes c.args.listener.now (output_of g.W.Write.contents c.args.said.now) stream c.accept.new.self)
+            (c.in-Some.is ∙ ap Some (sym opened.inner)) c.accept.ensures;
+        begins = record { failed = opened.failed; reads = opened.reads; taken = opened.taken; flushes = opened.flushes; ended = opened.ended };
+        talks = record { served = talk.result; follows = talk.ensures.follows; at_desk = talk.ensures.converses; serves = talk.ensures.serves };
+        gone = c.let_go.ensures;
+      });
+    }

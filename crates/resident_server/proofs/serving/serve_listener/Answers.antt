@@ -9,7 +9,7 @@ returns-then-say-ne-ACCEPTED-clause-serves g c =
     let text : c.as_str.result.now ≡ listening_text c.args.port = c.as_str.ensures.value ∙ c.in-Ok.ensures.listening in
     let told = rw text at c.say-2.ensures.says in
     let ill : c.say-2.result ≡ 3 = said_ill _ _ _ _ told (λ is. grind (arith, is, c.if-say-ne-ACCEPTED.true)) in
-    inr (inl (refl, refl, rw ill at told))
+    inr (inl (refl, refl, refl, rw ill at told))
 
 pub returns-clause-serves : goal.returns-clause-serves
 returns-clause-serves g c =
