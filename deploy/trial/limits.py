@@ -56,10 +56,21 @@ def sizes(stand):
         check("no other path comes to the server", first_line(connection) == "HTTP/1.1 404 Not Found")
 
 
+class Connection(http.client.HTTPConnection):
+    """A connection to the proxy, which names its host in TLS, also where it has to be made again."""
+
+    def __init__(self, stand):
+        super().__init__(HOST)
+        self.stand = stand
+
+    def connect(self):
+        self.sock = connected(self.stand)
+
+
 def rate(stand):
     """More than the limit in ten seconds from one address are answered 429."""
     statuses = []
-    connection = http.client.HTTPSConnection("127.0.0.1", stand.port, context=unchecked())
+    connection = Connection(stand)
     for _ in range(LIMIT + 200):
         connection.request("GET", "/me", headers={"Host": HOST, "Room-Key": key_of("T1")})
         answer = connection.getresponse()

@@ -1,4 +1,4 @@
-//! What the program does with its words: lines of text are heard and answered, and the words of its command line are read.
+//! The words of the program's command line are read, and what they ask for is done.
 #![tactic(auto)]
 
 pub mod at_desk;
