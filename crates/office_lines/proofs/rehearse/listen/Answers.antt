@@ -1,5 +1,4 @@
 use Rattle.std.proofs.Common.{◌≡◌, [], take, rules, tests, arith, ◌∙◌, inr, ap, refl}
-use Rattle.std.proofs.lemmas.Bool.{or_from}
 use Rattle.std.proofs.lemmas.Result.{err_from_is_err_and}
 use Rattle.std.proofs.lemmas.Grind.{common_steps}
 use Rattle.std.proofs.Math.Bool.{or-true, or-false}
@@ -43,7 +42,7 @@ reads-preserved g c = record {
   failed = c.in-Ok.ensures.failed ∙ or-false _ ∙ c.reads.invariant.failed;
   ended = c.in-Ok.ensures.ended ∙ kept_by_write _ _ c.in-Ok.n (search (rules, tests)) ∙ c.reads.invariant.ended;
   begun = omega (arith, c.take_piece.new.self.partial_line.ok.0, c.take_piece.new.self.short);
-  no_late_read = λ e d. c.in-Ok.ensures.late ∙ or_known _ _ (or_from _ _ (c.reads.invariant.failed ∙ e) (c.reads.invariant.ended ∙ d)) ∙ c.reads.invariant.no_late_read e d;
+  no_late_read = λ e d. c.in-Ok.ensures.late ∙ or_known _ _ (c.reads.invariant.ended ∙ d) ∙ or_known _ _ (c.reads.invariant.failed ∙ e) ∙ c.reads.invariant.no_late_read e d;
   no_late_write = λ e. c.in_ok-take_piece-in-Ok.ensures.no_late_write (c.reads.invariant.heard.heard.failed ∙ e) ∙ c.reads.invariant.no_late_write e;
   count = c.in-Ok.ensures.reads ∙ ap (λ n. counted n 1) c.reads.invariant.count ∙ counted_one c.reads.counter (omega (arith, c.reads-test.true));
   ready = c.in_ok-take_piece-in-Ok.ensures.ready;

@@ -1,7 +1,6 @@
 use Rattle.std.proofs.Common.{◌≡◌, ◌<◌, ◌-◌, length, take, drop, rules, tests, arith, ◌∙◌, refl}
 use Rattle.std.proofs.KnownBytes.{Consumes-kept, Consumes-nil}
 use Rattle.std.proofs.Math.Bool.{or-false}
-use Rattle.std.proofs.lemmas.Bool.{or_from}
 use Rattle.std.proofs.lemmas.List.{length-take-le, length-take, length-drop}
 use Rattle.room_types.proofs.StreamLemmas.{kept_by_write, or_known}
 use Rattle.resident_http.specs.Asks.{more, seen}
@@ -103,7 +102,7 @@ reads-preserved g c =
       reads = rw h.reads (counted_within _ _ _ i.reads i.within some);
       failed = h.failed ∙ or-false _ ∙ i.failed;
       ended = h.ended ∙ kept_by_write _ _ c.in-Ok.n more_than_none ∙ i.ended;
-      no_late = λ e d. h.late ∙ or_known _ _ (or_from _ _ i.failed (i.ended ∙ d)) ∙ i.no_late e d;
+      no_late = λ e d. h.late ∙ or_known _ _ (i.ended ∙ d) ∙ or_known _ _ i.failed ∙ i.no_late e d;
       same = i.same;
       ready = i.ready;
     }
