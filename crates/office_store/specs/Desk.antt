@@ -74,8 +74,8 @@ reaches_tables (request.Ask query) answer = false
 
 -- A request at a desk. Where the disk returned what was written, the office that the desk stands for has handled it,
 -- and the desk stands for the next one. Then a command is accepted only where the connection is open, so that the
--- tables have its changes. An office that is kept answers queries, and refuses, without its tables. Whatever is answered
--- is answered by an office that is kept then, unless a command is accepted.
+-- tables have its changes. An office that is kept answers queries, and refuses, without its tables. After whatever
+-- is answered an office is kept, unless a command is accepted.
 pub record HandlesAt {S : Type 0} (g : Ghosts S) (old : DeskState S) (request : Request) (answer : Answer)
     (new : DeskState S) : Type 0 where
   pub follows : Follows (state g old.conn) (state g new.conn)
