@@ -13,6 +13,7 @@ use Rattle.office_core.specs.declared.change.Change.TheVariants.{PutHome, PutWit
 use Rattle.office_core.specs.declared.change.Change.TheVariants.{PutChoices, PutWord, PutResult}
 use Rattle.office_core.specs.declared.change.Change.TheVariants.{AddMove}
 use Rattle.office_core.specs.declared.change.Change.TheVariants.{PutRound, ClearRound}
+use Rattle.office_core.specs.declared.change.Change.TheVariants.{KeepList}
 
 -- a known person moves to the home
 abbrev pub with_home : Office → Text → Option Text → Office
@@ -56,6 +57,11 @@ applied office (PutResult person room) =
 applied office (AddMove move) = record office { moves = with_move office.moves move }
 applied office (PutRound number phase) = record office { number = number; phase = phase }
 applied office ClearRound = without_round office
+applied office (KeepList label kind bytes count) =
+    record office {
+      lists = map.insert office.lists label
+          (record { kind = kind; bytes = bytes; count = count });
+    }
 
 -- whether the change takes memory: what is taken out, or only set, takes none, and neither does the
 -- home of somebody unknown
@@ -71,6 +77,7 @@ change_takes_memory office (PutResult person room) = true
 change_takes_memory office (AddMove move) = true
 change_takes_memory office (PutRound number phase) = false
 change_takes_memory office ClearRound = false
+change_takes_memory office (KeepList label kind bytes count) = true
 
 -- the changes in turn
 abbrev pub applied_all : Office → List Change → Office
@@ -85,7 +92,7 @@ StaysApart office (change ∷ changes) =
 
 -- What a keeper of rows may rely on at each change, `first` being the office before all of them: a
 -- room is known now as it was at first, who is put or dropped has not withdrawn, who withdraws or
--- gets a list, a word or a result is known, and a person moves once a round.
+-- gets a list, a word or a result is known, a person moves once a round, and a label is new.
 abbrev pub Fits : Office → Office → Change → Type 0
 Fits first office (PutRoom room shut) = knows_room office room ≡ knows_room first room
 Fits first office (PutPerson person name key home) = has_withdrawn office person ≡ false
@@ -96,6 +103,8 @@ Fits first office (PutWord person word) = knows_person office person ≡ true
 Fits first office (PutResult person room) = knows_person office person ≡ true
 Fits first office (AddMove move) =
     map.contains_key (moves_of office.moves move.round) move.person ≡ false
+Fits first office (KeepList label kind bytes count) =
+    map.contains_key office.lists label ≡ false
 Fits first office _ = Unit {0}
 
 abbrev pub AllFit : Office → Office → List Change → Type 0

@@ -25,6 +25,7 @@ empty_office = record {
   words = map.empty;
   results = map.empty;
   moves = map.empty;
+  lists = map.empty;
   number = 0;
   phase = Idle;
 }
@@ -34,7 +35,7 @@ abbrev pub entry_count : Office → ℕ
 entry_count office =
     map.len office.rooms + map.len office.people + map.len office.choices
     + map.len office.withdrawn + map.len office.words + map.len office.results
-    + map.len office.moves
+    + map.len office.moves + map.len office.lists
 
 abbrev pub knows_room : Office → Text → Bool
 knows_room office room = map.contains_key office.rooms room

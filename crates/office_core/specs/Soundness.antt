@@ -7,8 +7,11 @@ use Rattle.std.specs.FinMap as map
 use Rattle.room_types.specs.declared.choices.TheConstants.{CHOICE_LIMIT}
 use Rattle.room_types.specs.Repeats.{first_repeated}
 use Rattle.room_types.specs.Texts.{Text, TextMap}
+use Rattle.office_lists.specs.Records.{record_limit}
 use Rattle.office_core.specs.Empty.{is_empty}
+use Rattle.office_core.specs.Office.Limits.{byte_limit}
 use Rattle.office_core.specs.Office.{is_same_text}
+use Rattle.office_core.specs.declared.office.kept_list.KeptList.{KeptList}
 use Rattle.office_core.specs.declared.office.moves.Moved.{Moved}
 use Rattle.office_core.specs.declared.office.moves.RoundMoves.{RoundMoves}
 use Rattle.office_core.specs.declared.office.Assigned.{Assigned}
@@ -59,3 +62,7 @@ abbrev pub is_kept_round : RoundMoves → Bool
 is_kept_round kept =
     not (eqb (map.len kept.by_person) 0)
     && list_all (λ (e : Text × Moved). is_some e.1.to) (map.entries kept.by_person)
+
+-- whether a kept list is no longer than a list may be
+abbrev pub is_short : KeptList → Bool
+is_short kept = nat_le (length kept.bytes) byte_limit && nat_le kept.count record_limit

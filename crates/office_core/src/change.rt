@@ -1,7 +1,9 @@
 //! The changes that commands are made of.
 pub mod apply;
 
-use room_types::{Choices, Key, Move, Name, PersonId, Phase, RoomCode, Word};
+use room_types::{
+    Choices, Key, Label, ListKind, Listing, Move, Name, PersonId, Phase, RoomCode, Word,
+};
 
 /// One change of an office.
 #[derive(Drop)]
@@ -55,4 +57,11 @@ pub enum Change {
     },
     /// Lists, withdrawals, words and results go.
     ClearRound,
+    /// A list is kept under a label, and added so many records.
+    KeepList {
+        label: Label,
+        kind: ListKind,
+        bytes: Listing<u8>,
+        count: u16,
+    },
 }

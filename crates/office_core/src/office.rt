@@ -3,15 +3,17 @@ ghost use Rattle.std.specs.Prelude.{◌≡◌, ◌<◌, IfOk, OnErr};
 ghost use Rattle.office_core.specs.Office.Invariants.{IsLawful};
 ghost use Rattle.office_core.specs.Office.{empty_office, entry_count};
 
+pub mod kept_list;
 pub mod limits;
 pub mod look;
 pub mod moves;
 pub mod person;
 pub mod phases;
 
+use crate::office::kept_list::KeptList;
 use crate::office::moves::{RoundMoves, Rounds};
 use crate::office::person::Person;
-use room_types::grammars::{PersonIds, RoomCodes};
+use room_types::grammars::{Labels, PersonIds, RoomCodes};
 use room_types::rows::copy_optional;
 use room_types::{Choices, Copied, OutOfMemory, Phase, RoomCode, Table, Word};
 use std::alloc::{AllocError, Global};
@@ -37,7 +39,7 @@ impl Copied for Assigned {
     ghost same = { λ x y h. h };
 }
 
-/// The rooms and people of a college, the round under way, and the moves of earlier rounds.
+/// The rooms and people of a college, the round under way, the moves of earlier rounds, and the lists that came in.
 #[derive(Drop)]
 pub struct Office {
     /// Whether each room is shut.
@@ -53,6 +55,8 @@ pub struct Office {
     pub results: Table<PersonIds, Assigned>,
     /// The moves of each round that is over. No round has an empty table here.
     pub moves: Rounds<RoundMoves>,
+    /// The lists that were handed in, by label.
+    pub lists: Table<Labels, KeptList>,
     /// The number of the last round, or 0 before the first.
     pub number: u16,
     pub phase: Phase,
@@ -72,6 +76,7 @@ impl Office {
             words: Table::new(alloc),
             results: Table::new(alloc),
             moves: Rounds::new(alloc),
+            lists: Table::new(alloc),
             number: 0,
             phase: Phase::Idle,
         }
@@ -90,6 +95,7 @@ impl Office {
             words: self.words.copy()?,
             results: self.results.copy()?,
             moves: self.moves.copy()?,
+            lists: self.lists.copy()?,
             number: self.number,
             phase: self.phase,
         })

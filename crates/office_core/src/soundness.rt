@@ -1,4 +1,5 @@
 //! Whether what was read is a lawful office.
+mod kept;
 mod lists;
 mod moves;
 mod register;
@@ -13,6 +14,7 @@ ghost use Rattle.office_core.specs.Office.Invariants.{IsLawful};
 ghost use Rattle.office_core.specs.Office.Phases.{has_results};
 
 use crate::office::Office;
+use crate::soundness::kept::are_kept;
 use crate::soundness::lists::are_lists;
 use crate::soundness::moves::are_moves;
 use crate::soundness::register::is_register;
@@ -42,6 +44,9 @@ pub fn sound(alloc: Global, office: &Office) -> Result<bool, OutOfMemory>
         return Ok(false);
     }
     if !are_moves(office) {
+        return Ok(false);
+    }
+    if !are_kept(office) {
         return Ok(false);
     }
     are_results(alloc, office)

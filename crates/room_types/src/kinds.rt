@@ -1,6 +1,7 @@
 //! The kinds of lists that are imported.
-ghost use Rattle.std.specs.Prelude.{◌≡◌, Some};
+ghost use Rattle.std.specs.Prelude.{◌≡◌, Some, MatchOption};
 ghost use Rattle.room_types.specs.Kinds.{kind_text};
+ghost use Rattle.room_types.specs.declared.kinds.ListKind.{ListKind as kind};
 
 use std::fmt;
 
@@ -25,6 +26,23 @@ impl ListKind {
             ListKind::People => "people",
             ListKind::Choices => "choices",
         }
+    }
+
+    /// The kind of this name, or none where no kind has it.
+    pub fn named(text: &str) -> Option<ListKind>
+        ensures { MatchOption result ((k : kind) → text.now ≡ kind_text k → ⊥)
+            (λ k. text.now ≡ kind_text k) }
+    {
+        if text == ListKind::Rooms.as_str() {
+            return Some(ListKind::Rooms);
+        }
+        if text == ListKind::People.as_str() {
+            return Some(ListKind::People);
+        }
+        if text == ListKind::Choices.as_str() {
+            return Some(ListKind::Choices);
+        }
+        None
     }
 }
 

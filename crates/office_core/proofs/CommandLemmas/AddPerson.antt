@@ -33,6 +33,7 @@ add_person-leads office person name key home l h =
     let v : Person = record { name = name; key = key; home = home } in
     let new : Office = next office person name key home in
     let lawful : IsLawful new = record {
+      kept = l.kept;
       register = person_put office.rooms office.people l.register person v
           (λ q e. absurd (nobody_has (λ p. Some p.key) office.people key
           (none_if_not_some (owner office key) n.1.1.0) q e))

@@ -21,6 +21,7 @@ add_room-leads office room l h =
     let n = none_applies (checks office room) h in
     let u = undrawn office l (prepared office.phase (not-false _ n.0)) in
     let lawful : IsLawful (next office room) = record {
+      kept = l.kept;
       register = room_put office.rooms office.people l.register room
           (len-put_within office.rooms room false room_limit n.1.0 n.1.1.0);
       lists = room_known office.rooms office.people office.choices office.withdrawn l.lists room

@@ -13,6 +13,7 @@ pub cancel-leads : (office : Office) → IsLawful office → first_refusal (chec
     → LeadsOn office (next office) (changes_of office)
 cancel-leads office l h =
     let lawful : IsLawful (next office) = record {
+      kept = l.kept;
       register = l.register;
       lists = no_lists office.rooms office.people;
       round = record {

@@ -20,6 +20,7 @@ close_round-leads office l h =
     let u = undrawn office l (prepared office.phase
     (open_preparing office.phase (not-false _ n.0))) in
     let lawful : IsLawful (next office) = record {
+      kept = l.kept;
       register = l.register;
       lists = l.lists;
       round = record {

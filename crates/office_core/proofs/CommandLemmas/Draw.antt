@@ -38,6 +38,7 @@ draw-leads office words l h =
     let new : Office = next office words in
     let rest : List Change = PutRound office.number Drawn ∷ [] in
     let lawful : IsLawful new = record {
+      kept = l.kept;
       register = l.register;
       lists = l.lists;
       round = record {

@@ -22,6 +22,7 @@ open_round-leads office l h =
     let u = undrawn office l (prepared office.phase (idle_preparing office.phase idle)) in
     let few = leb-false round_limit office.number n.1.0 in
     let lawful : IsLawful (next office) = record {
+      kept = l.kept;
       register = l.register;
       lists = l.lists;
       round = record {

@@ -19,6 +19,7 @@ publish-leads office l h =
     let ran = not-false _ n.0 in
     let busy = ran_busy office.phase ran in
     let lawful : IsLawful (next office) = record {
+      kept = l.kept;
       register = l.register;
       lists = l.lists;
       round = record {

@@ -29,6 +29,7 @@ remove-leads office person l h =
     let no_choices = l.round.idle_choices idle in
     let nobody = l.round.idle_withdrawn idle in
     let lawful : IsLawful new = record {
+      kept = l.kept;
       register = person_gone office.rooms office.people l.register person;
       lists = subst (λ choices. AreLists office.rooms new.people choices office.withdrawn)
           (sym no_choices)

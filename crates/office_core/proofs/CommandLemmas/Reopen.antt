@@ -22,6 +22,7 @@ reopen-leads office room l h =
     let n = none_applies (checks office room) h in
     let u = undrawn office l (prepared office.phase (not-false _ n.0)) in
     let lawful : IsLawful (next office room) = record {
+      kept = l.kept;
       register = room_put office.rooms office.people l.register room
           (subst (λ k. k ≤ room_limit) (sym
           (len-put_known office.rooms room false (not-false _ n.1.0))) l.register.few_rooms);

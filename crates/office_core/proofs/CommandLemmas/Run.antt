@@ -74,6 +74,7 @@ run-leads office l h =
     let rest : List Change = PutRound office.number Ran ∷ [] in
     let entries = map.entries (round_results office) in
     let lawful : IsLawful new = record {
+      kept = l.kept;
       register = l.register;
       lists = l.lists;
       round = record {

@@ -24,6 +24,7 @@ set_choices-leads office person choices formed l h =
     (open_preparing office.phase (not-false _ n.0))) in
     let new : Office = next office person choices in
     let lawful : IsLawful new = record {
+      kept = l.kept;
       register = l.register;
       lists = list_put office.rooms office.people office.choices office.withdrawn l.lists person
           choices (not-false _ n.1.0) (known_all office choices n.1.1.1) formed;

@@ -99,6 +99,7 @@ settle-leads office l h =
           (none_yet office l (under_way-not_over office busy) ms)
           (movers_differ office l.register ok given)) (tt, (tt, tt))));
       lawful = record {
+        kept = l.kept;
         register = register;
         lists = no_lists office.rooms (settled_people office);
         round = record {

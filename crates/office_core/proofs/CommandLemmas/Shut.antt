@@ -30,6 +30,7 @@ shut-lawful office room l before known empty =
     let u = undrawn office l before in
     let new : Office = record office { rooms = map.insert office.rooms room true } in
     record {
+      kept = l.kept;
       register = room_shut office.rooms office.people l.register room known empty;
       lists = room_known office.rooms office.people office.choices office.withdrawn l.lists room
           true;

@@ -75,6 +75,7 @@ withdraw-leads office person l h =
     (open_preparing office.phase (not-false _ n.0))) in
     let new : Office = next office person in
     let lawful : IsLawful new = record {
+      kept = l.kept;
       register = l.register;
       lists = withdrawn_put office.rooms office.people office.choices office.withdrawn l.lists
           person known;

@@ -47,6 +47,11 @@ empty_lawful = record {
     idle_choices = λ _. refl;
     idle_withdrawn = λ _. refl;
   };
+  kept = record {
+    few = subst (λ n. n ≤ 200) (sym (len-empty text_cmp _)) (omega arith);
+    short = λ label kept e. absurd (none_some _ kept (get-empty text_cmp label) e);
+    counted = λ label kept e. absurd (none_some _ kept (get-empty text_cmp label) e);
+  };
   words = record { none = λ _. refl; each = λ e. absurd (cc) };
   results = record { none = λ _. refl; given = λ e. absurd (cc) };
   moves = record {

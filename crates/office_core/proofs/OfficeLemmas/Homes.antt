@@ -52,6 +52,7 @@ moved-lawful office person home l before own unshut =
           let u = undrawn office l before in
           let new : Office = moved office person home (Some kept) in
           record {
+            kept = l.kept;
             register = person_moved office.rooms office.people l.register person kept home known own
                 unshut;
             lists = person_known office.rooms office.people office.choices office.withdrawn l.lists

@@ -1,5 +1,5 @@
 -- Each law, by the tests that show it.
-use Rattle.std.proofs.Common.{◌≡◌, ℕ, Bool, true, false, not, ◌||◌, ◌&&◌, List, [], ◌∷◌, length, Option, Some, None, refl, ap, ◌∙◌, sym, inl, inr}
+use Rattle.std.proofs.Common.{◌≡◌, ℕ, Bool, true, false, not, ◌||◌, ◌&&◌, ◌≤◌, List, [], ◌∷◌, length, Option, Some, None, refl, ap, ◌∙◌, sym, inl, inr}
 use Rattle.std.specs.Prelude.{nat_le, eqb}
 use Rattle.std.specs.Bool.{Decides}
 use Rattle.std.specs.Cmp.Derive.{both_true}
@@ -20,7 +20,10 @@ use Rattle.room_types.specs.TextMaps.{exact_texts}
 use Rattle.office_core.specs.Office.Moves.{moves_of}
 use Rattle.office_core.specs.Office.{had_by, is_over, is_same_text}
 use Rattle.office_core.specs.Empty.{is_empty}
-use Rattle.office_core.specs.Soundness.{is_home_open, is_unshut, is_choices, is_kept_list, is_given, is_kept_round}
+use Rattle.office_core.specs.Soundness.{is_home_open, is_unshut, is_choices, is_kept_list, is_given, is_kept_round, is_short}
+use Rattle.office_core.specs.Office.Limits.{byte_limit}
+use Rattle.office_lists.specs.Records.{record_limit}
+use Rattle.office_core.specs.declared.office.kept_list.KeptList.{KeptList}
 use Rattle.office_core.specs.declared.office.moves.Moved.{Moved}
 use Rattle.office_core.specs.declared.office.moves.RoundMoves.{RoundMoves}
 use Rattle.office_core.specs.declared.office.Assigned.{Assigned}
@@ -230,4 +233,22 @@ module _ (office : Office) where
     λ h. keys_all nat_cmp_total nat_cmp-IsAntisymmetric (λ k v. is_kept_round v) office.moves (λ round kept f.
         both_true (not_at _ (λ none. h.none_empty round kept f ((empty-decides kept.by_person).0 none)))
         (keys_all nat_list_cmp_total exact_texts (λ k v. is_some v.to) kept.by_person (λ p moved m. h.arrived round p moved (ap (λ o. map.get (kept_moves o) p) f ∙ m)))),
+  )
+
+-- kept lists
+module _ (lists : TextMap KeptList) where
+  pub record AreShort : Type 0 where
+    pub short : (label : Text) (kept : KeptList) → map.get lists label ≡ Some kept → length kept.bytes ≤ byte_limit
+    pub counted : (label : Text) (kept : KeptList) → map.get lists label ≡ Some kept → kept.count ≤ record_limit
+
+  pub short-decides : Decides (list_all (λ (e : Text × KeptList). is_short e.1) (map.entries lists)) AreShort
+  short-decides = (
+    λ e.
+        let test : (label : Text) (kept : KeptList) → map.get lists label ≡ Some kept → is_short kept ≡ true = all_keys nat_list_cmp_total exact_texts (λ k kept. is_short kept) lists e in
+        record {
+          short = λ label kept f. leb-true (length kept.bytes) byte_limit (and_parts (nat_le (length kept.bytes) byte_limit) _ (test label kept f)).0;
+          counted = λ label kept f. leb-true kept.count record_limit (and_parts (nat_le (length kept.bytes) byte_limit) _ (test label kept f)).1;
+        },
+    λ h. keys_all nat_list_cmp_total exact_texts (λ k kept. is_short kept) lists (λ label kept f.
+        both_true (le-leb (length kept.bytes) byte_limit (h.short label kept f)) (le-leb kept.count record_limit (h.counted label kept f))),
   )

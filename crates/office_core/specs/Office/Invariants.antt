@@ -1,5 +1,5 @@
 -- The laws of the office: what holds of it between commands.
-use Rattle.std.specs.Prelude.{◌≡◌, ℕ, ◌≤◌, Bool, true, false, ◌&&◌, not, List, [], Option, Some}
+use Rattle.std.specs.Prelude.{◌≡◌, ℕ, ◌≤◌, Bool, true, false, ◌&&◌, not, List, [], Option, Some, length}
 use Rattle.std.specs.Option.{is_some}
 use Rattle.std.specs.List.{All}
 use Rattle.std.specs.FinMap as map
@@ -7,10 +7,13 @@ use Rattle.room_types.specs.Choices.{IsChoices}
 use Rattle.room_types.specs.Texts.{Text, TextMap}
 use Rattle.room_types.specs.declared.phase.Phase.{Phase}
 use Rattle.office_core.specs.Office.Limits.{room_limit, people_limit, round_limit}
+use Rattle.office_core.specs.Office.Limits.{label_limit, byte_limit}
+use Rattle.office_lists.specs.Records.{record_limit}
 use Rattle.office_core.specs.Office.Moves.{moves_of}
 use Rattle.office_core.specs.Office.{had_by, is_over}
 use Rattle.office_core.specs.Office.Phases.{is_idle, has_words, has_results}
 use Rattle.office_core.specs.Round.{round_results}
+use Rattle.office_core.specs.declared.office.kept_list.KeptList.{KeptList}
 use Rattle.office_core.specs.declared.office.moves.Moved.{Moved}
 use Rattle.office_core.specs.declared.office.moves.RoundMoves.{RoundMoves}
 use Rattle.office_core.specs.declared.office.Office.{Office}
@@ -77,6 +80,14 @@ pub record AreMoves (office : Office) : Type 0 where
       → map.get (moves_of office.moves round) p ≡ Some moved
       → is_some moved.to ≡ true
 
+-- kept lists: not too many, and none longer than a list may be
+pub record AreKept (lists : TextMap KeptList) : Type 0 where
+  pub few : map.len lists ≤ label_limit
+  pub short : (label : Text) (kept : KeptList) → map.get lists label ≡ Some kept
+      → length kept.bytes ≤ byte_limit
+  pub counted : (label : Text) (kept : KeptList) → map.get lists label ≡ Some kept
+      → kept.count ≤ record_limit
+
 -- all laws: what holds of an office before and after each command
 pub record IsLawful (office : Office) : Type 0 where
   pub register : IsRegister office.rooms office.people
@@ -85,3 +96,4 @@ pub record IsLawful (office : Office) : Type 0 where
   pub words : AreWords office.phase office.people office.withdrawn office.words
   pub results : AreResults office
   pub moves : AreMoves office
+  pub kept : AreKept office.lists

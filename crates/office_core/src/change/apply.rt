@@ -6,10 +6,13 @@ ghost use Rattle.office_core.specs.Empty.{is_empty};
 ghost use Rattle.office_core.specs.Office.{knows_person};
 
 use crate::change::Change;
+use crate::office::kept_list::KeptList;
 use crate::office::person::Person;
 use crate::office::{Assigned, Office};
 use room_types::rows::copy_optional;
-use room_types::{Choices, Key, Name, OutOfMemory, PersonId, RoomCode};
+use room_types::{
+    Choices, Key, Label, ListKind, Listing, Name, OutOfMemory, PersonId, RoomCode,
+};
 
 /// Applies a change. Where memory is refused the office is as before. `DropPerson`, `PutRound` and `ClearRound`, an
 /// empty list in `PutChoices`, and `PutHome` of somebody unknown take no memory, and are never refused.
@@ -45,6 +48,12 @@ pub fn apply(office: &mut Office, change: &Change) -> Result<(), OutOfMemory>
             clear_round(office);
             Ok(())
         }
+        Change::KeepList {
+            label,
+            kind,
+            bytes,
+            count,
+        } => keep_list(office, label, *kind, bytes, *count),
     }
 }
 
@@ -109,6 +118,25 @@ fn put_result(
         room: copy_optional(room)?,
     };
     office.results.insert(person.copy()?, given)
+}
+
+fn keep_list(
+    office: &mut Office,
+    label: &Label,
+    kind: ListKind,
+    bytes: &Listing<u8>,
+    count: u16,
+) -> Result<(), OutOfMemory>
+    ensures ok { OnOk result
+        (office.new ≡ applied office.old (Change.KeepList label.now kind bytes.now count)) }
+    ensures err { OnErr result (office.new ≡ office.old) }
+{
+    let kept = KeptList {
+        kind,
+        bytes: bytes.copy()?,
+        count,
+    };
+    office.lists.insert(label.copy()?, kept)
 }
 
 fn clear_round(office: &mut Office)

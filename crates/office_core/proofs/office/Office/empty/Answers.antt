@@ -17,6 +17,7 @@ returns-clause-lawful c =
       results =
           c.new-6.result;
       moves = c.new-7.result;
+      lists = c.new-8.result;
       number = 0;
       phase = Idle;
     } in
@@ -29,6 +30,7 @@ returns-clause-lawful c =
       words = c.new-5.ensures i;
       results = c.new-6.ensures i;
       moves = c.new-7.ensures i;
+      lists = c.new-8.ensures i;
       number = 0;
       phase = Idle;
     } in
