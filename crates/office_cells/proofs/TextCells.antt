@@ -1,11 +1,14 @@
--- Cells of phases and words.
+-- Cells of phases, kinds of lists, and words.
 use Rattle.std.proofs.Common.{◌≡◌, ℕ, ◌^◌, ◌<◌, true, not, List, Option, Some, None, sym, ap, ◌∙◌}
 use Rattle.std.specs.Prelude.{nat_eq, unwrap_or, refl}
 use Rattle.std.specs.Str.{IsUtf8}
 use Rattle.std.specs.Cmp.Lexicographic.{pointwise, nat_list_eq_equiv}
 use Rattle.sqlite_value.specs.declared.value.Value.{Value}
 use Rattle.sqlite_value.specs.declared.value.Value.TheVariants.{Text}
+use Rattle.room_types.specs.Kinds.{kind_text}
 use Rattle.room_types.specs.Phases.{phase_text}
+use Rattle.room_types.specs.declared.kinds.ListKind.{ListKind}
+use Rattle.room_types.specs.declared.kinds.ListKind.TheVariants.{Rooms, People, Choices}
 use Rattle.room_types.specs.declared.phase.Phase.{Phase}
 use Rattle.room_types.specs.declared.phase.Phase.TheVariants.{Idle, Opened, Closed, Drawn, Ran, Published}
 use Rattle.room_types.specs.Words.{word_of, word_text}
@@ -19,6 +22,12 @@ phase_utf8 Closed = (phase_text Closed, (refl, refl))
 phase_utf8 Drawn = (phase_text Drawn, (refl, refl))
 phase_utf8 Ran = (phase_text Ran, (refl, refl))
 phase_utf8 Published = (phase_text Published, (refl, refl))
+
+pub kind_utf8 : (kind : ListKind) → IsUtf8 (kind_text kind)
+unfolding lib.Utf8.encode
+kind_utf8 Rooms = (kind_text Rooms, (refl, refl))
+kind_utf8 People = (kind_text People, (refl, refl))
+kind_utf8 Choices = (kind_text Choices, (refl, refl))
 
 pub same_bytes : (v : Value) (t u : List ℕ) → v ≡ Text t → v ≡ Text u → t ≡ u
 same_bytes v t u e f = cc

@@ -2,9 +2,11 @@
 use Rattle.std.specs.Prelude.{◌≡◌, ◌⊎◌, ◌<◌, ◌^◌, ℕ, pos, Bool, true, if◌then◌else◌}
 use Rattle.std.specs.Prelude.{List, Option, Some, None, IsUtf8}
 use Rattle.sqlite_value.specs.declared.value.Value.{Value}
-use Rattle.sqlite_value.specs.declared.value.Value.TheVariants.{Null, Int, Text}
+use Rattle.sqlite_value.specs.declared.value.Value.TheVariants.{Null, Int, Text, Blob}
+use Rattle.room_types.specs.Kinds.{kind_text}
 use Rattle.room_types.specs.Phases.{phase_text}
 use Rattle.room_types.specs.Words.{word_text}
+use Rattle.room_types.specs.declared.kinds.ListKind.{ListKind}
 use Rattle.room_types.specs.declared.phase.Phase.{Phase}
 use Rattle.room_types.specs.declared.moves.Wave.{Wave}
 use Rattle.room_types.specs.declared.moves.Wave.TheVariants.{Swap, Nth}
@@ -61,3 +63,10 @@ IsPhase v = (phase : Phase) × (v ≡ Text (phase_text phase))
 -- the sixteen digits of a word, in lower case
 abbrev pub IsWord : Value → Type 0
 IsWord v = (word : ℕ) × (v ≡ Text (word_text word)) × (word < 2 ^ 64)
+
+-- the name of a kind of lists
+abbrev pub IsKind : Value → Type 0
+IsKind v = (kind : ListKind) × (v ≡ Text (kind_text kind))
+
+abbrev pub IsBlob : Value → Type 0
+IsBlob v = (bytes : List ℕ) × (v ≡ Blob bytes)

@@ -2,15 +2,16 @@
 use Rattle.std.specs.Prelude.{ℕ, pos, Bool, [], ◌∷◌}
 use Rattle.sqlite_value.specs.declared.value.Value.TheVariants.{Null, Int, Text, Blob}
 use Rattle.sqlite_value.specs.Order.{Row, column}
+use Rattle.room_types.specs.Kinds.{kind_text}
 use Rattle.room_types.specs.Phases.{phase_text}
 use Rattle.room_types.specs.Texts.{Text as Bytes}
 use Rattle.room_types.specs.Words.{word_text}
 use Rattle.room_types.specs.declared.moves.Move.{Move}
 use Rattle.office_core.specs.declared.office.Assigned.{Assigned}
+use Rattle.office_core.specs.declared.office.kept_list.KeptList.{KeptList}
 use Rattle.office_rows.specs.declared.records.ChoiceRecord.{ChoiceRecord}
 use Rattle.office_rows.specs.declared.records.RoundRecord.{RoundRecord}
 use Rattle.office_rows.specs.declared.records.PersonRecord.{PersonRecord}
-use Rattle.office_rows.specs.Tables.{KeptList}
 use Rattle.office_cells.specs.Cells.{flag, text_or_null, wave_value}
 
 -- code, shut
@@ -50,8 +51,8 @@ move_columns r =
     ∷ wave_value r.wave ∷ []
 
 -- label, kind, body, added
-abbrev pub list_columns : KeptList → Row
-list_columns r = Text r.label ∷ Text r.kind ∷ Blob r.body ∷ Int (pos r.added) ∷ []
+abbrev pub list_columns : Bytes × KeptList → Row
+list_columns r = Text r.0 ∷ Text (kind_text r.1.kind) ∷ Blob r.1.bytes ∷ Int (pos r.1.count) ∷ []
 
 -- ---- the columns that are read of a row
 
@@ -60,6 +61,9 @@ two row = column row 0 ∷ column row 1 ∷ []
 
 abbrev pub three : Row → Row
 three row = column row 0 ∷ column row 1 ∷ column row 2 ∷ []
+
+abbrev pub four : Row → Row
+four row = column row 0 ∷ column row 1 ∷ column row 2 ∷ column row 3 ∷ []
 
 abbrev pub five : Row → Row
 five row = column row 0 ∷ column row 1 ∷ column row 2 ∷ column row 3 ∷ column row 4 ∷ []

@@ -2,9 +2,9 @@
 use Rattle.std.specs.Prelude.{◌≡◌, pos}
 use Rattle.sqlite_value.specs.declared.value.Value.TheVariants.{Int}
 use Rattle.sqlite_value.specs.Order.{Row, column}
-use Rattle.room_types.specs.Grammars.{is_person_id, is_room_code, is_key, is_name}
+use Rattle.room_types.specs.Grammars.{is_person_id, is_room_code, is_key, is_name, is_label}
 use Rattle.office_cells.specs.Cells.{IsTextOf, IsOptionalTextOf, IsFlag, IsCount, IsShort}
-use Rattle.office_cells.specs.Cells.{IsWave, IsPhase, IsWord}
+use Rattle.office_cells.specs.Cells.{IsWave, IsPhase, IsWord, IsKind, IsBlob}
 
 abbrev pub IsRoomRow : Row → Type 0
 IsRoomRow row = IsTextOf is_room_code (column row 0) × IsFlag (column row 1)
@@ -36,3 +36,8 @@ IsMoveRow row =
     IsShort (column row 0) × IsTextOf is_person_id (column row 1)
     × IsOptionalTextOf is_room_code (column row 2) × IsOptionalTextOf is_room_code (column row 3)
     × IsWave (column row 4)
+
+abbrev pub IsListRow : Row → Type 0
+IsListRow row =
+    IsTextOf is_label (column row 0) × IsKind (column row 1) × IsBlob (column row 2)
+    × IsShort (column row 3)

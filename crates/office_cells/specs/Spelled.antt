@@ -3,9 +3,9 @@ use Rattle.std.specs.Prelude.{map}
 use Rattle.std.specs.List.{All}
 use Rattle.office_rows.specs.Tables.{Tables}
 use Rattle.office_cells.specs.Columns.{room_columns, person_columns, round_shown, choice_columns}
-use Rattle.office_cells.specs.Columns.{word_columns, result_columns, move_columns}
+use Rattle.office_cells.specs.Columns.{word_columns, result_columns, move_columns, list_columns}
 use Rattle.office_cells.specs.Forms.{IsRoomRow, IsPersonRow, IsRoundRow, IsChoiceRow}
-use Rattle.office_cells.specs.Forms.{IsWordRow, IsResultRow, IsMoveRow}
+use Rattle.office_cells.specs.Forms.{IsWordRow, IsResultRow, IsMoveRow, IsListRow}
 
 -- Each row has the form of its table. Rows that an office of the program has are spelled; a reader
 -- of rows finds no others.
@@ -17,3 +17,4 @@ pub record IsSpelled (tables : Tables) : Type 0 where
   pub words : All IsWordRow (map word_columns tables.words)
   pub results : All IsResultRow (map result_columns tables.results)
   pub moves : All IsMoveRow (map move_columns tables.moves)
+  pub lists : All IsListRow (map list_columns tables.lists)

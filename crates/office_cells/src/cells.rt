@@ -2,12 +2,12 @@
 ghost use Rattle.std.specs.Prelude.{◌≡◌, ◌⊎◌, ℕ, pos, IfOk, IfSome, IsUtf8, MatchOption, OnErr, Option};
 ghost use Rattle.std.specs.Bool.{Decides};
 ghost use Rattle.sqlite_value.specs.Order.{column};
-ghost use Rattle.sqlite_value.specs.declared.value.Value.TheVariants.{Int, Null, Text as text_value};
-ghost use Rattle.office_cells.specs.Cells.{IsTextOf, IsOptionalTextOf, IsString, IsFlag, IsCount};
+ghost use Rattle.sqlite_value.specs.declared.value.Value.TheVariants.{Blob as blob_value, Int, Null, Text as text_value};
+ghost use Rattle.office_cells.specs.Cells.{IsTextOf, IsOptionalTextOf, IsString, IsBlob, IsFlag, IsCount};
 ghost use Rattle.office_cells.specs.Cells.{IsShort, IsWave, count_or_null, flag, text_or_null};
 ghost use Rattle.office_cells.specs.Cells.{wave_value};
 
-use room_types::{Grammar, OutOfMemory, Text, TypeFault, Wave};
+use room_types::{Grammar, Listing, OutOfMemory, Text, TypeFault, Wave};
 use sqlite::Row;
 use sqlite_value::value::ValueRef;
 use std::alloc::Global;
@@ -75,6 +75,19 @@ fn is_null(row: &Row, at: usize) -> bool
     ensures { Decides result (column row.now at ≡ Null) }
 {
     matches!(row.get_ref(at), Ok(ValueRef::Null) | Err(_))
+}
+
+/// A column as bytes. Memory is taken for bytes alone.
+pub fn bytes_in(alloc: Global, row: &Row, at: usize) -> Result<Option<Listing<u8>>, OutOfMemory>
+    ensures told { IfOk result (λ found. MatchOption found (¬ IsBlob (column row.now at))
+        (λ bytes. column row.now at ≡ blob_value bytes)) }
+    ensures formed { IfOk result (λ found. IfSome found (λ _. IsBlob (column row.now at))) }
+    ensures memory { OnErr result (IsBlob (column row.now at)) }
+{
+    match row.get_ref(at) {
+        Ok(ValueRef::Blob(bytes)) => Ok(Some(Listing::new(Vec::from_slice(alloc, bytes)?))),
+        _ => Ok(None),
+    }
 }
 
 /// A column as a number from 0.

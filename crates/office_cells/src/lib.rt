@@ -4,6 +4,7 @@
 
 pub mod cells;
 mod choices;
+mod lists;
 mod moves;
 mod people;
 pub mod records;

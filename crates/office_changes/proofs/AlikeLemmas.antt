@@ -5,6 +5,7 @@ use Rattle.std.proofs.lemmas.List.Sorted.{IsPermutation-refl, IsPermutation-tran
 use Rattle.room_types.specs.Texts.{Text}
 use Rattle.room_types.specs.declared.moves.Move.{Move}
 use Rattle.office_core.specs.declared.office.Assigned.{Assigned}
+use Rattle.office_core.specs.declared.office.kept_list.KeptList.{KeptList}
 use Rattle.office_rows.specs.Tables.{Tables}
 use Rattle.office_rows.specs.declared.records.ChoiceRecord.{ChoiceRecord}
 use Rattle.office_rows.specs.declared.records.PersonRecord.{PersonRecord}
@@ -111,6 +112,19 @@ module _ (t : Tables) where
     results = still.results;
     moves = same;
     lists = still.lists;
+  }
+
+  pub lists_alike : (xs ys : List (Text × KeptList)) → IsPermutation xs ys
+      → AreAlike (record t { lists = xs }) (record t { lists = ys })
+  lists_alike xs ys same = let still = alike-refl t in record {
+    rooms = still.rooms;
+    people = still.people;
+    rounds = still.rounds;
+    choices = still.choices;
+    words = still.words;
+    results = still.results;
+    moves = still.moves;
+    lists = same;
   }
 
 pub alike-same : (a b : Tables) → a ≡ b → AreAlike a b

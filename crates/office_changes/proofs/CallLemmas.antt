@@ -2,15 +2,17 @@
 use Rattle.std.proofs.Common.{◌≡◌, ◌<◌, ◌^◌, ℕ, Bool, true, false, List, Option, ◌∙◌, arith}
 use Rattle.sqlite.specs.State.{State, HasCleanDisk}
 use Rattle.sqlite_value.specs.declared.value.Value.TheVariants as value
-use Rattle.room_types.specs.Grammars.{is_person_id, is_room_code, is_key, is_name}
+use Rattle.room_types.specs.Grammars.{is_person_id, is_room_code, is_key, is_name, is_label}
 use Rattle.room_types.specs.Texts.{Text}
+use Rattle.room_types.specs.declared.kinds.ListKind.{ListKind}
 use Rattle.room_types.specs.declared.moves.Move.{Move}
 use Rattle.room_types.specs.declared.phase.Phase.{Phase}
 use Rattle.office_core.specs.Office.{knows_room}
 use Rattle.office_core.specs.declared.change.Change.TheVariants.{PutRoom, PutPerson, DropPerson, PutHome, PutWithdrawn}
 use Rattle.office_core.specs.declared.change.Change.TheVariants.{PutChoices, PutWord, PutResult, AddMove}
-use Rattle.office_core.specs.declared.change.Change.TheVariants.{PutRound, ClearRound}
+use Rattle.office_core.specs.declared.change.Change.TheVariants.{PutRound, ClearRound, KeepList}
 use Rattle.office_core.specs.declared.office.Office.{Office}
+use Rattle.office_core.specs.declared.office.kept_list.KeptList.{KeptList}
 use Rattle.office_core.specs.declared.office.person.Person.{Person}
 use Rattle.office_cells.specs.Cells.{IsTextOf, IsOptionalTextOf, text_or_null}
 use Rattle.office_cells.specs.Columns.{move_columns}
@@ -18,20 +20,21 @@ use Rattle.office_cells.specs.Forms.{IsMoveRow}
 use Rattle.office_tables.specs.Edits.{with_room, with_shut, with_person, without_person, with_home, with_withdrawn}
 use Rattle.office_tables.specs.Edits.{without_withdrawn, with_round, without_choices_of, without_choices}
 use Rattle.office_tables.specs.Edits.{with_word, without_word_of, without_words, with_result, without_result_of}
-use Rattle.office_tables.specs.Edits.{without_results, with_move}
+use Rattle.office_tables.specs.Edits.{without_results, with_move, with_kept}
 use Rattle.office_tables.specs.Makes.{Makes}
 use Rattle.office_tables.specs.Steps.{StaysInside}
 use Rattle.office_changes.specs.Carries.{Turns, CarriesOne, CarriesAlways}
 use Rattle.office_changes.specs.Choosing.{with_choices}
 use Rattle.office_changes.proofs.CarryLemmas.{carries, turns, turns_then}
 use Rattle.office_changes.proofs.ChangeRows.{room_added, room_shut, person_put, person_gone, home_put, withdrawn_put}
-use Rattle.office_changes.proofs.ChangeRows.{choices_put, word_put, result_put, move_added, round_put, round_cleared}
+use Rattle.office_changes.proofs.ChangeRows.{choices_put, word_put, result_put, move_added, list_kept, round_put}
+use Rattle.office_changes.proofs.ChangeRows.{round_cleared}
 use Rattle.office_changes.proofs.SpelledLemmas.{room_spelled, shut_spelled, person_spelled, without_person_spelled}
 use Rattle.office_changes.proofs.SpelledLemmas.{home_spelled, withdrawn_spelled, without_withdrawn_spelled}
 use Rattle.office_changes.proofs.SpelledLemmas.{without_choices_of_spelled, without_choices_spelled, word_spelled}
 use Rattle.office_changes.proofs.SpelledLemmas.{without_word_of_spelled, without_words_spelled, result_spelled}
 use Rattle.office_changes.proofs.SpelledLemmas.{without_result_of_spelled, without_results_spelled}
-use Rattle.office_changes.proofs.SpelledLemmas.{move_spelled, round_spelled}
+use Rattle.office_changes.proofs.SpelledLemmas.{move_spelled, kept_spelled, round_spelled}
 
 early : (mid new : State) → StaysInside mid new → HasCleanDisk new → HasCleanDisk mid
 early mid new inside clean = omega (arith, inside.survives.clean)
@@ -74,6 +77,15 @@ module _ (old new : State) where
   carries_move move form m first =
       carries first old new _ (with_move move) (λ office fits. move_added office move fits)
       (turns old new _ (λ t h. move_spelled t h move form) m)
+
+  pub carries_list : (label : Text) (kind : ListKind) (bytes : List ℕ) (count : ℕ)
+      → IsTextOf is_label (value.Text label) → count < 2 ^ 16
+      → Makes old new (with_kept label (record { kind = kind; bytes = bytes; count = count }))
+      → CarriesAlways old new (KeepList label kind bytes count)
+  carries_list label kind bytes count is_its_label low m first =
+      let kept : KeptList = record { kind = kind; bytes = bytes; count = count } in
+      carries first old new _ (with_kept label kept) (λ office fits. list_kept office label kind bytes count fits)
+      (turns old new _ (λ t h. kept_spelled t h label kept is_its_label low) m)
 
   pub carries_round : (number : ℕ) (phase : Phase) → number < 2 ^ 16 → Makes old new (with_round number phase)
       → CarriesAlways old new (PutRound number phase)

@@ -13,6 +13,7 @@ use Rattle.std.proofs.lemmas.Map.Text.{is_eq-slice_cmp}
 use Rattle.sqlite_keyed.specs.Lists.{update_where, delete_where}
 use Rattle.sqlite_keyed.proofs.ListLemmas.{map-map, map_same, IsPermutation-same}
 use Rattle.room_types.specs.Texts.{Text, TextMap, text_cmp, text_eq}
+use Rattle.room_types.specs.declared.kinds.ListKind.{ListKind}
 use Rattle.room_types.specs.declared.moves.Move.{Move}
 use Rattle.room_types.specs.declared.phase.Phase.{Phase}
 use Rattle.room_types.proofs.Trees.{entries-empty}
@@ -22,7 +23,7 @@ use Rattle.office_core.specs.Office.Moves.{moves_of}
 use Rattle.office_core.specs.Office.{knows_room, has_withdrawn}
 use Rattle.office_core.specs.declared.change.Change.TheVariants.{PutRoom, PutPerson, DropPerson, PutHome, PutWithdrawn}
 use Rattle.office_core.specs.declared.change.Change.TheVariants.{PutChoices, PutWord, PutResult, AddMove}
-use Rattle.office_core.specs.declared.change.Change.TheVariants.{PutRound, ClearRound}
+use Rattle.office_core.specs.declared.change.Change.TheVariants.{PutRound, ClearRound, KeepList}
 use Rattle.office_core.specs.declared.office.Office.{Office}
 use Rattle.office_core.specs.declared.office.person.Person.{Person}
 use Rattle.office_rows.specs.Rows.{person_row, person_rows, choices_from, list_rows}
@@ -35,9 +36,9 @@ use Rattle.office_changes.specs.Choosing.{with_choices}
 use Rattle.office_tables.specs.Edits.{with_room, with_shut, with_person, without_person, with_home, with_withdrawn}
 use Rattle.office_tables.specs.Edits.{without_withdrawn, with_round, with_choice, without_choices_of, without_choices}
 use Rattle.office_tables.specs.Edits.{with_word, without_word_of, without_words, with_result, without_result_of}
-use Rattle.office_tables.specs.Edits.{without_results, with_move, taking_part}
+use Rattle.office_tables.specs.Edits.{without_results, with_move, with_kept, taking_part}
 use Rattle.office_changes.proofs.AlikeLemmas.{alike-refl, rooms_alike, people_alike, choices_alike, words_alike}
-use Rattle.office_changes.proofs.AlikeLemmas.{results_alike, moves_alike, alike-trans}
+use Rattle.office_changes.proofs.AlikeLemmas.{results_alike, moves_alike, lists_alike, alike-trans}
 use Rattle.office_changes.proofs.RowsChanged.{rows_put, rows_gone, row_put, row_gone, row_added}
 use Rattle.office_changes.proofs.RowsChanged.{row_unknown, row_changed}
 
@@ -204,7 +205,7 @@ module _ (office : Office) (person : Text) where
       office.choices (room ∷ rooms)))
       (choices_added person 0 (room ∷ rooms) (without_choices_of person (rows_of office)))
 
--- ---- words, results and moves
+-- ---- words, results, moves and kept lists
 
 module _ (office : Office) (person : Text) where
   pub word_put : (word : ℕ)
@@ -226,6 +227,16 @@ pub move_added : (office : Office) (move : Move)
 unfolding rows_of with_move
 move_added office move new =
     moves_alike (rows_of office) _ _ (IsPermutation-sym _ _ (rows_more office.moves move new))
+
+-- a list is kept under a label that is new
+pub list_kept : (office : Office) (label : Text) (kind : ListKind) (bytes : List ℕ) (count : ℕ)
+    → maps.contains_key office.lists label ≡ false
+    → AreAlike (rows_of (applied office (KeepList label kind bytes count)))
+    (with_kept label (record { kind = kind; bytes = bytes; count = count }) (rows_of office))
+unfolding rows_of with_kept
+list_kept office label kind bytes count new =
+    lists_alike (rows_of office) _ _
+    (entry_added office.lists label (record { kind = kind; bytes = bytes; count = count }) new)
 
 -- ---- the round
 

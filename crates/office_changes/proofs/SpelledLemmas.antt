@@ -9,15 +9,17 @@ use Rattle.sqlite_keyed.specs.Lists.{update_where, delete_where}
 use Rattle.sqlite_keyed.proofs.ListLemmas.{all-filter, all_map, all_unmap}
 use Rattle.sqlite_value.specs.Order.{Row}
 use Rattle.sqlite_value.specs.declared.value.Value.TheVariants as value
-use Rattle.room_types.specs.Grammars.{is_person_id, is_room_code, is_key, is_name}
+use Rattle.room_types.specs.Grammars.{is_person_id, is_room_code, is_key, is_name, is_label}
 use Rattle.room_types.specs.Texts.{Text, text_eq}
 use Rattle.room_types.specs.declared.moves.Move.{Move}
 use Rattle.room_types.specs.declared.phase.Phase.{Phase}
+use Rattle.office_core.specs.declared.office.kept_list.KeptList.{KeptList}
 use Rattle.office_core.specs.declared.office.person.Person.{Person}
 use Rattle.office_cells.specs.Cells.{IsTextOf, IsOptionalTextOf, text_or_null}
 use Rattle.office_cells.specs.Columns.{room_columns, person_columns, round_shown, choice_columns, word_columns}
-use Rattle.office_cells.specs.Columns.{result_columns, move_columns}
+use Rattle.office_cells.specs.Columns.{result_columns, move_columns, list_columns}
 use Rattle.office_cells.specs.Forms.{IsRoomRow, IsPersonRow, IsRoundRow, IsChoiceRow, IsWordRow, IsResultRow, IsMoveRow}
+use Rattle.office_cells.specs.Forms.{IsListRow}
 use Rattle.office_cells.specs.Spelled.{IsSpelled}
 use Rattle.office_rows.specs.Tables.{Tables}
 use Rattle.office_rows.specs.declared.records.ChoiceRecord.{ChoiceRecord}
@@ -25,7 +27,7 @@ use Rattle.office_rows.specs.declared.records.PersonRecord.{PersonRecord}
 use Rattle.office_tables.specs.Edits.{with_room, with_shut, with_person, without_person, with_home, with_withdrawn}
 use Rattle.office_tables.specs.Edits.{without_withdrawn, with_round, with_choice, without_choices_of, without_choices}
 use Rattle.office_tables.specs.Edits.{with_word, without_word_of, without_words, with_result, without_result_of}
-use Rattle.office_tables.specs.Edits.{without_results, with_move}
+use Rattle.office_tables.specs.Edits.{without_results, with_move, with_kept}
 use Rattle.office_changes.specs.Alike.{AreAlike}
 
 module _ {X : Type 0} (columns : X → Row) (IsRow : Row → Type 0) where
@@ -64,6 +66,7 @@ spelled_alike these those same h = record {
   words = All-map-IsPermutation word_columns IsWordRow _ _ (IsPermutation-sym _ _ same.words) h.words;
   results = All-map-IsPermutation result_columns IsResultRow _ _ (IsPermutation-sym _ _ same.results) h.results;
   moves = All-map-IsPermutation move_columns IsMoveRow _ _ (IsPermutation-sym _ _ same.moves) h.moves;
+  lists = All-map-IsPermutation list_columns IsListRow _ _ (IsPermutation-sym _ _ same.lists) h.lists;
 }
 
 module _ (t : Tables) (h : IsSpelled t) where
@@ -76,6 +79,7 @@ module _ (t : Tables) (h : IsSpelled t) where
     words = h.words;
     results = h.results;
     moves = h.moves;
+    lists = h.lists;
   }
 
   people_spelled : (xs : List PersonRecord) → All IsPersonRow (map person_columns xs)
@@ -88,6 +92,7 @@ module _ (t : Tables) (h : IsSpelled t) where
     words = h.words;
     results = h.results;
     moves = h.moves;
+    lists = h.lists;
   }
 
   pub room_spelled : (room : Text) (shut : Bool) → IsTextOf is_room_code (value.Text room)
@@ -145,6 +150,7 @@ module _ (t : Tables) (h : IsSpelled t) where
     words = h.words;
     results = h.results;
     moves = h.moves;
+    lists = h.lists;
   }
 
   pub choice_spelled : (person : Text) (place : ℕ) (room : Text) → IsTextOf is_person_id (value.Text person)
@@ -172,6 +178,7 @@ module _ (t : Tables) (h : IsSpelled t) where
     words = k;
     results = h.results;
     moves = h.moves;
+    lists = h.lists;
   }
 
   pub word_spelled : (person : Text) (word : ℕ) → IsTextOf is_person_id (value.Text person) → word < 2 ^ 64
@@ -199,6 +206,7 @@ module _ (t : Tables) (h : IsSpelled t) where
     words = h.words;
     results = All-cons IsResultRow _ _ (id, code) h.results;
     moves = h.moves;
+    lists = h.lists;
   }
 
   pub without_result_of_spelled : (person : Text) → IsSpelled (without_result_of person t)
@@ -211,6 +219,7 @@ module _ (t : Tables) (h : IsSpelled t) where
     words = h.words;
     results = formed_left result_columns IsResultRow (λ r. text_eq r.0 person) t.results h.results;
     moves = h.moves;
+    lists = h.lists;
   }
 
   pub without_results_spelled : IsSpelled (without_results t)
@@ -223,6 +232,7 @@ module _ (t : Tables) (h : IsSpelled t) where
     words = h.words;
     results = All-nil IsResultRow;
     moves = h.moves;
+    lists = h.lists;
   }
 
   pub move_spelled : (move : Move) → IsMoveRow (move_columns move) → IsSpelled (with_move move t)
@@ -235,6 +245,22 @@ module _ (t : Tables) (h : IsSpelled t) where
     words = h.words;
     results = h.results;
     moves = All-cons IsMoveRow _ _ form h.moves;
+    lists = h.lists;
+  }
+
+  pub kept_spelled : (label : Text) (kept : KeptList) → IsTextOf is_label (value.Text label) → kept.count < 2 ^ 16
+      → IsSpelled (with_kept label kept t)
+  unfolding with_kept
+  kept_spelled label kept is_its_label low = record {
+    rooms = h.rooms;
+    people = h.people;
+    rounds = h.rounds;
+    choices = h.choices;
+    words = h.words;
+    results = h.results;
+    moves = h.moves;
+    lists = All-cons IsListRow _ _
+        (is_its_label, (kept.kind, refl), (kept.bytes, refl), (kept.count, refl, low)) h.lists;
   }
 
   pub round_spelled : (number : ℕ) (phase : Phase) → number < 2 ^ 16 → IsSpelled (with_round number phase t)
@@ -248,4 +274,5 @@ module _ (t : Tables) (h : IsSpelled t) where
     words = h.words;
     results = h.results;
     moves = h.moves;
+    lists = h.lists;
   }

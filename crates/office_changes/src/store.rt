@@ -6,6 +6,7 @@ ghost use Rattle.office_tables.specs.Steps.{IsHonest, Follows, StaysInside};
 ghost use Rattle.office_changes.specs.Carries.{CarriesOne, Carries};
 
 use crate::choices::put_choices;
+use crate::lists::keep_list;
 use crate::people::{put_home, put_person, put_withdrawn, remove_person};
 use crate::results::{put_result, record_move};
 use crate::rooms::put_room;
@@ -94,5 +95,11 @@ fn make<S: Alter>(
         Change::AddMove(moved) => record_move(tx, moved),
         Change::PutRound { number, phase } => put_round(tx, *number, *phase),
         Change::ClearRound => clear_round(tx),
+        Change::KeepList {
+            label,
+            kind,
+            bytes,
+            count,
+        } => keep_list(tx, label, *kind, bytes, *count),
     }
 }

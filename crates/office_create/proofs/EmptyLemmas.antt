@@ -11,6 +11,7 @@ use Rattle.room_types.proofs.Trees.{entries-empty}
 use Rattle.room_types.specs.declared.phase.Phase.TheVariants.{Idle}
 use Rattle.office_core.specs.Office.{empty_office}
 use Rattle.office_core.specs.declared.office.Assigned.{Assigned}
+use Rattle.office_core.specs.declared.office.kept_list.KeptList.{KeptList}
 use Rattle.office_core.specs.declared.office.moves.RoundMoves.{RoundMoves}
 use Rattle.office_core.specs.declared.office.person.Person.{Person}
 use Rattle.office_rows.specs.Rows.{person_row, list_rows, round_rows}
@@ -44,8 +45,8 @@ all_empty db h = record {
 }
 
 -- the rows of these entries, before the first round
-abbrev rows_from : List (Text × Bool) → List (Text × Person) → List (Text × List Text) → List (Text × ℕ) → List (Text × Assigned) → List (ℕ × RoundMoves) → Tables
-rows_from rooms people choices words results moves = record {
+abbrev rows_from : List (Text × Bool) → List (Text × Person) → List (Text × List Text) → List (Text × ℕ) → List (Text × Assigned) → List (ℕ × RoundMoves) → List (Text × KeptList) → Tables
+rows_from rooms people choices words results moves lists = record {
   rooms = rooms;
   people = list_map (person_row map.empty) people;
   rounds = record { number = 0; phase = Idle } ∷ [];
@@ -53,12 +54,13 @@ rows_from rooms people choices words results moves = record {
   words = words;
   results = results;
   moves = flat_map round_rows moves;
-  lists = [];
+  lists = lists;
 }
 
 none_of : (rooms : List (Text × Bool)) (people : List (Text × Person)) (choices : List (Text × List Text)) (words : List (Text × ℕ)) (results : List (Text × Assigned)) (moves : List (ℕ × RoundMoves))
-    → rooms ≡ [] → people ≡ [] → choices ≡ [] → words ≡ [] → results ≡ [] → moves ≡ [] → rows_from [] [] [] [] [] [] ≡ rows_from rooms people choices words results moves
-none_of rooms people choices words results moves a b c d e f = rw (a, b, c, d, e, f) refl
+    (lists : List (Text × KeptList)) → rooms ≡ [] → people ≡ [] → choices ≡ [] → words ≡ [] → results ≡ [] → moves ≡ [] → lists ≡ []
+    → rows_from [] [] [] [] [] [] [] ≡ rows_from rooms people choices words results moves lists
+none_of rooms people choices words results moves lists a b c d e f g = rw (a, b, c, d, e, f, g) refl
 
 no_entries : {X : Type 0} → map.entries (map.empty {X = X} {R = text_cmp}) ≡ []
 no_entries = entries-empty nat_list_cmp_total
@@ -67,4 +69,4 @@ no_entries = entries-empty nat_list_cmp_total
 pub first_rows : with_first_round 0 Idle no_rows ≡ rows_of empty_office
 unfolding with_first_round rows_of
 first_rows = none_of (map.entries empty_office.rooms) (map.entries empty_office.people) (map.entries empty_office.choices) (map.entries empty_office.words) (map.entries empty_office.results)
-    (map.entries empty_office.moves) no_entries no_entries no_entries no_entries no_entries (entries-empty nat_cmp_total)
+    (map.entries empty_office.moves) (map.entries empty_office.lists) no_entries no_entries no_entries no_entries no_entries (entries-empty nat_cmp_total) no_entries

@@ -11,17 +11,14 @@ use Rattle.sqlite_trees.proofs.ListLemmas.{pull_back}
 use Rattle.sqlite_rules.specs.Edit.{id_in}
 use Rattle.sqlite_rules.proofs.TableLemmas.{int_is}
 use Rattle.sqlite.specs.Effect.{Database}
-use Rattle.office_core.specs.declared.office.Office.{Office}
-use Rattle.office_rows.specs.Tables.{KeptList, Tables, rows_of}
+use Rattle.office_rows.specs.Tables.{Tables}
 use Rattle.office_cells.specs.Columns as columns
 use Rattle.office_cells.specs.Spelled.{IsSpelled}
 use Rattle.office_tables.specs.Holds.{Holds, stored}
-use Rattle.office_tables.specs.Tables.{HasTables, HoldsOffice}
-use Rattle.office_tables.proofs.HoldLemmas.{none_held}
+use Rattle.office_tables.specs.Tables.{HasTables}
 use Rattle.office_load.specs.Listing.{ShowRecords, listed}
 use Rattle.office_load.specs.Numbers.{AreNumbered, HaveNumbers, IsLaidOut, IsWhole}
 use Rattle.office_load.specs.Reading.{AreShown}
-use Rattle.office_load.proofs.Numbering.{none_from}
 
 three_cells : (row : Row) → IsWhole 2 row → row ≡ column row 0 ∷ column row 1 ∷ column row 2 ∷ []
 three_cells [] e = absurd (omega (arith, e))
@@ -85,8 +82,8 @@ module _ {X : Type 0} (kept shown : X → Row) (IsForm : Row → Type 0) (projec
       }
 
 -- what is shown by all tables is what they hold
-pub all_held : (db : Database) (tables : Tables) → IsLaidOut db → HaveNumbers db.trees → db.trees 14 ≡ [] → tables.lists ≡ [] → AreShown db.trees tables → HasTables db tables
-all_held db tables laid numbers none no_lists h = record {
+pub all_held : (db : Database) (tables : Tables) → IsLaidOut db → HaveNumbers db.trees → AreShown db.trees tables → HasTables db tables
+all_held db tables laid numbers h = record {
   schema = laid.schema;
   rows = record {
     rooms = held columns.room_columns columns.room_columns _ _ (IsWhole 2) (λ row x w e. three_cells row w ∙ ap (λ l. column row 0 ∷ l) e) _ _ laid.rooms (numbers 0 (omega arith)) h.rooms;
@@ -96,24 +93,9 @@ all_held db tables laid numbers none no_lists h = record {
     words = held columns.word_columns columns.word_columns _ _ (IsWhole 2) (λ row x w e. three_cells row w ∙ ap (λ l. column row 0 ∷ l) e) _ _ laid.words (numbers 4 (omega arith)) h.words;
     results = held columns.result_columns columns.result_columns _ _ (IsWhole 2) (λ row x w e. three_cells row w ∙ ap (λ l. column row 0 ∷ l) e) _ _ laid.results (numbers 5 (omega arith)) h.results;
     moves = held columns.move_columns columns.move_columns _ _ (IsWhole 5) (λ row x w e. six_cells row w ∙ ap (λ l. column row 0 ∷ l) e) _ _ laid.moves (numbers 6 (omega arith)) h.moves;
-    lists = subst (Holds columns.list_columns (db.trees 14)) (sym no_lists) (subst (λ rows. Holds columns.list_columns rows []) (sym none) (none_held columns.list_columns));
+    lists = held columns.list_columns columns.list_columns _ _ (IsWhole 4) (λ row x w e. five_cells row w ∙ ap (λ l. column row 0 ∷ l) e) _ _ laid.lists (numbers 7 (omega arith)) h.lists;
   };
 }
-
--- no list is kept where the tables are an office's
-pub no_lists : (db : Database) (office : Office) → HoldsOffice db office → db.trees 14 ≡ []
-unfolding rows_of
-no_lists db office h =
-    let none : map (λ (e : ℤ × KeptList). e.1) h.rows.lists.entries ≡ [] = none_from _ _ h.rows.lists.same refl in
-    h.rows.lists.rows_are ∙ ap (map (stored columns.list_columns)) (empty_if h.rows.lists.entries none)
-  where
-    empty_if : (es : List (ℤ × KeptList)) → map (λ (e : ℤ × KeptList). e.1) es ≡ [] → es ≡ []
-    empty_if [] e = refl
-    empty_if (x ∷ es) e = absurd (cc)
-
-pub no_kept_lists : (office : Office) → (rows_of office).lists ≡ []
-unfolding rows_of
-no_kept_lists office = refl
 
 pub shown_spelled : (trees : Trees) (tables : Tables) → AreShown trees tables → IsSpelled tables
 shown_spelled trees tables h = record {
@@ -124,4 +106,5 @@ shown_spelled trees tables h = record {
   words = h.words.formed;
   results = h.results.formed;
   moves = h.moves.formed;
+  lists = h.lists.formed;
 }

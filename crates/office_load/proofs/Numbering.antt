@@ -1,9 +1,9 @@
 -- Rowids that rise differ.
-use Rattle.std.proofs.Common.{◌≡◌, inl, inr, ℕ, ℤ, ◌<ℤ◌, ◌<◌, ◌+◌, ◌≤◌, length, Bool, false, List, [], ◌∷◌, ◌++◌, map, Option, Some, None, IfSome, IsTrue, ◌==◌, refl, sym, ap, ap₂, ◌∙◌, subst, IsPermutation, arith}
+use Rattle.std.proofs.Common.{◌≡◌, inl, inr, ℕ, ℤ, ◌<ℤ◌, ◌<◌, ◌+◌, ◌≤◌, false, List, [], ◌∷◌, ◌++◌, map, Option, Some, None, IfSome, IsTrue, refl, sym, ap, ap₂, ◌∙◌, subst, IsPermutation, arith}
 use Rattle.std.proofs.Math.Nat.{eq-or-lt_of_le}
 use Rattle.std.specs.Ordering.{is_eq}
-use Rattle.std.specs.List.{All, AllByRecursion, IsDistinct}
-use Rattle.std.proofs.lemmas.List.Elements.{recursion_from_All, All-from_recursion, All-nil}
+use Rattle.std.specs.List.{AllByRecursion, IsDistinct}
+use Rattle.std.proofs.lemmas.List.Elements.{recursion_from_All, All-from_recursion}
 use Rattle.std.proofs.lemmas.List.Sorted.{IsPermutation-sym, All-permutation}
 use Rattle.std.proofs.lemmas.Map.Keys.{IsDistinct-head, IsDistinct-tail, IsDistinct-cons, IsDistinct-IsPermutation}
 use Rattle.sqlite_value.specs.Order.{Row, value_cmp}
@@ -11,8 +11,6 @@ use Rattle.sqlite_value.specs.declared.value.Value.TheVariants.{Int}
 use Rattle.sqlite_value.proofs.OrderLemmas.{value_cmp-Int}
 use Rattle.sqlite_keyed.proofs.KeyedLemmas.{Less-from_lt, lt_from_Less}
 use Rattle.std.proofs.lemmas.Cmp.{int_cmp_total}
-use Rattle.std.proofs.lemmas.List.{nil_from_length}
-use Rattle.std.proofs.lemmas.Bool.{eqb-true}
 use Rattle.sqlite_trees.specs.Tree.{rowid}
 use Rattle.sqlite_trees.specs.View.{is_int}
 use Rattle.office_tables.specs.Holds.{same_rowid}
@@ -110,22 +108,3 @@ next_place P place before here k low =
       | inl same ↦ subst P (sym same) here
       | inr below ↦ before k below
     ]
-
-pub none_from : {A : Type 0} (xs ys : List A) → IsPermutation xs ys → xs ≡ [] → ys ≡ []
-none_from {A} xs ys same none = go ys (recursion_from_All (λ _. ⊥) ys (All-permutation (λ _. ⊥) xs ys same (subst (All (λ _. ⊥)) (sym none) (All-nil _))))
-  where
-    go : (l : List A) → AllByRecursion (λ _. ⊥) l → l ≡ []
-    go [] h = refl
-    go (x ∷ l) h = absurd h.0
-
-unlisted : (rows : List Row) → map (listed only_rowid) rows ≡ [] → rows ≡ []
-unlisted [] e = refl
-unlisted (r ∷ rows) e = absurd (cc)
-
--- no rowid is read exactly where there is no row
-pub none_read : (rows got items : List Row) → IsPermutation (map (listed only_rowid) rows) got → items ≡ got → (b : Bool) → b ≡ (length items == 0)
-    → (IsTrue b → rows ≡ []) × (rows ≡ [] → IsTrue b)
-none_read rows got items same is b e = (
-  λ t. unlisted rows (none_from got _ (IsPermutation-sym _ _ same) (sym is ∙ nil_from_length items (eqb-true (length items) 0 (sym e ∙ t)))),
-  λ none. e ∙ ap (λ (l : List Row). length l == 0) (is ∙ none_from _ got same (ap (map (listed only_rowid)) none)),
-)

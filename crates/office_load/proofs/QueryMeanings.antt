@@ -39,6 +39,11 @@ pub moves_listed : ListsTable text.moves_text 12 (col 1 1 ∷ col 1 2 ∷ col 1 
 unfolding understood everything
 moves_listed = record { order = []; is = refl; plain = (refl, refl); unlisted = refl }
 
+pub lists_listed : ListsTable text.lists_text 14 (col 1 1 ∷ col 1 2 ∷ col 1 3 ∷ col 1 4 ∷ [])
+    (codes "label" ∷ codes "kind" ∷ codes "body" ∷ codes "added" ∷ [])
+unfolding understood everything
+lists_listed = record { order = []; is = refl; plain = (refl, refl); unlisted = refl }
+
 -- the round's key has a name of its own
 abbrev pub rowid_names : ℕ → List (List ℕ)
 rowid_names place = slice_index_or ((codes "rowid" ∷ []) ∷ (codes "rowid" ∷ []) ∷ (codes "one" ∷ []) ∷ []) place (codes "rowid" ∷ [])

@@ -3,9 +3,12 @@ use Rattle.std.proofs.Common.{◌≡◌, ℕ, Bool, true, false, List, [], ◌�
 use Rattle.std.specs.Prelude.{unwrap_or, slice_get}
 use Rattle.sqlite_value.specs.declared.value.Value.TheVariants.{Text}
 use Rattle.sqlite_sql.specs.Term.{col}
+use Rattle.room_types.specs.Kinds.{kind_text}
 use Rattle.room_types.specs.Phases.{phase_text}
 use Rattle.room_types.specs.Texts.{Text as Bytes}
 use Rattle.room_types.specs.Words.{word_of, word_text}
+use Rattle.room_types.specs.declared.kinds.ListKind.{ListKind}
+use Rattle.room_types.specs.declared.kinds.ListKind.TheVariants.{Rooms, People, Choices}
 use Rattle.room_types.specs.declared.moves.Move.{Move}
 use Rattle.room_types.specs.declared.moves.Wave.{Wave}
 use Rattle.room_types.specs.declared.moves.Wave.TheVariants.{Swap, Nth}
@@ -13,12 +16,13 @@ use Rattle.room_types.specs.declared.phase.Phase.{Phase}
 use Rattle.room_types.specs.declared.phase.Phase.TheVariants.{Idle, Opened, Closed, Drawn, Ran, Published}
 use Rattle.room_types.proofs.WordTexts.{word_length, word_low, word_read}
 use Rattle.office_core.specs.declared.office.Assigned.{Assigned}
+use Rattle.office_core.specs.declared.office.kept_list.KeptList.{KeptList}
 use Rattle.office_rows.specs.declared.records.ChoiceRecord.{ChoiceRecord}
 use Rattle.office_rows.specs.declared.records.PersonRecord.{PersonRecord}
 use Rattle.office_rows.specs.declared.records.RoundRecord.{RoundRecord}
 use Rattle.office_cells.specs.Cells.{IsWord, flag, text_or_null, wave_value}
-use Rattle.office_cells.specs.Columns.{room_columns, person_columns, round_columns, round_shown, choice_columns, word_columns, result_columns, move_columns, two, three, five}
-use Rattle.office_cells.specs.Forms.{IsRoomRow, IsPersonRow, IsRoundRow, IsChoiceRow, IsWordRow, IsResultRow, IsMoveRow}
+use Rattle.office_cells.specs.Columns.{room_columns, person_columns, round_columns, round_shown, choice_columns, word_columns, result_columns, move_columns, list_columns, two, three, four, five}
+use Rattle.office_cells.specs.Forms.{IsRoomRow, IsPersonRow, IsRoundRow, IsChoiceRow, IsWordRow, IsResultRow, IsMoveRow, IsListRow}
 use Rattle.office_load.specs.Listing.{TellsRecords}
 
 -- ---- cells
@@ -61,6 +65,21 @@ phase_is Published = refl
 
 same_phase : (a b : Phase) → phase_text a ≡ phase_text b → a ≡ b
 same_phase a b e = sym (phase_is a) ∙ ap phase_of e ∙ phase_is b
+
+-- and so do the kinds of lists
+abbrev kind_by : ℕ → ListKind
+kind_by letter = if eqb letter 114 then Rooms else (if eqb letter 112 then People else Choices)
+
+abbrev kind_of : List ℕ → ListKind
+kind_of text = kind_by (unwrap_or (slice_get text 0) 0)
+
+kind_is : (k : ListKind) → kind_of (kind_text k) ≡ k
+kind_is Rooms = refl
+kind_is People = refl
+kind_is Choices = refl
+
+same_kind : (a b : ListKind) → kind_text a ≡ kind_text b → a ≡ b
+same_kind a b e = sym (kind_is a) ∙ ap kind_of e ∙ kind_is b
 
 same_word : (w v : ℕ) → IsWord (Text (word_text w)) → word_text w ≡ word_text v → w ≡ v
 same_word w v form e =
@@ -153,3 +172,15 @@ same_move a b e =
 
 pub moves_told : TellsRecords move_columns move_columns IsMoveRow five (col 1 1 ∷ col 1 2 ∷ col 1 3 ∷ col 1 4 ∷ col 1 5 ∷ [])
 moves_told = record { projected = λ e. refl; fronted = λ x. refl; whole = λ row. refl; by_front = λ row h. h; apart = λ a b form e. same_move a b e }
+
+same_list : (a b : Bytes × KeptList) → list_columns a ≡ list_columns b → a ≡ b
+same_list a b e =
+    let label : a.0 ≡ b.0 = cc in
+    let text : kind_text a.1.kind ≡ kind_text b.1.kind = cc in
+    let bytes : a.1.bytes ≡ b.1.bytes = cc in
+    let count : a.1.count ≡ b.1.count = cc in
+    let kind = same_kind a.1.kind b.1.kind text in
+    λ i. (label i, record { kind = kind i; bytes = bytes i; count = count i })
+
+pub lists_told : TellsRecords list_columns list_columns IsListRow four (col 1 1 ∷ col 1 2 ∷ col 1 3 ∷ col 1 4 ∷ [])
+lists_told = record { projected = λ e. refl; fronted = λ x. refl; whole = λ row. refl; by_front = λ row h. h; apart = λ a b form e. same_list a b e }

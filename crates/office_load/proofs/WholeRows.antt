@@ -17,7 +17,7 @@ use Rattle.sqlite_rules.proofs.RowLemmas.{untyped}
 use Rattle.sqlite.specs.Effect.{Database, IsDatabase}
 use Rattle.office_load.specs.Finding.{AreWhole}
 use Rattle.office_load.specs.Numbers.{IsLaidOut, IsWhole}
-use Rattle.office_tables.specs.Schema.{office_schema, room, person, round, choice, word}
+use Rattle.office_tables.specs.Schema.{office_schema, room, person, round, choice, word, list}
 
 -- a row has no more cells than its table has columns, and one for its rowid
 short : (key : Option ℕ) (cs : List Column) (row : Row) → are_typed key 0 cs (drop 1 row) ≡ true → length row ≤ length cs + 1
@@ -95,4 +95,5 @@ laid_if_sound db sound has wide =
       words = all_whole (word 7) (db.trees 7) (λ row p. last_of (there row 1) (there row 2) p) typed.1.1.1.0 present.1.1.1.0;
       results = wide.results;
       moves = wide.moves;
+      lists = all_whole (list 14) (db.trees 14) (λ row p. last_of (there row 3) (there row 4) (and_parts (there row 2) (there row 3 && (there row 4 && true)) (and_parts (there row 1) (there row 2 && (there row 3 && (there row 4 && true))) p).1).1) typed.1.1.1.1.1.1.0 present.1.1.1.1.1.1.0;
     }

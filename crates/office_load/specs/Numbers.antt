@@ -32,9 +32,9 @@ tree_of place = slice_index_or (0 ∷ 2 ∷ 6 ∷ 16 ∷ 7 ∷ 9 ∷ 12 ∷ 14 �
 abbrev pub only_rowid : List Term
 only_rowid = col 1 0 ∷ []
 
--- so have the tables that an office has rows in
+-- so it is in each of the eight tables
 abbrev pub HaveNumbers : Trees → Type 0
-HaveNumbers trees = (place : ℕ) → place < 7 → AreNumbered (trees (tree_of place))
+HaveNumbers trees = (place : ℕ) → place < 8 → AreNumbered (trees (tree_of place))
 
 -- the row has a cell for its rowid and for each of so many columns
 abbrev pub IsWhole : ℕ → Row → Type 0
@@ -51,3 +51,4 @@ pub record IsLaidOut (db : Database) : Type 0 where
   pub words : AllByRecursion (IsWhole 2) (db.trees 7)
   pub results : AllByRecursion (IsWhole 2) (db.trees 9)
   pub moves : AllByRecursion (IsWhole 5) (db.trees 12)
+  pub lists : AllByRecursion (IsWhole 4) (db.trees 14)

@@ -5,9 +5,9 @@ use Rattle.sqlite_trees.specs.Tree.{Trees}
 use Rattle.sqlite.specs.State.{State}
 use Rattle.office_rows.specs.Tables.{Tables}
 use Rattle.office_cells.specs.Columns.{room_columns, person_columns, round_shown, choice_columns}
-use Rattle.office_cells.specs.Columns.{word_columns, result_columns, move_columns}
+use Rattle.office_cells.specs.Columns.{word_columns, result_columns, move_columns, list_columns}
 use Rattle.office_cells.specs.Forms.{IsRoomRow, IsPersonRow, IsRoundRow, IsChoiceRow}
-use Rattle.office_cells.specs.Forms.{IsWordRow, IsResultRow, IsMoveRow}
+use Rattle.office_cells.specs.Forms.{IsWordRow, IsResultRow, IsMoveRow, IsListRow}
 use Rattle.office_load.specs.Listing.{ShowRecords}
 use Rattle.office_tables.specs.Schema.{office_schema}
 use Rattle.office_tables.specs.Steps.{Follows, IsHonest}
@@ -31,3 +31,5 @@ pub record AreShown (trees : Trees) (tables : Tables) : Type 0 where
       tables.results
   pub moves : ShowRecords move_columns IsMoveRow
       (col 1 1 ∷ col 1 2 ∷ col 1 3 ∷ col 1 4 ∷ col 1 5 ∷ []) (trees 12) tables.moves
+  pub lists : ShowRecords list_columns IsListRow (col 1 1 ∷ col 1 2 ∷ col 1 3 ∷ col 1 4 ∷ [])
+      (trees 14) tables.lists

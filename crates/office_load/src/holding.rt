@@ -11,7 +11,7 @@ ghost use Rattle.office_tables.specs.Tables.{HoldsOffice};
 ghost use Rattle.office_load.specs.Numbers.{IsLaidOut};
 ghost use Rattle.office_load.specs.Reading.{OnlyReads};
 
-use crate::numbers::{keeps_no_list, numbers_rise};
+use crate::numbers::numbers_rise;
 use crate::reading::load;
 use office_core::Office;
 use sqlite::{Alter, Connection, Error, ErrorCode};
@@ -39,9 +39,6 @@ pub fn held<S: Alter>(alloc: Global, conn: &mut Connection<S>) -> Result<Option<
         → HoldsOffice (state S.Store conn.old).now office → found ≡ Some office) }
 {
     let found = load(alloc, conn)?;
-    if !keeps_no_list(conn)? {
-        return Ok(None);
-    }
     if !numbers_rise(conn)? {
         return Err(Error::SqliteFailure(ErrorCode::DatabaseCorrupt));
     }

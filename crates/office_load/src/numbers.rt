@@ -1,5 +1,5 @@
 //! The rowids of the tables of an office.
-ghost use Rattle.std.specs.Prelude.{◌≡◌, ◌<◌, ◌<ℤ◌, false, [], map, IfOk, IfSome, IsTrue, OnOk};
+ghost use Rattle.std.specs.Prelude.{◌≡◌, ◌<◌, ◌<ℤ◌, false, map, IfOk, IfSome, IsTrue, OnOk};
 ghost use Rattle.std.specs.List.Sorted.{IsPermutation};
 ghost use Rattle.sqlite.specs.State.{HasCleanDisk};
 ghost use Rattle.sqlite.specs.Held.{state};
@@ -21,29 +21,13 @@ pub fn numbers_rise<S: Alter>(conn: &mut Connection<S>) -> Result<bool, Error>
         → (state S.Store conn.old).now.schema ≡ office_schema
         → IsTrue rise → HaveNumbers (state S.Store conn.old).now.trees) }
 {
-    for place in 0..7 {
+    for place in 0..8 {
         let rows = rowids(conn, place)?;
         if !rise(rows.as_slice()) {
             return Ok(false);
         }
     }
     Ok(true)
-}
-
-/// Whether no list is kept under a label.
-pub fn keeps_no_list<S: Alter>(conn: &mut Connection<S>) -> Result<bool, Error>
-    requires { conn.old.in_transaction ≡ false }
-    ensures outside { conn.new.in_transaction ≡ false }
-    ensures reads { OnlyReads (state S.Store conn.old) (state S.Store conn.new) }
-    ensures is_open { OnOk result (HasCleanDisk (state S.Store conn.new)
-        → IsTrue (state S.Store conn.new).is_open) }
-    ensures none { IfOk result (λ none. HasCleanDisk (state S.Store conn.new)
-        → (state S.Store conn.old).now.schema ≡ office_schema
-        → (IsTrue none → (state S.Store conn.old).now.trees 14 ≡ [])
-        × ((state S.Store conn.old).now.trees 14 ≡ [] → IsTrue none)) }
-{
-    let rows = rowids(conn, 7)?;
-    Ok(rows.as_slice().is_empty())
 }
 
 // The rowids of a table, each as a row.

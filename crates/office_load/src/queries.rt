@@ -1,8 +1,8 @@
 //! The queries over the whole tables of an office.
 use crate::listed::Listed;
-use office_core::Assigned;
+use office_core::{Assigned, KeptList};
 use office_rows::{ChoiceRecord, PersonRecord, RoundRecord};
-use room_types::{Move, PersonId, RoomCode, Word};
+use room_types::{Label, Move, PersonId, RoomCode, Word};
 
 impl Listed for (RoomCode, bool) {
     ghost use Rattle.std.specs.Prelude.{codes, [], ◌∷◌};
@@ -150,5 +150,26 @@ impl Listed for Move {
 
     fn query() -> &'static str {
         "SELECT round, person, from_room, to_room, wave FROM move"
+    }
+}
+
+impl Listed for (Label, KeptList) {
+    ghost use Rattle.std.specs.Prelude.{codes, [], ◌∷◌};
+    ghost use Rattle.sqlite_sql.specs.Term.{col};
+    ghost use Rattle.office_cells.specs.Columns.{list_columns};
+    ghost use Rattle.office_load.specs.Queries.{lists_text};
+
+    ghost text = { lists_text };
+
+    ghost tree = { 14 };
+
+    ghost project = { col 1 1 ∷ col 1 2 ∷ col 1 3 ∷ col 1 4 ∷ [] };
+
+    ghost names = { codes "label" ∷ codes "kind" ∷ codes "body" ∷ codes "added" ∷ [] };
+
+    ghost kept = { list_columns };
+
+    fn query() -> &'static str {
+        "SELECT label, kind, body, added FROM list"
     }
 }

@@ -81,7 +81,7 @@ fn read_records<S: Alter>(
     let Some((words, results)) = read_two(alloc, conn)? else {
         return Ok(None);
     };
-    let Some(moves) = table_records(alloc, conn)? else {
+    let Some((moves, lists)) = read_two(alloc, conn)? else {
         return Ok(None);
     };
     Ok(Some(OfficeRecords {
@@ -92,6 +92,7 @@ fn read_records<S: Alter>(
         words,
         results,
         moves,
+        lists,
     }))
 }
 

@@ -7,7 +7,7 @@ use Rattle.office_core.specs.declared.office.Office.{Office}
 use Rattle.office_rows.specs.Tables.{Tables, rows_of}
 use Rattle.office_rows.specs.declared.records.OfficeRecords.{OfficeRecords}
 
--- the records of each table are its rows, in some order; kept lists have no record here
+-- the records of each table are its rows, in some order
 pub record AreRecordsOf (tables : Tables) (records : OfficeRecords) : Type 0 where
   pub rooms : IsPermutation tables.rooms records.rooms.items
   pub people : IsPermutation tables.people records.people.items
@@ -16,13 +16,14 @@ pub record AreRecordsOf (tables : Tables) (records : OfficeRecords) : Type 0 whe
   pub words : IsPermutation tables.words records.words.items
   pub results : IsPermutation tables.results records.results.items
   pub moves : IsPermutation tables.moves records.moves.items
+  pub lists : IsPermutation tables.lists records.lists.items
 
 -- how many records the tables have
 abbrev pub record_count : OfficeRecords → ℕ
 record_count records =
     length records.rooms.items + length records.people.items + length records.rounds.items
     + length records.choices.items + length records.words.items + length records.results.items
-    + length records.moves.items
+    + length records.moves.items + length records.lists.items
 
 -- What is found is a lawful office with these rows, and the only one. Nothing is found only where no lawful office has
 -- them.

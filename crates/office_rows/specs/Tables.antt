@@ -1,21 +1,15 @@
 -- The tables of an office, as typed rows.
-use Rattle.std.specs.Prelude.{ℕ, Bool, List, []}
+use Rattle.std.specs.Prelude.{ℕ, Bool, List}
 use Rattle.std.specs.FinMap as maps
 use Rattle.room_types.specs.Texts.{Text}
 use Rattle.room_types.specs.declared.moves.Move.{Move}
 use Rattle.office_core.specs.declared.office.Assigned.{Assigned}
 use Rattle.office_core.specs.declared.office.Office.{Office}
+use Rattle.office_core.specs.declared.office.kept_list.KeptList.{KeptList}
 use Rattle.office_rows.specs.Rows.{only_row, person_rows, choice_rows, move_rows}
 use Rattle.office_rows.specs.declared.records.ChoiceRecord.{ChoiceRecord}
 use Rattle.office_rows.specs.declared.records.PersonRecord.{PersonRecord}
 use Rattle.office_rows.specs.declared.records.RoundRecord.{RoundRecord}
-
--- a list that was handed in under a label: its kind, its bytes, and how many records it added
-pub record KeptList : Type 0 where
-  pub label : Text
-  pub kind : List ℕ
-  pub body : List ℕ
-  pub added : ℕ
 
 -- the rows of each table, in no order
 pub record Tables : Type 0 where
@@ -26,10 +20,10 @@ pub record Tables : Type 0 where
   pub words : List (Text × ℕ)
   pub results : List (Text × Assigned)
   pub moves : List Move
-  pub lists : List KeptList
+  pub lists : List (Text × KeptList)
 
--- The rows of an office: one for each room, person, listed room, word, result and move, and one for the round. No lists
--- are kept yet.
+-- The rows of an office: one for each room, person, listed room, word, result, move and kept list, and one for the
+-- round.
 unfoldable pub rows_of : Office → Tables
 rows_of office = record {
   rooms = maps.entries office.rooms;
@@ -39,5 +33,5 @@ rows_of office = record {
   words = maps.entries office.words;
   results = maps.entries office.results;
   moves = move_rows office.moves;
-  lists = [];
+  lists = maps.entries office.lists;
 }

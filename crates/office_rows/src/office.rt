@@ -57,6 +57,9 @@ fn make_office(alloc: Global, records: OfficeRecords) -> Result<Option<Office>, 
     let Some(moves) = read_moves(alloc, records.moves)? else {
         return Ok(None);
     };
+    let Some(lists) = read_table(alloc, records.lists)? else {
+        return Ok(None);
+    };
     Ok(Some(Office {
         rooms,
         people: people.people,
@@ -65,6 +68,7 @@ fn make_office(alloc: Global, records: OfficeRecords) -> Result<Option<Office>, 
         words,
         results,
         moves,
+        lists,
         number: round.number,
         phase: round.phase,
     }))

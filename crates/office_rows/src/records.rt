@@ -1,6 +1,6 @@
 //! The records of the tables of an office.
-use office_core::{Assigned, Person};
-use room_types::{Move, PersonId, Phase, RoomCode, Word};
+use office_core::{Assigned, KeptList, Person};
+use room_types::{Label, Move, PersonId, Phase, RoomCode, Word};
 
 /// A record of a person.
 #[derive(Drop)]
@@ -38,4 +38,6 @@ pub struct OfficeRecords {
     pub words: Vec<(PersonId, Word)>,
     pub results: Vec<(PersonId, Assigned)>,
     pub moves: Vec<Move>,
+    /// Each label, and the list that was handed in under it.
+    pub lists: Vec<(Label, KeptList)>,
 }

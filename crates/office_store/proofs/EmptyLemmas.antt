@@ -8,8 +8,8 @@ use Rattle.std.specs.List.{All, flat_map}
 use Rattle.sqlite_value.specs.Order.{Row}
 use Rattle.room_types.proofs.Trees.{entries-empty}
 use Rattle.room_types.specs.declared.phase.Phase.TheVariants.{Idle}
-use Rattle.office_cells.specs.Columns.{room_columns, person_columns, round_shown, choice_columns, word_columns, result_columns, move_columns}
-use Rattle.office_cells.specs.Forms.{IsRoomRow, IsPersonRow, IsRoundRow, IsChoiceRow, IsWordRow, IsResultRow, IsMoveRow}
+use Rattle.office_cells.specs.Columns.{room_columns, person_columns, round_shown, choice_columns, word_columns, result_columns, move_columns, list_columns}
+use Rattle.office_cells.specs.Forms.{IsRoomRow, IsPersonRow, IsRoundRow, IsChoiceRow, IsWordRow, IsResultRow, IsMoveRow, IsListRow}
 use Rattle.office_cells.specs.Spelled.{IsSpelled}
 use Rattle.office_core.specs.Office.{empty_office}
 use Rattle.office_rows.specs.Rows.{list_rows, person_row, round_rows}
@@ -29,4 +29,5 @@ spelled = record {
   words = none IsWordRow (list_map word_columns) (maps.entries empty_office.words) (entries-empty nat_list_cmp_total) refl;
   results = none IsResultRow (list_map result_columns) (maps.entries empty_office.results) (entries-empty nat_list_cmp_total) refl;
   moves = none IsMoveRow (λ es. list_map move_columns (flat_map round_rows es)) (maps.entries empty_office.moves) (entries-empty nat_cmp_total) refl;
+  lists = none IsListRow (list_map list_columns) (maps.entries empty_office.lists) (entries-empty nat_list_cmp_total) refl;
 }

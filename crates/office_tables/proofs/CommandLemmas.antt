@@ -92,3 +92,7 @@ clear_results_is = record { is = refl; plain = (refl, refl) }
 pub add_move_is : Means text.add_move_text (Insert 5 (Values (lit Null ∷ col 0 0 ∷ col 0 1 ∷ col 0 2 ∷ col 0 3 ∷ col 0 4 ∷ []) 6))
 unfolding understood everything
 add_move_is = record { is = refl; plain = (refl, refl) }
+
+pub add_list_is : Means text.add_list_text (Insert 6 (Values (lit Null ∷ col 0 0 ∷ col 0 1 ∷ col 0 2 ∷ col 0 3 ∷ []) 5))
+unfolding understood everything
+add_list_is = record { is = refl; plain = (refl, refl) }

@@ -2,17 +2,19 @@
 use Rattle.std.proofs.Common.{◌≡◌, ℕ, pos, Bool, true, false, List, [], ◌∷◌, Option, refl, ap, ap₂, subst}
 use Rattle.sqlite_value.specs.Order.{Row}
 use Rattle.sqlite_value.specs.declared.value.Value.{Value}
-use Rattle.sqlite_value.specs.declared.value.Value.TheVariants.{Null, Int, Text}
+use Rattle.sqlite_value.specs.declared.value.Value.TheVariants.{Null, Int, Text, Blob}
 use Rattle.sqlite_sql.specs.Term.{lit, col}
 use Rattle.sqlite_keyed.specs.Lists.{delete_where}
 use Rattle.sqlite_rules.specs.Edit.{with_rowid}
 use Rattle.sqlite_rules.specs.declared.error.Rowids.TheVariants.{Chosen}
 use Rattle.sqlite.specs.State.{State, HasCleanDisk}
+use Rattle.room_types.specs.Kinds.{kind_text}
 use Rattle.room_types.specs.Phases.{phase_text}
 use Rattle.room_types.specs.Texts.{Text as Bytes, text_eq}
 use Rattle.room_types.specs.Words.{word_text}
 use Rattle.room_types.specs.declared.moves.Move.{Move}
 use Rattle.room_types.specs.declared.phase.Phase.{Phase}
+use Rattle.office_core.specs.declared.office.kept_list.KeptList.{KeptList}
 use Rattle.office_core.specs.declared.office.person.Person.{Person}
 use Rattle.office_cells.specs.Cells.{flag, text_or_null, wave_value}
 use Rattle.office_tables.specs.Edits as edit
@@ -23,7 +25,7 @@ use Rattle.office_tables.specs.Texts as text
 use Rattle.office_tables.specs.Texts.{by_parameter}
 use Rattle.office_tables.proofs.CommandLemmas as meaning
 use Rattle.office_tables.proofs.MakeLemmas.{inserted, inserted_anew, deleted, updated}
-use Rattle.office_tables.proofs.OneTable.{OneTable, rooms, people, rounds, choices, words, results, moves}
+use Rattle.office_tables.proofs.OneTable.{OneTable, rooms, people, rounds, choices, words, results, moves, lists}
 use Rattle.office_tables.proofs.ValueLemmas.{cast-Int, cast-Null, cast-text_or_null, cast-wave_value, same_text}
 
 none_left : {X : Type 0} (xs : List X) → delete_where (λ x. true) xs ≡ []
@@ -134,3 +136,9 @@ module _ (old new : State) where
       (lit Null ∷ col 0 0 ∷ col 0 1 ∷ col 0 2 ∷ col 0 3 ∷ col 0 4 ∷ []) 6 meaning.add_move_is (Null ∷ Int (pos move.round) ∷ Text move.person ∷ text_or_null move.from ∷ text_or_null move.to ∷ wave_value move.wave ∷ []) refl
       move (ap₂ ◌∷◌ cast-Null (ap₂ ◌∷◌ (cast-Int (pos move.round)) (ap (λ l. Text move.person ∷ l) (ap₂ ◌∷◌ (cast-text_or_null move.from)
       (ap₂ ◌∷◌ (cast-text_or_null move.to) (ap (λ v. v ∷ []) (cast-wave_value move.wave)))))))
+
+  pub makes_list : (label : Bytes) (kept : KeptList) → Runs text.add_list_text (Text label ∷ Text (kind_text kept.kind) ∷ Blob kept.bytes ∷ Int (pos kept.count) ∷ []) → Makes old new (edit.with_kept label kept)
+  unfolding edit.with_kept
+  makes_list label kept = inserted_anew lists old new text.add_list_text (Text label ∷ Text (kind_text kept.kind) ∷ Blob kept.bytes ∷ Int (pos kept.count) ∷ []) (lit Null ∷ col 0 0 ∷ col 0 1 ∷ col 0 2 ∷ col 0 3 ∷ []) 5 meaning.add_list_is
+      (Null ∷ Text label ∷ Text (kind_text kept.kind) ∷ Blob kept.bytes ∷ Int (pos kept.count) ∷ []) refl (label, kept)
+      (ap₂ (λ a b. a ∷ Text label ∷ Text (kind_text kept.kind) ∷ Blob kept.bytes ∷ b ∷ []) cast-Null (cast-Int (pos kept.count)))

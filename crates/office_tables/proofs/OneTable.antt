@@ -8,13 +8,14 @@ use Rattle.sqlite.specs.Effect.{Database}
 use Rattle.room_types.specs.Texts.{Text}
 use Rattle.room_types.specs.declared.moves.Move.{Move}
 use Rattle.office_core.specs.declared.office.Assigned.{Assigned}
+use Rattle.office_core.specs.declared.office.kept_list.KeptList.{KeptList}
 use Rattle.office_rows.specs.Tables.{Tables}
 use Rattle.office_rows.specs.declared.records.ChoiceRecord.{ChoiceRecord}
 use Rattle.office_rows.specs.declared.records.PersonRecord.{PersonRecord}
 use Rattle.office_rows.specs.declared.records.RoundRecord.{RoundRecord}
 use Rattle.office_cells.specs.Columns as columns
 use Rattle.office_tables.specs.Holds.{Holds}
-use Rattle.office_tables.specs.Schema.{office_schema, room, person, round, choice, word, result, move}
+use Rattle.office_tables.specs.Schema.{office_schema, room, person, round, choice, word, result, move, list}
 use Rattle.office_tables.specs.Tables.{AreHeld}
 use Rattle.office_tables.proofs.StatementLemmas.{Turned, IsTimeless}
 
@@ -185,5 +186,27 @@ moves = record {
     results = stays columns.result_columns tables.results (old.trees 9) (new.trees 9) (t.others.1.1.1.1.0 (λ e. omega arith)) h.results;
     moves = put;
     lists = stays columns.list_columns tables.lists (old.trees 14) (new.trees 14) (t.others.1.1.1.1.1.1.0 (λ e. omega arith)) h.lists;
+  };
+}
+
+abbrev pub lists : OneTable (Text × KeptList)
+lists = record {
+  at = 6;
+  found = refl;
+  table = list 14;
+  columns = columns.list_columns;
+  of = λ tables. tables.lists;
+  with_records = λ xs tables. record tables { lists = xs };
+  timeless = (refl, refl);
+  held = λ trees tables h. h.lists;
+  turned = λ old new edit tables h t xs put. record {
+    rooms = stays columns.room_columns tables.rooms (old.trees 0) (new.trees 0) (t.others.0 (λ e. omega arith)) h.rooms;
+    people = stays columns.person_columns tables.people (old.trees 2) (new.trees 2) (t.others.1.0 (λ e. omega arith)) h.people;
+    rounds = stays columns.round_columns tables.rounds (old.trees 6) (new.trees 6) (t.others.1.1.0 (λ e. omega arith)) h.rounds;
+    choices = stays columns.choice_columns tables.choices (old.trees 16) (new.trees 16) (t.others.1.1.1.1.1.1.1.0 (λ e. omega arith)) h.choices;
+    words = stays columns.word_columns tables.words (old.trees 7) (new.trees 7) (t.others.1.1.1.0 (λ e. omega arith)) h.words;
+    results = stays columns.result_columns tables.results (old.trees 9) (new.trees 9) (t.others.1.1.1.1.0 (λ e. omega arith)) h.results;
+    moves = stays columns.move_columns tables.moves (old.trees 12) (new.trees 12) (t.others.1.1.1.1.1.0 (λ e. omega arith)) h.moves;
+    lists = put;
   };
 }

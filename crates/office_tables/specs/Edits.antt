@@ -4,6 +4,7 @@ use Rattle.room_types.specs.Texts.{Text, text_eq}
 use Rattle.room_types.specs.declared.moves.Move.{Move}
 use Rattle.room_types.specs.declared.phase.Phase.{Phase}
 use Rattle.sqlite_keyed.specs.Lists.{update_where, delete_where}
+use Rattle.office_core.specs.declared.office.kept_list.KeptList.{KeptList}
 use Rattle.office_core.specs.declared.office.person.Person.{Person}
 use Rattle.office_rows.specs.Tables.{Tables}
 use Rattle.office_rows.specs.declared.records.PersonRecord.{PersonRecord}
@@ -102,3 +103,8 @@ without_results tables = record tables { results = [] }
 
 unfoldable pub with_move : Move → Tables → Tables
 with_move move tables = record tables { moves = move ∷ tables.moves }
+
+-- ---- kept lists
+
+unfoldable pub with_kept : Text → KeptList → Tables → Tables
+with_kept label kept tables = record tables { lists = (label, kept) ∷ tables.lists }

@@ -102,3 +102,8 @@ clear_results_text = codes "DELETE FROM result"
 abbrev pub add_move_text : List ℕ
 add_move_text =
     codes "INSERT INTO move(round, person, from_room, to_room, wave) VALUES (?1, ?2, ?3, ?4, ?5)"
+
+-- ---- the table list
+
+abbrev pub add_list_text : List ℕ
+add_list_text = codes "INSERT INTO list(label, kind, body, added) VALUES (?1, ?2, ?3, ?4)"

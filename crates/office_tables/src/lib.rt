@@ -5,6 +5,7 @@
 
 mod cells;
 pub mod choices;
+pub mod lists;
 pub mod moves;
 pub mod people;
 pub mod results;

@@ -1,10 +1,10 @@
 //! Each reader once with ample memory, on rows out of order.
-use office_core::Person;
+use office_core::{KeptList, Person};
 use office_rows::{
     ChoiceRecord, OfficeRecords, PersonRecord, RoundRecord, read_choices, read_moves, read_office,
     read_people, read_round, read_table,
 };
-use room_types::{Key, Move, Name, PersonId, Phase, RoomCode, Wave};
+use room_types::{Key, Label, ListKind, Listing, Move, Name, PersonId, Phase, RoomCode, Wave};
 use std::alloc::Global;
 use std::process::Abort;
 use std::test::Fail;
@@ -111,7 +111,21 @@ fn records(alloc: Global, phase: Phase) -> Result<OfficeRecords, Fail> {
         words: Vec::new(alloc),
         results: Vec::new(alloc),
         moves: moves(alloc, 1)?,
+        lists: lists(alloc, 1)?,
     })
+}
+
+// A list that came in under a label and added so many records.
+fn lists(alloc: Global, count: u16) -> Result<Vec<(Label, KeptList)>, Fail> {
+    let bytes = Vec::from_slice(alloc, "room\nH1\n".as_bytes())?;
+    let kept = KeptList {
+        kind: ListKind::Rooms,
+        bytes: Listing::new(bytes),
+        count,
+    };
+    let mut lists = Vec::new(alloc);
+    lists.push((Label::read(alloc, "r-1")?, kept))?;
+    Ok(lists)
 }
 
 // Between rounds no office has lists.
@@ -124,5 +138,19 @@ fn reads_a_lawful_office_alone(rt: HostRuntime) -> Result<(), Fail> {
     }
     let round = round(alloc, Phase::Ran)?;
     assert!(rt; read_round(round.as_slice()).is_some());
+    Ok(())
+}
+
+// A kept list adds 10,000 records at most.
+#[test]
+fn keeps_lists_of_few_records(rt: HostRuntime) -> Result<(), Fail> {
+    let alloc = rt.alloc();
+    for count in [10_000, 10_001] {
+        let mut records = records(alloc, Phase::Opened)?;
+        records.lists = lists(alloc, count)?;
+        let found = read_office(alloc, records)?;
+        let kept = matches!(&found, Some(office) if office.lists.len() == 1);
+        assert!(rt; kept == (count == 10_000));
+    }
     Ok(())
 }

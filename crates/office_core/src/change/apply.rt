@@ -10,9 +10,7 @@ use crate::office::kept_list::KeptList;
 use crate::office::person::Person;
 use crate::office::{Assigned, Office};
 use room_types::rows::copy_optional;
-use room_types::{
-    Choices, Key, Label, ListKind, Listing, Name, OutOfMemory, PersonId, RoomCode,
-};
+use room_types::{Choices, Key, Label, ListKind, Listing, Name, OutOfMemory, PersonId, RoomCode};
 
 /// Applies a change. Where memory is refused the office is as before. `DropPerson`, `PutRound` and `ClearRound`, an
 /// empty list in `PutChoices`, and `PutHome` of somebody unknown take no memory, and are never refused.

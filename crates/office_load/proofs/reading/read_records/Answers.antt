@@ -37,14 +37,14 @@ returns-in_default-4-clause-found g c clean tables has spelled =
     let one = state g.S.Store c.read_two.new.conn in
     let two = state g.S.Store c.read_two-2.new.conn in
     let three = state g.S.Store c.read_two-3.new.conn in
-    let last = state g.S.Store c.table_records.new.conn in
-    let at_three = honest_before three last c.table_records.ensures.reads.follows (clean, c.in_ok-moves.ensures.is_open clean) in
+    let last = state g.S.Store c.read_two-4.new.conn in
+    let at_three = honest_before three last c.read_two-4.ensures.reads.follows (clean, c.in_ok-moves.ensures.is_open clean) in
     let at_two = honest_before two three c.read_two-3.ensures.reads.follows at_three in
     let at_one = honest_before one two c.read_two-2.ensures.reads.follows at_two in
     let has_one = still_has start one tables c.read_two.ensures.reads at_one has in
     let has_two = still_has one two tables c.read_two-2.ensures.reads at_two has_one in
     let has_three = still_has two three tables c.read_two-3.ensures.reads at_three has_two in
-    rw c.in_default-4.is at c.in_ok-moves.ensures.found clean has_three.schema tables.moves has_three.rows.moves spelled.moves
+    rw c.in_default-4.is at c.in_ok-moves.ensures.found clean has_three.schema tables.moves tables.lists has_three.rows.moves has_three.rows.lists spelled.moves spelled.lists
 
 pub returns-clause-found : goal.returns-clause-found
 returns-clause-found g c clean tables has spelled =
@@ -52,8 +52,8 @@ returns-clause-found g c clean tables has spelled =
     let one = state g.S.Store c.read_two.new.conn in
     let two = state g.S.Store c.read_two-2.new.conn in
     let three = state g.S.Store c.read_two-3.new.conn in
-    let last = state g.S.Store c.table_records.new.conn in
-    let at_three = honest_before three last c.table_records.ensures.reads.follows (clean, c.in_ok-moves.ensures.is_open clean) in
+    let last = state g.S.Store c.read_two-4.new.conn in
+    let at_three = honest_before three last c.read_two-4.ensures.reads.follows (clean, c.in_ok-moves.ensures.is_open clean) in
     let at_two = honest_before two three c.read_two-3.ensures.reads.follows at_three in
     let at_one = honest_before one two c.read_two-2.ensures.reads.follows at_two in
     let has_one = still_has start one tables c.read_two.ensures.reads at_one has in
@@ -62,8 +62,8 @@ returns-clause-found g c clean tables has spelled =
     let first = rw c.in-Some.is at c.in_ok-rooms.ensures.found at_one.0 has.schema tables.rooms tables.people has.rows.rooms has.rows.people spelled.rooms spelled.people in
     let second = rw c.in-Some-2.is at c.in_ok-rounds.ensures.found at_two.0 has_one.schema tables.rounds tables.choices has_one.rows.rounds has_one.rows.choices spelled.rounds spelled.choices in
     let third = rw c.in-Some-3.is at c.in_ok-words.ensures.found at_three.0 has_two.schema tables.words tables.results has_two.rows.words has_two.rows.results spelled.words spelled.results in
-    let moves = rw c.in-Some-4.is at c.in_ok-moves.ensures.found clean has_three.schema tables.moves has_three.rows.moves spelled.moves in
-    record { rooms = first.0; people = first.1; rounds = second.0; choices = second.1; words = third.0; results = third.1; moves = moves }
+    let fourth = rw c.in-Some-4.is at c.in_ok-moves.ensures.found clean has_three.schema tables.moves tables.lists has_three.rows.moves has_three.rows.lists spelled.moves spelled.lists in
+    record { rooms = first.0; people = first.1; rounds = second.0; choices = second.1; words = third.0; results = third.1; moves = fourth.0; lists = fourth.1 }
 
 pub returns-clause-shown : goal.returns-clause-shown
 returns-clause-shown g c clean has tables are =
@@ -71,8 +71,8 @@ returns-clause-shown g c clean has tables are =
     let one = state g.S.Store c.read_two.new.conn in
     let two = state g.S.Store c.read_two-2.new.conn in
     let three = state g.S.Store c.read_two-3.new.conn in
-    let last = state g.S.Store c.table_records.new.conn in
-    let at_three = honest_before three last c.table_records.ensures.reads.follows (clean, c.in_ok-moves.ensures.is_open clean) in
+    let last = state g.S.Store c.read_two-4.new.conn in
+    let at_three = honest_before three last c.read_two-4.ensures.reads.follows (clean, c.in_ok-moves.ensures.is_open clean) in
     let at_two = honest_before two three c.read_two-3.ensures.reads.follows at_three in
     let at_one = honest_before one two c.read_two-2.ensures.reads.follows at_two in
     let same_one = c.read_two.ensures.reads.same at_one has in
@@ -84,7 +84,7 @@ returns-clause-shown g c clean has tables are =
     let first = rw c.in-Some.is at c.in_ok-rooms.ensures.shown at_one.0 has in
     let second = rw c.in-Some-2.is at c.in_ok-rounds.ensures.shown at_two.0 has_one in
     let third = rw c.in-Some-3.is at c.in_ok-words.ensures.shown at_three.0 has_two in
-    let moves = rw c.in-Some-4.is at c.in_ok-moves.ensures.shown clean has_three in
+    let fourth = rw c.in-Some-4.is at c.in_ok-moves.ensures.shown clean has_three in
     record {
       rooms = shown_permuted _ _ _ _ _ _ are.rooms first.0;
       people = shown_permuted _ _ _ _ _ _ are.people first.1;
@@ -92,5 +92,6 @@ returns-clause-shown g c clean has tables are =
       choices = shown_permuted _ _ _ _ _ _ are.choices (shown_before _ _ _ start.now one.now 16 _ same_one second.1);
       words = shown_permuted _ _ _ _ _ _ are.words (shown_before _ _ _ start.now two.now 7 _ same_two third.0);
       results = shown_permuted _ _ _ _ _ _ are.results (shown_before _ _ _ start.now two.now 9 _ same_two third.1);
-      moves = shown_permuted _ _ _ _ _ _ are.moves (shown_before _ _ _ start.now three.now 12 _ same_three moves);
+      moves = shown_permuted _ _ _ _ _ _ are.moves (shown_before _ _ _ start.now three.now 12 _ same_three fourth.0);
+      lists = shown_permuted _ _ _ _ _ _ are.lists (shown_before _ _ _ start.now three.now 14 _ same_three fourth.1);
     }

@@ -35,6 +35,7 @@ returns-clause-makes c = record {
     words = (rw c.in-Some-4.is at c.in_ok-words.ensures.reads.told).1;
     results = (rw c.in-Some-5.is at c.in_ok-results.ensures.reads.told).1;
     moves = (rw c.in-Some-6.is at c.in_ok-moves.ensures.reads.told).1;
+    lists = (rw c.in-Some-7.is at c.in_ok-lists.ensures.reads.told).1;
   };
   only = λ office lawful has.
       let rooms = found_is _ _ _ c.in-Some.is (c.in_ok-rooms.ensures.reads.only office.rooms tt has.rooms) in
@@ -45,6 +46,7 @@ returns-clause-makes c = record {
       let words = found_is _ _ _ c.in-Some-4.is (c.in_ok-words.ensures.reads.only office.words tt has.words) in
       let results = found_is _ _ _ c.in-Some-5.is (c.in_ok-results.ensures.reads.only office.results tt has.results) in
       let moves = found_is _ _ _ c.in-Some-6.is (c.in_ok-moves.ensures.reads.only office.moves (record { none_empty = lawful.moves.none_empty }) has.moves) in
+      let lists = found_is _ _ _ c.in-Some-7.is (c.in_ok-lists.ensures.reads.only office.lists tt has.lists) in
       λ i. Some (record {
         rooms = rooms i;
         people = (people i).people;
@@ -53,6 +55,7 @@ returns-clause-makes c = record {
         words = words i;
         results = results i;
         moves = moves i;
+        lists = lists i;
         number = (round i).number;
         phase = (round i).phase;
       });

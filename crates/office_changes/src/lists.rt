@@ -1,0 +1,29 @@
+//! Changes of the kept lists.
+ghost use Rattle.std.specs.Prelude.{◌≡◌, OnOk};
+ghost use Rattle.sqlite.specs.Held.{state};
+ghost use Rattle.office_core.specs.declared.change.Change.TheVariants.{KeepList};
+ghost use Rattle.office_tables.specs.Steps.{StaysInside};
+ghost use Rattle.office_changes.specs.Carries.{CarriesAlways};
+
+use crate::cells::know_text;
+use office_tables::lists::add_list;
+use room_types::{Label, ListKind, Listing};
+use sqlite::{Alter, Error, Transaction};
+
+/// A list is kept under a label, and added so many records.
+pub(crate) fn keep_list<S: Alter>(
+    tx: &mut Transaction<'_, S>,
+    label: &Label,
+    kind: ListKind,
+    bytes: &Listing<u8>,
+    count: u16,
+) -> Result<(), Error>
+    ensures same_reference { tx.new.conn.ghost_name ≡ tx.old.conn.ghost_name }
+    ensures made { OnOk result
+        (CarriesAlways (state S.Store tx.old.conn.now) (state S.Store tx.new.conn.now)
+        (KeepList label.now kind bytes.now count)) }
+    ensures inside { StaysInside (state S.Store tx.old.conn.now) (state S.Store tx.new.conn.now) }
+{
+    know_text(label);
+    add_list(tx, label, kind, bytes, count)
+}

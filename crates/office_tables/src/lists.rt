@@ -1,0 +1,38 @@
+//! The table of kept lists.
+ghost use Rattle.std.specs.Prelude.{◌≡◌, OnOk};
+ghost use Rattle.sqlite.specs.Held.{state};
+ghost use Rattle.office_core.specs.declared.office.kept_list.KeptList.{KeptList};
+ghost use Rattle.office_tables.specs.Edits.{with_kept};
+ghost use Rattle.office_tables.specs.Makes.{Makes};
+ghost use Rattle.office_tables.specs.Steps.{StaysInside};
+
+use crate::running::run;
+use room_types::{Label, ListKind, Listing};
+use sqlite::{Alter, Error, Transaction, params};
+
+/// Adds a list that was handed in under a label, and how many records it added. Refused where a list is kept under this
+/// label.
+pub fn add_list<S: Alter>(
+    tx: &mut Transaction<'_, S>,
+    label: &Label,
+    kind: ListKind,
+    bytes: &Listing<u8>,
+    count: u16,
+) -> Result<(), Error>
+    ensures same_reference { tx.new.conn.ghost_name ≡ tx.old.conn.ghost_name }
+    ensures made { OnOk result
+        (Makes (state S.Store tx.old.conn.now) (state S.Store tx.new.conn.now)
+        (with_kept label.now (record { kind = kind; bytes = bytes.now; count = count }))) }
+    ensures inside { StaysInside (state S.Store tx.old.conn.now) (state S.Store tx.new.conn.now) }
+{
+    run(
+        tx,
+        "INSERT INTO list(label, kind, body, added) VALUES (?1, ?2, ?3, ?4)",
+        params![
+            label.as_str(),
+            kind.as_str(),
+            bytes.as_slice(),
+            u32::from(count)
+        ],
+    )
+}
