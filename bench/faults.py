@@ -1,26 +1,28 @@
-"""Lets `rooms do` fail while it works on a file, and looks at what the file holds afterwards.
+"""Lets `rooms do` and `rooms import` fail while they work on a file, and looks at what the file holds afterwards.
 
-Each line of a small year is told to copies of an office's file, and each of these runs meets a fault at a drawn place:
+Each line of some scripts is told to copies of an office's file, and each of these runs meets a fault at a drawn place:
 
 - `kill`: it is killed (SIGKILL) after a drawn part of the time that the line takes;
 - `limit`: its files may not grow past a drawn size, so that a write is refused, or kills it where the signal is not ignored;
 - `full`: it works on a small disk in memory of which a drawn part is left free (this mounts a tmpfs, which root alone may).
 
 Then the file is opened again where nothing fails: `sqlite3` has to find it whole, and what the program tells of it has to be
-the office before the line or the one after it, and the one after it where the line's whole answer had come. The year goes on
-with a copy that met no fault. Without `sqlite3` the file is opened by the program alone.
+the office before the line or the one after it, and the one after it where the line's whole answer had come. The script goes on
+with a copy that met no fault. A line `import KIND LABEL PATH` brings a list. Without `sqlite3` the file is opened by the program
+alone; the rows of its tables are read by Python's own `sqlite3` each time.
 """
 
 import random
 import resource
 import shutil
 import signal
+import sqlite3
 import subprocess
 import sys
 import tempfile
 import time
 from collections import Counter
-from contextlib import contextmanager
+from contextlib import closing, contextmanager
 from pathlib import Path
 
 ASKED = ("rooms", "people", "round", "order", "results", "moves 1", "moves 2", "me key00000000000t1", "whatif T1 V")
@@ -42,6 +44,22 @@ def copy_office(source, target):
         new.unlink(missing_ok=True)
         if old.exists():
             shutil.copyfile(old, new)
+
+
+@contextmanager
+def opened(office):
+    """A copy of the office's file and its log, opened by SQLite itself."""
+    with tempfile.TemporaryDirectory() as folder:
+        copy = Path(folder) / "copy.db"
+        copy_office(office, copy)
+        with closing(sqlite3.connect(copy)) as database:
+            yield database
+
+
+def content_of(office):
+    """All rows of all tables."""
+    with opened(office) as database:
+        return list(database.iterdump())
 
 
 def bytes_of(office):
@@ -121,7 +139,8 @@ class Trial:
 
     def words(self, office, words):
         """The program's own words for a line on this office."""
-        return [self.program, "do", "--db", str(office), *words]
+        line = words if words[0] == "import" else ["do", *words]
+        return [self.program, line[0], "--db", str(office), *line[1:]]
 
     def told(self, office, words):
         """What the program answers to a line on this office, and how long it takes."""
@@ -133,7 +152,7 @@ class Trial:
         """All that the program tells of the office, asked of a copy."""
         copy = self.folder / "shown.db"
         copy_office(office, copy)
-        return tuple(self.told(copy, line.split())[0] for line in ASKED)
+        return tuple(self.told(copy, line.split())[0] for line in ASKED), content_of(copy)
 
     def is_whole(self, office):
         """Whether `sqlite3` finds nothing wrong with a copy of the file and its log."""
@@ -185,19 +204,24 @@ def tried(program, fault, folder, script, times):
     return trial.seen
 
 
-def main(way, program, script, times):
-    """Tries one way to fail, and prints what was seen."""
+def tried_so(way, program, script, times):
+    """Tries one way to fail on the lines of a script; gives what was seen."""
     draws = random.Random(1999)
     with tempfile.TemporaryDirectory() as name:
         folder = Path(name)
         if way == "full":
             with small_disk(folder):
-                seen = tried(program, Full(folder, draws), folder, script, times)
-        else:
-            fault = {"kill": Killed, "limit": Limited}[way](folder, draws)
-            seen = tried(program, fault, folder, script, times)
-    print(f"{way}: " + ", ".join(f"{what} {count}" for what, count in seen.items()))
+                return tried(program, Full(folder, draws), folder, script, times)
+        fault = {"kill": Killed, "limit": Limited}[way](folder, draws)
+        return tried(program, fault, folder, script, times)
+
+
+def main(way, program, times, *scripts):
+    """Prints what was seen, a line for each script."""
+    for script in scripts:
+        seen = tried_so(way, program, script, int(times))
+        print(f"{way}, {script}: " + ", ".join(f"{what} {count}" for what, count in seen.items()))
 
 
 if __name__ == "__main__":
-    main(sys.argv[1], sys.argv[2], sys.argv[3], int(sys.argv[4]))
+    main(*sys.argv[1:])

@@ -1,11 +1,11 @@
 #!/usr/bin/env bash
-# Lets `rooms do` fail while it changes a file, so many times for each line of a small year: `kill` kills it at drawn
-# moments, `limit` keeps its files from growing, `full` fills the disk (as root). Tells how many of these runs had answered,
-# were answered `unavailable`, or kept their change. It ends at the first file that is not whole, or that holds an office
-# which is neither the one before the line nor the one after it.
+# Lets `rooms do` and `rooms import` fail while they change a file, so many times for each line of a small year and of a year
+# by lists: `kill` kills them at drawn moments, `limit` keeps their files from growing, `full` fills the disk (as root). Tells
+# how many of these runs had answered, were answered `unavailable`, or kept their change. It ends at the first file that is not
+# whole, or that holds an office which is neither the one before the line nor the one after it.
 #
 #     bench/faults.sh kill 10
 set -euo pipefail
 cd "$(dirname "$0")/.."
 ./rooms rehearse </dev/null
-exec python3 bench/faults.py "${1:-kill}" crates/office_cli/out/office_cli examples/year.txt "${2:-5}"
+exec python3 bench/faults.py "${1:-kill}" crates/office_cli/out/office_cli "${2:-5}" examples/year.txt bench/lists.txt

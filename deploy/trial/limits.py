@@ -84,6 +84,11 @@ def rate(stand):
 def office_scripts(stand):
     check("beside the server the office's line is unavailable", "unavailable" in beside(stand))
     check("rooms-office does it", stand.office("room H9") == "ok\n")
+    rooms = stand.folder / "a list's rooms.csv"
+    rooms.write_text("room\nH11\n", encoding="utf-8")
+    for turn in ("brings a list", "brings it again"):
+        check(f"rooms-office {turn}", stand.script("rooms-office", "import", "rooms", "rooms-1", str(rooms)) == "added 1\n")
+    check("the list's room is there", "H11 " in stand.office("rooms"))
     check("and the server is there again", stand.wanted.exists())
 
 

@@ -7,9 +7,12 @@ pub mod Cancel
 pub mod Changes
 pub mod CloseRound
 pub mod Draw
+pub mod Import
 pub mod Leave
+pub mod ListChecks
 pub mod OpenRound
 pub mod Publish
+pub mod Records
 pub mod Remove
 pub mod Reopen
 pub mod Run
@@ -34,6 +37,7 @@ use Rattle.office_core.proofs.CommandLemmas.AddRoom.{add_room-leads}
 use Rattle.office_core.proofs.CommandLemmas.Cancel.{cancel-leads}
 use Rattle.office_core.proofs.CommandLemmas.CloseRound.{close_round-leads}
 use Rattle.office_core.proofs.CommandLemmas.Draw.{draw-leads}
+use Rattle.office_core.proofs.CommandLemmas.Import.{import-leads}
 use Rattle.office_core.proofs.CommandLemmas.Leave.{leave-leads}
 use Rattle.office_core.proofs.CommandLemmas.OpenRound.{open_round-leads}
 use Rattle.office_core.proofs.CommandLemmas.Publish.{publish-leads}
@@ -66,6 +70,8 @@ leads_on office command.Run f l h = run-leads office l h
 leads_on office command.Publish f l h = publish-leads office l h
 leads_on office command.Settle f l h = settle-leads office l h
 leads_on office command.Cancel f l h = cancel-leads office l h
+leads_on office (command.Import label kind bytes) f l h =
+    import-leads office label kind bytes l h
 
 pub decision_leads : (office : Office) (given : Command) (result : Result Decision Refusal)
     → IsLawful office → OnOk result (IsFormed given)

@@ -1,6 +1,7 @@
 -- Lemmas on the office.
 pub mod Empty
 pub mod Homes
+pub mod Indexed
 pub mod Lists
 pub mod Moves
 pub mod Over

@@ -1,11 +1,12 @@
 -- The rows of what a query or a command is answered ascend.
 use Rattle.std.proofs.Common.{sym, subst}
 use Rattle.std.specs.FinMap as maps
-use Rattle.std.specs.Prelude.{Result, Ok, Err, IfOk, Bool, true, false, Option, None, Some, if◌then◌else◌, refl}
+use Rattle.std.specs.Prelude.{ℕ, List, Result, Ok, Err, IfOk, Bool, true, false, Option, None, Some, if◌then◌else◌, refl}
 use Rattle.room_types.specs.TextMaps.{rows_ascend}
 use Rattle.room_types.specs.Texts.{Text}
 use Rattle.office_core.specs.Command.{checks, reply_to, changes_of}
 use Rattle.office_core.specs.Command.Decision.{Decides}
+use Rattle.office_core.specs.Command.Import.{reply_where}
 use Rattle.office_core.specs.Office.{is_over, owner}
 use Rattle.office_core.specs.Office.Phases.{has_results, has_words}
 use Rattle.office_core.specs.Query.{told}
@@ -24,6 +25,7 @@ use Rattle.office_core.specs.declared.command.Command.{Command}
 use Rattle.office_core.specs.declared.command.Command.TheVariants as command
 use Rattle.office_core.specs.declared.command.decision.Decision.{Decision}
 use Rattle.office_core.specs.declared.office.Office.{Office}
+use Rattle.office_core.specs.declared.office.kept_list.KeptList.{KeptList}
 use Rattle.office_core.specs.declared.office.person.Person.{Person}
 use Rattle.office_core.specs.declared.query.Query.{Query}
 use Rattle.office_core.specs.declared.query.Query.TheVariants as query
@@ -72,6 +74,11 @@ told_ascends office (query.WhatIf person choices) =
     unless_ascends (first_refusal (list_checks office person choices))
     (reply.WouldGet (result_by office person choices)) tt
 
+added_ascends : (kept : Option KeptList) (bytes : List ℕ)
+    → RowsAscend (reply_where kept bytes)
+added_ascends None bytes = tt
+added_ascends (Some kept) bytes = tt
+
 -- in the reply to a command, which has none
 reply_ascends : (office : Office) (given : Command) → RowsAscend (reply_to office given)
 reply_ascends office (command.AddRoom room) = tt
@@ -90,6 +97,8 @@ reply_ascends office command.Run = tt
 reply_ascends office command.Publish = tt
 reply_ascends office command.Settle = tt
 reply_ascends office command.Cancel = tt
+reply_ascends office (command.Import label kind bytes) =
+    added_ascends (maps.get office.lists label) bytes
 
 pub answer_ascends : (office : Office) (asked : Query) (result : Result Reply Refusal)
     → Tells (told office asked) result → IfOk result RowsAscend

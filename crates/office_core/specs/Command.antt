@@ -6,6 +6,7 @@ pub mod Cancel
 pub mod CloseRound
 pub mod Decision
 pub mod Draw
+pub mod Import
 pub mod Leave
 pub mod OpenRound
 pub mod Publish
@@ -29,6 +30,7 @@ use Rattle.office_core.specs.Command.AddRoom as add_room
 use Rattle.office_core.specs.Command.Cancel as cancel
 use Rattle.office_core.specs.Command.CloseRound as close_round
 use Rattle.office_core.specs.Command.Draw as draw
+use Rattle.office_core.specs.Command.Import as import_list
 use Rattle.office_core.specs.Command.Leave as leave
 use Rattle.office_core.specs.Command.OpenRound as open_round
 use Rattle.office_core.specs.Command.Publish as publish
@@ -60,6 +62,7 @@ checks office command.Run = run.checks office
 checks office command.Publish = publish.checks office
 checks office command.Settle = settle.checks office
 checks office command.Cancel = cancel.checks office
+checks office (command.Import label kind bytes) = import_list.checks office label kind bytes
 
 -- the first refusal that applies, or none
 abbrev pub accepts : Office → Command → Option Refusal
@@ -83,6 +86,7 @@ next office command.Run = run.next office
 next office command.Publish = publish.next office
 next office command.Settle = settle.next office
 next office command.Cancel = cancel.next office
+next office (command.Import label kind bytes) = import_list.next office label kind bytes
 
 -- the reply to an accepted command
 abbrev pub reply_to : Office → Command → Reply
@@ -102,6 +106,7 @@ reply_to office command.Run = run.reply_to office
 reply_to office command.Publish = publish.reply_to office
 reply_to office command.Settle = settle.reply_to office
 reply_to office command.Cancel = cancel.reply_to office
+reply_to office (command.Import label kind bytes) = import_list.reply_to office label kind bytes
 
 -- the changes that carry an accepted command out, in order
 abbrev pub changes_of : Office → Command → List Change
@@ -122,3 +127,4 @@ changes_of office command.Run = run.changes_of office
 changes_of office command.Publish = publish.changes_of office
 changes_of office command.Settle = settle.changes_of office
 changes_of office command.Cancel = cancel.changes_of office
+changes_of office (command.Import label kind bytes) = import_list.changes_of office label kind bytes

@@ -2,3 +2,4 @@
 pub mod Formed
 pub mod Passes
 pub mod RoundProblem
+pub mod Tries

@@ -9,7 +9,7 @@ use Rattle.office_core.specs.declared.refusal.Refusal.TheVariants.{KeyInUse}
 use Rattle.office_core.specs.declared.refusal.Refusal.TheVariants.{RoomShut, RoomTaken, HasHome}
 use Rattle.office_core.specs.declared.refusal.Refusal.TheVariants.{NoHome, Withdrawn}
 use Rattle.office_core.specs.declared.refusal.Refusal.TheVariants.{WrongWordCount, LimitReached}
-use Rattle.office_core.specs.declared.refusal.Refusal.TheVariants.{NotInRound}
+use Rattle.office_core.specs.declared.refusal.Refusal.TheVariants.{ListDiffers, BadRecord, NotInRound}
 use Rattle.office_core.specs.declared.refusal.Refusal.TheVariants.{NoSuchRound, NotShut}
 use Rattle.office_core.specs.declared.refusal.Refusal.TheVariants.{OutOfMemory}
 
@@ -27,6 +27,8 @@ number_of NoHome = 10
 number_of Withdrawn = 11
 number_of (WrongWordCount want got) = 12
 number_of LimitReached = 13
+number_of ListDiffers = 14
+number_of (BadRecord at cause) = 15
 number_of NotInRound = 16
 number_of NoSuchRound = 17
 number_of NotShut = 18
@@ -46,6 +48,8 @@ name_of NoHome = codes "NoHome"
 name_of Withdrawn = codes "Withdrawn"
 name_of (WrongWordCount want got) = codes "WrongWordCount"
 name_of LimitReached = codes "LimitReached"
+name_of ListDiffers = codes "ListDiffers"
+name_of (BadRecord at cause) = codes "BadRecord"
 name_of NotInRound = codes "NotInRound"
 name_of NoSuchRound = codes "NoSuchRound"
 name_of NotShut = codes "NotShut"

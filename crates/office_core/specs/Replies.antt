@@ -18,6 +18,7 @@ RowsAscend (reply.Ran participants) = ⊤
 RowsAscend (reply.Published participants) = ⊤
 RowsAscend (reply.Settled moves) = ⊤
 RowsAscend reply.Cancelled = ⊤
+RowsAscend (reply.Added count) = ⊤
 RowsAscend (reply.Rooms rows) = AscendsBy (λ row. row.room) rows
 RowsAscend (reply.People rows) = AscendsBy (λ row. row.person) rows
 RowsAscend (reply.Round number phase people withdrawn) = ⊤

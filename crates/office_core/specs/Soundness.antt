@@ -45,8 +45,8 @@ is_choices codes =
     nat_le (length codes) CHOICE_LIMIT && not (is_some (first_repeated [] codes))
 
 -- whether a list may be recorded: it is one of choices, is not empty, and its rooms are known
-abbrev pub is_kept_list : TextMap Bool → List Text → Bool
-is_kept_list rooms codes =
+abbrev pub is_recorded_list : TextMap Bool → List Text → Bool
+is_recorded_list rooms codes =
     is_choices codes
     && (not (is_empty codes) && list_all (λ code. map.contains_key rooms code) codes)
 

@@ -6,6 +6,7 @@ pub mod close_round;
 pub mod decide;
 pub mod decision;
 pub mod draw;
+pub mod import;
 pub mod leave;
 pub mod open_round;
 pub mod publish;
@@ -18,7 +19,7 @@ pub mod settle;
 pub mod shut;
 pub mod withdraw;
 
-use room_types::{Choices, Key, Listing, Name, PersonId, RoomCode, Word};
+use room_types::{Choices, Key, Label, ListKind, Listing, Name, PersonId, RoomCode, Word};
 
 /// A command of the office, or of a resident.
 #[derive(Drop)]
@@ -80,4 +81,10 @@ pub enum Command {
     Settle,
     /// Gives the round up.
     Cancel,
+    /// Adds what a list tells, all of it or nothing, and keeps the list under its label.
+    Import {
+        label: Label,
+        kind: ListKind,
+        bytes: Listing<u8>,
+    },
 }

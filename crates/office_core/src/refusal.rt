@@ -4,6 +4,7 @@ ghost use Rattle.office_core.specs.Refusal.{number_of, name_of};
 
 pub mod rooms;
 
+use office_lists::{Cause, ListFault};
 use room_types::{OutOfMemory, Phase, RoomCode};
 use std::alloc::{AllocError, AllocFailed};
 
@@ -34,8 +35,12 @@ pub enum Refusal {
     Withdrawn,
     /// There are `want` participants, and `got` words.
     WrongWordCount { want: usize, got: usize },
-    /// There are as many rooms, people or rounds as there may be.
+    /// There are as many rooms, people, rounds or kept lists as there may be, or the list is too long.
     LimitReached,
+    /// Another list is kept under this label.
+    ListDiffers,
+    /// Record `at` of the list is bad, where the header is record 0.
+    BadRecord { at: u32, cause: Cause },
     /// The person has withdrawn from the round, and so has no place in the order.
     NotInRound,
     /// No round of this number is over: it is 0, has not begun, or is still under way.
@@ -65,6 +70,8 @@ impl Refusal {
             Refusal::Withdrawn => 11,
             Refusal::WrongWordCount { .. } => 12,
             Refusal::LimitReached => 13,
+            Refusal::ListDiffers => 14,
+            Refusal::BadRecord { .. } => 15,
             Refusal::NotInRound => 16,
             Refusal::NoSuchRound => 17,
             Refusal::NotShut => 18,
@@ -90,6 +97,8 @@ impl Refusal {
             Refusal::Withdrawn => "Withdrawn",
             Refusal::WrongWordCount { .. } => "WrongWordCount",
             Refusal::LimitReached => "LimitReached",
+            Refusal::ListDiffers => "ListDiffers",
+            Refusal::BadRecord { .. } => "BadRecord",
             Refusal::NotInRound => "NotInRound",
             Refusal::NoSuchRound => "NoSuchRound",
             Refusal::NotShut => "NotShut",
@@ -148,5 +157,19 @@ impl<T: Drop> From<AllocFailed<T>> for Refusal {
 
     fn from(_error: AllocFailed<T>) -> Refusal {
         Refusal::OutOfMemory
+    }
+}
+
+impl From<ListFault> for Refusal {
+    ghost use Rattle.std.specs.Prelude.{◌≡◌};
+    ghost use Rattle.office_core.specs.Command.Import.{bad_list};
+
+    ghost from_gives = { λ fault refusal. refusal ≡ bad_list fault };
+
+    fn from(fault: ListFault) -> Refusal {
+        match fault {
+            ListFault::Bad { at, cause } => Refusal::BadRecord { at, cause },
+            ListFault::OutOfMemory => Refusal::OutOfMemory,
+        }
     }
 }

@@ -69,6 +69,10 @@ pub enum Reply {
     },
     /// The round is given up.
     Cancelled,
+    /// The list has added so many records, now or when it first came.
+    Added {
+        count: u16,
+    },
     /// The rooms, by code.
     Rooms(Listing<RoomRow>),
     /// The people, by identifier.

@@ -5,8 +5,9 @@ use Rattle.sqlite.specs.State.{HasCleanDisk}
 use Rattle.sqlite_disk.specs.declared.Disk.{Ghosts}
 use Rattle.sqlite_store.specs.declared.store.FileStore.{FileStore}
 use Rattle.sqlite_wal.specs.Recovery.{Image}
-use Rattle.office_program.specs.AtDesk.{DoesAt, ExportsAt, ExportsDesk, HearsWords, ServesAt, TellsMade}
-use Rattle.office_program.specs.InFile.{DoesFound, DoesInFile, ExportsFound, ExportsInFile, MakesInFile, ServesInFile}
+use Rattle.office_program.specs.AtDesk.{DoesAt, ExportsAt, ExportsDesk, HearsWords, ImportsAt, ImportsDesk, ServesAt, TellsMade}
+use Rattle.office_program.specs.Shelves.{Shelf}
+use Rattle.office_program.specs.InFile.{DoesFound, DoesInFile, ExportsFound, ExportsInFile, ImportsFound, ImportsInFile, MakesInFile, ServesInFile}
 use Rattle.office_core.specs.Office.{empty_office}
 use Rattle.office_file.specs.Adopted.{BeginsFound, IsFileFault}
 use Rattle.office_file.specs.Files.{BeginsBlank, IsCreateFault}
@@ -17,6 +18,7 @@ use Rattle.office_store.specs.declared.desk.faults.DeskFault.{DeskFault}
 use Rattle.office_tables.proofs.StepLemmas.{follows_then}
 use Rattle.room_types.specs.Streams.{Output}
 use Rattle.room_types.specs.Texts.{Text}
+use Rattle.room_types.specs.declared.kinds.ListKind.{ListKind}
 
 module _ {D : Type 0} (g : Ghosts D) (contents : Image) where
   -- a desk that shows an office stands for it
@@ -49,6 +51,28 @@ module _ {D : Type 0} (g : Ghosts D) (contents : Image) where
   does (Err fault) (Err same) words status out out' begins cause done = inr (fault, cause, done.1)
   does (Ok desk) (Err fault) words status out out' begins cause done = absurd done
   does (Err fault) (Ok last) words status out out' begins cause done = absurd done
+
+  imports_found : (shelf : Shelf) (desk last : DeskState (FileStore D g)) (kind : ListKind) (label path : Text) (status : ℕ) (out out' : Output) → BeginsFound contents desk
+      → ImportsDesk over_files shelf desk last kind label path status out out' → ImportsFound g contents shelf kind label path status out out'
+  imports_found shelf desk last kind label path status out out' begins imports = record {
+    found = begins.connection;
+    opened = begins.opened;
+    desk = desk;
+    last = last;
+    follows = follows_then (file_state begins.connection) (file_state desk.conn) (file_state last.conn) begins.follows imports.follows;
+    heard = imports.heard;
+    done = λ clean declared whole.
+        let shown = begins.shows (imports.follows.clean clean) declared whole in
+        let next = imports.done clean shown.0 (stands desk shown.0 shown.2) in
+        (shown.0, shown.1, next);
+  }
+
+  pub imports : (shelf : Shelf) (found last : Result (DeskState (FileStore D g)) DeskFault) (kind : ListKind) (label path : Text) (status : ℕ) (out out' : Output) → IfOk found (BeginsFound contents)
+      → IsFileFault contents found → ImportsAt over_files shelf found last kind label path status out out' → ImportsInFile g contents shelf kind label path status out out'
+  imports shelf (Ok desk) (Ok last) kind label path status out out' begins cause done = inl (imports_found shelf desk last kind label path status out out' begins done)
+  imports shelf (Err fault) (Err same) kind label path status out out' begins cause done = inr (fault, cause, done.1)
+  imports shelf (Ok desk) (Err fault) kind label path status out out' begins cause done = absurd done
+  imports shelf (Err fault) (Ok last) kind label path status out out' begins cause done = absurd done
 
   exports_found : (desk last : DeskState (FileStore D g)) (kind : ExportKind) (status : ℕ) (out out' : Output) → BeginsFound contents desk → ExportsDesk over_files desk last kind status out out'
       → ExportsFound g contents kind status out out'

@@ -4,6 +4,7 @@ use Rattle.sqlite.specs.Held.{state}
 use Rattle.sqlite.specs.State.{HasCleanDisk}
 use Rattle.sqlite_trees.specs.declared.store.Store.{Ghosts}
 use Rattle.office_program.specs.DeskFaults.{RefusesDesk}
+use Rattle.office_program.specs.Shelves.{ImportsPath, Shelf}
 use Rattle.office_core.specs.declared.office.Office.{Office}
 use Rattle.office_export.specs.Ending.{PutsCount, PutsFront}
 use Rattle.office_export.specs.Exports.{exported}
@@ -21,6 +22,7 @@ use Rattle.office_texts.specs.OutputLines.{line_of}
 use Rattle.resident_server.specs.Serving.{ServesPort}
 use Rattle.room_types.specs.Streams.{Output}
 use Rattle.room_types.specs.Texts.{Text}
+use Rattle.room_types.specs.declared.kinds.ListKind.{ListKind}
 
 -- `ok` is said where a desk was made, and else why there is none
 abbrev pub TellsMade : {S : Type 0} → Result (DeskState S) DeskFault → ℕ → Output → Output → Type 0
@@ -50,6 +52,14 @@ module _ {S : Type 0} (g : Ghosts S) where
     pub done : HasCleanDisk (state g new.conn) → (office : Office) → StandsFor g old office
         → (next : Office) × DoesWords HandlesLawfully office words status next out out' × StandsFor g new next
 
+  -- The list of a path comes in at the desk, which is then the new one. Where the disk returned what was written, it has come in
+  -- at the office that the desk stood for, and the desk stands for the office after it.
+  pub record ImportsDesk (shelf : Shelf) (old new : DeskState S) (kind : ListKind) (label path : Text) (status : ℕ) (out out' : Output) : Type 0 where
+    pub follows : Follows (state g old.conn) (state g new.conn)
+    pub heard : ImportsPath (HandlesAt g) shelf old kind label path status new out out'
+    pub done : HasCleanDisk (state g new.conn) → (office : Office) → StandsFor g old office
+        → (next : Office) × ImportsPath HandlesLawfully shelf office kind label path status next out out' × StandsFor g new next
+
   -- The desk writes the export, and is then the new one. Where the disk returned what was written, it is the export of the
   -- office that the desk stood for, and the desk stands for that office still.
   pub record ExportsDesk (old new : DeskState S) (kind : ExportKind) (status : ℕ) (out out' : Output) : Type 0 where
@@ -71,6 +81,13 @@ module _ {S : Type 0} (g : Ghosts S) where
   DoesAt (Err fault) (Err same) words status out out' = (same ≡ fault) × RefusesDesk fault status out out'
   DoesAt (Ok old) (Err fault) words status out out' = ⊥
   DoesAt (Err fault) (Ok new) words status out out' = ⊥
+
+  -- the list of a path comes in at the desk that was found, or it is said why none was found
+  abbrev pub ImportsAt : Shelf → Result (DeskState S) DeskFault → Result (DeskState S) DeskFault → ListKind → Text → Text → ℕ → Output → Output → Type 0
+  ImportsAt shelf (Ok old) (Ok new) kind label path status out out' = ImportsDesk shelf old new kind label path status out out'
+  ImportsAt shelf (Err fault) (Err same) kind label path status out out' = (same ≡ fault) × RefusesDesk fault status out out'
+  ImportsAt shelf (Ok old) (Err fault) kind label path status out out' = ⊥
+  ImportsAt shelf (Err fault) (Ok new) kind label path status out out' = ⊥
 
   -- residents are served at the desk that was found, or it is said why none was found
   abbrev pub ServesAt : Result (DeskState S) DeskFault → Result (DeskState S) DeskFault → ℕ → ℕ → ℕ → Output → Output → Type 0

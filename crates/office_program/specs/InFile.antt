@@ -8,6 +8,7 @@ use Rattle.sqlite_store.specs.declared.store.FileStore.{FileStore}
 use Rattle.sqlite_wal.specs.Recovery.{Image}
 use Rattle.office_program.specs.AtDesk.{EndsExport, SendsExport}
 use Rattle.office_program.specs.DeskFaults.{RefusesDesk}
+use Rattle.office_program.specs.Shelves.{ImportsPath, Shelf}
 use Rattle.office_core.specs.Office.{empty_office}
 use Rattle.office_core.specs.declared.office.Office.{Office}
 use Rattle.office_export.specs.Exports.{exported}
@@ -27,6 +28,7 @@ use Rattle.office_texts.specs.OutputLines.{line_of}
 use Rattle.resident_server.specs.Serving.{ServesPort}
 use Rattle.room_types.specs.Streams.{Output}
 use Rattle.room_types.specs.Texts.{Text}
+use Rattle.room_types.specs.declared.kinds.ListKind.{ListKind}
 
 -- both files were empty
 abbrev pub no_contents : Image
@@ -70,6 +72,27 @@ module _ {D : Type 0} (g : Ghosts D) (contents : Image) where
   abbrev pub DoesInFile : List Text → ℕ → Output → Output → Type 0
   DoesInFile words status out out' =
       DoesFound words status out out'
+      ⊎ ((fault : DeskFault) × IsFileFault {g = g} contents (Err fault) × RefusesDesk fault status out out')
+
+  -- At a desk over the database that an opening found the list of a path comes in. Where the disk returned what was
+  -- written, and the tables were declared as those of an office, they were the rows of an office, at which it has come in; and
+  -- the desk stands for the office after it.
+  pub record ImportsFound (shelf : Shelf) (kind : ListKind) (label path : Text) (status : ℕ) (out out' : Output) : Type 0 where
+    pub found : Held (FileStore D g)
+    pub opened : IsOpenedOver contents found
+    pub desk : FileDesk
+    pub last : FileDesk
+    pub follows : Follows (file_state found) (file_state last.conn)
+    pub heard : ImportsPath (HandlesAt over_files) shelf desk kind label path status last out out'
+    pub done : HasCleanDisk (file_state last.conn) → AreDeclared (file_state found).now.schema
+        → AreWhole (file_state found).now.trees
+        → (office : Office) × HoldsOffice (file_state found).now office
+        × ((next : Office) × ImportsPath HandlesLawfully shelf office kind label path status next out out' × StandsFor over_files last next)
+
+  -- the list of a path comes in at the office in the file, or it is said why there is none
+  abbrev pub ImportsInFile : Shelf → ListKind → Text → Text → ℕ → Output → Output → Type 0
+  ImportsInFile shelf kind label path status out out' =
+      ImportsFound shelf kind label path status out out'
       ⊎ ((fault : DeskFault) × IsFileFault {g = g} contents (Err fault) × RefusesDesk fault status out out')
 
   -- A desk over the database that an opening found writes the export. Where the disk returned what was written, and the

@@ -10,15 +10,22 @@ use Rattle.office_program.specs.Seeds.{seed_of}
 use Rattle.office_program.specs.Usage.{usage}
 use Rattle.office_lists.specs.declared.exports.ExportKind.{ExportKind}
 use Rattle.office_lists.specs.declared.exports.ExportKind.TheVariants.{Rooms, People, Moves}
+use Rattle.office_words.specs.Values.{in_grammar}
+use Rattle.room_types.specs.Grammars.{is_label}
+use Rattle.room_types.specs.Kinds.{kind_text}
 use Rattle.room_types.specs.Texts.{Text}
+use Rattle.room_types.specs.declared.kinds.ListKind.{ListKind}
+use Rattle.room_types.specs.declared.kinds.ListKind.TheVariants as list
 
 -- A line of the program: an office is made in the file of a path, the office in such a file hears words as a line, lines are
--- rehearsed, so many words of a seed are printed, the office in a file is exported, or it serves on a port so many connections.
+-- rehearsed, so many words of a seed are printed, a list of one kind comes in under a label from the file of the second path to
+-- the office in the file of the first, the office in a file is exported, or it serves on a port so many connections.
 pub data Line : Type 0 where
   makes : Text → Line
   does : Text → List Text → Line
   rehearses : Line
   prints : List ℕ → ℕ → Line
+  imports : Text → ListKind → Text → Text → Line
   exports : Text → ExportKind → Line
   serves : Text → ℕ → ℕ → Line
 
@@ -28,6 +35,7 @@ line_of (program.New path) = makes path.now
 line_of (program.Do path words) = does path.now (map (λ word. word.now) words.items)
 line_of program.Rehearse = rehearses
 line_of (program.Words seed count) = prints seed count
+line_of (program.Import path kind label list) = imports path.now kind label list.now
 line_of (program.Export path kind) = exports path.now kind
 line_of (program.Serve path port count) = serves path.now port count
 
@@ -51,6 +59,27 @@ do_line rows = option_and_then (λ path. option_map (does path) (all_of (codes "
 -- `words --seed HEX --count N`
 abbrev pub words_line : List Row → Option Line
 words_line rows = option_and_then (λ seed. option_map (prints seed) (number_of 0 2000 (codes "count") rows)) (option_and_then seed_of (first_of (codes "seed") rows))
+
+-- the kind of lists of this name
+abbrev pub list_kind_named : Text → Option ListKind
+list_kind_named name =
+    if bytes_eq name (kind_text list.Rooms) then Some list.Rooms
+    else if bytes_eq name (kind_text list.People) then Some list.People
+    else if bytes_eq name (kind_text list.Choices) then Some list.Choices
+    else None
+
+-- the kind and the label that were given
+abbrev pub list_kind_given : List Row → Option ListKind
+list_kind_given rows = option_and_then list_kind_named (first_of (codes "kind") rows)
+
+abbrev pub label_given : List Row → Option Text
+label_given rows = option_and_then (in_grammar is_label) (first_of (codes "label") rows)
+
+-- `import --db FILE KIND LABEL PATH`
+abbrev pub import_line : List Row → Option Line
+import_line rows =
+    option_and_then (λ path. option_and_then (λ list. option_and_then (λ kind. option_map (λ label. imports path kind label list) (label_given rows))
+    (list_kind_given rows)) (first_of (codes "path") rows)) (first_of (codes "db") rows)
 
 -- the export of this name
 abbrev pub kind_named : Text → Option ExportKind
@@ -77,6 +106,7 @@ entered_line (name, rows) = if bytes_eq name (codes "new") then new_line rows
     else if bytes_eq name (codes "do") then do_line rows
     else if bytes_eq name (codes "rehearse") then Some rehearses
     else if bytes_eq name (codes "words") then words_line rows
+    else if bytes_eq name (codes "import") then import_line rows
     else if bytes_eq name (codes "export") then export_line rows
     else if bytes_eq name (codes "serve") then serve_line rows
     else None

@@ -44,6 +44,10 @@ words_usage = with_rule (with_rule (new_app (codes "words")) (option (codes "see
 abbrev pub operand : Text → Rule
 operand name = record (new_rule name) { action = Some Set; required = true }
 
+abbrev pub import_usage : App
+import_usage = with_rule (with_rule (with_rule (with_rule (new_app (codes "import")) (option (codes "db"))) (operand (codes "kind")))
+    (operand (codes "label"))) (operand (codes "path"))
+
 abbrev pub export_usage : App
 export_usage = with_rule (with_rule (new_app (codes "export")) (option (codes "db"))) (operand (codes "kind"))
 
@@ -52,8 +56,8 @@ serve_usage = with_rule (with_rule (with_rule (new_app (codes "serve")) (option 
     (number 1 1000000 (codes "count"))
 
 abbrev pub usage : App
-usage = with_subcommand (with_subcommand (with_subcommand (with_subcommand (with_subcommand (with_subcommand plain_usage
-    new_usage.top) do_usage.top) rehearse_usage.top) words_usage.top) export_usage.top) serve_usage.top
+usage = with_subcommand (with_subcommand (with_subcommand (with_subcommand (with_subcommand (with_subcommand (with_subcommand plain_usage
+    new_usage.top) do_usage.top) rehearse_usage.top) words_usage.top) import_usage.top) export_usage.top) serve_usage.top
 
 -- the command is this one, and no argument of it is global
 abbrev pub IsCommand : App → Command → Type 0

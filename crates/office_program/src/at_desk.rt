@@ -2,16 +2,20 @@
 ghost use Rattle.std.specs.Prelude.{map};
 ghost use Rattle.room_types.specs.Streams.{output_of};
 ghost use Rattle.room_types.specs.Watched.{IsFresh, StopsAtFailure};
-ghost use Rattle.office_program.specs.AtDesk.{DoesAt, ExportsAt, ExportsDesk, ServesAt, TellsMade};
+ghost use Rattle.office_program.specs.AtDesk.{DoesAt, ExportsAt, ExportsDesk, ImportsAt, ImportsDesk, ServesAt};
+ghost use Rattle.office_program.specs.AtDesk.{TellsMade};
+ghost use Rattle.office_program.specs.Shelves.{shelf_of};
 
 use crate::desk_faults::refuse_desk;
+use crate::importing::import_list;
+use crate::lists::Lists;
 use office_lines::do_line::do_words;
 use office_lines::say::say;
 use office_lists::ExportKind;
-use office_store::{Desk, DeskFault};
+use office_store::{Desk, DeskFault, Unavailable};
 use office_texts::{ACCEPTED, UNAVAILABLE};
 use resident_server::serve_port;
-use room_types::Watched;
+use room_types::{Label, ListKind, Watched};
 use sqlite::Alter;
 use std::alloc::Global;
 use std::io::Write;
@@ -49,6 +53,54 @@ pub fn do_at<S: Alter, W: Write>(
     match found {
         Ok(desk) => do_words(alloc, desk, words, output),
         Err(fault) => refuse_desk(alloc, *fault, output),
+    }
+}
+
+/// Lets the list of the path `list` come in, under this label, at the desk that was found. Where none was found, that is said,
+/// and no list is opened. Where the list can't be opened or read, `unavailable` is said. Gives the exit status.
+pub fn import_at<S: Alter, L: Lists, W: Write>(
+    alloc: Global,
+    found: &mut Result<Desk<S>, DeskFault>,
+    lists: &L,
+    kind: ListKind,
+    label: Label,
+    list: &str,
+    output: &mut Watched<W>,
+) -> u8
+    requires fresh_output { IsFresh output.old }
+    ensures no_late_write { StopsAtFailure output.old output.new }
+    ensures imports { let shelf = shelf_of L.opens L.fails L.List.remaining lists.now in
+        ImportsAt S.Store shelf found.old found.new kind label list.now result
+        (output_of W.contents output.old) (output_of W.contents output.new) }
+{
+    match found {
+        Ok(desk) => import_desk(alloc, desk, lists, kind, label, list, output),
+        Err(fault) => refuse_desk(alloc, *fault, output),
+    }
+}
+
+// The same at a desk.
+fn import_desk<S: Alter, L: Lists, W: Write>(
+    alloc: Global,
+    desk: &mut Desk<S>,
+    lists: &L,
+    kind: ListKind,
+    label: Label,
+    list: &str,
+    output: &mut Watched<W>,
+) -> u8
+    requires fresh_output { IsFresh output.old }
+    ensures no_late_write { StopsAtFailure output.old output.new }
+    ensures imports { let shelf = shelf_of L.opens L.fails L.List.remaining lists.now in
+        ImportsDesk S.Store shelf desk.old desk.new kind label list.now result
+        (output_of W.contents output.old) (output_of W.contents output.new) }
+{
+    match lists.open(list) {
+        Ok(reader) => {
+            let mut source = Watched::new(reader);
+            import_list(alloc, desk, kind, label, &mut source, output)
+        }
+        Err(Unavailable) => say(output, "unavailable\n", UNAVAILABLE),
     }
 }
 

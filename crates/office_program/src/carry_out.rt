@@ -4,10 +4,12 @@ ghost use Rattle.room_types.specs.Watched.{IsFresh, StopsAtEnd, StopsAtFailure, 
 ghost use Rattle.room_types.specs.Streams.{input_of, output_of};
 ghost use Rattle.office_program.specs.Doing.{CarriesOut, RehearsesAnew, Refuses};
 ghost use Rattle.office_program.specs.InFile.{no_contents};
+ghost use Rattle.office_program.specs.Shelves.{shelf_of};
 ghost use Rattle.office_lines.specs.Lines.{read_limit};
 ghost use Rattle.sqlite_wal.specs.Files.{image_at};
 
-use crate::in_file::{do_in_file, export_in_file, make_in_file, serve_in_file};
+use crate::in_file::{do_in_file, export_in_file, import_in_file, make_in_file, serve_in_file};
+use crate::lists::Lists;
 use crate::program::program;
 use crate::usage::Program;
 use crate::word_lines::words_text;
@@ -20,6 +22,7 @@ use room_types::Watched;
 use sqlite::{FileFrom, Start, Wary};
 use sqlite_disk::Disk;
 use std::alloc::Global;
+use std::fs::File;
 use std::io::{Read, Write};
 
 /// Does what these words after the program's name ask for, and gives the exit status.
@@ -37,20 +40,23 @@ pub fn carry_out<'a, R: Read, W: Write, E: Write>(
     ensures no_late_read { StopsAtEnd input.old input.new }
     ensures no_late_write { StopsAtFailure output.old output.new }
     ensures no_late_error { StopsAtFailure error.old error.new }
-    ensures carries_out { CarriesOut ⟦<FileFrom<Wary> as Disk>⟧ no_contents
+    ensures carries_out { let shelf = shelf_of ⟦<HostRuntime as Lists>⟧.opens ⟦<HostRuntime as Lists>⟧.fails
+        ⟦<File as Read>⟧.remaining rt.now in
+        CarriesOut ⟦<FileFrom<Wary> as Disk>⟧ no_contents shelf
         (map (λ word. word.now) words.entry.now) result
         (input_of R.remaining input.old) (input_of R.remaining input.new)
         (output_of W.contents output.old) (output_of W.contents output.new)
         (output_of E.contents error.old) (output_of E.contents error.new) }
 {
-    carry_out_from(rt, words, Wary, input, output, error)
+    carry_out_from(rt, words, Wary, rt, input, output, error)
 }
 
-/// The same, whatever the file of an office and its log held, for which `start` stands.
-pub fn carry_out_from<'a, S: Start, R: Read, W: Write, E: Write>(
+/// The same, whatever the file of an office and its log held, for which `start` stands, and wherever lists lie.
+pub fn carry_out_from<'a, S: Start, L: Lists, R: Read, W: Write, E: Write>(
     rt: &HostRuntime,
     words: &'a [&'a str],
     start: S,
+    lists: &L,
     input: &mut Watched<R>,
     output: &mut Watched<W>,
     error: &mut Watched<E>,
@@ -62,7 +68,8 @@ pub fn carry_out_from<'a, S: Start, R: Read, W: Write, E: Write>(
     ensures no_late_read { StopsAtEnd input.old input.new }
     ensures no_late_write { StopsAtFailure output.old output.new }
     ensures no_late_error { StopsAtFailure error.old error.new }
-    ensures carries_out { CarriesOut ⟦<FileFrom<S> as Disk>⟧ (image_at S.Start)
+    ensures carries_out { let shelf = shelf_of L.opens L.fails L.List.remaining lists.now in
+        CarriesOut ⟦<FileFrom<S> as Disk>⟧ (image_at S.Start) shelf
         (map (λ word. word.now) words.entry.now) result
         (input_of R.remaining input.old) (input_of R.remaining input.new)
         (output_of W.contents output.old) (output_of W.contents output.new)
@@ -76,6 +83,14 @@ pub fn carry_out_from<'a, S: Start, R: Read, W: Write, E: Write>(
             Ok(text) => say(output, text.as_str(), ACCEPTED),
             Err(_) => refuse(WordFault::OutOfMemory, output, error),
         },
+        Ok(
+            Program::Import {
+                database,
+                kind,
+                label,
+                list,
+            },
+        ) => import_in_file(rt, database, start, lists, kind, label, list, output),
         Ok(Program::Export { database, kind }) => {
             export_in_file(rt, database, start, kind, output)
         }

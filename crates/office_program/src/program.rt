@@ -1,9 +1,9 @@
 //! The words after the program's name.
 ghost use Rattle.std.specs.Prelude.{◌≡◌, ◌≢◌, ◌<◌, ◌≤◌, IfErr, IfSome, length, map, option_map};
 ghost use Rattle.clap.specs.Words.{all_of, first_of, found_of, kind_of, rows_of};
-ghost use Rattle.office_program.specs.Programs.{do_line, entered_line, export_line, kind_named, line_of, new_line, number_of};
-ghost use Rattle.office_program.specs.Programs.{program_of, serve_line, words_line};
-ghost use Rattle.office_words.specs.Understanding.{UnderstandsAs};
+ghost use Rattle.office_program.specs.Programs.{do_line, entered_line, export_line, import_line, kind_named, label_given, line_of};
+ghost use Rattle.office_program.specs.Programs.{list_kind_given, list_kind_named, new_line, number_of, program_of, serve_line, words_line};
+ghost use Rattle.office_words.specs.Understanding.{Understands, UnderstandsAs};
 
 use crate::seeds::seed_of;
 use crate::usage::{CONNECTIONS_LIMIT, PORT_LIMIT, Program, WORDS_LIMIT, rooms_command};
@@ -11,6 +11,7 @@ use clap::error::ErrorKind;
 use clap::{ArgMatches, Error};
 use office_lists::ExportKind;
 use office_words::WordFault;
+use room_types::{Label, ListKind, TypeFault};
 use std::alloc::Global;
 
 /// The line of the program that these words are. No words are the line `rehearse`, and take no memory. `NotUnderstood` is
@@ -48,6 +49,7 @@ fn entered_line<'a>(
         "do" => do_line(alloc, entries),
         "rehearse" => Ok(Program::Rehearse),
         "words" => understood(words_line(entries)),
+        "import" => import_line(alloc, entries),
         "export" => understood(export_line(entries)),
         "serve" => understood(serve_line(entries)),
         _ => Err(WordFault::NotUnderstood),
@@ -88,6 +90,54 @@ fn words_line<'a>(entries: &ArgMatches<'a>) -> Option<Program<'a>>
     let seed = seed_of(text(entries, "seed")?)?;
     let count = number(entries, "count", 0, WORDS_LIMIT)?;
     Some(Program::Words { seed, count })
+}
+
+// The label is copied out of the entries, which takes memory.
+fn import_line<'a>(alloc: Global, entries: &ArgMatches<'a>) -> Result<Program<'a>, WordFault>
+    ensures { UnderstandsAs line_of (import_line (rows_of (found_of entries.now))) result }
+{
+    let Some(database) = text(entries, "db") else {
+        return Err(WordFault::NotUnderstood);
+    };
+    let Some(list) = text(entries, "path") else {
+        return Err(WordFault::NotUnderstood);
+    };
+    let Some(kind) = list_kind_given(entries) else {
+        return Err(WordFault::NotUnderstood);
+    };
+    let label = label_given(alloc, entries)?;
+    Ok(Program::Import {
+        database,
+        kind,
+        label,
+        list,
+    })
+}
+
+fn list_kind_given(entries: &ArgMatches) -> Option<ListKind>
+    ensures { result ≡ list_kind_given (rows_of (found_of entries.now)) }
+{
+    list_kind_named(text(entries, "kind")?)
+}
+
+// The kind of lists of this name.
+fn list_kind_named(name: &str) -> Option<ListKind>
+    ensures { result ≡ list_kind_named name.now }
+{
+    ListKind::named(name)
+}
+
+fn label_given(alloc: Global, entries: &ArgMatches) -> Result<Label, WordFault>
+    ensures { Understands (label_given (rows_of (found_of entries.now))) result }
+{
+    let Some(label) = text(entries, "label") else {
+        return Err(WordFault::NotUnderstood);
+    };
+    match Label::read(alloc, label) {
+        Ok(label) => Ok(label),
+        Err(TypeFault::OutOfMemory) => Err(WordFault::OutOfMemory),
+        Err(_) => Err(WordFault::NotUnderstood),
+    }
 }
 
 fn export_line<'a>(entries: &ArgMatches<'a>) -> Option<Program<'a>>

@@ -1,12 +1,13 @@
 //! The lines of the program, as `clap` reads them.
 ghost use Rattle.std.specs.Prelude.{◌≡◌, IfOk, false};
 ghost use Rattle.clap.specs.Words.{app_of, rule_of};
-ghost use Rattle.office_program.specs.Usage.{IsCommand, do_usage, export_usage, new_usage, operand as operand_rule};
-ghost use Rattle.office_program.specs.Usage.{option as option_rule, plain_usage, serve_usage, usage, words_usage};
+ghost use Rattle.office_program.specs.Usage.{IsCommand, do_usage, export_usage, import_usage, new_usage};
+ghost use Rattle.office_program.specs.Usage.{operand as operand_rule, option as option_rule, plain_usage, serve_usage, usage, words_usage};
 
 use crate::seeds::Seed;
 use clap::{Arg, ArgAction, Command};
 use office_lists::ExportKind;
+use room_types::{Label, ListKind};
 use std::alloc::{AllocError, Global};
 
 /// A line of the program.
@@ -27,6 +28,13 @@ pub enum Program<'a> {
     Words {
         seed: Seed,
         count: u32,
+    },
+    /// The list in the file of `list` comes in under this label, to the office in the file of `database`.
+    Import {
+        database: &'a str,
+        kind: ListKind,
+        label: Label,
+        list: &'a str,
     },
     /// The office in the file of this path is exported as CSV.
     Export {
@@ -58,6 +66,7 @@ pub fn rooms_command<'a>(alloc: Global) -> Result<Command<'a>, AllocError>
     let hear = do_command(alloc)?;
     let rehearse = Command::new(alloc, "rehearse");
     let words = words_command(alloc)?;
+    let import = import_command(alloc)?;
     let export = export_command(alloc)?;
     let serve = serve_command(alloc)?;
     plain_command(alloc)
@@ -65,6 +74,7 @@ pub fn rooms_command<'a>(alloc: Global) -> Result<Command<'a>, AllocError>
         .subcommand(hear)?
         .subcommand(rehearse)?
         .subcommand(words)?
+        .subcommand(import)?
         .subcommand(export)?
         .subcommand(serve)
 }
@@ -95,6 +105,17 @@ fn words_command<'a>(alloc: Global) -> Result<Command<'a>, AllocError>
     let seed = option(alloc, "seed");
     let count = option(alloc, "count").value_parser(clap::value_parser!(u32).range(0..=2000));
     Command::new(alloc, "words").arg(seed)?.arg(count)
+}
+
+// `import --db FILE KIND LABEL PATH`.
+fn import_command<'a>(alloc: Global) -> Result<Command<'a>, AllocError>
+    ensures { IfOk result (IsCommand import_usage) }
+{
+    Command::new(alloc, "import")
+        .arg(option(alloc, "db"))?
+        .arg(operand(alloc, "kind"))?
+        .arg(operand(alloc, "label"))?
+        .arg(operand(alloc, "path"))
 }
 
 // `export --db FILE KIND`.

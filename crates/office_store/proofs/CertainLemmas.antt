@@ -1,17 +1,17 @@
 -- What is answered where neither memory nor the disk is needed.
-use Rattle.std.proofs.Common.{◌≡◌, ◌≢◌, ◌⊎◌, true, false, List, Option, Some, None, Result, Ok, Err, inl, inr, sym, ap, ◌∙◌, subst}
-use Rattle.std.specs.Prelude.{not, ◌&&◌}
+use Rattle.std.proofs.Common.{◌≡◌, ◌≢◌, ◌⊎◌, Bool, true, false, List, Option, Some, None, Result, Ok, Err, inl, inr, sym, ap, ◌∙◌, subst}
+use Rattle.std.specs.Prelude.{not, ◌&&◌, ◌||◌}
 use Rattle.office_core.specs.Command.{accepts}
 use Rattle.office_core.specs.Command.Decision.{IsRefusal, refusal_takes_memory}
 use Rattle.office_core.specs.Query.Answer.{reply_takes_memory}
-use Rattle.office_core.specs.Refusal.Checks.{Check, first_refusal, names_room}
+use Rattle.office_core.specs.Refusal.Checks.{Check, first_refusal, is_want, names_room, tells_of_list}
 use Rattle.office_core.specs.declared.change.Change.{Change}
 use Rattle.office_core.specs.declared.command.Command.{Command}
 use Rattle.office_core.specs.declared.office.Office.{Office}
 use Rattle.office_core.specs.declared.refusal.Refusal.{Refusal}
 use Rattle.office_core.specs.declared.refusal.Refusal.TheVariants.{OutOfMemory}
 use Rattle.office_core.specs.declared.reply.Reply.{Reply as CoreReply}
-use Rattle.office_store.specs.Certain.{is_bare, is_want, is_certain, is_refused_barely, is_told_barely}
+use Rattle.office_store.specs.Certain.{is_bare, is_certain, is_refused_barely, is_told_barely}
 use Rattle.office_store.specs.Requests.{answer_but, answer_to, answer_told}
 use Rattle.office_store.specs.declared.requests.Answer.{Answer}
 use Rattle.office_store.specs.declared.requests.Answer.TheVariants.{Reply, Refused, Unavailable}
@@ -24,9 +24,18 @@ false_is_not_true e = absurd (cc)
 abbrev IsAnswerOf : Refusal → Answer → Type 0
 IsAnswerOf refusal answer = ((refusal ≡ OutOfMemory) × (answer ≡ Unavailable)) ⊎ ((refusal ≢ OutOfMemory) × (answer ≡ Refused refusal))
 
--- a refusal that names no room names none, and is no want of memory
+-- of three of which none holds, neither the first nor the second does
+none_of_three : (a b c : Bool) → not a && not b && not c ≡ true → a || b ≡ true → ⊥
+none_of_three true b c none some = false_is_not_true none
+none_of_three false true c none some = false_is_not_true none
+none_of_three false false c none some = false_is_not_true some
+
+-- such a refusal names no room and tells of no list, and is no want of memory
+bare_takes_no_memory : (refusal : Refusal) → is_bare refusal ≡ true → names_room refusal || tells_of_list refusal ≡ true → ⊥
+bare_takes_no_memory refusal bare takes = none_of_three (names_room refusal) (tells_of_list refusal) (is_want refusal) bare takes
+
 bare_names_none : (refusal : Refusal) → is_bare refusal ≡ true → names_room refusal ≡ true → ⊥
-bare_names_none refusal bare names = false_is_not_true (subst (λ b. not b && not (is_want refusal) ≡ true) names bare)
+bare_names_none refusal bare names = bare_takes_no_memory refusal bare (ap (λ b. b || tells_of_list refusal) names)
 
 bare_is_no_want : (refusal : Refusal) → is_bare refusal ≡ true → refusal ≡ OutOfMemory → ⊥
 bare_is_no_want refusal bare e = false_is_not_true (subst (λ r. is_bare r ≡ true) e bare)
@@ -40,7 +49,7 @@ bare_answer refusal answer bare of = elim of [
 -- memory is not taken for such a refusal
 bare_takes_none : (changes : List Change) (first : Option Refusal) → is_refused_barely first ≡ true → refusal_takes_memory changes first ≡ true → ⊥
 bare_takes_none changes None bare takes = false_is_not_true bare
-bare_takes_none changes (Some refusal) bare takes = bare_names_none refusal bare takes
+bare_takes_none changes (Some refusal) bare takes = bare_takes_no_memory refusal bare takes
 
 -- a command that is refused so is told
 pub refused_for_sure : (changes : List Change) (checks : List Check) (reply : CoreReply) (refusal : Refusal) (answer : Answer) → IsRefusal changes checks refusal → IsAnswerOf refusal answer

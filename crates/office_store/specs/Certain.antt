@@ -1,24 +1,19 @@
 -- Answers for which neither memory nor the disk is needed.
-use Rattle.std.specs.Prelude.{Bool, true, false, not, ◌&&◌, Option, Some, None, Result, Ok, Err}
+use Rattle.std.specs.Prelude.{Bool, false, not, ◌&&◌, Option, Some, None, Result, Ok, Err}
 use Rattle.office_core.specs.Command.{accepts}
 use Rattle.office_core.specs.Query.{told}
 use Rattle.office_core.specs.Query.Answer.{reply_takes_memory}
-use Rattle.office_core.specs.Refusal.Checks.{names_room}
+use Rattle.office_core.specs.Refusal.Checks.{is_want, names_room, tells_of_list}
 use Rattle.office_core.specs.declared.office.Office.{Office}
 use Rattle.office_core.specs.declared.refusal.Refusal.{Refusal}
-use Rattle.office_core.specs.declared.refusal.Refusal.TheVariants.{OutOfMemory}
 use Rattle.office_core.specs.declared.reply.Reply.{Reply}
 use Rattle.office_store.specs.declared.requests.Request.{Request}
 use Rattle.office_store.specs.declared.requests.Request.TheVariants as request
 
--- want of memory, which is no refusal by the office
-abbrev pub is_want : Refusal → Bool
-is_want OutOfMemory = true
-is_want _ = false
-
--- the office refuses, and names no room, of whose code the refusal would hold a copy
+-- the office refuses, and names no room, of whose code the refusal would hold a copy, nor tells of a
+-- list, which was read for it
 abbrev pub is_bare : Refusal → Bool
-is_bare refusal = not (names_room refusal) && not (is_want refusal)
+is_bare refusal = not (names_room refusal) && not (tells_of_list refusal) && not (is_want refusal)
 
 -- A command is refused so. One that is accepted is stored.
 abbrev pub is_refused_barely : Option Refusal → Bool

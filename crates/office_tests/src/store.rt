@@ -1,6 +1,7 @@
 //! Requests with ample memory.
 mod adopting;
 mod exporting;
+mod importing;
 
 use office_core::{Command, Query, Refusal, Reply};
 use office_store::{Answer, Back, Desk, DeskFault, Request, handle_all, handle_all_in_memory};

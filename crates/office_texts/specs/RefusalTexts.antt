@@ -3,10 +3,21 @@ use Rattle.std.specs.Prelude.{[], ◌∷◌, ◌++◌, codes}
 use Rattle.std.specs.Fmt.{decimal}
 use Rattle.room_types.specs.Phases.{phase_text}
 use Rattle.room_types.specs.Texts.{Text}
+use Rattle.office_lists.specs.declared.fault.Cause.{Cause}
+use Rattle.office_lists.specs.declared.fault.Cause.TheVariants.{Header, NotText, FieldCount, BadField, TooMany, Denied}
 use Rattle.office_core.specs.Refusal.{name_of, number_of}
 use Rattle.office_core.specs.declared.refusal.Refusal.{Refusal}
 use Rattle.office_texts.specs.OutputLines.{line_of}
-use Rattle.office_core.specs.declared.refusal.Refusal.TheVariants.{BadPhase, UnknownPerson, UnknownRoom, DuplicateRoom, DuplicatePerson, KeyInUse, RoomShut, RoomTaken, HasHome, NoHome, Withdrawn, WrongWordCount, LimitReached, NotInRound, NoSuchRound, NotShut, OutOfMemory}
+use Rattle.office_core.specs.declared.refusal.Refusal.TheVariants.{BadPhase, UnknownPerson, UnknownRoom, DuplicateRoom, DuplicatePerson, KeyInUse, RoomShut, RoomTaken, HasHome, NoHome, Withdrawn, WrongWordCount, LimitReached, ListDiffers, BadRecord, NotInRound, NoSuchRound, NotShut, OutOfMemory}
+
+-- what is wrong with a record of a list
+abbrev pub cause_text : Cause → Text
+cause_text Header = codes "header"
+cause_text NotText = codes "text"
+cause_text FieldCount = codes "fields"
+cause_text (BadField number) = codes "field " ++ decimal number
+cause_text TooMany = codes "many"
+cause_text (Denied number) = codes "refusal " ++ decimal number
 
 -- the values that a refusal has, after a space
 abbrev pub refusal_values : Refusal → Text
@@ -14,6 +25,7 @@ refusal_values (BadPhase phase) = codes " " ++ phase_text phase
 refusal_values (UnknownRoom room) = codes " " ++ room
 refusal_values (RoomShut room) = codes " " ++ room
 refusal_values (WrongWordCount want got) = codes " want " ++ decimal want ++ codes " got " ++ decimal got
+refusal_values (BadRecord at cause) = codes " " ++ decimal at ++ codes " " ++ cause_text cause
 refusal_values UnknownPerson = []
 refusal_values DuplicateRoom = []
 refusal_values DuplicatePerson = []
@@ -23,6 +35,7 @@ refusal_values HasHome = []
 refusal_values NoHome = []
 refusal_values Withdrawn = []
 refusal_values LimitReached = []
+refusal_values ListDiffers = []
 refusal_values NotInRound = []
 refusal_values NoSuchRound = []
 refusal_values NotShut = []

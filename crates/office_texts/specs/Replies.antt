@@ -51,6 +51,7 @@ reply_text (reply.Ran participants) = line_of (codes "ran " ∷ decimal particip
 reply_text (reply.Published participants) = line_of (codes "published " ∷ decimal participants ∷ [])
 reply_text (reply.Settled moves) = line_of (codes "settled " ∷ decimal moves ∷ [])
 reply_text reply.Cancelled = line_of (codes "cancelled" ∷ [])
+reply_text (reply.Added count) = line_of (codes "added " ∷ decimal count ∷ [])
 reply_text (reply.Rooms rows) = rooms_table rows
 reply_text (reply.People rows) = people_table rows
 reply_text (reply.Round number phase people withdrawn) =

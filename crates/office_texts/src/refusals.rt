@@ -1,8 +1,9 @@
 //! The lines of refusals.
 ghost use Rattle.std.specs.Prelude.{◌≡◌, ◌++◌, IfOk, OnOk, string_bytes};
-ghost use Rattle.office_texts.specs.RefusalTexts.{refusal_text, refusal_values};
+ghost use Rattle.office_texts.specs.RefusalTexts.{cause_text, refusal_text, refusal_values};
 
 use office_core::Refusal;
+use office_lists::Cause;
 use room_types::OutOfMemory;
 use std::alloc::{AllocError, Global};
 
@@ -27,6 +28,10 @@ fn push_values(text: &mut String, refusal: &Refusal) -> Result<(), AllocError>
         Refusal::BadPhase(phase) => write!(text, " {phase}"),
         Refusal::UnknownRoom(room) | Refusal::RoomShut(room) => write!(text, " {room}"),
         Refusal::WrongWordCount { want, got } => write!(text, " want {want} got {got}"),
+        Refusal::BadRecord { at, cause } => {
+            write!(text, " {at} ")?;
+            push_cause(text, *cause)
+        }
         Refusal::UnknownPerson
         | Refusal::DuplicateRoom
         | Refusal::DuplicatePerson
@@ -36,9 +41,25 @@ fn push_values(text: &mut String, refusal: &Refusal) -> Result<(), AllocError>
         | Refusal::NoHome
         | Refusal::Withdrawn
         | Refusal::LimitReached
+        | Refusal::ListDiffers
         | Refusal::NotInRound
         | Refusal::NoSuchRound
         | Refusal::NotShut
         | Refusal::OutOfMemory => Ok(()),
+    }
+}
+
+// Adds what is wrong with a record of a list.
+fn push_cause(text: &mut String, cause: Cause) -> Result<(), AllocError>
+    ensures { OnOk result
+        (string_bytes text.new ≡ string_bytes text.old ++ cause_text cause) }
+{
+    match cause {
+        Cause::Header => text.push_str("header"),
+        Cause::NotText => text.push_str("text"),
+        Cause::FieldCount => text.push_str("fields"),
+        Cause::BadField(number) => write!(text, "field {number}"),
+        Cause::TooMany => text.push_str("many"),
+        Cause::Denied(number) => write!(text, "refusal {number}"),
     }
 }

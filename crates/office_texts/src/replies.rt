@@ -30,6 +30,7 @@ pub fn text_of_reply(alloc: Global, reply: &Reply) -> Result<String, OutOfMemory
         Reply::Published { participants } => Ok(format!(in alloc; "published {participants}\n")?),
         Reply::Settled { moves } => Ok(format!(in alloc; "settled {moves}\n")?),
         Reply::Cancelled => line(alloc, "cancelled\n"),
+        Reply::Added { count } => Ok(format!(in alloc; "added {count}\n")?),
         Reply::Rooms(rows) => rooms_text(alloc, rows.as_slice()),
         Reply::People(rows) => people_text(alloc, rows.as_slice()),
         Reply::Round {

@@ -43,13 +43,14 @@ const YEAR: [(&str, &str); 20] = [
     ("round", "round 1 idle people 3 withdrawn 0\n"),
 ];
 
-fn make_folder(rt: &HostRuntime, folder: &str) -> io::Result<()> {
+/// An empty folder.
+pub fn make_folder(rt: &HostRuntime, folder: &str) -> io::Result<()> {
     let _ = fs::remove_dir_all(rt, folder);
     fs::create_dir(rt, folder)
 }
 
-// The status of this line of the program, and what it prints on standard output and on standard error.
-fn carried(rt: &HostRuntime, words: &[&str]) -> (u8, Vec<u8>, Vec<u8>) {
+/// The status of this line of the program, and what it prints on standard output and on standard error.
+pub fn carried(rt: &HostRuntime, words: &[&str]) -> (u8, Vec<u8>, Vec<u8>) {
     let mut input = Watched::new(b"room LEFT\n".as_slice());
     let mut output = Watched::new(Vec::new(rt.alloc()));
     let mut error = Watched::new(Vec::new(rt.alloc()));

@@ -1,11 +1,15 @@
 -- Commands that are accepted where there are results, and do not end the round, keep it.
 use Rattle.std.proofs.Common.{◌≡◌, Bool, true, false, not, List, [], ◌∷◌, Some, None, refl, ap}
 use Rattle.std.specs.Prelude.{if◌then◌else◌}
+use Rattle.std.specs.FinMap as map
+use Rattle.room_types.specs.declared.kinds.ListKind.{ListKind}
+use Rattle.room_types.specs.declared.kinds.ListKind.TheVariants.{Rooms, People, Choices}
 use Rattle.room_types.specs.declared.phase.Phase.{Phase}
 use Rattle.room_types.specs.declared.phase.Phase.TheVariants.{Idle, Opened, Closed, Drawn, Ran}
 use Rattle.room_types.specs.declared.phase.Phase.TheVariants.{Published}
 use Rattle.office_core.specs.Refusal.Checks.{Check, first_refusal}
 use Rattle.office_core.specs.Command.{accepts, checks, next}
+use Rattle.office_core.specs.Command.Import.{checks_where, new_label_checks, may_come, next_where}
 use Rattle.office_core.specs.Office.Phases.{is_idle, is_open, is_closed, is_drawn, is_preparing}
 use Rattle.office_core.specs.Office.Phases.{has_results}
 use Rattle.office_core.specs.Round.Laws.{ends_round, KeepsResults}
@@ -46,6 +50,12 @@ passes (check ∷ rest) ok = by check.0 refl
 
 stops : (may : Bool) → may ≡ false → not may ≡ false → ⊥
 stops may e h = let z : not may ≡ true = ap not e in cc
+
+-- and no list may come under a new label
+comes_too_late : (kind : ListKind) (phase : Phase) → IsPast phase → may_come kind phase ≡ false
+comes_too_late Rooms phase p = p.preparing
+comes_too_late People phase p = p.preparing
+comes_too_late Choices phase p = p.opened
 
 pub kept : (office : Office) (c : Command) → has_results office.phase ≡ true
     → accepts office c ≡ None → ends_round c ≡ false → KeepsResults office (next office c)
@@ -96,3 +106,23 @@ kept office command.Publish there ok goes_on = record {
 }
 kept office command.Settle there ok goes_on = absurd (cc)
 kept office command.Cancel there ok goes_on = absurd (cc)
+kept office (command.Import label kind bytes) there ok goes_on =
+    elim (map.get office.lists label) as
+    (λ o. first_refusal (checks_where o office kind bytes) ≡ None
+    → KeepsResults office (next_where o office label kind bytes)) [
+      | Some list ↦ λ again. record {
+        entries = record {
+          rooms = refl;
+          people = refl;
+          choices = refl;
+          withdrawn = refl;
+          words = refl;
+        };
+        number = refl;
+        results = refl;
+        still = there;
+      }
+      | None ↦ λ first. absurd (stops (may_come kind office.phase)
+          (comes_too_late kind office.phase (past office.phase there))
+          (passes (new_label_checks office kind bytes) first))
+    ] ok

@@ -20,7 +20,7 @@ use Rattle.room_types.specs.TextMaps.{exact_texts}
 use Rattle.office_core.specs.Office.Moves.{moves_of}
 use Rattle.office_core.specs.Office.{had_by, is_over, is_same_text}
 use Rattle.office_core.specs.Empty.{is_empty}
-use Rattle.office_core.specs.Soundness.{is_home_open, is_unshut, is_choices, is_kept_list, is_given, is_kept_round, is_short}
+use Rattle.office_core.specs.Soundness.{is_home_open, is_unshut, is_choices, is_recorded_list, is_given, is_kept_round, is_short}
 use Rattle.office_core.specs.Office.Limits.{byte_limit}
 use Rattle.office_lists.specs.Records.{record_limit}
 use Rattle.office_core.specs.declared.office.kept_list.KeptList.{KeptList}
@@ -111,17 +111,17 @@ module _ (rooms : TextMap Bool) (choices : TextMap (List Text)) where
   abbrev known : Text → Bool
   known code = map.contains_key rooms code
 
-  pub lists-decides : Decides (list_all (λ (e : Text × List Text). is_kept_list rooms e.1) (map.entries choices)) AreListsKept
+  pub lists-decides : Decides (list_all (λ (e : Text × List Text). is_recorded_list rooms e.1) (map.entries choices)) AreListsKept
   lists-decides = (
     λ e.
-        let test : (p : Text) (codes : List Text) → map.get choices p ≡ Some codes → is_kept_list rooms codes ≡ true = all_keys nat_list_cmp_total exact_texts (λ k codes. is_kept_list rooms codes) choices e in
+        let test : (p : Text) (codes : List Text) → map.get choices p ≡ Some codes → is_recorded_list rooms codes ≡ true = all_keys nat_list_cmp_total exact_texts (λ k codes. is_recorded_list rooms codes) choices e in
         record {
           listed = λ p codes f.
               All-from_recursion (λ code. known code ≡ true) codes (all_true known codes (and_parts (not (is_empty codes)) _ (and_parts (is_choices codes) _ (test p codes f)).1).1);
           none_empty = λ p f. let filled : false ≡ true = (and_parts (not (is_empty {X = Text} [])) (list_all known []) (and_parts (is_choices []) (not (is_empty {X = Text} []) && list_all known []) (test p [] f)).1).0 in cc;
           chosen = λ p codes f. choices_at codes (and_parts (is_choices codes) _ (test p codes f)).0;
         },
-    λ h. keys_all nat_list_cmp_total exact_texts (λ k codes. is_kept_list rooms codes) choices (λ k codes f.
+    λ h. keys_all nat_list_cmp_total exact_texts (λ k codes. is_recorded_list rooms codes) choices (λ k codes f.
         both_true (at_choices codes (h.chosen k codes f))
         (both_true (filled_at codes (λ none. h.none_empty k (f ∙ ap (λ l. Some l) none)))
         (true_all known codes (recursion_from_All (λ code. known code ≡ true) codes (h.listed k codes f))))),

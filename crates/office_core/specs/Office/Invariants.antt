@@ -80,7 +80,7 @@ pub record AreMoves (office : Office) : Type 0 where
       → map.get (moves_of office.moves round) p ≡ Some moved
       → is_some moved.to ≡ true
 
--- kept lists: not too many, and none longer than a list may be
+-- kept lists: not too many, and none longer, or counted as more records, than a list may have
 pub record AreKept (lists : TextMap KeptList) : Type 0 where
   pub few : map.len lists ≤ label_limit
   pub short : (label : Text) (kept : KeptList) → map.get lists label ≡ Some kept

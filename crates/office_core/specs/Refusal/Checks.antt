@@ -6,6 +6,7 @@ use Rattle.office_core.specs.Office.{knows_room, is_shut, is_taken}
 use Rattle.office_core.specs.declared.office.Office.{Office}
 use Rattle.office_core.specs.declared.refusal.Refusal.{Refusal}
 use Rattle.office_core.specs.declared.refusal.Refusal.TheVariants.{UnknownRoom, RoomShut, RoomTaken}
+use Rattle.office_core.specs.declared.refusal.Refusal.TheVariants.{BadRecord, OutOfMemory}
 
 -- a refusal, and whether it applies
 abbrev pub Check : Type 0
@@ -36,3 +37,13 @@ abbrev pub names_room : Refusal → Bool
 names_room (UnknownRoom room) = true
 names_room (RoomShut room) = true
 names_room _ = false
+
+-- whether a refusal tells of a record: the list was read for it
+abbrev pub tells_of_list : Refusal → Bool
+tells_of_list (BadRecord at cause) = true
+tells_of_list _ = false
+
+-- want of memory, which is no refusal by the office
+abbrev pub is_want : Refusal → Bool
+is_want OutOfMemory = true
+is_want _ = false

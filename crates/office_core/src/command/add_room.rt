@@ -1,6 +1,7 @@
 //! A room that is not shut is added.
 ghost use Rattle.office_core.specs.Command.Decision.{Decides};
 ghost use Rattle.office_core.specs.Command.AddRoom.{checks, reply_to, changes_of};
+ghost use Rattle.office_core.specs.Inner.Passes.{Passes};
 
 use crate::change::Change;
 use crate::command::decision::{Decision, one_change};
@@ -9,7 +10,8 @@ use crate::office::limits::ROOM_LIMIT;
 use crate::office::phases::is_preparing;
 use crate::refusal::Refusal;
 use crate::reply::Reply;
-use room_types::RoomCode;
+use room_types::grammars::RoomCodes;
+use room_types::{RoomCode, Table};
 use std::alloc::Global;
 
 /// Decides to add a room that is not shut. Refused in turn: `BadPhase` unless idle or open; `DuplicateRoom`;
@@ -18,15 +20,27 @@ pub fn add_room(alloc: Global, office: &Office, room: &RoomCode) -> Result<Decis
     ensures { Decides (checks office.now room.now) (reply_to office.now room.now)
         (changes_of office.now room.now) result }
 {
+    may_add(office, &office.rooms, room)?;
+    let room = room.copy()?;
+    one_change(alloc, Reply::Done, Change::PutRoom { room, shut: false })
+}
+
+/// Passes a room that may be added to an office with these rooms.
+pub(crate) fn may_add(
+    office: &Office,
+    rooms: &Table<RoomCodes, bool>,
+    room: &RoomCode,
+) -> Result<(), Refusal>
+    ensures { Passes (checks (record office.now { rooms = rooms.now }) room.now) result }
+{
     if !is_preparing(office.phase) {
         return Err(Refusal::BadPhase(office.phase));
     }
-    if office.rooms.contains_key(room) {
+    if rooms.contains_key(room) {
         return Err(Refusal::DuplicateRoom);
     }
-    if office.rooms.len() >= ROOM_LIMIT {
+    if rooms.len() >= ROOM_LIMIT {
         return Err(Refusal::LimitReached);
     }
-    let room = room.copy()?;
-    one_change(alloc, Reply::Done, Change::PutRoom { room, shut: false })
+    Ok(())
 }

@@ -14,6 +14,7 @@ use crate::command::cancel::cancel;
 use crate::command::close_round::close_round;
 use crate::command::decision::Decision;
 use crate::command::draw::draw;
+use crate::command::import::import;
 use crate::command::leave::leave;
 use crate::command::open_round::open_round;
 use crate::command::publish::publish;
@@ -35,8 +36,9 @@ use std::alloc::Global;
 /// # Errors
 ///
 /// The first refusal of the command's line that applies: `BadPhase` in another phase, and then those of the command's
-/// own file. `OutOfMemory` only where memory is taken: for the code in `UnknownRoom` or `RoomShut`, and for the changes
-/// of a command that is not refused. A `Withdraw` that is repeated changes nothing, and is always answered.
+/// own file; only `Import` looks at its label before the phase. `OutOfMemory` only where memory is taken: for the code in `UnknownRoom` or `RoomShut`, for a list that is
+/// read before `BadRecord`, and for the changes of a command that is not refused. A `Withdraw` that is repeated and an
+/// `Import` of a list that is kept change nothing, and are always answered.
 pub fn decide(alloc: Global, office: &Office, command: &Command) -> Result<Decision, Refusal>
     requires { IsLawful office.now }
     ensures decides { Decides (checks office.now command.now) (reply_to office.now command.now)
@@ -77,5 +79,6 @@ fn decision_of(alloc: Global, office: &Office, command: &Command) -> Result<Deci
         Command::Publish => publish(alloc, office),
         Command::Settle => settle(alloc, office),
         Command::Cancel => cancel(alloc, office),
+        Command::Import { label, kind, bytes } => import(alloc, office, label, *kind, bytes),
     }
 }

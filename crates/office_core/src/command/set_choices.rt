@@ -3,6 +3,7 @@ ghost use Rattle.std.specs.Prelude.{OnOk};
 ghost use Rattle.room_types.specs.Choices.{IsChoices};
 ghost use Rattle.office_core.specs.Command.Decision.{Decides};
 ghost use Rattle.office_core.specs.Command.SetChoices.{checks, reply_to, changes_of};
+ghost use Rattle.office_core.specs.Inner.Passes.{Passes};
 
 use crate::change::Change;
 use crate::command::decision::{Decision, one_change};
@@ -27,6 +28,23 @@ pub fn set_choices(
         (reply_to office.now person.now choices.now) (changes_of office.now person.now choices.now)
         result }
 {
+    may_choose(office, person, choices)?;
+    let change = Change::PutChoices {
+        person: person.copy()?,
+        choices: choices.copy()?,
+    };
+    let choices = choices.copy()?;
+    one_change(alloc, Reply::Chosen { choices }, change)
+}
+
+/// Passes a person whose list may be replaced by this one.
+pub(crate) fn may_choose(
+    office: &Office,
+    person: &PersonId,
+    choices: &Choices,
+) -> Result<(), Refusal>
+    ensures { Passes (checks office.now person.now choices.now) result }
+{
     if !is_open(office.phase) {
         return Err(Refusal::BadPhase(office.phase));
     }
@@ -36,11 +54,5 @@ pub fn set_choices(
     if office.has_withdrawn(person) {
         return Err(Refusal::Withdrawn);
     }
-    may_list_all(office, choices.as_slice())?;
-    let change = Change::PutChoices {
-        person: person.copy()?,
-        choices: choices.copy()?,
-    };
-    let choices = choices.copy()?;
-    one_change(alloc, Reply::Chosen { choices }, change)
+    may_list_all(office, choices.as_slice())
 }

@@ -4,7 +4,7 @@ ghost use Rattle.std.specs.Bool.{Decides};
 ghost use Rattle.std.specs.List.{list_all};
 ghost use Rattle.std.specs.FinMap as map;
 ghost use Rattle.office_core.specs.Office.Invariants.{AreLists};
-ghost use Rattle.office_core.specs.Soundness.{is_kept_list};
+ghost use Rattle.office_core.specs.Soundness.{is_recorded_list};
 
 use crate::office::Office;
 use room_types::{Choices, RoomCode};
@@ -37,16 +37,16 @@ fn are_choosers_known(office: &Office) -> bool
 // Whether no list is empty, and each listed room is known.
 fn are_lists_kept(office: &Office) -> bool
     ensures { result ≡
-        list_all (λ e. is_kept_list office.now.rooms e.1) (map.entries office.now.choices) }
+        list_all (λ e. is_recorded_list office.now.rooms e.1) (map.entries office.now.choices) }
 {
     office
         .choices
         .iter()
-        .all(|(_, choices)| is_kept_list(office, choices))
+        .all(|(_, choices)| is_recorded_list(office, choices))
 }
 
-fn is_kept_list(office: &Office, choices: &Choices) -> bool
-    ensures { result ≡ is_kept_list office.now.rooms choices.now }
+fn is_recorded_list(office: &Office, choices: &Choices) -> bool
+    ensures { result ≡ is_recorded_list office.now.rooms choices.now }
 {
     let codes = choices.as_slice();
     if codes.is_empty() {

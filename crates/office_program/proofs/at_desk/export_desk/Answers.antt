@@ -1,4 +1,4 @@
-use Rattle.std.proofs.Common.{◌≡◌, ◌∙◌, inl, inr, refl}
+use Rattle.std.proofs.Common.{◌∙◌, inl, inr, refl}
 use Rattle.std.proofs.Math.Bool.{or-true}
 use Rattle.office_program.proofs.AtDeskLemmas.{unflushed}
 use Rattle.office_program.proofs.at_desk.export_desk.Goals as goal

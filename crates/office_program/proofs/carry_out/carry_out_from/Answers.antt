@@ -2,6 +2,7 @@ use Rattle.std.proofs.Common.{◌≡◌, Some, map}
 use Rattle.office_program.proofs.DoingLemmas.{done_in_file}
 use Rattle.office_program.specs.Programs.{program_of}
 use Rattle.office_program.specs.Programs.Line.{does}
+use Rattle.office_program.specs.Shelves.{shelf_of}
 use Rattle.office_program.proofs.carry_out.carry_out_from.Goals as goal
 
 pub returns-in-Ok-Do-clause-carries_out : goal.returns-in-Ok-Do-clause-carries_out
@@ -9,4 +10,5 @@ returns-in-Ok-Do-clause-carries_out g c =
     let words = map (λ word. word.now) c.args.words.now in
     let line = map (λ word. word.now) c.in-Ok-Do.words.items in
     let is : program_of words ≡ Some (does c.in-Ok-Do.database.now line) = rw c.in-Ok-Do.field-0-is at c.in-Ok-Do.ensures.understands in
-    done_in_file _ _ words c.in-Ok-Do.database.now line c.do_in_file.result _ _ _ _ is (rw c.deref.ensures.value at c.do_in_file.ensures.does)
+    let shelf = shelf_of g.L.Lists.opens g.L.Lists.fails g.L.List.Read.remaining c.args.lists.now in
+    done_in_file _ _ shelf words c.in-Ok-Do.database.now line c.do_in_file.result _ _ _ _ is (rw c.deref.ensures.value at c.do_in_file.ensures.does)

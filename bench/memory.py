@@ -1,0 +1,205 @@
+"""Memory is refused to the program, one allocation after the other; bench/memory.sh says what has to come of it."""
+
+import os
+import socket
+import subprocess
+import sys
+import tempfile
+import time
+from dataclasses import dataclass
+from itertools import count
+from multiprocessing import Pool
+from pathlib import Path
+
+from faults import content_of, copy_office, kept_words
+
+UNAVAILABLE = "unavailable\n"
+SCRIPTS = ("examples/year.txt", "bench/lists.txt")
+EXPORTS = ("rooms", "people", "moves")
+KEY = "key0000000000s01"
+REQUESTS = (("GET", "/rooms", ""), ("GET", "/me", ""), ("PUT", "/me/choices", '["A3","B2"]'), ("PUT", "/me/choices", '["Z9"]'),
+            ("POST", "/me/withdraw", ""), ("GET", "/nothing", ""))
+
+
+@dataclass
+class Ran:
+    """What a run printed, its status, and whether an allocation was refused."""
+
+    text: str
+    status: int
+    is_refused: bool
+
+
+@dataclass
+class Program:
+    """The program, and the library that refuses memory to it."""
+
+    path: str
+    refuse: str
+
+    def refusing(self, number):
+        """The environment in which this allocation is refused, and the pipe that tells so."""
+        reads, writes = os.pipe()
+        environment = {**os.environ, "LD_PRELOAD": self.refuse, "ROOMS_REFUSE": str(number), "ROOMS_TELL": str(writes)}
+        return environment, reads, writes
+
+    def run(self, words, number=0, given=""):
+        """A run with these words and this standard input; the allocation of this number is refused."""
+        environment, reads, writes = self.refusing(number)
+        done = subprocess.run([self.path, *words], input=given, capture_output=True, text=True, env=environment,
+                              pass_fds=[writes], check=False)
+        return Ran(done.stdout + done.stderr, done.returncode, was_told(reads, writes))
+
+    def line(self, office, words):
+        """The program's own words for a line on this office."""
+        line = words if words[0] in ("import", "export") else ["do", *words]
+        return [line[0], "--db", str(office), *line[1:]]
+
+
+def was_told(reads, writes):
+    """Whether the pipe has a byte; it is closed."""
+    os.close(writes)
+    told = os.read(reads, 1)
+    os.close(reads)
+    return bool(told)
+
+
+def refuse_each(attempt):
+    """Refuses the first allocation, the second and so on, and gives how many were. The attempt says whether one was."""
+    return next(number for number in count(0) if not attempt(number + 1))
+
+
+def expect(is_so, what, ran):
+    if not is_so:
+        sys.exit(f"{what}: status {ran.status}: {ran.text[:300]}")
+
+
+# --- a rehearsal
+
+def rehearsals(program, script):
+    """A whole script by `rehearse`."""
+    lines = [line for line in Path(script).read_text(encoding="utf-8").splitlines() if line and not line.startswith("#")]
+
+    def said(some):
+        return program.run(["rehearse"], given="".join(line + "\n" for line in some)).text
+
+    fronts = [said(lines[:length]) for length in range(len(lines) + 1)]
+    # what is said where one line is answered `unavailable`, and so does not count
+    others = {fronts[i] + UNAVAILABLE + said(lines[:i] + lines[i + 1:])[len(fronts[i]):] for i in range(len(lines))}
+
+    def attempt(number):
+        ran = program.run(["rehearse"], number, "".join(line + "\n" for line in lines))
+        is_known = ran.text in others or ran.text == fronts[-1] or ran.status == 3 and ran.text in (*fronts, UNAVAILABLE)
+        expect(is_known, f"rehearsal of {script} without allocation {number}", ran)
+        return ran.is_refused
+
+    return refuse_each(attempt)
+
+
+# --- lines over a file
+
+def line_over_file(program, words, before, answer, after):
+    """One line on copies of an office."""
+    is_read = words[0] == "export"
+    with tempfile.TemporaryDirectory() as name:
+        office = Path(name) / "office.db"
+        contents = content_of(before), content_of(after)
+
+        def attempt(number):
+            copy_office(before, office)
+            ran = program.run(program.line(office, words), number)
+            content, what = content_of(office), f"{' '.join(words)} without allocation {number}"
+            if ran.text == answer.text:
+                expect(content == contents[1], what, ran)
+            elif ran.text == UNAVAILABLE:
+                expect(ran.status == 3 and content == contents[0], what, ran)
+            else:
+                expect(ran.status == 3 and content in contents and ran.text == (answer.text[:len(ran.text)] if is_read else ""), what, ran)
+            return ran.is_refused
+
+        return refuse_each(attempt)
+
+
+def steps_of(program, folder, script):
+    """The lines of a script, each with the office before it, its answer, and the office after it."""
+    before = folder / "0.db"
+    program.run(["new", "--db", str(before)])
+    lines = [*kept_words(Path(script)), *(["export", kind] for kind in EXPORTS)]
+    for number, words in enumerate(lines, 1):
+        after = folder / f"{number}.db"
+        copy_office(before, after)
+        yield program, words, before, program.run(program.line(after, words)), after
+        before = after
+
+
+# --- residents
+
+def answer_of(port, method, target, body):
+    """What a resident is answered, or nothing."""
+    head = f"{method} {target} HTTP/1.1\r\nHost: 127.0.0.1:{port}\r\nRoom-Key: {KEY}\r\nContent-Length: {len(body)}\r\n\r\n"
+    with socket.create_connection(("127.0.0.1", port)) as stream:
+        stream.sendall((head + body).encode())
+        with stream.makefile("rb") as answer:
+            return answer.read().decode()
+
+
+def serve_once(program, office, port, request, number):
+    """Serves one request while this allocation is refused. Gives what the resident was answered and what the run printed."""
+    environment, reads, writes = program.refusing(number)
+    words = [program.path, "serve", "--db", str(office), "--port", str(port), "--count", "1"]
+    with subprocess.Popen(words, stdout=subprocess.PIPE, text=True, env=environment, pass_fds=[writes]) as server:
+        said = server.stdout.readline()
+        answer = answer_of(port, *request) if said.startswith("listening") else ""
+        said += server.stdout.read()
+        server.wait()
+    return answer, Ran(said, server.returncode, was_told(reads, writes))
+
+
+def served(program, office, port, request):
+    """One resident's request, over copies of an office."""
+    with tempfile.TemporaryDirectory() as name:
+        copy = Path(name) / "office.db"
+        copy_office(office, copy)
+        before = content_of(copy)
+        ample, _ = serve_once(program, copy, port, request, 0)
+        after = content_of(copy)
+
+        def attempt(number):
+            copy_office(office, copy)
+            answer, ran = serve_once(program, copy, port, request, number)
+            content, what = content_of(copy), f"{request} without allocation {number}: {answer[:40]}"
+            if answer == ample:
+                expect(content == after, what, ran)
+            else:
+                expect(content == before and (answer.startswith("HTTP/1.1 503 ") or not answer and ran.status == 3), what, ran)
+            return ran.is_refused
+
+        return refuse_each(attempt)
+
+
+def tell(what, refused, began):
+    print(f"{what}: {sum(refused)} allocations refused, {time.monotonic() - began:.0f} s", flush=True)
+    return sum(refused)
+
+
+def main(path, refuse):
+    program, refused = Program(path, refuse), 0
+    with Pool() as pool, tempfile.TemporaryDirectory() as name:
+        folder = Path(name)
+        began = time.monotonic()
+        refused += tell("rehearsals", pool.starmap(rehearsals, [(program, "examples/year.txt")]), began)
+        for script in SCRIPTS:
+            began = time.monotonic()
+            place = folder / Path(script).stem
+            place.mkdir()
+            steps = list(steps_of(program, place, script))
+            refused += tell(f"lines of {script}", pool.starmap(line_over_file, steps), began)
+        began = time.monotonic()
+        office = next(before for _, words, before, _, _ in steps if words == ["close"])
+        requests = [(program, office, 18300 + number, request) for number, request in enumerate(REQUESTS)]
+        refused += tell("residents' requests", pool.starmap(served, requests), began)
+    print(f"{refused} allocations refused, each answered as it has to be")
+
+
+if __name__ == "__main__":
+    main(*sys.argv[1:])

@@ -1,0 +1,53 @@
+-- Refusals that tell of no list.
+use Rattle.std.proofs.Common.{◌≡◌, ◌⊎◌, ◌||◌, Bool, true, false, List, [], ◌∷◌, Option, Some, None}
+use Rattle.std.proofs.Common.{Err, cond, refl, ap, ◌∙◌, sym, inl, inr}
+use Rattle.std.specs.List.{flat_map}
+use Rattle.room_types.specs.Texts.{Text}
+use Rattle.office_core.specs.Command.Decision.{IsRefusal, refusal_takes_memory}
+use Rattle.office_core.specs.Query.Answer.{Tells, reply_takes_memory}
+use Rattle.office_core.specs.Query.WhatIf.{told_unless}
+use Rattle.office_core.specs.Refusal.Checks.{Check, first_refusal, names_room, room_checks}
+use Rattle.office_core.specs.Refusal.Checks.{tells_of_list}
+use Rattle.office_core.specs.declared.office.Office.{Office}
+use Rattle.office_core.specs.declared.refusal.Refusal.{Refusal}
+use Rattle.office_core.specs.declared.refusal.Refusal.TheVariants.{OutOfMemory}
+use Rattle.office_core.specs.declared.reply.Reply.{Reply}
+
+-- none of the refusals tells of a list
+abbrev pub AreSilent : List Check → Type 0
+AreSilent [] = Unit {0}
+AreSilent (check ∷ others) = (tells_of_list check.1 ≡ false) × AreSilent others
+
+pub rooms_are_silent : (office : Office) (codes : List Text)
+    → AreSilent (flat_map (room_checks office) codes)
+rooms_are_silent office [] = tt
+rooms_are_silent office (code ∷ codes) = (refl, (refl, rooms_are_silent office codes))
+
+silent : (list : List Check) (refusal : Refusal) → AreSilent list
+    → first_refusal list ≡ Some refusal → tells_of_list refusal ≡ false
+silent [] refusal all h = cc
+silent (check ∷ others) refusal all h =
+    elim (check.0) as (λ b. cond b (Some check.1) (first_refusal others) ≡ Some refusal
+    → tells_of_list refusal ≡ false) [
+      | true ↦ λ e. let same : check.1 ≡ refusal = cc in ap tells_of_list (sym same) ∙ all.0
+      | false ↦ λ e. silent others refusal all.1 e
+    ] h
+
+one_of : (a b : Bool) → b ≡ false → (a || b) ≡ true → a ≡ true
+one_of true b n h = refl
+one_of false b n h = cc
+
+-- a query that is refused by such a list of refusals is told the first that applies, or out of
+-- memory for the room that it names
+pub asked : (list : List Check) (given : Reply) (refusal : Refusal) → AreSilent list
+    → IsRefusal [] list refusal → Tells (told_unless (first_refusal list) given) (Err refusal)
+asked list given refusal all (inl is) = inl (ap (λ o. told_unless o given) is)
+asked list given refusal all (inr memory) =
+    elim (first_refusal list) as
+    (λ o. first_refusal list ≡ o → refusal_takes_memory [] o ≡ true
+    → (told_unless o given ≡ Err refusal)
+    ⊎ ((refusal ≡ OutOfMemory) × (reply_takes_memory (told_unless o given) ≡ true))) [
+      | None ↦ λ e. λ t. cc
+      | Some first ↦ λ e. λ t.
+          inr (memory.0, one_of (names_room first) (tells_of_list first) (silent list first all e) t)
+    ] refl memory.1

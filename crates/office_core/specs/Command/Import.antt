@@ -1,0 +1,204 @@
+-- A list comes in under a label: one command for each of its records, and all of them count or none.
+-- A label that is known keeps its reply, and counts for no other list.
+use Rattle.std.specs.Prelude.{ℕ, ◌+◌, Bool, true, false, not, ◌&&◌, nat_le, nat_lt, List, [], ◌∷◌}
+use Rattle.std.specs.Prelude.{◌++◌, length, map as map_list, Option, None, Some}
+use Rattle.std.specs.Option.{option_map_or}
+use Rattle.std.specs.FinMap as map
+use Rattle.room_types.specs.Texts.{Text, text_eq}
+use Rattle.room_types.specs.declared.kinds.ListKind.{ListKind}
+use Rattle.room_types.specs.declared.kinds.ListKind.TheVariants.{Rooms, People, Choices}
+use Rattle.room_types.specs.declared.phase.Phase.{Phase}
+use Rattle.office_lists.specs.Entries.{choices_list, people_list, room_list}
+use Rattle.office_lists.specs.Records.{ListForm, data_records, list_fault, records_of}
+use Rattle.office_lists.specs.declared.entries.ChoicesEntry.{ChoicesEntry}
+use Rattle.office_lists.specs.declared.entries.PersonEntry.{PersonEntry}
+use Rattle.office_lists.specs.declared.fault.Cause.TheVariants.{Denied}
+use Rattle.office_lists.specs.declared.fault.ListFault.{ListFault}
+use Rattle.office_lists.specs.declared.fault.ListFault.TheVariants as list
+use Rattle.office_core.specs.Command.AddPerson as add_person
+use Rattle.office_core.specs.Command.AddRoom as add_room
+use Rattle.office_core.specs.Command.SetChoices as set_choices
+use Rattle.office_core.specs.Office.Limits.{byte_limit, label_limit}
+use Rattle.office_core.specs.Office.Phases.{is_open, is_preparing}
+use Rattle.office_core.specs.Refusal.{number_of}
+use Rattle.office_core.specs.Refusal.Checks.{Check, first_refusal}
+use Rattle.office_core.specs.declared.change.Change.{Change}
+use Rattle.office_core.specs.declared.change.Change.TheVariants.{KeepList, PutRoom, PutPerson}
+use Rattle.office_core.specs.declared.change.Change.TheVariants.{PutChoices}
+use Rattle.office_core.specs.declared.office.Office.{Office}
+use Rattle.office_core.specs.declared.office.kept_list.KeptList.{KeptList}
+use Rattle.office_core.specs.declared.refusal.Refusal.{Refusal}
+use Rattle.office_core.specs.declared.refusal.Refusal.TheVariants.{BadPhase, BadRecord, LimitReached}
+use Rattle.office_core.specs.declared.refusal.Refusal.TheVariants.{ListDiffers, OutOfMemory}
+use Rattle.office_core.specs.declared.reply.Reply.{Reply}
+use Rattle.office_core.specs.declared.reply.Reply.TheVariants as reply
+
+-- what the records of a list of one kind ask for: the command of each
+pub record EntryCommand : Type 1 where
+  pub Entry : Type 0
+  pub form : ListForm Entry
+  pub checks : Office → Entry → List Check
+  pub next : Office → Entry → Office
+  pub change : Entry → Change
+
+-- to add a room
+abbrev pub room_command : EntryCommand
+room_command = record {
+  Entry = Text;
+  form = room_list;
+  checks = add_room.checks;
+  next = add_room.next;
+  change = λ room. PutRoom room false;
+}
+
+-- to add a person
+abbrev pub person_command : EntryCommand
+person_command = record {
+  Entry = PersonEntry;
+  form = people_list;
+  checks = λ office e. add_person.checks office e.person e.name e.key e.home;
+  next = λ office e. add_person.next office e.person e.name e.key e.home;
+  change = λ e. PutPerson e.person e.name e.key e.home;
+}
+
+-- to replace a person's list
+abbrev pub choices_command : EntryCommand
+choices_command = record {
+  Entry = ChoicesEntry;
+  form = choices_list;
+  checks = λ office e. set_choices.checks office e.person e.choices;
+  next = λ office e. set_choices.next office e.person e.choices;
+  change = λ e. PutChoices e.person e.choices;
+}
+
+-- what the records of a list tell, in order
+abbrev pub entries_in : (command : EntryCommand) → List ℕ → List command.Entry
+entries_in command bytes = map_list command.form.entry (data_records (records_of bytes))
+
+-- the office after these records, one command each
+abbrev pub office_after : (command : EntryCommand) → Office → List command.Entry → Office
+office_after command office [] = office
+office_after command office (entry ∷ entries) =
+    office_after command (command.next office entry) entries
+
+-- the first of the records whose command is refused by the office as it is then; the first of these
+-- records has the number `at`
+abbrev pub first_denied : (command : EntryCommand) → Office → ℕ → List command.Entry → Option Refusal
+first_denied command office at [] = None
+first_denied command office at (entry ∷ entries) =
+    option_map_or (λ refusal. Some (BadRecord at (Denied (number_of refusal))))
+    (first_refusal (command.checks office entry))
+    (first_denied command (command.next office entry) (at + 1) entries)
+
+-- a list that cannot be read
+abbrev pub bad_list : ListFault → Refusal
+bad_list (list.Bad at cause) = BadRecord at cause
+bad_list list.OutOfMemory = OutOfMemory
+
+-- the first bad record of the list, and where there is none the first whose command is refused
+abbrev pub list_refusal : EntryCommand → Office → List ℕ → Option Refusal
+list_refusal command office bytes =
+    option_map_or (λ fault. Some (bad_list fault)) (list_fault command.form (records_of bytes))
+    (first_denied command office 1 (entries_in command bytes))
+
+-- the refusal of a list of each kind
+abbrev pub refusal_of : ListKind → Office → List ℕ → Option Refusal
+refusal_of Rooms = list_refusal room_command
+refusal_of People = list_refusal person_command
+refusal_of Choices = list_refusal choices_command
+
+-- the office after all records
+abbrev pub office_with : ListKind → Office → List ℕ → Office
+office_with Rooms office bytes = office_after room_command office (entries_in room_command bytes)
+office_with People office bytes = office_after person_command office (entries_in person_command bytes)
+office_with Choices office bytes = office_after choices_command office (entries_in choices_command bytes)
+
+-- the changes that records make
+abbrev pub changes_by : (command : EntryCommand) → List command.Entry → List Change
+changes_by command entries = map_list (λ entry. command.change entry) entries
+
+-- a change for each record
+abbrev pub record_changes : ListKind → List ℕ → List Change
+record_changes Rooms bytes = changes_by room_command (entries_in room_command bytes)
+record_changes People bytes = changes_by person_command (entries_in person_command bytes)
+record_changes Choices bytes = changes_by choices_command (entries_in choices_command bytes)
+
+-- how many records there are
+abbrev pub record_count : List ℕ → ℕ
+record_count bytes = length (data_records (records_of bytes))
+
+-- the phases in which a list of this kind may come
+abbrev pub may_come : ListKind → Phase → Bool
+may_come Rooms phase = is_preparing phase
+may_come People phase = is_preparing phase
+may_come Choices phase = is_open phase
+
+abbrev pub is_same_kind : ListKind → ListKind → Bool
+is_same_kind Rooms Rooms = true
+is_same_kind People People = true
+is_same_kind Choices Choices = true
+is_same_kind _ _ = false
+
+-- whether this is the list that is kept
+abbrev pub is_same : KeptList → ListKind → List ℕ → Bool
+is_same kept kind bytes = is_same_kind kept.kind kind && text_eq kept.bytes bytes
+
+-- a refusal that applies, if any
+abbrev pub check_of : Option Refusal → List Check
+check_of None = []
+check_of (Some refusal) = (true, refusal) ∷ []
+
+-- the refusal of a list under a label that is known
+abbrev pub known_label_checks : KeptList → ListKind → List ℕ → List Check
+known_label_checks kept kind bytes = (not (is_same kept kind bytes), ListDiffers) ∷ []
+
+-- the refusals of a list under a label that is not known
+abbrev pub new_label_checks : Office → ListKind → List ℕ → List Check
+new_label_checks office kind bytes =
+    (not (may_come kind office.phase), BadPhase office.phase)
+    ∷ (nat_le label_limit (map.len office.lists), LimitReached)
+    ∷ (nat_lt byte_limit (length bytes), LimitReached)
+    ∷ check_of (refusal_of kind office bytes)
+
+-- a change for each record, and the list kept under its label
+abbrev pub new_label_changes : Text → ListKind → List ℕ → List Change
+new_label_changes label kind bytes =
+    record_changes kind bytes ++ KeepList label kind bytes (record_count bytes) ∷ []
+
+-- the office that keeps the list
+abbrev pub keeping : Office → Text → ListKind → List ℕ → Office
+keeping office label kind bytes =
+    record office {
+      lists = map.insert office.lists label
+          (record { kind = kind; bytes = bytes; count = record_count bytes });
+    }
+
+-- by what is kept under the label
+abbrev pub checks_where : Option KeptList → Office → ListKind → List ℕ → List Check
+checks_where (Some kept) office kind bytes = known_label_checks kept kind bytes
+checks_where None office kind bytes = new_label_checks office kind bytes
+
+abbrev pub next_where : Option KeptList → Office → Text → ListKind → List ℕ → Office
+next_where (Some kept) office label kind bytes = office
+next_where None office label kind bytes =
+    keeping (office_with kind office bytes) label kind bytes
+
+abbrev pub reply_where : Option KeptList → List ℕ → Reply
+reply_where (Some kept) bytes = reply.Added kept.count
+reply_where None bytes = reply.Added (record_count bytes)
+
+abbrev pub changes_where : Option KeptList → Text → ListKind → List ℕ → List Change
+changes_where (Some kept) label kind bytes = []
+changes_where None label kind bytes = new_label_changes label kind bytes
+
+abbrev pub checks : Office → Text → ListKind → List ℕ → List Check
+checks office label kind bytes = checks_where (map.get office.lists label) office kind bytes
+
+abbrev pub next : Office → Text → ListKind → List ℕ → Office
+next office label kind bytes = next_where (map.get office.lists label) office label kind bytes
+
+abbrev pub reply_to : Office → Text → ListKind → List ℕ → Reply
+reply_to office label kind bytes = reply_where (map.get office.lists label) bytes
+
+abbrev pub changes_of : Office → Text → ListKind → List ℕ → List Change
+changes_of office label kind bytes = changes_where (map.get office.lists label) label kind bytes

@@ -1,0 +1,144 @@
+//! A list comes in, under a label by which it may come again.
+ghost use Rattle.std.specs.Prelude.{◌≡◌, ◌≤◌, IfOk, IfErr, None, length, []};
+ghost use Rattle.office_lists.specs.Records.{record_limit};
+ghost use Rattle.office_core.specs.Command.Decision.{Decides};
+ghost use Rattle.office_core.specs.Command.Import.{checks, reply_to, changes_of};
+ghost use Rattle.office_core.specs.Command.Import.{known_label_checks, new_label_checks, new_label_changes};
+ghost use Rattle.office_core.specs.Command.Import.{may_come, is_same, record_changes};
+ghost use Rattle.office_core.specs.Command.Import.{record_count, refusal_of};
+ghost use Rattle.office_core.specs.Inner.Tries.{IsOrMemory};
+
+pub mod choices;
+pub mod denial;
+pub mod people;
+pub mod register;
+pub mod rooms;
+
+use crate::change::Change;
+use crate::command::decision::Decision;
+use crate::command::import::choices::choices_added;
+use crate::command::import::people::people_added;
+use crate::command::import::rooms::rooms_added;
+use crate::office::Office;
+use crate::office::kept_list::KeptList;
+use crate::office::limits::{BYTE_LIMIT, LABEL_LIMIT};
+use crate::office::phases::{is_open, is_preparing};
+use crate::refusal::Refusal;
+use crate::reply::Reply;
+use room_types::{Label, ListKind, Listing, Phase};
+use std::alloc::Global;
+
+/// Decides that a list comes in. Under a known label the same list has the reply that it had at first, in any phase,
+/// and its records are not read again; another is `ListDiffers`. Else it is refused in turn: `BadPhase` unless idle or
+/// open, for choices unless open; `LimitReached` at `LABEL_LIMIT` kept lists, and for more than `BYTE_LIMIT` bytes;
+/// `BadRecord` for the first bad record, and where there is none for the first whose own command is refused.
+///
+/// It takes n log n steps in the records of the list, the people and the rooms, and reads the bytes once.
+pub fn import(
+    alloc: Global,
+    office: &Office,
+    label: &Label,
+    kind: ListKind,
+    bytes: &Listing<u8>,
+) -> Result<Decision, Refusal>
+    ensures { Decides (checks office.now label.now kind bytes.now)
+        (reply_to office.now label.now kind bytes.now)
+        (changes_of office.now label.now kind bytes.now) result }
+{
+    match office.lists.get(label) {
+        Some(kept) => import_known(alloc, kept, kind, bytes),
+        None => import_new(alloc, office, label, kind, bytes),
+    }
+}
+
+// A list under a known label.
+fn import_known(
+    alloc: Global,
+    kept: &KeptList,
+    kind: ListKind,
+    bytes: &Listing<u8>,
+) -> Result<Decision, Refusal>
+    ensures { Decides (known_label_checks kept.now kind bytes.now) (Reply.Added kept.now.count) []
+        result }
+{
+    if !is_same(kept, kind, bytes) {
+        return Err(Refusal::ListDiffers);
+    }
+    Ok(Decision {
+        reply: Reply::Added { count: kept.count },
+        changes: Vec::new(alloc),
+    })
+}
+
+// Whether this is the list that is kept.
+fn is_same(kept: &KeptList, kind: ListKind, bytes: &Listing<u8>) -> bool
+    ensures { result ≡ is_same kept.now kind bytes.now }
+{
+    kept.kind == kind && kept.bytes.as_slice() == bytes.as_slice()
+}
+
+// A list under a new label.
+fn import_new(
+    alloc: Global,
+    office: &Office,
+    label: &Label,
+    kind: ListKind,
+    bytes: &Listing<u8>,
+) -> Result<Decision, Refusal>
+    ensures { Decides (new_label_checks office.now kind bytes.now)
+        (Reply.Added (record_count bytes.now)) (new_label_changes label.now kind bytes.now)
+        result }
+{
+    if !may_come(kind, office.phase) {
+        return Err(Refusal::BadPhase(office.phase));
+    }
+    if office.lists.len() >= LABEL_LIMIT {
+        return Err(Refusal::LimitReached);
+    }
+    if bytes.len() > BYTE_LIMIT {
+        return Err(Refusal::LimitReached);
+    }
+    let mut changes = records_added(alloc, office, kind, bytes.as_slice())?;
+    let count = changes.len() as u16;
+    changes.push(Change::KeepList {
+        label: label.copy()?,
+        kind,
+        bytes: bytes.copy()?,
+        count,
+    })?;
+    Ok(Decision {
+        reply: Reply::Added { count },
+        changes,
+    })
+}
+
+// Whether a list of this kind may come in this phase.
+fn may_come(kind: ListKind, phase: Phase) -> bool
+    ensures { result ≡ may_come kind phase }
+{
+    match kind {
+        ListKind::Rooms | ListKind::People => is_preparing(phase),
+        ListKind::Choices => is_open(phase),
+    }
+}
+
+// A change for each record of the list.
+#[tactic(auto, using(crate::proofs::CommandLemmas::ListChecks::as_many))]
+fn records_added(
+    alloc: Global,
+    office: &Office,
+    kind: ListKind,
+    bytes: &[u8],
+) -> Result<Vec<Change>, Refusal>
+    ensures accepted { IfOk result (λ _. refusal_of kind office.now bytes.now ≡ None) }
+    ensures changed { IfOk result (λ changes. changes.items ≡ record_changes kind bytes.now) }
+    ensures as_many { IfOk result (λ changes. length changes.items ≡ record_count bytes.now) }
+    ensures few { IfOk result (λ changes. length changes.items ≤ record_limit) }
+    ensures refused { IfErr result (IsOrMemory (refusal_of kind office.now bytes.now)) }
+{
+    match kind {
+        ListKind::Rooms => rooms_added(alloc, office, bytes),
+        ListKind::People => people_added(alloc, office, bytes),
+        ListKind::Choices => choices_added(alloc, office, bytes),
+    }
+}

@@ -1,0 +1,55 @@
+//! A list of choices is added.
+ghost use Rattle.std.specs.Prelude.{◌≡◌, ◌≤◌, IfOk, IfErr, length};
+ghost use Rattle.office_lists.specs.Records.{record_limit};
+ghost use Rattle.office_core.specs.Command.Import.{choices_command, first_denied, list_refusal};
+ghost use Rattle.office_core.specs.Inner.Tries.{AreAdded, AreAllowed, IsOrMemory};
+
+use crate::change::Change;
+use crate::command::import::denial::denial;
+use crate::command::set_choices::may_choose;
+use crate::office::Office;
+use crate::refusal::Refusal;
+use office_lists::{ChoicesEntry, read_choices};
+use room_types::OutOfMemory;
+use std::alloc::Global;
+
+/// A change for each person's list; or the first bad record, and where there is none the first that is denied.
+#[tactic(auto, using(crate::proofs::CommandLemmas::ListChecks::few_told, crate::proofs::CommandLemmas::ListChecks::few_changes))]
+pub fn choices_added(alloc: Global, office: &Office, bytes: &[u8]) -> Result<Vec<Change>, Refusal>
+    ensures added { IfOk result
+        (λ changes. AreAdded choices_command office.now bytes.now changes.items) }
+    ensures few { IfOk result (λ changes. length changes.items ≤ record_limit) }
+    ensures refused { IfErr result
+        (IsOrMemory (list_refusal choices_command office.now bytes.now)) }
+{
+    let entries = read_choices(alloc, bytes)?;
+    each_added(alloc, office, entries.as_slice())
+}
+
+// A change for each of the lists. No list changes what another is refused for, so the office stays as it is.
+fn each_added(alloc: Global, office: &Office, list: &[ChoicesEntry]) -> Result<Vec<Change>, Refusal>
+    requires { length list.now ≤ record_limit }
+    ensures allowed { IfOk result
+        (λ changes. AreAllowed choices_command office.now list.now changes.items) }
+    ensures refused { IfErr result
+        (IsOrMemory (first_denied choices_command office.now 1 list.now)) }
+{
+    let mut changes = Vec::new(alloc);
+    for (i, entry) in list.iter().enumerate() {
+        if let Err(refusal) = may_choose(office, &entry.person, &entry.choices) {
+            return Err(denial(i, &refusal));
+        }
+        let change = change_of(entry)?;
+        changes.push(change)?;
+    }
+    Ok(changes)
+}
+
+fn change_of(entry: &ChoicesEntry) -> Result<Change, OutOfMemory>
+    ensures { IfOk result (λ change. change ≡ choices_command.change entry.now) }
+{
+    Ok(Change::PutChoices {
+        person: entry.person.copy()?,
+        choices: entry.choices.copy()?,
+    })
+}

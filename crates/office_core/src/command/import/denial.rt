@@ -1,0 +1,22 @@
+//! The refusal of a list for one of its records.
+ghost use Rattle.std.specs.Prelude.{◌≡◌, ◌<◌, ◌+◌};
+ghost use Rattle.office_lists.specs.Records.{record_limit};
+ghost use Rattle.office_core.specs.Inner.Tries.{denial_of};
+
+use crate::refusal::Refusal;
+use office_lists::Cause;
+
+/// The refusal of a list whose record of this index, counted from 0, is refused for this. Out of memory stays what it
+/// is.
+pub(crate) fn denial(index: usize, refusal: &Refusal) -> Refusal
+    requires { index < record_limit }
+    ensures { result ≡ denial_of (index + 1) refusal.now }
+{
+    match refusal {
+        Refusal::OutOfMemory => Refusal::OutOfMemory,
+        refusal => Refusal::BadRecord {
+            at: index as u32 + 1,
+            cause: Cause::Denied(refusal.number()),
+        },
+    }
+}

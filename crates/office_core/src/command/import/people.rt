@@ -1,0 +1,107 @@
+//! A list of people is added.
+ghost use Rattle.std.specs.Prelude.{◌≡◌, ◌≤◌, IfOk, IfErr, length};
+ghost use Rattle.office_lists.specs.Records.{record_limit};
+ghost use Rattle.office_core.specs.Command.Import.{first_denied, list_refusal, person_command};
+ghost use Rattle.office_core.specs.Inner.Passes.{Passes};
+ghost use Rattle.office_core.specs.Inner.Tries.{AreAdded, AreAllowed, IsIndexed, IsOrMemory};
+ghost use Rattle.office_core.specs.Refusal.Checks.{home_checks_if_any};
+
+use crate::change::Change;
+use crate::command::import::denial::denial;
+use crate::command::import::register::Register;
+use crate::office::Office;
+use crate::office::limits::PEOPLE_LIMIT;
+use crate::office::phases::is_preparing;
+use crate::refusal::Refusal;
+use crate::refusal::rooms::may_list;
+use office_lists::{PersonEntry, read_people};
+use room_types::rows::copy_optional;
+use room_types::{OutOfMemory, RoomCode};
+use std::alloc::Global;
+
+/// A change for each person of the list; or its first bad record, and where there is none the first that is denied.
+#[tactic(auto, using(crate::proofs::CommandLemmas::ListChecks::few_told, crate::proofs::CommandLemmas::ListChecks::few_changes))]
+pub fn people_added(alloc: Global, office: &Office, bytes: &[u8]) -> Result<Vec<Change>, Refusal>
+    ensures added { IfOk result
+        (λ changes. AreAdded person_command office.now bytes.now changes.items) }
+    ensures few { IfOk result (λ changes. length changes.items ≤ record_limit) }
+    ensures refused { IfErr result (IsOrMemory (list_refusal person_command office.now bytes.now)) }
+{
+    let people = read_people(alloc, bytes)?;
+    each_added(alloc, office, people.as_slice())
+}
+
+// A change for each of the people, who come one after the other.
+fn each_added(alloc: Global, office: &Office, list: &[PersonEntry]) -> Result<Vec<Change>, Refusal>
+    requires { length list.now ≤ record_limit }
+    ensures allowed { IfOk result
+        (λ changes. AreAllowed person_command office.now list.now changes.items) }
+    ensures refused { IfErr result (IsOrMemory (first_denied person_command office.now 1 list.now)) }
+{
+    let mut register = Register::of(alloc, office)?;
+    let mut changes = Vec::new(alloc);
+    for (i, entry) in list.iter().enumerate() {
+        if let Err(refusal) = may_add(office, &register, entry) {
+            return Err(denial(i, &refusal));
+        }
+        register.add(entry)?;
+        let change = change_of(entry)?;
+        changes.push(change)?;
+    }
+    Ok(changes)
+}
+
+// Passes a person who may be added to an office with the people of the register.
+fn may_add(office: &Office, register: &Register, entry: &PersonEntry) -> Result<(), Refusal>
+    requires { IsIndexed register.now }
+    ensures { Passes
+        (person_command.checks (record office.now { people = register.now.people }) entry.now)
+        result }
+{
+    if !is_preparing(office.phase) {
+        return Err(Refusal::BadPhase(office.phase));
+    }
+    if register.people.contains_key(&entry.person) {
+        return Err(Refusal::DuplicatePerson);
+    }
+    if register.keys.contains_key(&entry.key) {
+        return Err(Refusal::KeyInUse);
+    }
+    may_live_if_any(office, register, &entry.home)?;
+    if register.people.len() >= PEOPLE_LIMIT {
+        return Err(Refusal::LimitReached);
+    }
+    Ok(())
+}
+
+// Passes no home, and a room that may be the home of one more of the register's people.
+fn may_live_if_any(
+    office: &Office,
+    register: &Register,
+    home: &Option<RoomCode>,
+) -> Result<(), Refusal>
+    requires { IsIndexed register.now }
+    ensures { Passes
+        (home_checks_if_any (record office.now { people = register.now.people }) home.now)
+        result }
+{
+    let Some(room) = home else {
+        return Ok(());
+    };
+    may_list(office, room)?;
+    if register.tenants.contains_key(room) {
+        return Err(Refusal::RoomTaken);
+    }
+    Ok(())
+}
+
+fn change_of(entry: &PersonEntry) -> Result<Change, OutOfMemory>
+    ensures { IfOk result (λ change. change ≡ person_command.change entry.now) }
+{
+    Ok(Change::PutPerson {
+        person: entry.person.copy()?,
+        name: entry.name.copy()?,
+        key: entry.key.copy()?,
+        home: copy_optional(&entry.home)?,
+    })
+}

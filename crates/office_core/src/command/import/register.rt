@@ -1,0 +1,83 @@
+//! The people of an office with tables of their keys and homes, so that no search goes through the people.
+ghost use Rattle.std.specs.Prelude.{◌≡◌, false, IfOk, OnOk};
+ghost use Rattle.std.specs.FinMap as map;
+ghost use Rattle.office_core.specs.Inner.Tries.{HasKeys, IsIndexed, placed};
+
+use crate::office::Office;
+use crate::office::person::Person;
+use crate::query::rooms::tenants;
+use office_lists::PersonEntry;
+use room_types::grammars::{Keys, PersonIds, RoomCodes};
+use room_types::rows::copy_optional;
+use room_types::{OutOfMemory, PersonId, RoomCode, Table};
+use std::alloc::Global;
+
+/// People, with their keys and homes.
+#[derive(Drop)]
+pub(crate) struct Register {
+    pub(crate) people: Table<PersonIds, Person>,
+    /// The keys that somebody has.
+    pub(crate) keys: Table<Keys, ()>,
+    /// Who lives in each room.
+    pub(crate) tenants: Table<RoomCodes, PersonId>,
+}
+
+impl Register {
+    /// The people of the office, each table made in one pass over them.
+    pub(crate) fn of(alloc: Global, office: &Office) -> Result<Register, OutOfMemory>
+        ensures people { IfOk result (λ register. register.people ≡ office.now.people) }
+        ensures indexed { IfOk result IsIndexed }
+    {
+        Ok(Register {
+            people: office.people.copy()?,
+            keys: keys(alloc, &office.people)?,
+            tenants: tenants(alloc, office)?,
+        })
+    }
+
+    /// One more person, who is not known yet.
+    #[tactic(auto, using(crate::proofs::OfficeLemmas::Indexed::still_indexed))]
+    pub(crate) fn add(&mut self, entry: &PersonEntry) -> Result<(), OutOfMemory>
+        requires unknown { map.contains_key self.old.people entry.now.person ≡ false }
+        requires indexed { IsIndexed self.old }
+        ensures people { OnOk result
+            (self.new.people ≡ map.insert self.old.people entry.now.person
+            (record { name = entry.now.name; key = entry.now.key; home = entry.now.home })) }
+        ensures indexed { OnOk result (IsIndexed self.new) }
+    {
+        self.keys.insert(entry.key.copy()?, ())?;
+        place(&mut self.tenants, &entry.home, &entry.person)?;
+        let kept = Person {
+            name: entry.name.copy()?,
+            key: entry.key.copy()?,
+            home: copy_optional(&entry.home)?,
+        };
+        self.people.insert(entry.person.copy()?, kept)?;
+        Ok(())
+    }
+}
+
+// One more person lives in the room, if any.
+fn place(
+    tenants: &mut Table<RoomCodes, PersonId>,
+    home: &Option<RoomCode>,
+    person: &PersonId,
+) -> Result<(), OutOfMemory>
+    ensures { OnOk result (tenants.new ≡ placed tenants.old home.now person.now) }
+{
+    match home {
+        Some(room) => tenants.insert(room.copy()?, person.copy()?),
+        None => Ok(()),
+    }
+}
+
+// The keys that somebody has.
+fn keys(alloc: Global, people: &Table<PersonIds, Person>) -> Result<Table<Keys, ()>, OutOfMemory>
+    ensures { IfOk result (HasKeys people.now) }
+{
+    let mut keys = Table::new(alloc);
+    for (_, person) in people.iter() {
+        keys.insert(person.key.copy()?, ())?;
+    }
+    Ok(keys)
+}

@@ -1,0 +1,55 @@
+//! A list of rooms is added.
+ghost use Rattle.std.specs.Prelude.{◌≡◌, ◌≤◌, IfOk, IfErr, length};
+ghost use Rattle.office_lists.specs.Records.{record_limit};
+ghost use Rattle.office_core.specs.Command.Import.{first_denied, list_refusal, room_command};
+ghost use Rattle.office_core.specs.Inner.Tries.{AreAdded, AreAllowed, IsOrMemory};
+
+use crate::change::Change;
+use crate::command::add_room::may_add;
+use crate::command::import::denial::denial;
+use crate::office::Office;
+use crate::refusal::Refusal;
+use office_lists::read_rooms;
+use room_types::{OutOfMemory, RoomCode};
+use std::alloc::Global;
+
+/// A change for each room of the list; or its first bad record, and where there is none the first that is denied.
+#[tactic(auto, using(crate::proofs::CommandLemmas::ListChecks::few_told, crate::proofs::CommandLemmas::ListChecks::few_changes))]
+pub fn rooms_added(alloc: Global, office: &Office, bytes: &[u8]) -> Result<Vec<Change>, Refusal>
+    ensures added { IfOk result
+        (λ changes. AreAdded room_command office.now bytes.now changes.items) }
+    ensures few { IfOk result (λ changes. length changes.items ≤ record_limit) }
+    ensures refused { IfErr result (IsOrMemory (list_refusal room_command office.now bytes.now)) }
+{
+    let rooms = read_rooms(alloc, bytes)?;
+    each_added(alloc, office, rooms.as_slice())
+}
+
+// A change for each of the rooms, which come one after the other.
+fn each_added(alloc: Global, office: &Office, list: &[RoomCode]) -> Result<Vec<Change>, Refusal>
+    requires { length list.now ≤ record_limit }
+    ensures allowed { IfOk result
+        (λ changes. AreAllowed room_command office.now list.now changes.items) }
+    ensures refused { IfErr result (IsOrMemory (first_denied room_command office.now 1 list.now)) }
+{
+    let mut rooms = office.rooms.copy()?;
+    let mut changes = Vec::new(alloc);
+    for (i, room) in list.iter().enumerate() {
+        if let Err(refusal) = may_add(office, &rooms, room) {
+            return Err(denial(i, &refusal));
+        }
+        rooms.insert(room.copy()?, false)?;
+        let change = change_of(room)?;
+        changes.push(change)?;
+    }
+    Ok(changes)
+}
+
+fn change_of(room: &RoomCode) -> Result<Change, OutOfMemory>
+    ensures { IfOk result (λ change. change ≡ room_command.change room.now) }
+{
+    Ok(Change::PutRoom {
+        room: room.copy()?,
+        shut: false,
+    })
+}
