@@ -11,10 +11,10 @@ from itertools import count
 from multiprocessing import Pool
 from pathlib import Path
 
-from faults import content_of, copy_office, kept_words
+from faults import ENDS, content_of, copy_office, kept_words
 
 UNAVAILABLE = "unavailable\n"
-SCRIPTS = ("examples/year.txt", "bench/lists.txt")
+SCRIPT = "bench/lists.txt"
 EXPORTS = ("rooms", "people", "moves")
 KEY = "key0000000000s01"
 REQUESTS = (("GET", "/rooms", ""), ("GET", "/me", ""), ("PUT", "/me/choices", '["A3","B2"]'), ("PUT", "/me/choices", '["Z9"]'),
@@ -70,8 +70,24 @@ def refuse_each(attempt):
 
 
 def expect(is_so, what, ran):
-    if not is_so:
-        sys.exit(f"{what}: status {ran.status}: {ran.text[:300]}")
+    assert is_so, f"{what}: status {ran.status}: {ran.text[:300]}"
+
+
+def bytes_of(office):
+    """The bytes of an office's file and of the log beside it."""
+    paths = [Path(f"{office}{end}") for end in ENDS]
+    return [path.read_bytes() if path.exists() else b"" for path in paths]
+
+
+class Kept:
+    """An office before a line and after it, and which of them a copy holds."""
+
+    def __init__(self, before, after):
+        self.bytes, self.before, self.after = bytes_of(before), content_of(before), content_of(after)
+
+    def of(self, office):
+        """The rows of a copy. Where its bytes are those before the line they are not read again."""
+        return self.before if bytes_of(office) == self.bytes else content_of(office)
 
 
 # --- a rehearsal
@@ -102,19 +118,19 @@ def line_over_file(program, words, before, answer, after):
     """One line on copies of an office."""
     is_read = words[0] == "export"
     with tempfile.TemporaryDirectory() as name:
-        office = Path(name) / "office.db"
-        contents = content_of(before), content_of(after)
+        office, kept = Path(name) / "office.db", Kept(before, after)
 
         def attempt(number):
             copy_office(before, office)
             ran = program.run(program.line(office, words), number)
-            content, what = content_of(office), f"{' '.join(words)} without allocation {number}"
+            content, what = kept.of(office), f"{' '.join(words)} without allocation {number}"
             if ran.text == answer.text:
-                expect(content == contents[1], what, ran)
+                expect(content == kept.after, what, ran)
             elif ran.text == UNAVAILABLE:
-                expect(ran.status == 3 and content == contents[0], what, ran)
+                expect(ran.status == 3 and content == kept.before, what, ran)
             else:
-                expect(ran.status == 3 and content in contents and ran.text == (answer.text[:len(ran.text)] if is_read else ""), what, ran)
+                front = answer.text[:len(ran.text)] if is_read else ""
+                expect(ran.status == 3 and content in (kept.before, kept.after) and ran.text == front, what, ran)
             return ran.is_refused
 
         return refuse_each(attempt)
@@ -160,18 +176,17 @@ def served(program, office, port, request):
     with tempfile.TemporaryDirectory() as name:
         copy = Path(name) / "office.db"
         copy_office(office, copy)
-        before = content_of(copy)
         ample, _ = serve_once(program, copy, port, request, 0)
-        after = content_of(copy)
+        kept = Kept(office, copy)
 
         def attempt(number):
             copy_office(office, copy)
             answer, ran = serve_once(program, copy, port, request, number)
-            content, what = content_of(copy), f"{request} without allocation {number}: {answer[:40]}"
+            content, what = kept.of(copy), f"{request} without allocation {number}: {answer[:40]}"
             if answer == ample:
-                expect(content == after, what, ran)
+                expect(content == kept.after, what, ran)
             else:
-                expect(content == before and (answer.startswith("HTTP/1.1 503 ") or not answer and ran.status == 3), what, ran)
+                expect(content == kept.before and (answer.startswith("HTTP/1.1 503 ") or not answer and ran.status == 3), what, ran)
             return ran.is_refused
 
         return refuse_each(attempt)
@@ -182,22 +197,18 @@ def tell(what, refused, began):
     return sum(refused)
 
 
-def main(path, refuse):
+def main(path, refuse, jobs):
     program, refused = Program(path, refuse), 0
-    with Pool() as pool, tempfile.TemporaryDirectory() as name:
-        folder = Path(name)
+    with Pool(int(jobs)) as pool, tempfile.TemporaryDirectory() as name:
         began = time.monotonic()
-        refused += tell("rehearsals", pool.starmap(rehearsals, [(program, "examples/year.txt")]), began)
-        for script in SCRIPTS:
-            began = time.monotonic()
-            place = folder / Path(script).stem
-            place.mkdir()
-            steps = list(steps_of(program, place, script))
-            refused += tell(f"lines of {script}", pool.starmap(line_over_file, steps), began)
+        refused += tell("a year rehearsed", pool.starmap(rehearsals, [(program, "examples/year.txt")]), began)
+        began = time.monotonic()
+        steps = list(steps_of(program, Path(name), SCRIPT))
+        refused += tell("lines over a file", pool.starmap(line_over_file, steps, 1), began)
         began = time.monotonic()
         office = next(before for _, words, before, _, _ in steps if words == ["close"])
         requests = [(program, office, 18300 + number, request) for number, request in enumerate(REQUESTS)]
-        refused += tell("residents' requests", pool.starmap(served, requests), began)
+        refused += tell("residents' requests", pool.starmap(served, requests, 1), began)
     print(f"{refused} allocations refused, each answered as it has to be")
 
 

@@ -53,16 +53,20 @@ def without_end(kind, rows):
     return written(kind, rows).removesuffix(b"\r\n")
 
 
-def as_libreoffice(kind, rows):
-    """The list, taken in by LibreOffice, kept as its own document, and saved as CSV."""
+def through_libreoffice(content):
+    """CSV that is taken in by LibreOffice, kept as its own document, and saved as CSV."""
     with tempfile.TemporaryDirectory() as name:
         folder = Path(name)
-        (folder / "in.csv").write_bytes(written(kind, rows, quoting=csv.QUOTE_ALL))
+        (folder / "in.csv").write_bytes(content)
         for before, target in (("in.csv", "ods"), ("in.ods", f"csv:{FILTER}")):
             subprocess.run(["soffice", f"-env:UserInstallation=file://{name}/profile", "--headless", f"--infilter={FILTER}"
                             if before == "in.csv" else "--norestore", "--convert-to", target, "--outdir", name,
                             str(folder / before)], check=True, stdout=subprocess.DEVNULL, stderr=subprocess.DEVNULL)
         return (folder / "in.csv").read_bytes()
+
+
+def as_libreoffice(kind, rows):
+    return through_libreoffice(written(kind, rows, quoting=csv.QUOTE_ALL))
 
 
 MAKERS = [as_excel, as_quoted, as_old_mac, with_empty_lines, without_end, as_libreoffice]
@@ -91,6 +95,25 @@ def try_maker(program, folder, maker):
     for person, rooms in dict(CHOICES).items():
         shown = office.run("do", "me", f"key000000000{person.lower():>04}").text.splitlines()
         assert shown[0] == f"person {person}" and shown[4].split()[1:] == rooms.split(), shown
+
+
+def try_exports(program, folder):
+    """Exports of a settled round, read by LibreOffice field by field as Python reads them."""
+    office = Office(program, folder / "settled.db")
+    for kind, rows in (("rooms", ROOMS), ("people", PEOPLE), ("choices", CHOICES)):
+        path = folder / f"settled-{kind}.csv"
+        path.write_bytes(written(kind, rows))
+        if kind == "choices":
+            office.do("open", "round 1 open")
+        check(f"settled {kind}", office.bring(kind, f"{kind}-1", path), f"added {len(rows)}")
+    for line, answer in (("close", "closed 6"), ("draw " + " ".join(f"{n:016x}" for n in range(6)), "drawn 6"), ("run", "ran 6"),
+                         ("publish", "published 6"), ("settle", "settled 2")):
+        office.do(line, answer)
+    for kind in ("rooms", "people", "moves"):
+        content = office.run("export", kind).text.encode()
+        read = list(csv.reader(io.StringIO(through_libreoffice(content).decode(), newline="")))[1:]
+        assert read == office.export(kind) and read, (kind, read)
+        print(f"export of {kind}: {len(read)} records, as LibreOffice reads them")
 
 
 def people(*records):
@@ -196,6 +219,8 @@ def main(program):
                 print("LibreOffice is not installed (Debian: apt-get install libreoffice-calc): its lists are left out")
                 continue
             try_maker(program, folder, maker)
+        if shutil.which("soffice"):
+            try_exports(program, folder)
         try_bad(program, folder)
         try_quotes(program, folder)
 

@@ -17,6 +17,8 @@ mod failing;
 #[cfg(test)]
 mod file_lines;
 #[cfg(test)]
+mod import_lines;
+#[cfg(test)]
 mod imports;
 #[cfg(test)]
 mod lines;

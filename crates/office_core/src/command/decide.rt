@@ -36,9 +36,9 @@ use std::alloc::Global;
 /// # Errors
 ///
 /// The first refusal of the command's line that applies: `BadPhase` in another phase, and then those of the command's
-/// own file; only `Import` looks at its label before the phase. `OutOfMemory` only where memory is taken: for the code in `UnknownRoom` or `RoomShut`, for a list that is
-/// read before `BadRecord`, and for the changes of a command that is not refused. A `Withdraw` that is repeated and an
-/// `Import` of a list that is kept change nothing, and are always answered.
+/// own file; only `Import` looks at its label before the phase. `OutOfMemory` only where memory is taken: for the code in
+/// `UnknownRoom` or `RoomShut`, for a list that is read before `BadRecord`, and for the changes of a command that is not
+/// refused. A `Withdraw` that is repeated and an `Import` of a list that is kept change nothing, and are always answered.
 pub fn decide(alloc: Global, office: &Office, command: &Command) -> Result<Decision, Refusal>
     requires { IsLawful office.now }
     ensures decides { Decides (checks office.now command.now) (reply_to office.now command.now)

@@ -129,8 +129,8 @@ fn keeps_lists_under_their_labels(rt: HostRuntime) -> Result<(), Fail> {
     let told = "added 3\nrefused 14 ListDiffers\nrefused 15 BadRecord 3 refusal 5\n";
     let text = said_of_lists(alloc, &mut desk, ListKind::People, &again)?;
     assert_eq!(rt; text.as_str(), told);
-    let new = [("p-3", NO_BYTES), ("p-3", HEADER)];
-    let text = said_of_lists(alloc, &mut desk, ListKind::People, &new)?;
+    let new = [("p-3", NO_BYTES), ("p-3", HEADER)].as_slice();
+    let text = said_of_lists(alloc, &mut desk, ListKind::People, new)?;
     assert_eq!(rt; text.as_str(), "refused 15 BadRecord 0 header\nadded 0\n");
     let Ok(mut desk) = Desk::adopt(alloc, desk.release()) else {
         panic!(rt; "no desk takes the database");
