@@ -149,7 +149,8 @@ fn reads_import_lines(rt: HostRuntime) {
                     list,
                 },
             ) => {
-                assert_eq!(rt; (*database, *list), ("o", "a list"));
+                assert_eq!(rt; *database, "o");
+                assert_eq!(rt; *list, "a list");
                 assert_eq!(rt; *kind, ListKind::People);
                 assert_eq!(rt; label.as_str(), "p-1");
             }

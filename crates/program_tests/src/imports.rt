@@ -85,15 +85,15 @@ fn brings_lists_in_once(rt: HostRuntime) -> Result<(), Fail> {
     }
     carried(&rt, &["do", "--db", "imports_once/office.db", "open"]);
     let (status, text) = import(&rt, "imports_once", "choices", "c-1", "choices.csv")?;
-    assert_eq!(rt; (status, text.as_slice()), (0, b"added 4\n".as_slice()));
+    assert_eq!(rt; status, 0);
+    assert_eq!(rt; text.as_slice(), b"added 4\n".as_slice());
     carried(&rt, &["do", "--db", "imports_once/office.db", "close"]);
     let (status, text) = import(&rt, "imports_once", "choices", "c-1", "choices.csv")?;
-    assert_eq!(rt; (status, text.as_slice()), (0, b"added 4\n".as_slice()));
+    assert_eq!(rt; status, 0);
+    assert_eq!(rt; text.as_slice(), b"added 4\n".as_slice());
     let (status, text) = import(&rt, "imports_once", "choices", "c-2", "choices.csv")?;
-    assert_eq!(rt;
-        (status, text.as_slice()),
-        (1, b"refused 1 BadPhase closed\n".as_slice())
-    );
+    assert_eq!(rt; status, 1);
+    assert_eq!(rt; text.as_slice(), b"refused 1 BadPhase closed\n".as_slice());
     let (_, text, _) = carried(
         &rt,
         &[
