@@ -40,8 +40,8 @@ pub fn carry_out<'a, R: Read, W: Write, E: Write>(
     ensures no_late_read { StopsAtEnd input.old input.new }
     ensures no_late_write { StopsAtFailure output.old output.new }
     ensures no_late_error { StopsAtFailure error.old error.new }
-    ensures carries_out { let shelf = shelf_of ⟦<HostRuntime as Lists>⟧.opens ⟦<HostRuntime as Lists>⟧.fails
-        ⟦<File as Read>⟧.remaining rt.now in
+    ensures carries_out { let shelf = shelf_of
+        ⟦<HostRuntime as Lists>⟧.opens ⟦<HostRuntime as Lists>⟧.fails ⟦<File as Read>⟧.remaining rt.now in
         CarriesOut ⟦<FileFrom<Wary> as Disk>⟧ no_contents shelf
         (map (λ word. word.now) words.entry.now) result
         (input_of R.remaining input.old) (input_of R.remaining input.new)
