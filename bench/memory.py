@@ -192,14 +192,36 @@ def served(program, office, port, request):
         return refuse_each(attempt)
 
 
+# --- calls of the desk
+
+def tests_of(path):
+    """The names of the tests that are right whichever allocation is refused."""
+    listed = subprocess.run([path, "--list"], capture_output=True, text=True, check=True).stdout
+    return [line.removesuffix(": test") for line in listed.splitlines() if line.startswith("refused::")]
+
+
+def calls_of_desk(tests, name):
+    """One test of the crate `fault_tests`, which judges the answers itself."""
+    def attempt(number):
+        ran = tests.run([name], number)
+        expect(ran.status == 0, f"{name} without allocation {number}", ran)
+        return ran.is_refused
+
+    return refuse_each(attempt)
+
+
 def tell(what, refused, began):
     print(f"{what}: {sum(refused)} allocations refused, {time.monotonic() - began:.0f} s", flush=True)
     return sum(refused)
 
 
-def main(path, refuse, jobs):
+def main(path, tests, refuse, jobs):
     program, refused = Program(path, refuse), 0
     with Pool(int(jobs)) as pool, tempfile.TemporaryDirectory() as name:
+        began = time.monotonic()
+        calls = [(Program(tests, refuse), test) for test in tests_of(tests)]
+        assert calls, f"{tests} has no tests of refused memory"
+        refused += tell("calls of the desk", pool.starmap(calls_of_desk, calls, 1), began)
         began = time.monotonic()
         refused += tell("a year rehearsed", pool.starmap(rehearsals, [(program, "examples/year.txt")]), began)
         began = time.monotonic()

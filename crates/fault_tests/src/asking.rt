@@ -1,0 +1,106 @@
+//! Requests, and desks in memory at which they are made.
+use office_core::{Command, Office};
+use office_store::{Answer, Desk, Handler, Request};
+use office_words::{Sentence, read_line};
+use room_types::{Label, ListKind, Listing, OutOfMemory};
+use sqlite::MemStore;
+use std::alloc::Global;
+
+/// The requests of these lines.
+pub fn lines_asked(alloc: Global, lines: &str) -> Result<Vec<Request>, OutOfMemory> {
+    let mut requests = Vec::new(alloc);
+    ask_lines(alloc, &mut requests, lines)?;
+    Ok(requests)
+}
+
+/// Adds the requests of these lines.
+pub fn ask_lines(
+    alloc: Global,
+    requests: &mut Vec<Request>,
+    lines: &str,
+) -> Result<(), OutOfMemory> {
+    for line in lines.lines() {
+        if let Sentence::Asks(request) = read_line(alloc, line.as_bytes())? {
+            requests.push(request)?;
+        }
+    }
+    Ok(())
+}
+
+/// Adds the request that this list comes in.
+pub fn ask_list(
+    alloc: Global,
+    requests: &mut Vec<Request>,
+    kind: ListKind,
+    label: &str,
+    list: &str,
+) -> Result<(), OutOfMemory> {
+    let command = list_command(alloc, kind, label, list)?;
+    requests.push(Request::Office(command))?;
+    Ok(())
+}
+
+fn list_command(
+    alloc: Global,
+    kind: ListKind,
+    label: &str,
+    list: &str,
+) -> Result<Command, OutOfMemory> {
+    let Ok(label) = Label::read(alloc, label) else {
+        return Err(OutOfMemory {});
+    };
+    let bytes = Vec::from_slice(alloc, list.as_bytes())?;
+    Ok(Command::Import {
+        label,
+        kind,
+        bytes: Listing::new(bytes),
+    })
+}
+
+/// Lets the desk go. Whoever has one hands it on to here, so that it is proved in one place that all its parts can be let go.
+pub fn let_go(desk: Desk<MemStore>) {
+    drop(desk);
+}
+
+/// Makes these requests, unless memory is refused for one of them.
+pub fn furnish(
+    alloc: Global,
+    desk: &mut Desk<MemStore>,
+    requests: &[Request],
+) -> Result<(), OutOfMemory> {
+    for request in requests {
+        let answer = desk.handle(alloc, request);
+        if matches!(answer, Answer::Unavailable) {
+            return Err(OutOfMemory {});
+        }
+    }
+    Ok(())
+}
+
+/// The office of a desk in memory to which these lines were told.
+pub fn office_told(alloc: Global, lines: &str) -> Result<Office, OutOfMemory> {
+    let requests = lines_asked(alloc, lines)?;
+    office_after(alloc, &requests)
+}
+
+/// The office of a desk in memory at which these requests were made.
+pub fn office_after(alloc: Global, requests: &[Request]) -> Result<Office, OutOfMemory> {
+    let Ok(mut desk) = Desk::in_memory(alloc) else {
+        return Err(OutOfMemory {});
+    };
+    let office = furnished_office(alloc, &mut desk, requests);
+    let_go(desk);
+    office
+}
+
+fn furnished_office(
+    alloc: Global,
+    desk: &mut Desk<MemStore>,
+    requests: &[Request],
+) -> Result<Office, OutOfMemory> {
+    furnish(alloc, desk, requests)?;
+    match desk.load(alloc) {
+        Ok(office) => Ok(office),
+        Err(_) => Err(OutOfMemory {}),
+    }
+}

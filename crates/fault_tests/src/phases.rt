@@ -1,0 +1,219 @@
+//! Each request in each phase of a round, at a desk of its own with a hundred people and a hundred rooms: it is answered where the
+//! phase allows it, and refused for the phase elsewhere.
+use crate::asking::{ask_lines, ask_list, let_go, lines_asked};
+use office_core::Refusal;
+use office_store::{Answer, Desk, Handler, Request};
+use room_types::{ListKind, OutOfMemory, Phase};
+use sqlite::MemStore;
+use std::alloc::{AllocError, Global};
+use std::test::Fail;
+
+// How many people there are, and how many rooms.
+const MANY: u16 = 100;
+
+// Each phase, and how many of the requests below lead there.
+const PHASES: [(Phase, usize); 6] = [
+    (Phase::Idle, 5),
+    (Phase::Opened, 7),
+    (Phase::Closed, 8),
+    (Phase::Drawn, 9),
+    (Phase::Ran, 10),
+    (Phase::Published, 11),
+];
+
+const ALL: &str = "idle open closed drawn ran published";
+
+// Lines, each with the phases to which it belongs.
+const ASKED: [(&str, &str); 23] = [
+    ("room H200", "idle open"),
+    ("person E200 key0000000000200 Ann Ash", "idle open"),
+    ("home E90 H90", "idle"),
+    ("leave E1", "idle"),
+    ("remove E91", "idle"),
+    ("shut H98", "idle open"),
+    ("reopen H99", "idle open"),
+    ("open", "idle"),
+    ("choose E92 H92 H93", "open"),
+    ("withdraw E2", "open"),
+    ("close", "open"),
+    ("run", "drawn"),
+    ("publish", "ran"),
+    ("settle", "published"),
+    ("cancel", "open closed drawn ran"),
+    ("rooms", ALL),
+    ("people", ALL),
+    ("round", ALL),
+    ("order", "drawn ran published"),
+    ("results", "ran published"),
+    ("moves 1", ALL),
+    ("me key0000000000003", ALL),
+    ("whatif E4 H5 H94", "ran published"),
+];
+
+#[test]
+fn each_request_is_answered_in_its_phases(rt: HostRuntime) -> Result<(), Fail> {
+    let alloc = rt.alloc();
+    let steps = steps(alloc)?;
+    let registers = registers(alloc)?;
+    let choices = choices(alloc)?;
+    let draw = lines_asked(alloc, draw_line(alloc)?.as_str())?;
+    for (phase, made) in PHASES {
+        let reached = Reached {
+            steps: &steps,
+            made,
+            phase,
+        };
+        assert!(rt; lines_fit(alloc, &reached)?, "a line, {phase}");
+        assert!(rt;
+            all_fit(alloc, &reached, &registers, "idle open"),
+            "a list, {phase}"
+        );
+        assert!(rt;
+            all_fit(alloc, &reached, &choices, "open"),
+            "choices, {phase}"
+        );
+        assert!(rt;
+            all_fit(alloc, &reached, &draw, "closed"),
+            "a draw, {phase}"
+        );
+    }
+    Ok(())
+}
+
+// So many steps are made, and lead to this phase.
+#[derive(Drop)]
+struct Reached<'a> {
+    steps: &'a [Request],
+    made: usize,
+    phase: Phase,
+}
+
+// The requests that lead through the phases. A first round is given up, so that it is over and nobody has moved.
+fn steps(alloc: Global) -> Result<Vec<Request>, OutOfMemory> {
+    let mut steps = Vec::new(alloc);
+    ask_many(alloc, &mut steps, ListKind::Rooms)?;
+    ask_many(alloc, &mut steps, ListKind::People)?;
+    ask_lines(alloc, &mut steps, "shut H99\nopen\ncancel\nopen\n")?;
+    ask_many(alloc, &mut steps, ListKind::Choices)?;
+    ask_lines(alloc, &mut steps, "close\n")?;
+    ask_lines(alloc, &mut steps, draw_line(alloc)?.as_str())?;
+    ask_lines(alloc, &mut steps, "run\npublish\n")?;
+    Ok(steps)
+}
+
+fn ask_many(alloc: Global, requests: &mut Vec<Request>, kind: ListKind) -> Result<(), OutOfMemory> {
+    let list = list(alloc, kind)?;
+    ask_list(alloc, requests, kind, kind.as_str(), list.as_str())
+}
+
+// A list of so many records. Every second person has a home, and everybody lists the next room and the one after it.
+fn list(alloc: Global, kind: ListKind) -> Result<String, OutOfMemory> {
+    let mut list = String::from_str(
+        alloc,
+        match kind {
+            ListKind::Rooms => "room\n",
+            ListKind::People => "person,name,key,home\n",
+            ListKind::Choices => "person,choices\n",
+        },
+    )?;
+    for number in 0..MANY {
+        list.push_str(record(alloc, kind, number)?.as_str())?;
+    }
+    Ok(list)
+}
+
+fn record(alloc: Global, kind: ListKind, number: u16) -> Result<String, AllocError> {
+    let next = number.saturating_add(1) % 90;
+    let after = number.saturating_add(2) % 90;
+    match kind {
+        ListKind::Rooms => format!(in alloc; "H{number}\n"),
+        ListKind::People if number < 50 => {
+            format!(in alloc; "E{number},Pat,key000000000{number:04},H{number}\n")
+        }
+        ListKind::People => format!(in alloc; "E{number},Pat,key000000000{number:04},\n"),
+        ListKind::Choices => format!(in alloc; "E{number},H{next} H{after}\n"),
+    }
+}
+
+// A word for everybody.
+fn draw_line(alloc: Global) -> Result<String, OutOfMemory> {
+    let mut line = String::from_str(alloc, "draw")?;
+    for number in 0..MANY {
+        line.push_str(format!(in alloc; " {number:016x}")?.as_str())?;
+    }
+    Ok(line)
+}
+
+// Lists of rooms and people that did not come yet.
+fn registers(alloc: Global) -> Result<Vec<Request>, OutOfMemory> {
+    let people = "person,name,key,home\nE300,Pat,key0000000000300,\n";
+    let mut requests = Vec::new(alloc);
+    ask_list(alloc, &mut requests, ListKind::Rooms, "r-2", "room\nH300\n")?;
+    ask_list(alloc, &mut requests, ListKind::People, "p-2", people)?;
+    Ok(requests)
+}
+
+// A list of choices that did not come yet.
+fn choices(alloc: Global) -> Result<Vec<Request>, OutOfMemory> {
+    let choices = "person,choices\nE95,H95\n";
+    let mut requests = Vec::new(alloc);
+    ask_list(alloc, &mut requests, ListKind::Choices, "c-2", choices)?;
+    Ok(requests)
+}
+
+// Whether each line is answered as its phases have it.
+fn lines_fit(alloc: Global, reached: &Reached<'_>) -> Result<bool, OutOfMemory> {
+    for (line, phases) in ASKED {
+        let requests = lines_asked(alloc, line)?;
+        if requests.len() != 1 || !all_fit(alloc, reached, &requests, phases) {
+            return Ok(false);
+        }
+    }
+    Ok(true)
+}
+
+// Whether each of the requests, at a desk of its own, is answered as these phases have it.
+fn all_fit(alloc: Global, reached: &Reached<'_>, requests: &[Request], phases: &str) -> bool {
+    let phase = reached.phase;
+    let belongs = phases.split(' ').any(|word| word == phase.as_str());
+    for request in requests {
+        if !fits(answer_after(alloc, reached, request), phase, belongs) {
+            return false;
+        }
+    }
+    true
+}
+
+fn fits(answer: Option<Answer>, phase: Phase, belongs: bool) -> bool {
+    match answer {
+        Some(Answer::Reply(_)) => belongs,
+        Some(Answer::Refused(Refusal::BadPhase(told))) => !belongs && told == phase,
+        _ => false,
+    }
+}
+
+// The answer of a desk of its own.
+fn answer_after(alloc: Global, reached: &Reached<'_>, request: &Request) -> Option<Answer> {
+    let Ok(mut desk) = Desk::in_memory(alloc) else {
+        return None;
+    };
+    let answer = answer_at(alloc, &mut desk, reached, request);
+    let_go(desk);
+    answer
+}
+
+// The answer once all steps were made.
+fn answer_at(
+    alloc: Global,
+    desk: &mut Desk<MemStore>,
+    reached: &Reached<'_>,
+    request: &Request,
+) -> Option<Answer> {
+    for step in reached.steps.iter().take(reached.made) {
+        let answer = desk.handle(alloc, step);
+        if !matches!(answer, Answer::Reply(_)) {
+            return None;
+        }
+    }
+    Some(desk.handle(alloc, request))
+}

@@ -1,0 +1,103 @@
+//! Exports are written, from the tables of a desk.
+use crate::asking::{furnish, let_go, lines_asked, office_after};
+use crate::refused::verdict;
+use crate::same::is_same_office;
+use office_core::Office;
+use office_lists::ExportKind;
+use office_store::{Desk, ExportEnd, Request};
+use room_types::{OutOfMemory, Watched};
+use sqlite::MemStore;
+use std::alloc::Global;
+
+// What is exported after the year.
+const EXPORTS: [(ExportKind, &str); 3] = [
+    (
+        ExportKind::Rooms,
+        "room,state,tenant\nH1,occupied,T2\nH2,occupied,T1\nV,occupied,N\n",
+    ),
+    (
+        ExportKind::People,
+        "person,name,home\nN,Nia Noor,V\nT1,Tim Tan,H2\nT2,Tom Tao,H1\n",
+    ),
+    (
+        ExportKind::Moves,
+        "round,wave,person,from,to\n1,1,N,,V\n1,swap,T1,H1,H2\n1,swap,T2,H2,H1\n",
+    ),
+];
+
+/// Whether the exports after these lines are written, each whole or a front of it that is told, and the office stays.
+pub fn exports_are_told(alloc: Global, lines: &str) -> Result<bool, OutOfMemory> {
+    let requests = lines_asked(alloc, lines)?;
+    let office = office_after(alloc, &requests)?;
+    told(alloc, &requests, &office)
+}
+
+fn told(alloc: Global, requests: &[Request], office: &Office) -> Result<bool, OutOfMemory> {
+    let Ok(mut desk) = Desk::in_memory(alloc) else {
+        return Err(OutOfMemory {});
+    };
+    let told = told_at(alloc, &mut desk, requests, office);
+    let_go(desk);
+    told
+}
+
+fn told_at(
+    alloc: Global,
+    desk: &mut Desk<MemStore>,
+    requests: &[Request],
+    office: &Office,
+) -> Result<bool, OutOfMemory> {
+    furnish(alloc, desk, requests)?;
+    let mut wanting = 0usize;
+    for (kind, wanted) in EXPORTS {
+        match is_exported(alloc, desk, kind, wanted.as_bytes()) {
+            Ok(true) => {}
+            Ok(false) => return Ok(false),
+            Err(_) => wanting = wanting.saturating_add(1),
+        }
+    }
+    office_judged(alloc, desk, office, wanting)
+}
+
+// Whether the desk still holds the office. `wanting` exports before were out of memory.
+fn office_judged(
+    alloc: Global,
+    desk: &mut Desk<MemStore>,
+    office: &Office,
+    wanting: usize,
+) -> Result<bool, OutOfMemory> {
+    match desk.load(alloc) {
+        Ok(found) => {
+            if is_same_office(office, &found) {
+                verdict(wanting)
+            } else {
+                Ok(false)
+            }
+        }
+        Err(_) => verdict(wanting.saturating_add(1)),
+    }
+}
+
+// Whether the whole export is written, or out of memory where the front of it is that is told.
+fn is_exported(
+    alloc: Global,
+    desk: &mut Desk<MemStore>,
+    kind: ExportKind,
+    wanted: &[u8],
+) -> Result<bool, OutOfMemory> {
+    // No memory is taken for what is written.
+    let mut output = Watched::new(Vec::with_capacity(alloc, 1_024)?);
+    let ended = desk.export(alloc, kind, &mut output);
+    let written = output.into_inner();
+    match ended {
+        Ok(()) => Ok(written.as_slice() == wanted),
+        Err(ExportEnd::Fault { .. }) => Ok(false),
+        Err(ExportEnd::Unavailable { sent }) => {
+            if wanted.starts_with(&written) && written.len() as u128 == sent {
+                Err(OutOfMemory {})
+            } else {
+                Ok(false)
+            }
+        }
+    }
+}

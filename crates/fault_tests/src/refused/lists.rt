@@ -1,0 +1,127 @@
+//! Lists are read, good and bad ones.
+use crate::refused::verdict;
+use office_lists::{
+    ChoicesEntry, ListFault, PersonEntry, or_none, read_choices, read_people, read_rooms,
+};
+use room_types::{ListKind, OutOfMemory, RoomCode};
+use std::alloc::{AllocError, Global};
+
+// Lists, and what is read of them.
+const LISTS: [(ListKind, &str, &str); 6] = [
+    (ListKind::Rooms, "room\nH1\nH2\n", "H1;H2;"),
+    (
+        ListKind::Rooms,
+        "room\nH1\nh2\n",
+        "Bad { at: 2, cause: BadField(1) }",
+    ),
+    (
+        ListKind::People,
+        "person,name,key,home\nE1,\"Bo, B.\",key00000000000e1,H1\nE2,Cy,key00000000000e2,\n",
+        "E1 Bo, B. key00000000000e1 H1;E2 Cy key00000000000e2 none;",
+    ),
+    (
+        ListKind::People,
+        "person,name,key\n",
+        "Bad { at: 0, cause: Header }",
+    ),
+    (
+        ListKind::Choices,
+        "person,choices\nE1,H1 H2\nE2,\n",
+        "E1: H1 H2 E2: ",
+    ),
+    (
+        ListKind::Choices,
+        "person,choices\nE1,H1 H2\nE2,H1 H2 H1\n",
+        "Bad { at: 2, cause: BadField(2) }",
+    ),
+];
+
+/// Whether each list is read, or refused for its first bad record.
+pub fn lists_are_read(alloc: Global) -> Result<bool, OutOfMemory> {
+    let mut wanting = 0usize;
+    for (kind, list, wanted) in LISTS {
+        match read_as(alloc, kind, list.as_bytes()) {
+            Ok(text) => {
+                if text.as_str() != wanted {
+                    return Ok(false);
+                }
+            }
+            Err(_) => wanting = wanting.saturating_add(1),
+        }
+    }
+    verdict(wanting)
+}
+
+// What is read of the list, as a text.
+fn read_as(alloc: Global, kind: ListKind, list: &[u8]) -> Result<String, OutOfMemory> {
+    match kind {
+        ListKind::Rooms => rooms_text(alloc, list),
+        ListKind::People => people_text(alloc, list),
+        ListKind::Choices => choices_text(alloc, list),
+    }
+}
+
+fn rooms_text(alloc: Global, list: &[u8]) -> Result<String, OutOfMemory> {
+    match read_rooms(alloc, list) {
+        Ok(rooms) => rooms_joined(alloc, &rooms, ";"),
+        Err(fault) => fault_text(alloc, fault),
+    }
+}
+
+// Each room, and this behind it.
+fn rooms_joined(alloc: Global, rooms: &[RoomCode], end: &str) -> Result<String, OutOfMemory> {
+    let mut text = String::new(alloc);
+    for room in rooms {
+        text.push_str(room.as_str())?;
+        text.push_str(end)?;
+    }
+    Ok(text)
+}
+
+fn people_text(alloc: Global, list: &[u8]) -> Result<String, OutOfMemory> {
+    match read_people(alloc, list) {
+        Ok(people) => people_joined(alloc, &people),
+        Err(fault) => fault_text(alloc, fault),
+    }
+}
+
+fn people_joined(alloc: Global, people: &[PersonEntry]) -> Result<String, OutOfMemory> {
+    let mut text = String::new(alloc);
+    for entry in people {
+        text.push_str(person_text(alloc, entry)?.as_str())?;
+    }
+    Ok(text)
+}
+
+fn person_text(alloc: Global, entry: &PersonEntry) -> Result<String, AllocError> {
+    let person = entry.person.as_str();
+    let name = entry.name.as_str();
+    let key = entry.key.as_str();
+    let home = or_none(&entry.home);
+    format!(in alloc; "{person} {name} {key} {home};")
+}
+
+fn choices_text(alloc: Global, list: &[u8]) -> Result<String, OutOfMemory> {
+    match read_choices(alloc, list) {
+        Ok(entries) => entries_joined(alloc, &entries),
+        Err(fault) => fault_text(alloc, fault),
+    }
+}
+
+fn entries_joined(alloc: Global, entries: &[ChoicesEntry]) -> Result<String, OutOfMemory> {
+    let mut text = String::new(alloc);
+    for entry in entries {
+        let rooms = rooms_joined(alloc, entry.choices.as_slice(), " ")?;
+        text.push_str(entry.person.as_str())?;
+        text.push_str(": ")?;
+        text.push_str(rooms.as_str())?;
+    }
+    Ok(text)
+}
+
+fn fault_text(alloc: Global, fault: ListFault) -> Result<String, OutOfMemory> {
+    match fault {
+        ListFault::OutOfMemory => Err(OutOfMemory {}),
+        fault => Ok(format!(in alloc; "{fault:?}")?),
+    }
+}

@@ -1,0 +1,66 @@
+//! An office is read from its tables, twice, and tested.
+use crate::asking::{furnish, let_go, lines_asked, office_after};
+use crate::refused::verdict;
+use crate::same::is_same_office;
+use office_core::{Office, sound};
+use office_store::{Desk, Request};
+use room_types::OutOfMemory;
+use sqlite::MemStore;
+use std::alloc::Global;
+
+// What is read of an office at two times, if it could be read.
+#[derive(Drop)]
+struct Read {
+    first: Option<Office>,
+    second: Option<Office>,
+}
+
+/// Whether the office after these lines is read each time, and is lawful.
+pub fn office_is_read(alloc: Global, lines: &str) -> Result<bool, OutOfMemory> {
+    let requests = lines_asked(alloc, lines)?;
+    let read = read(alloc, &requests)?;
+    let office = office_after(alloc, &requests)?;
+    let (is_right, wanting) = judged(alloc, &read, &office);
+    if is_right {
+        verdict(wanting)
+    } else {
+        Ok(false)
+    }
+}
+
+// Whether nothing wrong was read, and how often memory was wanting.
+fn judged(alloc: Global, read: &Read, office: &Office) -> (bool, usize) {
+    let (is_right, wanting) = counted(&read.first, office, 0);
+    let (is_right_again, wanting) = counted(&read.second, office, wanting);
+    match sound(alloc, office) {
+        Ok(is_lawful) => (is_right && is_right_again && is_lawful, wanting),
+        Err(_) => (is_right && is_right_again, wanting.saturating_add(1)),
+    }
+}
+
+fn counted(found: &Option<Office>, office: &Office, wanting: usize) -> (bool, usize) {
+    match found {
+        Some(found) => (is_same_office(office, found), wanting),
+        None => (true, wanting.saturating_add(1)),
+    }
+}
+
+fn read(alloc: Global, requests: &[Request]) -> Result<Read, OutOfMemory> {
+    let Ok(mut desk) = Desk::in_memory(alloc) else {
+        return Err(OutOfMemory {});
+    };
+    let read = read_at(alloc, &mut desk, requests);
+    let_go(desk);
+    read
+}
+
+fn read_at(
+    alloc: Global,
+    desk: &mut Desk<MemStore>,
+    requests: &[Request],
+) -> Result<Read, OutOfMemory> {
+    furnish(alloc, desk, requests)?;
+    let first = desk.load(alloc).ok();
+    let second = desk.load(alloc).ok();
+    Ok(Read { first, second })
+}

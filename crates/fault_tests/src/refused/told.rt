@@ -1,0 +1,150 @@
+//! Requests at a desk, and at another one that is asked only what the first one did.
+use crate::asking::let_go;
+use crate::refused::verdict;
+use crate::same::is_same_office;
+use office_core::Office;
+use office_store::{Answer, Desk, Handler, Request};
+use room_types::OutOfMemory;
+use sqlite::MemStore;
+use std::alloc::Global;
+
+// The answers to requests, and the office that is read afterwards, if it could be read.
+#[derive(Drop)]
+struct Told {
+    answers: Vec<Answer>,
+    office: Option<Office>,
+}
+
+/// Whether a desk answers these requests as another one does that is asked only those which the first did not answer out of memory,
+/// and both then hold the same office; so many of the requests are refused by the office.
+pub fn are_as_accepted(
+    alloc: Global,
+    requests: &[Request],
+    refusals: usize,
+) -> Result<bool, OutOfMemory> {
+    let told = told(alloc, requests, None)?;
+    let again = self::told(alloc, requests, Some(told.answers.as_slice()))?;
+    if are_same_answers(alloc, &told.answers, &again.answers)? {
+        answers_judged(&told, &again, refusals)
+    } else {
+        Ok(false)
+    }
+}
+
+// The answers of both are the same.
+fn answers_judged(told: &Told, again: &Told, refusals: usize) -> Result<bool, OutOfMemory> {
+    let wanting = wanting_in(&told.answers);
+    if wanting == 0 && refusals_in(&told.answers) != refusals {
+        return Ok(false);
+    }
+    office_judged(told, again, wanting)
+}
+
+// Whether both read the same office. `wanting` of the answers before were out of memory.
+fn office_judged(told: &Told, again: &Told, wanting: usize) -> Result<bool, OutOfMemory> {
+    match (&told.office, &again.office) {
+        (Some(found), Some(office)) => {
+            if is_same_office(office, found) {
+                verdict(wanting)
+            } else {
+                Ok(false)
+            }
+        }
+        _ => verdict(wanting.saturating_add(1)),
+    }
+}
+
+fn wanting_in(answers: &[Answer]) -> usize {
+    let mut wanting = 0usize;
+    for answer in answers {
+        if matches!(answer, Answer::Unavailable) {
+            wanting = wanting.saturating_add(1);
+        }
+    }
+    wanting
+}
+
+fn refusals_in(answers: &[Answer]) -> usize {
+    let mut refusals = 0usize;
+    for answer in answers {
+        if matches!(answer, Answer::Refused(_)) {
+            refusals = refusals.saturating_add(1);
+        }
+    }
+    refusals
+}
+
+fn are_same_answers(alloc: Global, told: &[Answer], again: &[Answer]) -> Result<bool, OutOfMemory> {
+    for (told, again) in told.iter().zip(again) {
+        if text(alloc, told)?.as_str() != text(alloc, again)?.as_str() {
+            return Ok(false);
+        }
+    }
+    Ok(told.len() == again.len())
+}
+
+fn text(alloc: Global, answer: &Answer) -> Result<String, OutOfMemory> {
+    let text = match answer {
+        Answer::Reply(reply) => format!(in alloc; "{reply:?}"),
+        Answer::Refused(refusal) => format!(in alloc; "{refusal:?}"),
+        Answer::Unavailable => String::from_str(alloc, "unavailable"),
+    };
+    Ok(text?)
+}
+
+// What a new desk tells; where the answers of another desk are given, without what that one answered out of memory.
+fn told(
+    alloc: Global,
+    requests: &[Request],
+    known: Option<&[Answer]>,
+) -> Result<Told, OutOfMemory> {
+    let Ok(mut desk) = Desk::in_memory(alloc) else {
+        return Err(OutOfMemory {});
+    };
+    let told = match known {
+        Some(answers) => told_without(alloc, &mut desk, requests, answers),
+        None => told_at(alloc, &mut desk, requests),
+    };
+    let_go(desk);
+    told
+}
+
+fn told_at(
+    alloc: Global,
+    desk: &mut Desk<MemStore>,
+    requests: &[Request],
+) -> Result<Told, OutOfMemory> {
+    let answers = desk.handle_all(alloc, requests)?;
+    let office = desk.load(alloc).ok();
+    Ok(Told { answers, office })
+}
+
+// Memory that is refused here is wanting for the comparison.
+fn told_without(
+    alloc: Global,
+    desk: &mut Desk<MemStore>,
+    requests: &[Request],
+    known: &[Answer],
+) -> Result<Told, OutOfMemory> {
+    let mut answers = Vec::new(alloc);
+    for (request, known) in requests.iter().zip(known) {
+        if matches!(known, Answer::Unavailable) {
+            answers.push(Answer::Unavailable)?;
+        } else {
+            answers.push(accepted(alloc, desk, request)?)?;
+        }
+    }
+    let office = desk.load(alloc).ok();
+    Ok(Told { answers, office })
+}
+
+fn accepted(
+    alloc: Global,
+    desk: &mut Desk<MemStore>,
+    request: &Request,
+) -> Result<Answer, OutOfMemory> {
+    match desk.handle(alloc, request) {
+        Answer::Unavailable => Err(OutOfMemory {}),
+        answer => Ok(answer),
+    }
+}

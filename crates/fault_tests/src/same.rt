@@ -1,0 +1,133 @@
+//! Whether two offices are the same. It takes no memory.
+use office_core::{Assigned, KeptList, Moved, Office, Person, RoundMoves};
+use room_types::{Choices, Word};
+
+/// Whether both offices have the same rooms, people, round, moves and lists.
+pub fn is_same_office(one: &Office, other: &Office) -> bool {
+    one.number == other.number
+        && one.phase == other.phase
+        && has_register(one, other)
+        && has_round(one, other)
+        && has_records(one, other)
+}
+
+fn has_register(one: &Office, other: &Office) -> bool {
+    one.rooms.len() == other.rooms.len()
+        && one.people.len() == other.people.len()
+        && one
+            .rooms
+            .iter()
+            .all(|(room, shut)| is_flag(other.rooms.get(room), *shut))
+        && one
+            .people
+            .iter()
+            .all(|(id, person)| is_person(other.people.get(id), person))
+}
+
+fn has_round(one: &Office, other: &Office) -> bool {
+    one.choices.len() == other.choices.len()
+        && one.withdrawn.len() == other.withdrawn.len()
+        && one.choices.iter().all(|(id, choices)| are_choices(other.choices.get(id), choices))
+        && one
+            .withdrawn
+            .iter()
+            .all(|(id, _)| other.withdrawn.contains_key(id))
+        && has_outcome(one, other)
+}
+
+fn has_outcome(one: &Office, other: &Office) -> bool {
+    one.words.len() == other.words.len()
+        && one.results.len() == other.results.len()
+        && one
+            .words
+            .iter()
+            .all(|(id, word)| is_word(other.words.get(id), *word))
+        && one.results.iter().all(|(id, assigned)| is_assigned(other.results.get(id), assigned))
+}
+
+fn has_records(one: &Office, other: &Office) -> bool {
+    one.lists.len() == other.lists.len()
+        && one
+            .lists
+            .iter()
+            .all(|(label, kept)| is_list(other.lists.get(label), kept))
+        && has_moves(one, other)
+        && has_moves(other, one)
+}
+
+// Whether the other office has the moves of this one.
+fn has_moves(one: &Office, other: &Office) -> bool {
+    one.moves
+        .iter()
+        .all(|(round, moves)| are_moves(other.moves.get(*round), moves))
+}
+
+fn is_flag(found: Option<&bool>, flag: bool) -> bool {
+    match found {
+        Some(found) => *found == flag,
+        None => false,
+    }
+}
+
+fn is_person(found: Option<&Person>, person: &Person) -> bool {
+    match found {
+        Some(found) => {
+            found.name == person.name && found.key == person.key && found.home == person.home
+        }
+        None => false,
+    }
+}
+
+fn are_choices(found: Option<&Choices>, choices: &Choices) -> bool {
+    match found {
+        Some(found) => found.as_slice() == choices.as_slice(),
+        None => false,
+    }
+}
+
+fn is_word(found: Option<&Word>, word: Word) -> bool {
+    match found {
+        Some(found) => *found == word,
+        None => false,
+    }
+}
+
+fn is_assigned(found: Option<&Assigned>, assigned: &Assigned) -> bool {
+    match found {
+        Some(found) => found.room == assigned.room,
+        None => false,
+    }
+}
+
+fn is_list(found: Option<&KeptList>, kept: &KeptList) -> bool {
+    match found {
+        Some(found) => {
+            found.kind == kept.kind
+                && found.count == kept.count
+                && found.bytes.as_slice() == kept.bytes.as_slice()
+        }
+        None => false,
+    }
+}
+
+fn are_moves(found: Option<&RoundMoves>, moves: &RoundMoves) -> bool {
+    match found {
+        Some(found) => {
+            found.by_person.len() == moves.by_person.len()
+                && moves
+                    .by_person
+                    .iter()
+                    .all(|(id, moved)| is_move(found.by_person.get(id), moved))
+        }
+        None => false,
+    }
+}
+
+fn is_move(found: Option<&Moved>, moved: &Moved) -> bool {
+    match found {
+        Some(found) => {
+            found.from == moved.from && found.to == moved.to && found.wave == moved.wave
+        }
+        None => false,
+    }
+}

@@ -1,0 +1,261 @@
+//! Offices in two files of which one stops working, at each of its calls in turn. Whatever is then left of the two files is opened
+//! again: it is the office before the command that was stopped or the one after it, and the latter where the command was answered.
+mod files;
+mod stories;
+
+use crate::same::is_same_office;
+use crate::stops::files::{
+    Calls, FileDesk, StoppingFile, contents_left, desk_over, files_of, files_under, is_working,
+};
+use crate::stops::stories::{Story, coming_lists, making, small_year};
+use office_core::Office;
+use office_store::{Answer, DeskFault, Handler, Request};
+use sqlite::Files;
+use std::alloc::Global;
+use std::test::Fail;
+
+// No story asks as much of a file.
+const MOST_CALLS: u64 = 5_000;
+
+// How far a story came, and its files.
+#[derive(Drop)]
+struct Ran {
+    // Whether there was a desk.
+    is_open: bool,
+    // How many requests were answered by a reply.
+    answered: usize,
+    files: Files<StoppingFile>,
+}
+
+// How often a file was stopped, how many offices were found afterwards, and how many of them were those after a command that was not
+// answered, and those before it.
+#[derive(Clone, Copy, Drop)]
+struct Count {
+    stops: usize,
+    found: usize,
+    after: usize,
+    before: usize,
+}
+
+const NONE: Count = Count {
+    stops: 0,
+    found: 0,
+    after: 0,
+    before: 0,
+};
+
+#[test]
+fn a_new_office_is_there_or_not(rt: HostRuntime) -> Result<(), Fail> {
+    let story = making(rt.alloc()).ok_or("no office is made")?;
+    let count = both_stopped(rt.alloc(), &story)?;
+    assert!(rt; count.stops > 0 && count.found > count.stops);
+    Ok(())
+}
+
+#[test]
+fn commands_are_stored_whole(rt: HostRuntime) -> Result<(), Fail> {
+    let story = small_year(rt.alloc()).ok_or("no year is told")?;
+    let count = both_stopped(rt.alloc(), &story)?;
+    assert!(rt; count.stops > 0 && count.found > count.stops);
+    assert!(rt; count.after > 0 && count.before > 0);
+    Ok(())
+}
+
+#[test]
+fn lists_are_stored_whole(rt: HostRuntime) -> Result<(), Fail> {
+    let story = coming_lists(rt.alloc()).ok_or("no lists come in")?;
+    let count = both_stopped(rt.alloc(), &story)?;
+    assert!(rt; count.stops > 0 && count.found > count.stops);
+    assert!(rt; count.after > 0 && count.before > 0);
+    Ok(())
+}
+
+// The story is run with its log stopping, and with its database file stopping.
+fn both_stopped(alloc: Global, story: &Story) -> Result<Count, &'static str> {
+    let count = each_stopped(alloc, story, true, NONE)?;
+    each_stopped(alloc, story, false, count)
+}
+
+// The story is run with a file that stops at its first call, at its second, and so on until all is answered and both files still
+// work.
+fn each_stopped(
+    alloc: Global,
+    story: &Story,
+    is_log: bool,
+    mut count: Count,
+) -> Result<Count, &'static str> {
+    for passed in 0..MOST_CALLS {
+        let mut ran = run(alloc, story, calls_of(is_log, passed)).ok_or("memory is wanting")?;
+        let is_whole = is_whole(story, &mut ran);
+        count = looked_at(alloc, story, ran, count)?;
+        if is_whole {
+            return Ok(count);
+        }
+        count.stops = count.stops.saturating_add(1);
+    }
+    Err("the file is called without end")
+}
+
+fn calls_of(is_log: bool, passed: u64) -> Calls {
+    if is_log {
+        Calls {
+            log: passed,
+            database: u64::MAX,
+        }
+    } else {
+        Calls {
+            log: u64::MAX,
+            database: passed,
+        }
+    }
+}
+
+// Whether nothing was stopped.
+fn is_whole(story: &Story, ran: &mut Ran) -> bool {
+    ran.is_open
+        && ran.answered == story.requests.len()
+        && is_working(&mut ran.files.log)
+        && is_working(&mut ran.files.db)
+}
+
+fn run(alloc: Global, story: &Story, calls: Calls) -> Option<Ran> {
+    let held = &story.held;
+    let files = files_of(alloc, held.log.as_slice(), held.database.as_slice(), calls)?;
+    match desk_over(alloc, files, story.is_new) {
+        Ok(desk) => Some(told(alloc, desk, &story.requests)),
+        Err((_, files)) => Some(Ran {
+            is_open: false,
+            answered: 0,
+            files,
+        }),
+    }
+}
+
+// What is told until a request is not answered by a reply.
+fn told(alloc: Global, mut desk: FileDesk, requests: &[Request]) -> Ran {
+    let answered = answered_at(alloc, &mut desk, requests);
+    Ran {
+        is_open: true,
+        answered,
+        files: files_under(desk),
+    }
+}
+
+fn answered_at(alloc: Global, desk: &mut FileDesk, requests: &[Request]) -> usize {
+    let mut answered = 0usize;
+    for request in requests {
+        let answer = desk.handle(alloc, request);
+        if !matches!(answer, Answer::Reply(_)) {
+            return answered;
+        }
+        answered = answered.saturating_add(1);
+    }
+    answered
+}
+
+// Opens all that may be left of the files.
+fn looked_at(
+    alloc: Global,
+    story: &Story,
+    ran: Ran,
+    mut count: Count,
+) -> Result<Count, &'static str> {
+    let Ran {
+        is_open,
+        answered,
+        files: Files { log, db },
+    } = ran;
+    let logs = contents_left(alloc, log).ok_or("memory is wanting")?;
+    let databases = contents_left(alloc, db).ok_or("memory is wanting")?;
+    let told = Told { is_open, answered };
+    for log in &logs {
+        count = looked_at_with(alloc, story, told, log.as_slice(), &databases, count)?;
+    }
+    Ok(count)
+}
+
+// How far a story came.
+#[derive(Clone, Copy, Drop)]
+struct Told {
+    is_open: bool,
+    answered: usize,
+}
+
+// Opens this log beside each of the database files.
+fn looked_at_with(
+    alloc: Global,
+    story: &Story,
+    told: Told,
+    log: &[u8],
+    databases: &[Vec<u8>],
+    mut count: Count,
+) -> Result<Count, &'static str> {
+    for database in databases {
+        let found = office_in(alloc, log, database.as_slice()).ok_or("memory is wanting")?;
+        count = judged(story, told, &found, count)?;
+    }
+    Ok(count)
+}
+
+// The office that these bytes hold, or why there is none.
+fn office_in(alloc: Global, log: &[u8], database: &[u8]) -> Option<Result<Office, DeskFault>> {
+    let files = files_of(alloc, log, database, Calls::ALL)?;
+    match desk_over(alloc, files, false) {
+        Ok(desk) => Some(office_of(alloc, desk)),
+        Err((fault, _files)) => Some(Err(fault)),
+    }
+}
+
+fn office_of(alloc: Global, mut desk: FileDesk) -> Result<Office, DeskFault> {
+    let office = desk.load(alloc);
+    let _files = files_under(desk);
+    match office {
+        Ok(office) => Ok(office),
+        Err(_) => Err(DeskFault::Unavailable),
+    }
+}
+
+// Counts what was found, if it may be there.
+fn judged(
+    story: &Story,
+    told: Told,
+    found: &Result<Office, DeskFault>,
+    mut count: Count,
+) -> Result<Count, &'static str> {
+    count.found = count.found.saturating_add(1);
+    let Ok(found) = found else {
+        return fault_judged(story, told, found, count);
+    };
+    if is_nth(story, told.answered, found) {
+        count.before = count.before.saturating_add(1);
+        return Ok(count);
+    }
+    if told.is_open && is_nth(story, told.answered.saturating_add(1), found) {
+        count.after = count.after.saturating_add(1);
+        return Ok(count);
+    }
+    Err("the office is neither the one before the command nor the one after it")
+}
+
+// Only an office that was not made to its end may be absent.
+fn fault_judged(
+    story: &Story,
+    told: Told,
+    found: &Result<Office, DeskFault>,
+    count: Count,
+) -> Result<Count, &'static str> {
+    let is_absent = matches!(found, Err(DeskFault::NotAnOffice));
+    if is_absent && story.is_new && !told.is_open {
+        Ok(count)
+    } else {
+        Err("the office is lost")
+    }
+}
+
+// Whether this is the office after so many requests.
+fn is_nth(story: &Story, made: usize, found: &Office) -> bool {
+    match story.offices.get(made) {
+        Some(office) => is_same_office(office, found),
+        None => false,
+    }
+}

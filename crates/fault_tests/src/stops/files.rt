@@ -1,0 +1,137 @@
+//! Two files in memory, of which one may stop working, and desks over them.
+ghost use Rattle.std.specs.Prelude.{◌≡◌, false};
+
+use office_store::{Back, Desk, DeskFault};
+use sqlite::{Connection, FileStore, Files, Options};
+use sqlite_disk::{Crash, Disk, Fuse, Memory};
+use std::alloc::Global;
+
+/// A file that stops working after so many calls.
+pub type StoppingFile = Fuse<Memory>;
+
+/// A desk over two such files.
+pub type FileDesk = Desk<FileStore<StoppingFile>>;
+
+// The log is copied into the database file after a few commands, so that this is stopped too.
+const OPTIONS: Options = Options {
+    cache_pages: 100,
+    spill_pages: 100,
+    checkpoint_frames: 30,
+    seed: 7,
+};
+
+// How many bytes of a write a device finishes together.
+const SECTOR: usize = 512;
+
+/// The bytes of a log and of its database file.
+#[derive(Drop)]
+pub struct Held {
+    pub log: Vec<u8>,
+    pub database: Vec<u8>,
+}
+
+/// How many calls the log and the database file answer.
+#[derive(Clone, Copy, Drop)]
+pub struct Calls {
+    pub log: u64,
+    pub database: u64,
+}
+
+impl Calls {
+    /// Neither file stops.
+    pub const ALL: Calls = Calls {
+        log: u64::MAX,
+        database: u64::MAX,
+    };
+}
+
+/// Files that hold these bytes, and answer so many calls.
+pub fn files_of(
+    alloc: Global,
+    log: &[u8],
+    database: &[u8],
+    calls: Calls,
+) -> Option<Files<StoppingFile>> {
+    let log = file_of(alloc, log, calls.log)?;
+    let db = file_of(alloc, database, calls.database)?;
+    Some(Files { log, db })
+}
+
+fn file_of(alloc: Global, bytes: &[u8], calls: u64) -> Option<StoppingFile> {
+    let mut memory = Memory::new(alloc);
+    memory.write_at(0, bytes).ok()?;
+    memory.sync().ok()?;
+    Some(Fuse::new(memory, calls))
+}
+
+/// A desk over these files, over an office that is made there or over the one that they hold. Where there is none the files
+/// come back.
+pub fn desk_over(
+    alloc: Global,
+    files: Files<StoppingFile>,
+    is_new: bool,
+) -> Result<FileDesk, (DeskFault, Files<StoppingFile>)> {
+    if !files.may_be_used() {
+        return Err((DeskFault::Unavailable, files));
+    }
+    match Connection::open_files(alloc, files, OPTIONS) {
+        Ok(connection) => desk_on(alloc, connection, is_new),
+        Err((_, left)) => Err((DeskFault::Unavailable, left.into_files())),
+    }
+}
+
+fn desk_on(
+    alloc: Global,
+    connection: Connection<FileStore<StoppingFile>>,
+    is_new: bool,
+) -> Result<FileDesk, (DeskFault, Files<StoppingFile>)>
+    requires { connection.in_transaction ≡ false }
+{
+    let desk = if is_new {
+        Desk::create(alloc, connection)
+    } else {
+        Desk::adopt(alloc, connection)
+    };
+    match desk {
+        Ok(desk) => Ok(desk),
+        Err(Back { fault, connection }) => Err((fault, connection.into_store().close())),
+    }
+}
+
+/// The files of a desk. What is not committed is lost.
+pub fn files_under(desk: FileDesk) -> Files<StoppingFile> {
+    desk.release().into_store().close()
+}
+
+/// Whether the file still works.
+pub fn is_working(file: &mut StoppingFile) -> bool {
+    file.may_be_used() && file.len().is_ok()
+}
+
+/// What may be left of a file: all that was written; and where not all of it was synced, only what was; or that with every
+/// second sector of what was written since.
+pub fn contents_left(alloc: Global, mut file: StoppingFile) -> Option<Vec<Vec<u8>>> {
+    let written = Vec::from_slice(alloc, file.inner().bytes()).ok()?;
+    file.crash();
+    let synced = Vec::from_slice(alloc, file.inner().bytes()).ok()?;
+    if synced.as_slice() == written.as_slice() {
+        return one_content(alloc, written);
+    }
+    let torn = torn(alloc, written.as_slice(), synced.as_slice())?;
+    vec![in alloc; written, synced, torn].ok()
+}
+
+fn one_content(alloc: Global, content: Vec<u8>) -> Option<Vec<Vec<u8>>> {
+    vec![in alloc; content].ok()
+}
+
+// The bytes that were written in every second sector, and else those before, or zero past their end.
+fn torn(alloc: Global, written: &[u8], synced: &[u8]) -> Option<Vec<u8>> {
+    let mut torn = Vec::new(alloc);
+    for (at, byte) in written.iter().enumerate() {
+        let before = synced.get(at).copied().unwrap_or(0);
+        let is_new = (at / SECTOR) % 2 == 0;
+        torn.push(if is_new { *byte } else { before }).ok()?;
+    }
+    Some(torn)
+}
