@@ -12,6 +12,7 @@ use office_core::Office;
 use office_store::{Answer, DeskFault, Handler, Request};
 use sqlite::Files;
 use std::alloc::Global;
+use std::io;
 use std::test::Fail;
 
 // No story asks as much of a file.
@@ -49,6 +50,7 @@ fn a_new_office_is_there_or_not(rt: HostRuntime) -> Result<(), Fail> {
     let story = making(rt.alloc()).ok_or("no office is made")?;
     let count = both_stopped(rt.alloc(), &story)?;
     assert!(rt; count.stops > 0 && count.found > count.stops);
+    tell(&rt, "a new office", count)?;
     Ok(())
 }
 
@@ -58,6 +60,7 @@ fn commands_are_stored_whole(rt: HostRuntime) -> Result<(), Fail> {
     let count = both_stopped(rt.alloc(), &story)?;
     assert!(rt; count.stops > 0 && count.found > count.stops);
     assert!(rt; count.after > 0 && count.before > 0);
+    tell(&rt, "a small year", count)?;
     Ok(())
 }
 
@@ -67,7 +70,16 @@ fn lists_are_stored_whole(rt: HostRuntime) -> Result<(), Fail> {
     let count = both_stopped(rt.alloc(), &story)?;
     assert!(rt; count.stops > 0 && count.found > count.stops);
     assert!(rt; count.after > 0 && count.before > 0);
+    tell(&rt, "lists", count)?;
     Ok(())
+}
+
+// Counts are printed, since bench/stops.sh tells them.
+fn tell(rt: &HostRuntime, what: &str, count: Count) -> io::Result<()> {
+    println!(rt;
+        "{what}: {} stops, {} offices looked at, {} of them after a command that was not answered",
+        count.stops, count.found, count.after
+    )
 }
 
 // The story is run with its log stopping, and with its database file stopping.
@@ -122,7 +134,7 @@ fn run(alloc: Global, story: &Story, calls: Calls) -> Option<Ran> {
     let held = &story.held;
     let files = files_of(alloc, held.log.as_slice(), held.database.as_slice(), calls)?;
     match desk_over(alloc, files, story.is_new) {
-        Ok(desk) => Some(told(alloc, desk, &story.requests)),
+        Ok(desk) => Some(ran_at(alloc, desk, &story.requests)),
         Err((_, files)) => Some(Ran {
             is_open: false,
             answered: 0,
@@ -131,8 +143,8 @@ fn run(alloc: Global, story: &Story, calls: Calls) -> Option<Ran> {
     }
 }
 
-// What is told until a request is not answered by a reply.
-fn told(alloc: Global, mut desk: FileDesk, requests: &[Request]) -> Ran {
+// How far these requests come, until one is not answered by a reply.
+fn ran_at(alloc: Global, mut desk: FileDesk, requests: &[Request]) -> Ran {
     let answered = answered_at(alloc, &mut desk, requests);
     Ran {
         is_open: true,

@@ -18,7 +18,7 @@ struct Read {
 /// Whether the office after these lines is read each time, and is lawful.
 pub fn office_is_read(alloc: Global, lines: &str) -> Result<bool, OutOfMemory> {
     let requests = lines_asked(alloc, lines)?;
-    let read = read(alloc, &requests)?;
+    let read = read_twice(alloc, &requests)?;
     let office = office_after(alloc, &requests)?;
     let (is_right, wanting) = judged(alloc, &read, &office);
     if is_right {
@@ -45,7 +45,7 @@ fn counted(found: &Option<Office>, office: &Office, wanting: usize) -> (bool, us
     }
 }
 
-fn read(alloc: Global, requests: &[Request]) -> Result<Read, OutOfMemory> {
+fn read_twice(alloc: Global, requests: &[Request]) -> Result<Read, OutOfMemory> {
     let Ok(mut desk) = Desk::in_memory(alloc) else {
         return Err(OutOfMemory {});
     };

@@ -53,7 +53,7 @@ struct Talk {
 /// Whether the list is recorded and the resident told so, or neither: then the answer is that the desk is unavailable.
 pub fn resident_is_served(alloc: Global) -> Result<bool, OutOfMemory> {
     let requests = lines_asked(alloc, OPEN_ROUND)?;
-    let talk = talk(alloc, &requests)?;
+    let talk = talk_with(alloc, &requests)?;
     talk_judged(alloc, &talk)
 }
 
@@ -92,7 +92,7 @@ fn office_judged(
     }
 }
 
-fn talk(alloc: Global, requests: &[Request]) -> Result<Talk, OutOfMemory> {
+fn talk_with(alloc: Global, requests: &[Request]) -> Result<Talk, OutOfMemory> {
     let Ok(mut desk) = Desk::in_memory(alloc) else {
         return Err(OutOfMemory {});
     };

@@ -22,8 +22,8 @@ pub fn are_as_accepted(
     requests: &[Request],
     refusals: usize,
 ) -> Result<bool, OutOfMemory> {
-    let told = told(alloc, requests, None)?;
-    let again = self::told(alloc, requests, Some(told.answers.as_slice()))?;
+    let told = told_by_new_desk(alloc, requests, None)?;
+    let again = told_by_new_desk(alloc, requests, Some(told.answers.as_slice()))?;
     if are_same_answers(alloc, &told.answers, &again.answers)? {
         answers_judged(&told, &again, refusals)
     } else {
@@ -93,7 +93,7 @@ fn text(alloc: Global, answer: &Answer) -> Result<String, OutOfMemory> {
 }
 
 // What a new desk tells; where the answers of another desk are given, without what that one answered out of memory.
-fn told(
+fn told_by_new_desk(
     alloc: Global,
     requests: &[Request],
     known: Option<&[Answer]>,
