@@ -1,7 +1,8 @@
 """Runs the gate, and prints what each crate's proof, tests and wrong bodies cost.
 
 The prover's processes are looked at twice a second: a process names its crate, a check of tests has a flag of its own,
-and a wrong body is checked in a temporary folder. What a process used after the last look at it is not counted.
+and a wrong body is checked in a temporary folder. What a process used after the last look at it is not counted. The table so far
+is kept beside the log, once a minute.
 """
 
 import os
@@ -15,6 +16,7 @@ from collections import defaultdict
 from dataclasses import dataclass, field
 
 INTERVAL = 0.5
+KEPT_EACH = 60.0
 TICKS = os.sysconf("SC_CLK_TCK")
 PARTS = ("proof", "tests", "edits")
 
@@ -91,13 +93,23 @@ def table(costs, elapsed):
     yield f"| all | | | | {minutes(whole)}, in {minutes(elapsed)} by the clock |"
 
 
+def keep(path, costs, elapsed):
+    """Writes the table so far, so that a run which is stopped tells what it had cost."""
+    with open(path, "w", encoding="utf-8") as out:
+        print("\n".join(table(costs, elapsed)), file=out)
+
+
 def main(log, command):
-    costs, began = defaultdict(Cost), time.monotonic()
+    costs, began, kept = defaultdict(Cost), time.monotonic(), 0.0
     with open(log, "w", encoding="utf-8") as out:
         gate = subprocess.Popen(shlex.split(command), stdout=out, stderr=subprocess.STDOUT, stdin=subprocess.DEVNULL)
         try:
             while gate.poll() is None:
-                look(gate.pid, costs, time.monotonic())
+                now = time.monotonic()
+                look(gate.pid, costs, now)
+                if now - kept > KEPT_EACH:
+                    keep(f"{log}.table", costs, now - began)
+                    kept = now
                 time.sleep(INTERVAL)
         finally:
             # an interrupted measurement ends the gate too, and what that has started ends with it
