@@ -62,6 +62,24 @@ pub fn let_go(desk: Desk<MemStore>) {
     drop(desk);
 }
 
+/// Whether a request is answered by a reply.
+pub fn is_replied<H: Handler>(alloc: Global, handler: &mut H, request: &Request) -> bool
+    requires { H.is_ready handler.old }
+    ensures { H.is_ready handler.new }
+{
+    let answer = handler.handle(alloc, request);
+    matches!(answer, Answer::Reply(_))
+}
+
+// Whether a request is answered otherwise than that the desk is unavailable.
+fn is_answered<H: Handler>(alloc: Global, handler: &mut H, request: &Request) -> bool
+    requires { H.is_ready handler.old }
+    ensures { H.is_ready handler.new }
+{
+    let answer = handler.handle(alloc, request);
+    !matches!(answer, Answer::Unavailable)
+}
+
 /// Makes these requests, unless memory is refused for one of them.
 pub fn furnish(
     alloc: Global,
@@ -69,8 +87,7 @@ pub fn furnish(
     requests: &[Request],
 ) -> Result<(), OutOfMemory> {
     for request in requests {
-        let answer = desk.handle(alloc, request);
-        if matches!(answer, Answer::Unavailable) {
+        if !is_answered(alloc, desk, request) {
             return Err(OutOfMemory {});
         }
     }

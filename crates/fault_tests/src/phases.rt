@@ -1,6 +1,6 @@
 //! Each request in each phase of a round, at a desk of its own with a hundred people and a hundred rooms: it is answered where the
 //! phase allows it, and refused for the phase elsewhere.
-use crate::asking::{ask_lines, ask_list, let_go, lines_asked};
+use crate::asking::{ask_lines, ask_list, is_replied, let_go, lines_asked};
 use office_core::Refusal;
 use office_store::{Answer, Desk, Handler, Request};
 use room_types::{ListKind, OutOfMemory, Phase};
@@ -177,17 +177,18 @@ fn all_fit(alloc: Global, reached: &Reached<'_>, requests: &[Request], phases: &
     let phase = reached.phase;
     let belongs = phases.split(' ').any(|word| word == phase.as_str());
     for request in requests {
-        if !fits(answer_after(alloc, reached, request), phase, belongs) {
+        let answer = answer_after(alloc, reached, request);
+        if !fits(&answer, phase, belongs) {
             return false;
         }
     }
     true
 }
 
-fn fits(answer: Option<Answer>, phase: Phase, belongs: bool) -> bool {
+fn fits(answer: &Option<Answer>, phase: Phase, belongs: bool) -> bool {
     match answer {
         Some(Answer::Reply(_)) => belongs,
-        Some(Answer::Refused(Refusal::BadPhase(told))) => !belongs && told == phase,
+        Some(Answer::Refused(Refusal::BadPhase(told))) => !belongs && *told == phase,
         _ => false,
     }
 }
@@ -210,8 +211,7 @@ fn answer_at(
     request: &Request,
 ) -> Option<Answer> {
     for step in reached.steps.iter().take(reached.made) {
-        let answer = desk.handle(alloc, step);
-        if !matches!(answer, Answer::Reply(_)) {
+        if !is_replied(alloc, desk, step) {
             return None;
         }
     }

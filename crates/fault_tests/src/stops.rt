@@ -3,13 +3,14 @@
 mod files;
 mod stories;
 
+use crate::asking::is_replied;
 use crate::same::is_same_office;
 use crate::stops::files::{
     Calls, FileDesk, StoppingFile, contents_left, desk_over, files_of, files_under, is_working,
 };
 use crate::stops::stories::{Story, coming_lists, making, small_year};
 use office_core::Office;
-use office_store::{Answer, DeskFault, Handler, Request};
+use office_store::{DeskFault, Request};
 use sqlite::Files;
 use std::alloc::Global;
 use std::io;
@@ -156,8 +157,7 @@ fn ran_at(alloc: Global, mut desk: FileDesk, requests: &[Request]) -> Ran {
 fn answered_at(alloc: Global, desk: &mut FileDesk, requests: &[Request]) -> usize {
     let mut answered = 0usize;
     for request in requests {
-        let answer = desk.handle(alloc, request);
-        if !matches!(answer, Answer::Reply(_)) {
+        if !is_replied(alloc, desk, request) {
             return answered;
         }
         answered = answered.saturating_add(1);
@@ -203,10 +203,22 @@ fn looked_at_with(
     mut count: Count,
 ) -> Result<Count, &'static str> {
     for database in databases {
-        let found = office_in(alloc, log, database.as_slice()).ok_or("memory is wanting")?;
-        count = judged(story, told, &found, count)?;
+        count = found_judged(alloc, story, told, log, database.as_slice(), count)?;
     }
     Ok(count)
+}
+
+// Opens this log beside this database file.
+fn found_judged(
+    alloc: Global,
+    story: &Story,
+    told: Told,
+    log: &[u8],
+    database: &[u8],
+    count: Count,
+) -> Result<Count, &'static str> {
+    let found = office_in(alloc, log, database).ok_or("memory is wanting")?;
+    judged(story, told, &found, count)
 }
 
 // The office that these bytes hold, or why there is none.

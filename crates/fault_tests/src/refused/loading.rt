@@ -19,8 +19,16 @@ struct Read {
 pub fn office_is_read(alloc: Global, lines: &str) -> Result<bool, OutOfMemory> {
     let requests = lines_asked(alloc, lines)?;
     let read = read_twice(alloc, &requests)?;
-    let office = office_after(alloc, &requests)?;
-    let (is_right, wanting) = judged(alloc, &read, &office);
+    read_judged(alloc, &read, &requests)
+}
+
+// Whether what was read is the office after these requests.
+fn read_judged(alloc: Global, read: &Read, requests: &[Request]) -> Result<bool, OutOfMemory> {
+    let office = office_after(alloc, requests)?;
+    counts_judged(judged(alloc, read, &office))
+}
+
+fn counts_judged((is_right, wanting): (bool, usize)) -> Result<bool, OutOfMemory> {
     if is_right {
         verdict(wanting)
     } else {

@@ -87,12 +87,18 @@ fn desk_on(
 ) -> Result<FileDesk, (DeskFault, Files<StoppingFile>)>
     requires { connection.in_transaction ≡ false }
 {
-    let desk = if is_new {
-        Desk::create(alloc, connection)
+    if is_new {
+        parted(Desk::create(alloc, connection))
     } else {
-        Desk::adopt(alloc, connection)
-    };
-    match desk {
+        parted(Desk::adopt(alloc, connection))
+    }
+}
+
+// The desk, or why there is none and the files.
+fn parted(
+    made: Result<FileDesk, Back<FileStore<StoppingFile>>>,
+) -> Result<FileDesk, (DeskFault, Files<StoppingFile>)> {
+    match made {
         Ok(desk) => Ok(desk),
         Err(Back { fault, connection }) => Err((fault, connection.into_store().close())),
     }
