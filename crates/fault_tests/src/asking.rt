@@ -6,10 +6,12 @@ use room_types::{Label, ListKind, Listing, OutOfMemory};
 use sqlite::MemStore;
 use std::alloc::Global;
 
-/// The requests of these lines.
-pub fn lines_asked(alloc: Global, lines: &str) -> Result<Vec<Request>, OutOfMemory> {
+/// The requests of the lines of these texts.
+pub fn lines_asked(alloc: Global, texts: &[&str]) -> Result<Vec<Request>, OutOfMemory> {
     let mut requests = Vec::new(alloc);
-    ask_lines(alloc, &mut requests, lines)?;
+    for text in texts {
+        ask_lines(alloc, &mut requests, text)?;
+    }
     Ok(requests)
 }
 
@@ -92,12 +94,6 @@ pub fn furnish(
         }
     }
     Ok(())
-}
-
-/// The office of a desk in memory to which these lines were told.
-pub fn office_told(alloc: Global, lines: &str) -> Result<Office, OutOfMemory> {
-    let requests = lines_asked(alloc, lines)?;
-    office_after(alloc, &requests)
 }
 
 /// The office of a desk in memory at which these requests were made.

@@ -12,3 +12,5 @@ mod refused;
 mod same;
 #[cfg(test)]
 mod stops;
+#[cfg(test)]
+mod texts;

@@ -56,7 +56,7 @@ fn each_request_is_answered_in_its_phases(rt: HostRuntime) -> Result<(), Fail> {
     let steps = steps(alloc)?;
     let registers = registers(alloc)?;
     let choices = choices(alloc)?;
-    let draw = lines_asked(alloc, draw_line(alloc)?.as_str())?;
+    let draw = lines_asked(alloc, &[draw_line(alloc)?.as_str()])?;
     for (phase, made) in PHASES {
         let reached = Reached {
             steps: &steps,
@@ -164,7 +164,7 @@ fn choices(alloc: Global) -> Result<Vec<Request>, OutOfMemory> {
 // Whether each line is answered as its phases have it.
 fn lines_fit(alloc: Global, reached: &Reached<'_>) -> Result<bool, OutOfMemory> {
     for (line, phases) in ASKED {
-        let requests = lines_asked(alloc, line)?;
+        let requests = lines_asked(alloc, &[line])?;
         if requests.len() != 1 || !all_fit(alloc, reached, &requests, phases) {
             return Ok(false);
         }

@@ -2,66 +2,31 @@
 //! memory after the commands that were accepted before, or out of memory, one of all calls at most; and what the tables hold
 //! afterwards is the office after just the accepted commands. An allocator that refuses is put under these tests from outside
 //! (bench/memory.sh); by themselves they run with ample memory, and then nothing may be answered out of memory.
+mod adopting;
 mod exporting;
 mod lists;
 mod loading;
 mod residents;
 mod told;
+mod writing;
 
 use crate::asking::{ask_lines, ask_list, lines_asked};
+use crate::refused::adopting::office_is_adopted;
 use crate::refused::exporting::exports_are_told;
 use crate::refused::lists::lists_are_read;
 use crate::refused::loading::office_is_read;
 use crate::refused::residents::resident_is_served;
 use crate::refused::told::are_as_accepted;
-use office_store::Request;
+use crate::refused::writing::rows_are_sent;
+use crate::texts::{CHOICES, PEOPLE, REGISTER, ROOMS, ROUND};
 use room_types::{ListKind, OutOfMemory};
 use std::alloc::Global;
 use std::env;
 use std::env::VarError;
 use std::test::Fail;
 
-// A small year, in which everybody moves. Three requests are refused.
-const YEAR: &str = "\
-room H1\n\
-room H2\n\
-room V\n\
-room V\n\
-person T1 key00000000000t1 Tim Tan\n\
-person T2 key00000000000t2 Tom Tao\n\
-person N key000000000000n Nia Noor\n\
-home T1 H1\n\
-home T2 H2\n\
-home N H9\n\
-open\n\
-choose T1 H2\n\
-choose T2 H1\n\
-choose N H1 V\n\
-close\n\
-draw 0000000000000003 0000000000000001 0000000000000002\n\
-draw 0000000000000003 0000000000000001 0000000000000002\n\
-run\n\
-publish\n\
-settle\n";
-
-// The same year until the results are there to be seen.
-const UNTIL_PUBLISHED: &str = "\
-room H1\n\
-room H2\n\
-room V\n\
-person T1 key00000000000t1 Tim Tan\n\
-person T2 key00000000000t2 Tom Tao\n\
-person N key000000000000n Nia Noor\n\
-home T1 H1\n\
-home T2 H2\n\
-open\n\
-choose T1 H2\n\
-choose T2 H1\n\
-choose N H1 V\n\
-close\n\
-draw 0000000000000003 0000000000000001 0000000000000002\n\
-run\n\
-publish\n";
+// Requests that are refused at the register.
+const REFUSED: &str = "room V\nhome N H9\nrun\n";
 
 // Each query, and those that are refused.
 const QUERIES: &str = "\
@@ -82,14 +47,67 @@ moves 1\n\
 order\n\
 me key000000000000n\n";
 
-const ROOMS: &str = "room\nH1\nH2\nV\n";
+// Rounds that were run, each with what another list would give. N asks first, for a home: its tenant moves with the other one.
+const NEWCOMER_FIRST: &str = "\
+open\n\
+choose T1 H2\n\
+choose T2 H1\n\
+choose N H1 V\n\
+close\n\
+draw 0000000000000001 0000000000000002 0000000000000003\n\
+run\n\
+whatif N V\n\
+whatif T1 V H2\n";
 
-const PEOPLE: &str = "person,name,key,home\nT1,\"Tan, Tim\",key00000000000t1,H1\n\
-    T2,Tom Tao,key00000000000t2,H2\nN,Nia Noor,key000000000000n,\n";
+// T1 moves out, and its home goes to the first of the others.
+const VACATED: &str = "\
+room H1\n\
+room V\n\
+person T1 key00000000000t1 Tim Tan\n\
+person N1 key00000000000n1 Nia Noor\n\
+person N2 key00000000000n2 Ned Now\n\
+home T1 H1\n\
+open\n\
+choose T1 V\n\
+choose N1 H1\n\
+choose N2 H1\n\
+close\n\
+draw 0000000000000002 0000000000000003 0000000000000001\n\
+run\n\
+whatif N2 V H1\n";
 
-const CHOICES: &str = "person,choices\nT1,H2\nT2,H1\nN,H1 V\n";
+// T2 moves into the vacant room, and T1 after T2.
+const CHAIN: &str = "\
+open\n\
+choose T1 H2\n\
+choose T2 V\n\
+withdraw N\n\
+close\n\
+draw 0000000000000001 0000000000000002\n\
+run\n\
+whatif T1\n";
 
-const BAD_CHOICES: &str = "person,choices\nT1,H2\nT2,H9\n";
+// The round goes on.
+const ROUND_OF_THREE: &str = "\
+close\n\
+draw 0000000000000005 0000000000000006 0000000000000007\n\
+run\n\
+publish\n\
+settle\n";
+
+// The third person is there already.
+const KNOWN_THIRD: &str = "person,name,key,home\n\
+E4,Di Day,key00000000000e4,\n\
+E5,Ed Eel,key00000000000e5,\n\
+E1,Ann Ash,key00000000000e1,H1\n";
+
+// The people with an empty line more.
+const PEOPLE_AND_A_LINE: &str = "\u{feff}person,name,key,home\r\n\
+E1,Ann Ash,key00000000000e1,H1\r\n\
+E2,\"Bo, B.\",key00000000000e2,\r\n\
+E3,Cy Coy,key00000000000e3,\r\n\n";
+
+const HEADER: &str = "person,name,key,home\n";
 
 #[test]
 fn a_year_is_told(rt: HostRuntime) {
@@ -107,13 +125,18 @@ fn queries_are_answered(rt: HostRuntime) {
 }
 
 #[test]
+fn other_lists_are_tried(rt: HostRuntime) {
+    assert!(rt; ended_well(&rt, other_lists_are_told(rt.alloc())));
+}
+
+#[test]
 fn a_resident_is_served(rt: HostRuntime) {
     assert!(rt; ended_well(&rt, resident_is_served(rt.alloc())));
 }
 
 #[test]
 fn an_office_is_read(rt: HostRuntime) {
-    assert!(rt; ended_well(&rt, office_is_read(rt.alloc(), UNTIL_PUBLISHED)));
+    assert!(rt; ended_well(&rt, office_is_read(rt.alloc(), &[REGISTER, ROUND])));
 }
 
 #[test]
@@ -123,7 +146,22 @@ fn lists_are_read_in_whole(rt: HostRuntime) {
 
 #[test]
 fn exports_are_written(rt: HostRuntime) {
-    assert!(rt; ended_well(&rt, exports_are_told(rt.alloc(), YEAR)));
+    assert!(rt;
+        ended_well(
+            &rt,
+            exports_are_told(rt.alloc(), &[REGISTER, ROUND, "settle\n"])
+        )
+    );
+}
+
+#[test]
+fn an_office_is_adopted(rt: HostRuntime) {
+    assert!(rt; ended_well(&rt, office_is_adopted(rt.alloc(), &[REGISTER, ROUND])));
+}
+
+#[test]
+fn rows_are_written(rt: HostRuntime) {
+    assert!(rt; ended_well(&rt, rows_are_sent(rt.alloc())));
 }
 
 // Whether all is right, or out of memory while memory is refused from outside.
@@ -148,36 +186,42 @@ pub fn verdict(wanting: usize) -> Result<bool, OutOfMemory> {
 }
 
 fn year_is_told(alloc: Global) -> Result<bool, OutOfMemory> {
-    let requests = lines_asked(alloc, YEAR)?;
+    let requests = lines_asked(alloc, &[REGISTER, REFUSED, ROUND, "settle\n"])?;
     are_as_accepted(alloc, &requests, 3)
 }
 
 fn queries_are_told(alloc: Global) -> Result<bool, OutOfMemory> {
-    let mut requests = lines_asked(alloc, UNTIL_PUBLISHED)?;
-    ask_lines(alloc, &mut requests, QUERIES)?;
+    let requests = lines_asked(alloc, &[REGISTER, ROUND, QUERIES])?;
     are_as_accepted(alloc, &requests, 5)
 }
 
-fn lists_are_told(alloc: Global) -> Result<bool, OutOfMemory> {
-    let mut requests = Vec::new(alloc);
-    ask_lists(alloc, &mut requests, ListKind::Rooms, &[ROOMS, ROOMS])?;
-    ask_lists(alloc, &mut requests, ListKind::People, &[PEOPLE, PEOPLE])?;
-    ask_lines(alloc, &mut requests, "open\n")?;
-    let lists = [BAD_CHOICES, CHOICES, CHOICES, BAD_CHOICES];
-    ask_lists(alloc, &mut requests, ListKind::Choices, &lists)?;
-    ask_lines(alloc, &mut requests, "close\npeople\n")?;
-    are_as_accepted(alloc, &requests, 2)
+fn other_lists_are_told(alloc: Global) -> Result<bool, OutOfMemory> {
+    for (register, round) in [(REGISTER, NEWCOMER_FIRST), ("", VACATED), (REGISTER, CHAIN)] {
+        let requests = lines_asked(alloc, &[register, round])?;
+        if !are_as_accepted(alloc, &requests, 0)? {
+            return Ok(false);
+        }
+    }
+    Ok(true)
 }
 
-// The lists of a kind come in, all under one label.
-fn ask_lists(
-    alloc: Global,
-    requests: &mut Vec<Request>,
-    kind: ListKind,
-    lists: &[&str],
-) -> Result<(), OutOfMemory> {
-    for list in lists {
-        ask_list(alloc, requests, kind, kind.as_str(), list)?;
+// Lists come in, and a round goes by; then a list comes again, as it was and not as it was, and others that are bad, or empty.
+fn lists_are_told(alloc: Global) -> Result<bool, OutOfMemory> {
+    let mut requests = Vec::new(alloc);
+    ask_list(alloc, &mut requests, ListKind::Rooms, "r-1", ROOMS)?;
+    ask_list(alloc, &mut requests, ListKind::People, "p-1", PEOPLE)?;
+    ask_lines(alloc, &mut requests, "open\n")?;
+    ask_list(alloc, &mut requests, ListKind::Choices, "c-1", CHOICES)?;
+    ask_lines(alloc, &mut requests, ROUND_OF_THREE)?;
+    for (label, list) in [
+        ("p-1", PEOPLE),
+        ("p-1", PEOPLE_AND_A_LINE),
+        ("p-2", KNOWN_THIRD),
+        ("p-3", ""),
+        ("p-3", HEADER),
+    ] {
+        ask_list(alloc, &mut requests, ListKind::People, label, list)?;
     }
-    Ok(())
+    ask_lines(alloc, &mut requests, "people\n")?;
+    are_as_accepted(alloc, &requests, 3)
 }

@@ -1,11 +1,11 @@
 -- Cells: the value of what an office keeps, and which values are one.
 use Rattle.std.specs.Prelude.{◌≡◌, ◌⊎◌, ◌<◌, ◌^◌, ℕ, pos, Bool, true, if◌then◌else◌}
-use Rattle.std.specs.Prelude.{List, Option, Some, None, IsUtf8}
+use Rattle.std.specs.Prelude.{List, length, Option, Some, None, IsSome, IsUtf8}
 use Rattle.sqlite_value.specs.declared.value.Value.{Value}
 use Rattle.sqlite_value.specs.declared.value.Value.TheVariants.{Null, Int, Text, Blob}
 use Rattle.room_types.specs.Kinds.{kind_text}
 use Rattle.room_types.specs.Phases.{phase_text}
-use Rattle.room_types.specs.Words.{word_text}
+use Rattle.room_types.specs.Words.{word_of, word_text}
 use Rattle.room_types.specs.declared.kinds.ListKind.{ListKind}
 use Rattle.room_types.specs.declared.phase.Phase.{Phase}
 use Rattle.room_types.specs.declared.moves.Wave.{Wave}
@@ -64,9 +64,17 @@ IsPhase v = (phase : Phase) × (v ≡ Text (phase_text phase))
 abbrev pub IsWord : Value → Type 0
 IsWord v = (word : ℕ) × (v ≡ Text (word_text word)) × (word < 2 ^ 64)
 
+-- a text of sixteen hexadecimal digits, in either case
+abbrev pub IsHex : Value → Type 0
+IsHex v = (text : List ℕ) × (v ≡ Text text) × IsSome (word_of text)
+
 -- the name of a kind of lists
 abbrev pub IsKind : Value → Type 0
 IsKind v = (kind : ListKind) × (v ≡ Text (kind_text kind))
 
 abbrev pub IsBlob : Value → Type 0
 IsBlob v = (bytes : List ℕ) × (v ≡ Blob bytes)
+
+-- bytes, and at least one
+abbrev pub IsFilledBlob : Value → Type 0
+IsFilledBlob v = (bytes : List ℕ) × (v ≡ Blob bytes) × (0 < length bytes)

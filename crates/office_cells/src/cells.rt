@@ -1,10 +1,10 @@
 //! Cells in their types. A cell of another form is none. Numbers take no memory.
-ghost use Rattle.std.specs.Prelude.{◌≡◌, ◌⊎◌, ℕ, pos, IfOk, IfSome, IsUtf8, MatchOption, OnErr, Option};
+ghost use Rattle.std.specs.Prelude.{◌≡◌, ◌⊎◌, ◌<◌, ℕ, length, pos, IfOk, IfSome, IsUtf8, MatchOption, OnErr, Option};
 ghost use Rattle.std.specs.Bool.{Decides};
 ghost use Rattle.sqlite_value.specs.Order.{column};
 ghost use Rattle.sqlite_value.specs.declared.value.Value.TheVariants.{Blob as blob_value, Int, Null, Text as text_value};
 ghost use Rattle.office_cells.specs.Cells.{IsTextOf, IsOptionalTextOf, IsString, IsBlob, IsFlag, IsCount};
-ghost use Rattle.office_cells.specs.Cells.{IsShort, IsWave, count_or_null, flag, text_or_null};
+ghost use Rattle.office_cells.specs.Cells.{IsFilledBlob, IsShort, IsWave, count_or_null, flag, text_or_null};
 ghost use Rattle.office_cells.specs.Cells.{wave_value};
 
 use room_types::{Grammar, Listing, OutOfMemory, Text, TypeFault, Wave};
@@ -77,17 +77,28 @@ fn is_null(row: &Row, at: usize) -> bool
     matches!(row.get_ref(at), Ok(ValueRef::Null) | Err(_))
 }
 
-/// A column as bytes. Memory is taken for bytes alone.
+/// A column as bytes. Memory is taken for bytes alone, and none for no bytes.
 pub fn bytes_in(alloc: Global, row: &Row, at: usize) -> Result<Option<Listing<u8>>, OutOfMemory>
     ensures told { IfOk result (λ found. MatchOption found (¬ IsBlob (column row.now at))
         (λ bytes. column row.now at ≡ blob_value bytes)) }
     ensures formed { IfOk result (λ found. IfSome found (λ _. IsBlob (column row.now at))) }
-    ensures memory { OnErr result (IsBlob (column row.now at)) }
+    ensures memory { OnErr result (IsFilledBlob (column row.now at)) }
 {
     match row.get_ref(at) {
-        Ok(ValueRef::Blob(bytes)) => Ok(Some(Listing::new(Vec::from_slice(alloc, bytes)?))),
+        Ok(ValueRef::Blob(bytes)) => Ok(Some(kept(alloc, bytes)?)),
         _ => Ok(None),
     }
+}
+
+// These bytes, kept. No bytes take no memory.
+fn kept(alloc: Global, bytes: &[u8]) -> Result<Listing<u8>, OutOfMemory>
+    ensures same { IfOk result (λ kept. kept ≡ bytes.now) }
+    ensures memory { OnErr result (0 < length bytes.now) }
+{
+    if bytes.is_empty() {
+        return Ok(Listing::empty(alloc));
+    }
+    Ok(Listing::new(Vec::from_slice(alloc, bytes)?))
 }
 
 /// A column as a number from 0.

@@ -9,12 +9,16 @@ use std::alloc::Global;
 impl Record for ChoiceRecord {
     ghost use Rattle.office_cells.specs.Columns.{choice_columns, three};
     ghost use Rattle.office_cells.specs.Forms.{IsChoiceRow};
+    ghost use Rattle.room_types.specs.Grammars.{is_person_id};
+    ghost use Rattle.office_cells.specs.Taking.{BeginsWith};
 
     ghost is_form = { IsChoiceRow };
 
     ghost front = { three };
 
     ghost columns = { choice_columns };
+
+    ghost takes = { BeginsWith is_person_id };
 
     fn from_row(alloc: Global, row: &Row) -> Result<Option<ChoiceRecord>, OutOfMemory> {
         let Some(person) = text_in(alloc, row, 0)? else {

@@ -27,12 +27,16 @@ fn kind_in(row: &Row, at: usize) -> Option<ListKind>
 impl Record for (Label, KeptList) {
     ghost use Rattle.office_cells.specs.Columns.{list_columns, four};
     ghost use Rattle.office_cells.specs.Forms.{IsListRow};
+    ghost use Rattle.room_types.specs.Grammars.{is_label};
+    ghost use Rattle.office_cells.specs.Taking.{BeginsWith};
 
     ghost is_form = { IsListRow };
 
     ghost front = { four };
 
     ghost columns = { list_columns };
+
+    ghost takes = { BeginsWith is_label };
 
     fn from_row(alloc: Global, row: &Row) -> Result<Option<(Label, KeptList)>, OutOfMemory> {
         let Some(label) = text_in(alloc, row, 0)? else {

@@ -8,12 +8,16 @@ use std::alloc::Global;
 impl Record for Move {
     ghost use Rattle.office_cells.specs.Columns.{move_columns, five};
     ghost use Rattle.office_cells.specs.Forms.{IsMoveRow};
+    ghost use Rattle.room_types.specs.Grammars.{is_person_id};
+    ghost use Rattle.office_cells.specs.Taking.{FollowsNumber};
 
     ghost is_form = { IsMoveRow };
 
     ghost front = { five };
 
     ghost columns = { move_columns };
+
+    ghost takes = { FollowsNumber is_person_id };
 
     fn from_row(alloc: Global, row: &Row) -> Result<Option<Move>, OutOfMemory> {
         let Some(round) = short_in(row, 0) else {

@@ -10,12 +10,16 @@ use std::alloc::Global;
 impl Record for PersonRecord {
     ghost use Rattle.office_cells.specs.Columns.{person_columns, five};
     ghost use Rattle.office_cells.specs.Forms.{IsPersonRow};
+    ghost use Rattle.room_types.specs.Grammars.{is_person_id};
+    ghost use Rattle.office_cells.specs.Taking.{BeginsWith};
 
     ghost is_form = { IsPersonRow };
 
     ghost front = { five };
 
     ghost columns = { person_columns };
+
+    ghost takes = { BeginsWith is_person_id };
 
     fn from_row(alloc: Global, row: &Row) -> Result<Option<PersonRecord>, OutOfMemory> {
         let Some(id) = text_in(alloc, row, 0)? else {

@@ -1,7 +1,8 @@
 //! All rows of a table in their type.
-ghost use Rattle.std.specs.Prelude.{◌≡◌, ◌<◌, length, map, IfOk, IfSome, MatchOption, OnErr};
+ghost use Rattle.std.specs.Prelude.{◌≡◌, map, IfOk, IfSome, MatchOption, OnErr};
 ghost use Rattle.std.specs.List.{All};
 ghost use Rattle.sqlite_value.specs.Order.{Row as Values};
+ghost use Rattle.office_cells.specs.Taking.{TakesMemory};
 
 use room_types::OutOfMemory;
 use sqlite::Row;
@@ -15,20 +16,24 @@ pub trait Record: Drop {
     ghost front: { Values → Values };
     /// The columns that a record shows.
     ghost columns: { Self → Values };
+    /// The rows for which memory may be taken.
+    ghost takes: { Values → Type 0 };
 
-    /// The record of a row, or none where the row has another form.
+    /// The record of a row, or none where the row has another form. Memory is taken for some rows alone.
     fn from_row(alloc: Global, row: &Row) -> Result<Option<Self>, OutOfMemory>
         ensures told { IfOk result (λ found. MatchOption found (¬ is_form row.now)
             (λ record_. front row.now ≡ columns record_)) }
-        ensures formed { IfOk result (λ found. IfSome found (λ _. is_form row.now)) };
+        ensures formed { IfOk result (λ found. IfSome found (λ _. is_form row.now)) }
+        ensures memory { OnErr result (takes row.now) };
 }
 
-/// The records of all rows, in their order, or none where some row has another form. No memory is taken for no rows.
+/// The records of all rows, in their order, or none where some row has another form. Memory is taken for
+/// the first row that takes some, or that has the form, if those before it have it.
 pub fn records_in<R: Record>(alloc: Global, rows: &[Row]) -> Result<Option<Vec<R>>, OutOfMemory>
     ensures told { IfOk result (λ found. MatchOption found (¬ All R.is_form rows.now)
         (λ records. map R.columns records.items ≡ map R.front rows.now)) }
     ensures formed { IfOk result (λ found. IfSome found (λ _. All R.is_form rows.now)) }
-    ensures memory { OnErr result (0 < length rows.now) }
+    ensures memory { OnErr result (TakesMemory R.takes R.is_form rows.now) }
 {
     let mut records = Vec::new(alloc);
     for row in rows {

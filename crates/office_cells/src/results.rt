@@ -9,12 +9,16 @@ use std::alloc::Global;
 impl Record for (PersonId, Assigned) {
     ghost use Rattle.office_cells.specs.Columns.{result_columns, two};
     ghost use Rattle.office_cells.specs.Forms.{IsResultRow};
+    ghost use Rattle.room_types.specs.Grammars.{is_person_id};
+    ghost use Rattle.office_cells.specs.Taking.{BeginsWith};
 
     ghost is_form = { IsResultRow };
 
     ghost front = { two };
 
     ghost columns = { result_columns };
+
+    ghost takes = { BeginsWith is_person_id };
 
     fn from_row(alloc: Global, row: &Row) -> Result<Option<(PersonId, Assigned)>, OutOfMemory> {
         let Some(person) = text_in(alloc, row, 0)? else {

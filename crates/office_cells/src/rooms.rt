@@ -8,12 +8,16 @@ use std::alloc::Global;
 impl Record for (RoomCode, bool) {
     ghost use Rattle.office_cells.specs.Columns.{room_columns, two};
     ghost use Rattle.office_cells.specs.Forms.{IsRoomRow};
+    ghost use Rattle.room_types.specs.Grammars.{is_room_code};
+    ghost use Rattle.office_cells.specs.Taking.{BeginsWith};
 
     ghost is_form = { IsRoomRow };
 
     ghost front = { two };
 
     ghost columns = { room_columns };
+
+    ghost takes = { BeginsWith is_room_code };
 
     fn from_row(alloc: Global, row: &Row) -> Result<Option<(RoomCode, bool)>, OutOfMemory> {
         let Some(code) = text_in(alloc, row, 0)? else {

@@ -54,12 +54,15 @@ fn phase_in(row: &Row, at: usize) -> Option<Phase>
 impl Record for RoundRecord {
     ghost use Rattle.office_cells.specs.Columns.{round_shown, three};
     ghost use Rattle.office_cells.specs.Forms.{IsRoundRow};
+    ghost use Rattle.office_cells.specs.Taking.{IsNever};
 
     ghost is_form = { IsRoundRow };
 
     ghost front = { three };
 
     ghost columns = { round_shown };
+
+    ghost takes = { IsNever };
 
     fn from_row(_alloc: Global, row: &Row) -> Result<Option<RoundRecord>, OutOfMemory> {
         let Some(version) = short_in(row, 0) else {

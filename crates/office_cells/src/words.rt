@@ -3,7 +3,7 @@ ghost use Rattle.std.specs.Prelude.{◌≡◌, IfOk, IfSome, MatchOption, OnErr}
 ghost use Rattle.sqlite_value.specs.Order.{column};
 ghost use Rattle.sqlite_value.specs.declared.value.Value.TheVariants.{Text as text_value};
 ghost use Rattle.room_types.specs.Words.{word_text};
-ghost use Rattle.office_cells.specs.Cells.{IsString, IsWord};
+ghost use Rattle.office_cells.specs.Cells.{IsHex, IsWord};
 
 use crate::cells::{str_in, text_in};
 use crate::records::Record;
@@ -11,12 +11,13 @@ use room_types::{OutOfMemory, PersonId, Word};
 use sqlite::Row;
 use std::alloc::Global;
 
-// A column as a word. Its digits are in lower case, as they are printed. Memory is taken for a text alone.
+// A column as a word. Its digits are in lower case, as they are printed. Memory is taken for such digits of either case
+// alone.
 fn word_in(alloc: Global, row: &Row, at: usize) -> Result<Option<Word>, OutOfMemory>
     ensures told { IfOk result (λ found. MatchOption found (¬ IsWord (column row.now at))
         (λ w. column row.now at ≡ text_value (word_text w))) }
     ensures formed { IfOk result (λ found. IfSome found (λ _. IsWord (column row.now at))) }
-    ensures memory { OnErr result (IsString (column row.now at)) }
+    ensures memory { OnErr result (IsHex (column row.now at)) }
 {
     let Some(text) = str_in(row, at) else {
         return Ok(None);
@@ -37,12 +38,16 @@ fn word_in(alloc: Global, row: &Row, at: usize) -> Result<Option<Word>, OutOfMem
 impl Record for (PersonId, Word) {
     ghost use Rattle.office_cells.specs.Columns.{word_columns, two};
     ghost use Rattle.office_cells.specs.Forms.{IsWordRow};
+    ghost use Rattle.room_types.specs.Grammars.{is_person_id};
+    ghost use Rattle.office_cells.specs.Taking.{BeginsWith};
 
     ghost is_form = { IsWordRow };
 
     ghost front = { two };
 
     ghost columns = { word_columns };
+
+    ghost takes = { BeginsWith is_person_id };
 
     fn from_row(alloc: Global, row: &Row) -> Result<Option<(PersonId, Word)>, OutOfMemory> {
         let Some(person) = text_in(alloc, row, 0)? else {

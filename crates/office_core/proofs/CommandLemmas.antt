@@ -23,7 +23,7 @@ pub mod Shut
 pub mod Withdraw
 pub mod Words
 use Rattle.office_core.specs.Change.{LeadsOn}
-use Rattle.office_core.specs.Command.Decision.{Decides}
+use Rattle.office_core.specs.Command.Decision.{IsDecided}
 use Rattle.office_core.specs.Command.{checks, accepts, next, reply_to, changes_of}
 use Rattle.office_core.specs.Inner.Formed.{IsFormed}
 use Rattle.office_core.specs.Office.Invariants.{IsLawful}
@@ -75,7 +75,7 @@ leads_on office (command.Import label kind bytes) f l h =
 
 pub decision_leads : (office : Office) (given : Command) (result : Result Decision Refusal)
     → IsLawful office → OnOk result (IsFormed given)
-    → Decides (checks office given) (reply_to office given) (changes_of office given) result
+    → IsDecided (checks office given) (reply_to office given) (changes_of office given) result
     → IfOk result (λ decision. LeadsOn office (next office given) decision.changes.items)
 decision_leads office given (Ok decision) l f d =
     subst (λ changes. LeadsOn office (next office given) changes) (sym d.changed)

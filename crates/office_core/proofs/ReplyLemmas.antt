@@ -5,7 +5,7 @@ use Rattle.std.specs.Prelude.{ℕ, List, Result, Ok, Err, IfOk, Bool, true, fals
 use Rattle.room_types.specs.TextMaps.{rows_ascend}
 use Rattle.room_types.specs.Texts.{Text}
 use Rattle.office_core.specs.Command.{checks, reply_to, changes_of}
-use Rattle.office_core.specs.Command.Decision.{Decides}
+use Rattle.office_core.specs.Command.Decision.{IsDecided}
 use Rattle.office_core.specs.Command.Import.{reply_where}
 use Rattle.office_core.specs.Office.{is_over, owner}
 use Rattle.office_core.specs.Office.Phases.{has_results, has_words}
@@ -107,7 +107,7 @@ answer_ascends office asked (Ok reply) t =
 answer_ascends office asked (Err refusal) t = tt
 
 pub decision_ascends : (office : Office) (given : Command) (result : Result Decision Refusal)
-    → Decides (checks office given) (reply_to office given) (changes_of office given) result
+    → IsDecided (checks office given) (reply_to office given) (changes_of office given) result
     → IfOk result (λ decision. RowsAscend decision.reply)
 decision_ascends office given (Ok decision) d =
     subst RowsAscend (sym d.replied) (reply_ascends office given)

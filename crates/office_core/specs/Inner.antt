@@ -2,4 +2,5 @@
 pub mod Formed
 pub mod Passes
 pub mod RoundProblem
+pub mod Soundness
 pub mod Tries

@@ -77,9 +77,6 @@ home_of office person = had_by (λ p. p.home) office.people person
 abbrev pub lives_in : Text → Person → Bool
 lives_in room person = is_text person.home room
 
-abbrev pub has_key : Text → Person → Bool
-has_key key person = text_eq person.key key
-
 -- who lives in a room
 abbrev pub tenant : Office → Text → Option Text
 tenant office room = holder (λ p. p.home) office.people room

@@ -1,5 +1,5 @@
 //! What the office keeps.
-ghost use Rattle.std.specs.Prelude.{◌≡◌, ◌<◌, IfOk, OnErr};
+ghost use Rattle.std.specs.Prelude.{◌≡◌, ◌<◌, IfOk, IsSome, OnErr};
 ghost use Rattle.office_core.specs.Office.Invariants.{IsLawful};
 ghost use Rattle.office_core.specs.Office.{empty_office, entry_count};
 
@@ -28,7 +28,10 @@ pub struct Assigned {
 impl Clone for Assigned {
     ghost is_clone = { λ x y. y ≡ x };
 
-    fn clone(&self) -> Result<Assigned, AllocError> {
+    fn clone(&self) -> Result<Assigned, AllocError>
+        ensures copy { IfOk result (λ copy. copy ≡ self.now) }
+        ensures memory { OnErr result (IsSome self.now.room) }
+    {
         Ok(Assigned {
             room: copy_optional(&self.room)?,
         })

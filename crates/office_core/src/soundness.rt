@@ -7,11 +7,10 @@ mod results;
 mod round;
 mod words;
 
-ghost use Rattle.std.specs.Prelude.{◌≡◌, ◌<◌, ◌⊎◌, true, length, IfOk, OnErr};
+ghost use Rattle.std.specs.Prelude.{IfOk, OnErr};
 ghost use Rattle.std.specs.Bool.{Decides};
-ghost use Rattle.std.specs.FinMap as map;
 ghost use Rattle.office_core.specs.Office.Invariants.{IsLawful};
-ghost use Rattle.office_core.specs.Office.Phases.{has_results};
+ghost use Rattle.office_core.specs.Soundness.{TakesMemory};
 
 use crate::office::Office;
 use crate::soundness::kept::are_kept;
@@ -25,11 +24,11 @@ use room_types::OutOfMemory;
 use std::alloc::Global;
 
 /// Whether the office obeys its laws, in n log n steps and those of a run of the round. It is refused for memory alone,
-/// which is taken where there are people, whose keys and homes are noted, or results, which are found again.
+/// which is taken only where keys and homes are noted, or results are found again: a fault that is seen before is
+/// always told.
 pub fn sound(alloc: Global, office: &Office) -> Result<bool, OutOfMemory>
     ensures lawful { IfOk result (λ lawful. Decides lawful (IsLawful office.now)) }
-    ensures memory { OnErr result ((0 < length (map.entries office.now.people))
-        ⊎ (has_results office.now.phase ≡ true)) }
+    ensures memory { OnErr result (TakesMemory office.now) }
 {
     if !is_register(alloc, office)? {
         return Ok(false);

@@ -1,5 +1,5 @@
 //! What is declared in a database.
-ghost use Rattle.std.specs.Prelude.{◌≡◌, IsTrue};
+ghost use Rattle.std.specs.Prelude.{◌≡◌, Decides};
 ghost use Rattle.office_create.specs.Names.{is_taken};
 ghost use Rattle.office_tables.specs.Schema.{no_schema};
 
@@ -23,7 +23,7 @@ pub(crate) fn is_taken(schema: &Schema) -> bool
 
 /// Whether nothing is declared.
 pub(crate) fn is_blank(schema: &Schema) -> bool
-    ensures { IsTrue result → schema.now ≡ no_schema }
+    ensures { Decides result (schema.now ≡ no_schema) }
 {
     schema.tables.as_slice().is_empty()
         && schema.indexes.as_slice().is_empty()

@@ -22,7 +22,7 @@ pub(crate) fn make_tables<S: Alter>(tx: &mut Transaction<'_, S>) -> Result<(), E
     Ok(())
 }
 
-// What declares the table at this place. A table comes after those that it refers to, and that of the lists is the last,
+// What declares the table at this place. A table comes after those that it refers to, and that of choices is the last,
 // since it is dropped and made anew.
 fn text_of(place: usize) -> &'static str
     requires { place < 8 }

@@ -67,19 +67,22 @@ module _ (records : List Record) (sent part : ℕ) (before middle after : Output
   pub cut_counted : PutsCount before after (sent + part)
   cut_counted = (first ++ take part bytes, went, omega (arith, so_far.size, short, length-append first (take part bytes), length-take part bytes))
 
-  pub cut_front : (one : Record) (rest all : List Record) → bytes ≡ record_bytes one → records ++ one ∷ rest ≡ all → PutsFront before after (sent + part) (export_bytes all)
-  cut_front one rest all own is =
-      let tail = export_bytes rest in
-      let parts : export_bytes all ≡ first ++ (bytes ++ tail) =
-      ap export_bytes (sym is) ∙ flat_map-append record_bytes records (one ∷ rest) ∙ ap (λ (b : List ℕ). first ++ (b ++ tail)) (sym own) in
-      let front : take (sent + part) (export_bytes all) ≡ first ++ take part bytes =
-      ap (take (sent + part)) parts ∙ ap (λ (k : ℕ). take (k + part) (first ++ (bytes ++ tail))) so_far.size
-      ∙ take-append-add first (bytes ++ tail) part ∙ ap (λ (b : List ℕ). first ++ b) (take-append-le part bytes tail (omega (arith, short))) in
-      let size : length (export_bytes all) ≡ length (first ++ (bytes ++ tail)) = ap length parts in
-      record {
-        written = subst (λ (b : List ℕ). Puts before after b) (sym front) went;
-        within = omega (arith, short, so_far.size, size, length-append first (bytes ++ tail), length-append bytes tail);
-      }
+  module _ (one : Record) (rest all : List Record) (own : bytes ≡ record_bytes one) (is : records ++ one ∷ rest ≡ all) where
+    abbrev tail : List ℕ
+    tail = export_bytes rest
+
+    parts : export_bytes all ≡ first ++ (bytes ++ tail)
+    parts = ap export_bytes (sym is) ∙ flat_map-append record_bytes records (one ∷ rest) ∙ ap (λ (b : List ℕ). first ++ (b ++ tail)) (sym own)
+
+    pub cut_short : sent + part < length (export_bytes all)
+    cut_short = omega (arith, short, so_far.size, ap length parts, length-append first (bytes ++ tail), length-append bytes tail)
+
+    pub cut_front : PutsFront before after (sent + part) (export_bytes all)
+    cut_front =
+        let front : take (sent + part) (export_bytes all) ≡ first ++ take part bytes =
+        ap (take (sent + part)) parts ∙ ap (λ (k : ℕ). take (k + part) (first ++ (bytes ++ tail))) so_far.size
+        ∙ take-append-add first (bytes ++ tail) part ∙ ap (λ (b : List ℕ). first ++ b) (take-append-le part bytes tail (omega (arith, short))) in
+        record { written = subst (λ (b : List ℕ). Puts before after b) (sym front) went; within = omega (arith, cut_short) }
 
 -- each export begins with its header
 pub begins_with_header : (kind : ExportKind) (office : Office) → (rest : List Record) × (header_of kind ∷ rest ≡ exported kind office)

@@ -29,7 +29,7 @@ use Rattle.office_export.specs.Asking.{AsksForExport}
 use Rattle.office_export.specs.Ending.{PutsCount, PutsExport, PutsFront}
 use Rattle.office_export.specs.Exports.{exported}
 use Rattle.office_export.specs.Stepping.{IsAskedOf, KeepsTables, StandsOn}
-use Rattle.office_export.proofs.Sending.{AreSent, begins_with_header, cut_counted, cut_front, front_sent, more_sent, none_sent, one_record, one_then, sent_counted, with_more, with_one}
+use Rattle.office_export.proofs.Sending.{AreSent, begins_with_header, cut_counted, cut_front, cut_short, front_sent, more_sent, none_sent, one_record, one_then, sent_counted, with_more, with_one}
 
 -- ---- what is kept
 
@@ -80,6 +80,7 @@ follows a b Commits survives was_open = record {
   clean = λ h. omega (arith, h, survives.clean);
   was_open = was_open;
   counts = survives.counts;
+  limit = survives.limit;
   closes = survives.closes;
 }
 
@@ -207,14 +208,26 @@ module _ {S : Type 0} (g : Ghosts S) (kind : ExportKind) (text : List ℕ) (fiel
         next_given,
       )
 
+      -- its record is one of the export
+      in_export : AsksForExport kind text fields → HasCleanDisk (state g next) → (office : Office) → IsAskedOf g text first office
+          → (rest : List Record) × ((header_of kind ∷ map fields way.0) ++ fields row ∷ rest ≡ exported kind office)
+      in_export asks clean office asked =
+          let given = next_given clean asked.begun in
+          let read = first_rows g kind text fields asks first next office asked given.1 (way.0 ++ row ∷ []) given.0 in
+          (map fields read.0, one_then (header_of kind) fields way.0 read.0 row ∙ read.1)
+
       -- a write failed within its record
       pub front_cut : (later : Output) (part : ℕ) → part < length bytes → Puts after later (take part bytes) → AsksForExport kind text fields
           → HasCleanDisk (state g next) → (office : Office) → IsAskedOf g text first office → PutsFront before later (sent + part) (export_bytes (exported kind office))
       front_cut later part short puts asks clean office asked =
-          let given = next_given clean asked.begun in
-          let read = first_rows g kind text fields asks first next office asked given.1 (way.0 ++ row ∷ []) given.0 in
-          cut_front (header_of kind ∷ map fields way.0) sent part before after later bytes short puts way.1 (fields row) (map fields read.0) (exported kind office) is
-          (one_then (header_of kind) fields way.0 read.0 row ∙ read.1)
+          let rest = in_export asks clean office asked in
+          cut_front (header_of kind ∷ map fields way.0) sent part before after later bytes short puts way.1 (fields row) rest.0 (exported kind office) is rest.1
+
+      pub short_cut : (later : Output) (part : ℕ) → part < length bytes → Puts after later (take part bytes) → AsksForExport kind text fields
+          → HasCleanDisk (state g next) → (office : Office) → IsAskedOf g text first office → sent + part < length (export_bytes (exported kind office))
+      short_cut later part short puts asks clean office asked =
+          let rest = in_export asks clean office asked in
+          cut_short (header_of kind ∷ map fields way.0) sent part before after later bytes short puts way.1 (fields row) rest.0 (exported kind office) is rest.1
 
       pub counted_cut : (later : Output) (part : ℕ) → part < length bytes → Puts after later (take part bytes) → PutsCount before later (sent + part)
       counted_cut later part short puts = cut_counted (header_of kind ∷ map fields way.0) sent part before after later bytes short puts way.1
@@ -250,6 +263,12 @@ module _ (kind : ExportKind) (before after : Output) (bytes : List ℕ) (part : 
       let rest = begins_with_header kind office in
       subst (λ (n : ℕ). PutsFront before after n (export_bytes (exported kind office))) none_more
       (cut_front [] 0 part before before after bytes short puts (none_sent before) (header_of kind) rest.0 (exported kind office) is rest.1)
+
+  pub short_head : (office : Office) → part < length (export_bytes (exported kind office))
+  short_head office =
+      let rest = begins_with_header kind office in
+      subst (λ (n : ℕ). n < length (export_bytes (exported kind office))) none_more
+      (cut_short [] 0 part before before after bytes short puts (none_sent before) (header_of kind) rest.0 (exported kind office) is rest.1)
 
   pub counted_head : PutsCount before after part
   counted_head = subst (λ (n : ℕ). PutsCount before after n) none_more (cut_counted [] 0 part before before after bytes short puts (none_sent before))

@@ -1,5 +1,5 @@
 //! Sending an export, one row after another.
-ghost use Rattle.std.specs.Prelude.{◌≡◌, false, IfErr, IfOk, OnOk};
+ghost use Rattle.std.specs.Prelude.{◌≡◌, false, IfErr, IfOk, OnOk, length};
 ghost use Rattle.room_types.specs.Streams.{Puts, output_of};
 ghost use Rattle.room_types.specs.Watched.{StopsAtFailure, watched_failed, watched_flushes};
 ghost use Rattle.sqlite.specs.Held.{state};
@@ -8,7 +8,8 @@ ghost use Rattle.office_core.specs.declared.office.Office.{Office as AnyOffice};
 ghost use Rattle.office_lists.specs.Exports.{export_bytes};
 ghost use Rattle.office_load.specs.Reading.{OnlyReads};
 ghost use Rattle.office_export.specs.Asking.{AsksForExport};
-ghost use Rattle.office_export.specs.Ending.{PutsCount, PutsExport, PutsFront, has_failed, sent_of};
+ghost use Rattle.office_export.specs.Ending.{PutsCount, PutsExport, PutsFront, StopsWithin};
+ghost use Rattle.office_export.specs.Ending.{has_failed, sent_of};
 ghost use Rattle.office_export.specs.Exports.{exported};
 ghost use Rattle.office_export.specs.Stepping.{GivesRecord, IsAskedOf, KeepsTables, StandsOn};
 
@@ -48,6 +49,9 @@ pub fn export<S: Alter, W: Write>(
         → StandsOn (state S.Store conn.old) office
         → IfErr result (λ end. PutsFront (output_of W.contents output.old)
         (output_of W.contents output.new) (sent_of end) (export_bytes (exported kind office))) }
+    ensures short { HasCleanDisk (state S.Store conn.new) → (office : AnyOffice)
+        → StandsOn (state S.Store conn.old) office
+        → IfErr result (StopsWithin (length (export_bytes (exported kind office)))) }
     ensures formed { OnOk result (PutsExport kind (output_of W.contents output.old)
         (output_of W.contents output.new)) }
     ensures counted { IfErr result (λ end. PutsCount (output_of W.contents output.old)
@@ -82,6 +86,9 @@ fn export_rows<E: Exported, S: Alter, W: Write>(
         → StandsOn (state S.Store conn.old) office
         → IfErr result (λ end. PutsFront (output_of W.contents output.old)
         (output_of W.contents output.new) (sent_of end) (export_bytes (exported E.kind office))) }
+    ensures short { HasCleanDisk (state S.Store conn.new) → (office : AnyOffice)
+        → StandsOn (state S.Store conn.old) office
+        → IfErr result (StopsWithin (length (export_bytes (exported E.kind office)))) }
     ensures formed { OnOk result (PutsExport E.kind (output_of W.contents output.old)
         (output_of W.contents output.new)) }
     ensures counted { IfErr result (λ end. PutsCount (output_of W.contents output.old)
@@ -122,6 +129,9 @@ fn send_rows<E: Exported, S: Alter, W: Write>(
         → IsAskedOf S.Store E.text rows.old.conn.now office
         → IfErr result (λ end. PutsFront (output_of W.contents output.old)
         (output_of W.contents output.new) (sent_of end) (export_bytes (exported E.kind office))) }
+    ensures short { HasCleanDisk (state S.Store rows.new.conn.now) → (office : AnyOffice)
+        → IsAskedOf S.Store E.text rows.old.conn.now office
+        → IfErr result (StopsWithin (length (export_bytes (exported E.kind office)))) }
     ensures formed { OnOk result (PutsExport E.kind (output_of W.contents output.old)
         (output_of W.contents output.new)) }
     ensures counted { IfErr result (λ end. PutsCount (output_of W.contents output.old)

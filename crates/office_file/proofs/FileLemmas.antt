@@ -1,5 +1,5 @@
 -- Desks over a database that was just opened.
-use Rattle.std.proofs.Common.{◌≡◌, Result, Ok, Err, IfOk, IsSome, OnOk, inr}
+use Rattle.std.proofs.Common.{◌≡◌, Result, Ok, Err, IfOk, IsSome, IsTrue, OnOk, inr}
 use Rattle.sqlite_disk.specs.declared.Disk.{Ghosts}
 use Rattle.sqlite_store.specs.declared.store.FileStore.{FileStore}
 use Rattle.sqlite_wal.specs.Recovery.{Image}
@@ -7,6 +7,7 @@ use Rattle.sqlite.specs.Files.{file_state}
 use Rattle.sqlite.specs.Held.{Held}
 use Rattle.office_file.specs.Adopted.{BeginsFound, IsFileFault, RefusesFound, ShowsFound}
 use Rattle.office_file.specs.Files.{BeginsBlank, IsCreateFault, IsOpenedOver, RefusesNew}
+use Rattle.office_load.specs.Layout.{is_laid_out}
 use Rattle.office_store.specs.Desk.{DeskState}
 use Rattle.office_store.specs.declared.desk.faults.DeskFault.{DeskFault}
 use Rattle.office_tables.specs.Schema.{no_schema}
@@ -24,10 +25,10 @@ module _ {D : Type 0} {g : Ghosts D} (contents : Image) (connection : Held (File
   create_fault (Err fault) opened refuses = inr (connection, opened, refuses.0, refuses.1)
 
   pub begins_found : (found : Result (DeskState (FileStore D g)) DeskFault) → IsOpenedOver contents connection
-      → IfOk found (λ desk. Follows (file_state connection) (file_state desk.conn)) → IfOk found (λ desk. IsSome desk.kept) → IfOk found (ShowsFound connection)
+      → OnOk found (IsTrue (is_laid_out (file_state connection).now.schema)) → IfOk found (λ desk. Follows (file_state connection) (file_state desk.conn)) → IfOk found (λ desk. IsSome desk.kept) → IfOk found (ShowsFound connection)
       → IfOk found (BeginsFound contents)
-  begins_found (Ok desk) opened follows kept shows = record { connection = connection; opened = opened; follows = follows; kept = kept; shows = shows }
-  begins_found (Err fault) opened follows kept shows = tt
+  begins_found (Ok desk) opened laid follows kept shows = record { connection = connection; opened = opened; laid = laid; follows = follows; kept = kept; shows = shows }
+  begins_found (Err fault) opened laid follows kept shows = tt
 
   pub file_fault : (found : Result (DeskState (FileStore D g)) DeskFault) → IsOpenedOver contents connection → RefusesFound connection found → IsFileFault contents found
   file_fault (Ok desk) opened refuses = tt

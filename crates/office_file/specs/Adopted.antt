@@ -1,5 +1,5 @@
 -- What an opening finds of an office, and why it is refused.
-use Rattle.std.specs.Prelude.{◌≡◌, ◌⊎◌, false, IfErr, IsSome, Result}
+use Rattle.std.specs.Prelude.{◌≡◌, ◌⊎◌, false, IfErr, IsSome, IsTrue, Result}
 use Rattle.sqlite_disk.specs.declared.Disk.{Ghosts}
 use Rattle.sqlite_store.specs.declared.store.FileStore.{FileStore}
 use Rattle.sqlite_wal.specs.Recovery.{Image}
@@ -42,10 +42,12 @@ module _ {D : Type 0} {g : Ghosts D} where
   RefusesFound connection result = IfErr result (λ fault. (refused : Held (FileStore D g)) × MayRefuseFound connection refused fault)
 
 module _ {D : Type 0} {g : Ghosts D} (contents : Image) where
-  -- the desk goes on from an opening that found the rows of an office, keeps an office, and shows the one that was found
+  -- The desk goes on from an opening that found the tables of an office, and nothing beside them. It keeps an office, and shows
+  -- the one that was found.
   pub record BeginsFound (desk : DeskState (FileStore D g)) : Type 0 where
     pub connection : Held (FileStore D g)
     pub opened : IsOpenedOver contents connection
+    pub laid : IsTrue (is_laid_out (file_state connection).now.schema)
     pub follows : Follows (file_state connection) (file_state desk.conn)
     pub kept : IsSome desk.kept
     pub shows : ShowsFound connection desk

@@ -1,9 +1,10 @@
 -- What an opening finds in the files, and why there is no desk over them.
-use Rattle.std.specs.Prelude.{◌≡◌, ◌⊎◌, IfErr, Result}
+use Rattle.std.specs.Prelude.{◌≡◌, ◌⊎◌, false, IfErr, Result}
 use Rattle.sqlite_disk.specs.declared.Disk.{Ghosts}
+use Rattle.sqlite_store.specs.FileStore.{view}
 use Rattle.sqlite_store.specs.declared.store.FileStore.{FileStore}
 use Rattle.sqlite_wal.specs.Recovery.{Image}
-use Rattle.sqlite.specs.Files.{file_state}
+use Rattle.sqlite.specs.Files.{IsBlankAs, file_state}
 use Rattle.sqlite.specs.Held.{Held, IsNew}
 use Rattle.sqlite.specs.Start.{FindsIn}
 use Rattle.sqlite.specs.State.{HasCleanDisk, IsLive, Opens, State}
@@ -34,10 +35,12 @@ module _ {D : Type 0} {g : Ghosts D} where
   RefusesNew connection result = IfErr result (λ fault. (refused : Held (FileStore D g)) × MayRefuseNew connection refused fault)
 
 module _ {D : Type 0} {g : Ghosts D} (contents : Image) where
-  -- a connection just opened, over files that held this where the disk returned what they held
+  -- A connection just opened, over files that held this where the disk returned what they held. In a file that is new no page
+  -- has a sum: with sums, the file would be refused once another program has written to it.
   pub record IsOpenedOver (connection : Held (FileStore D g)) : Type 0 where
     pub fresh : IsNew connection
     pub finds : HasCleanDisk (file_state connection) → Finds contents (file_state connection)
+    pub plain : HasCleanDisk (file_state connection) → IsBlankAs false contents → (view connection.store).has_sums ≡ false
 
   -- the desk goes on from an opening that found nothing declared
   pub record BeginsBlank (desk : DeskState (FileStore D g)) : Type 0 where

@@ -68,8 +68,8 @@ fn is_broken(text: &[u8]) -> bool
     text.iter().any(|byte| *byte == b'\n')
 }
 
-// Writes what is said, and flushes. Gives its status, and 3 where the output fails or memory is refused.
-fn tell<W: Write>(alloc: Global, said: &Said, output: &mut Watched<W>) -> u8
+/// Writes what is said, and flushes. Gives its status, and 3 where the output fails or memory is refused.
+pub fn tell<W: Write>(alloc: Global, said: &Said, output: &mut Watched<W>) -> u8
     requires ascending { SaidAscends said.now }
     requires fresh { IsFresh output.old }
     ensures no_late_write { StopsAtFailure output.old output.new }

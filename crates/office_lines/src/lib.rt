@@ -7,8 +7,7 @@ pub mod hearing;
 pub mod limits;
 pub mod rehearse;
 pub mod say;
-pub mod session;
+mod session;
 
 pub use crate::ending::{Ending, Rehearsed};
 pub use crate::hearing::hear;
-pub use crate::session::Session;

@@ -63,6 +63,7 @@ module _ (sql : List ℕ) (params : Row) (old new : State) where
     clean = λ h. omega (arith, h, survives.clean);
     was_open = was_open;
     counts = survives.counts;
+    limit = survives.limit;
     closes = survives.closes;
   }
 

@@ -25,8 +25,9 @@ use std::alloc::Global;
 /// Why no office was found.
 #[derive(Clone, Copy, Debug, PartialEq, Eq)]
 pub enum FindFault {
-    /// The database or memory did not serve, or what is declared is not the eight tables and nothing else: one of them
-    /// is absent or not understood, they were made in another order, or something stands beside them.
+    /// The database or memory did not serve, or something has the name of the table of the round and what is declared is
+    /// not the eight tables and nothing else: one of them is absent or not understood, they were made in another order,
+    /// or something stands beside them.
     Unavailable,
     /// Nothing has the name of the table of the round, or the tables are no office's rows.
     NotAnOffice,
@@ -41,8 +42,8 @@ pub enum FindFault {
 ///
 /// `NotAnOffice` where nothing has the name of the table of the round, and else only where its row holds no other
 /// version and the tables are no office's rows; `OtherVersion` only where the row of the round holds that version.
-/// `Unavailable` comes from the database or from memory, and where the eight tables do not stand there, in their order,
-/// alone. There no statement runs.
+/// `Unavailable` comes from the database or from memory, and where something has the name of the table of the round and
+/// the eight tables do not stand there, in their order, alone. There no statement runs.
 pub fn find<S: Alter>(alloc: Global, conn: &mut Connection<S>) -> Result<Office, FindFault>
     requires { conn.old.in_transaction ≡ false }
     ensures outside { conn.new.in_transaction ≡ false }

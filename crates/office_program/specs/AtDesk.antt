@@ -43,6 +43,13 @@ EndsExport kind status out out' =
     ((records : List Record) × Says (export_bytes (header_of kind ∷ records)) 0 status out out')
     ⊎ ((status ≡ 3) × (out'.flushes ≡ out.flushes) × (sent : ℕ) × PutsCount out out' sent)
 
+-- At the desk that was found this is done, and the desk is then the new one. Or it is said why none was found.
+abbrev pub DoneAt : {S : Type 0} → (DeskState S → DeskState S → Type 0) → Result (DeskState S) DeskFault → Result (DeskState S) DeskFault → ℕ → Output → Output → Type 0
+DoneAt IsDone (Ok old) (Ok new) status out out' = IsDone old new
+DoneAt IsDone (Err fault) (Err same) status out out' = (same ≡ fault) × RefusesDesk fault status out out'
+DoneAt IsDone (Ok old) (Err fault) status out out' = ⊥
+DoneAt IsDone (Err fault) (Ok new) status out out' = ⊥
+
 module _ {S : Type 0} (g : Ghosts S) where
   -- The desk hears the words as a line, and is then the new one. Where the disk returned what was written, the office that
   -- the desk stood for has done the line, and the desk stands for the office after it.
@@ -68,30 +75,19 @@ module _ {S : Type 0} (g : Ghosts S) where
     pub done : HasCleanDisk (state g new.conn) → (office : Office) → StandsFor g old office
         → SendsExport (export_bytes (exported kind office)) status out out' × StandsFor g new office
 
-  -- the desk that was found writes the export, or it is said why none was found
-  abbrev pub ExportsAt : Result (DeskState S) DeskFault → Result (DeskState S) DeskFault → ExportKind → ℕ → Output → Output → Type 0
-  ExportsAt (Ok old) (Ok new) kind status out out' = ExportsDesk old new kind status out out'
-  ExportsAt (Err fault) (Err same) kind status out out' = (same ≡ fault) × RefusesDesk fault status out out'
-  ExportsAt (Ok old) (Err fault) kind status out out' = ⊥
-  ExportsAt (Err fault) (Ok new) kind status out out' = ⊥
-
   -- the desk that was found hears the words, or it is said why none was found
   abbrev pub DoesAt : Result (DeskState S) DeskFault → Result (DeskState S) DeskFault → List Text → ℕ → Output → Output → Type 0
-  DoesAt (Ok old) (Ok new) words status out out' = HearsWords old new words status out out'
-  DoesAt (Err fault) (Err same) words status out out' = (same ≡ fault) × RefusesDesk fault status out out'
-  DoesAt (Ok old) (Err fault) words status out out' = ⊥
-  DoesAt (Err fault) (Ok new) words status out out' = ⊥
+  DoesAt found last words status out out' = DoneAt (λ old new. HearsWords old new words status out out') found last status out out'
 
   -- the list of a path comes in at the desk that was found, or it is said why none was found
   abbrev pub ImportsAt : Shelf → Result (DeskState S) DeskFault → Result (DeskState S) DeskFault → ListKind → Text → Text → ℕ → Output → Output → Type 0
-  ImportsAt shelf (Ok old) (Ok new) kind label path status out out' = ImportsDesk shelf old new kind label path status out out'
-  ImportsAt shelf (Err fault) (Err same) kind label path status out out' = (same ≡ fault) × RefusesDesk fault status out out'
-  ImportsAt shelf (Ok old) (Err fault) kind label path status out out' = ⊥
-  ImportsAt shelf (Err fault) (Ok new) kind label path status out out' = ⊥
+  ImportsAt shelf found last kind label path status out out' =
+      DoneAt (λ old new. ImportsDesk shelf old new kind label path status out out') found last status out out'
+
+  -- the desk that was found writes the export, or it is said why none was found
+  abbrev pub ExportsAt : Result (DeskState S) DeskFault → Result (DeskState S) DeskFault → ExportKind → ℕ → Output → Output → Type 0
+  ExportsAt found last kind status out out' = DoneAt (λ old new. ExportsDesk old new kind status out out') found last status out out'
 
   -- residents are served at the desk that was found, or it is said why none was found
   abbrev pub ServesAt : Result (DeskState S) DeskFault → Result (DeskState S) DeskFault → ℕ → ℕ → ℕ → Output → Output → Type 0
-  ServesAt (Ok old) (Ok new) port count status out out' = ServesPort g old new port count status out out'
-  ServesAt (Err fault) (Err same) port count status out out' = (same ≡ fault) × RefusesDesk fault status out out'
-  ServesAt (Ok old) (Err fault) port count status out out' = ⊥
-  ServesAt (Err fault) (Ok new) port count status out out' = ⊥
+  ServesAt found last port count status out out' = DoneAt (λ old new. ServesPort g old new port count status out out') found last status out out'

@@ -16,14 +16,14 @@ use Rattle.room_types.specs.declared.kinds.ListKind.{ListKind}
 use Rattle.room_types.specs.declared.watched.Watched.{Watched}
 
 -- how many bytes of a list are read at most: one more than a list may have, so that one that is too long is known
-abbrev pub read_limit : ℕ
-read_limit = byte_limit + 1
+abbrev pub list_limit : ℕ
+list_limit = byte_limit + 1
 
 -- These bytes were read, and no read failed: all that the reader had left, up to its end, or as many as are read at most.
 pub record ReadsList {R : Type 0} (remaining : R → Option (List ℕ)) (old new : Watched R) (bytes : List ℕ) : Type 0 where
   pub consumed : Consumes (remaining (watched_inner old)) (remaining (watched_inner new)) bytes
-  pub bounded : length bytes ≤ read_limit
-  pub whole : length bytes < read_limit → (watched_ended new ≡ true) × IsAtEnd (remaining (watched_inner new))
+  pub bounded : length bytes ≤ list_limit
+  pub whole : length bytes < list_limit → (watched_ended new ≡ true) × IsAtEnd (remaining (watched_inner new))
   pub kept : watched_failed new ≡ watched_failed old
 
 -- The list was read, but not to its end: a read failed, or bytes had come. Memory is taken only for those.
@@ -31,7 +31,7 @@ pub record CannotRead {R : Type 0} (remaining : R → Option (List ℕ)) (old ne
   pub asked : watched_reads old < watched_reads new
   pub early : watched_ended new ≡ watched_ended old
   pub cause : (watched_failed new ≡ true)
-      ⊎ ((bytes : List ℕ) × (0 < length bytes) × (length bytes ≤ read_limit)
+      ⊎ ((bytes : List ℕ) × (0 < length bytes) × (length bytes ≤ list_limit)
       × Consumes (remaining (watched_inner old)) (remaining (watched_inner new)) bytes)
 
 -- the command that these bytes come in as a list

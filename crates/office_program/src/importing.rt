@@ -2,20 +2,19 @@
 ghost use Rattle.std.specs.Prelude.{◌≤◌, IfOk, OnErr};
 ghost use Rattle.room_types.specs.Streams.{output_of};
 ghost use Rattle.room_types.specs.Watched.{IsFresh, StopsAtEnd, StopsAtFailure, watched_reads};
-ghost use Rattle.office_lines.specs.SingleLines.{Tells};
-ghost use Rattle.office_program.specs.Importing.{CannotRead, ImportsFrom, ReadsList, read_limit};
-ghost use Rattle.office_texts.specs.Texts.{SaidAscends};
+ghost use Rattle.office_program.specs.Importing.{CannotRead, ImportsFrom, ReadsList, list_limit};
 
 use office_core::{BYTE_LIMIT, Command};
+use office_lines::do_line::tell;
 use office_lines::say::say;
 use office_store::{Handler, Request, Unavailable};
-use office_texts::{Said, UNAVAILABLE, status_of, text_of};
+use office_texts::{Said, UNAVAILABLE};
 use room_types::{Label, ListKind, Listing, Watched};
 use std::alloc::Global;
 use std::io::{Read, Write};
 
 /// How many bytes of a list are read at most. A list may have one less, so that one that is too long is known by as many.
-pub const READ_LIMIT: usize = BYTE_LIMIT + 1;
+pub const LIST_LIMIT: usize = BYTE_LIMIT + 1;
 
 /// How many bytes of a list are read at once at most.
 const PIECE_LIMIT: usize = 4096;
@@ -34,7 +33,7 @@ pub fn import_list<H: Handler, R: Read, W: Write>(
     requires ready { H.is_ready handler.old }
     requires fresh_source { IsFresh source.old }
     requires fresh_output { IsFresh output.old }
-    ensures few { watched_reads source.new ≤ read_limit }
+    ensures few { watched_reads source.new ≤ list_limit }
     ensures no_late_read { StopsAtEnd source.old source.new }
     ensures no_late_write { StopsAtFailure output.old output.new }
     ensures imports { ImportsFrom H.handles R.remaining handler.old kind label source.old source.new
@@ -61,13 +60,13 @@ pub fn read_list<R: Read>(alloc: Global, source: &mut Watched<R>) -> Result<Vec<
     requires fresh { IsFresh source.old }
     ensures reads { IfOk result (λ bytes. ReadsList R.remaining source.old source.new bytes.items) }
     ensures wanting { OnErr result (CannotRead R.remaining source.old source.new) }
-    ensures few { watched_reads source.new ≤ read_limit }
+    ensures few { watched_reads source.new ≤ list_limit }
     ensures no_late_read { StopsAtEnd source.old source.new }
 {
     let mut bytes = Vec::new(alloc);
     let mut piece = [0u8; PIECE_LIMIT];
-    'reads: while bytes.len() < READ_LIMIT {
-        let room = PIECE_LIMIT.min(READ_LIMIT - bytes.len());
+    'reads: while bytes.len() < LIST_LIMIT {
+        let room = PIECE_LIMIT.min(LIST_LIMIT - bytes.len());
         match source.read(&mut piece[..room]) {
             Ok(0) => return Ok(bytes),
             Ok(n) => match bytes.extend_from_slice(&piece[..n]) {
@@ -78,18 +77,4 @@ pub fn read_list<R: Read>(alloc: Global, source: &mut Watched<R>) -> Result<Vec<
         }
     }
     Ok(bytes)
-}
-
-// Writes what is said, and flushes. Gives its status, and 3 where the output fails or memory is refused.
-fn tell<W: Write>(alloc: Global, said: &Said, output: &mut Watched<W>) -> u8
-    requires ascending { SaidAscends said.now }
-    requires fresh { IsFresh output.old }
-    ensures no_late_write { StopsAtFailure output.old output.new }
-    ensures tells { Tells said.now result (output_of W.contents output.old)
-        (output_of W.contents output.new) }
-{
-    match text_of(alloc, said) {
-        Ok(text) => say(output, text.as_str(), status_of(said)),
-        Err(_) => UNAVAILABLE,
-    }
 }

@@ -2,7 +2,7 @@
 use Rattle.std.proofs.Common.{◌≡◌, true, false, List, Option, Some, None, IsSome, IfSome, IsTrue, MatchOption, inl, inr, refl, sym, ap, ◌∙◌, subst}
 use Rattle.sqlite_trees.specs.declared.store.Store.{Ghosts}
 use Rattle.sqlite.specs.Held.{Held, state}
-use Rattle.sqlite.specs.State.{HasCleanDisk}
+use Rattle.sqlite.specs.State.{State, HasCleanDisk}
 use Rattle.office_core.specs.Change.{LeadsOn, AllFit, applied_all}
 use Rattle.office_core.specs.Command.{accepts, next, reply_to, changes_of, checks}
 use Rattle.office_core.specs.Command.Decision.{IsDecision}
@@ -19,6 +19,8 @@ use Rattle.office_tables.specs.Schema.{office_schema}
 use Rattle.office_tables.specs.Tables.{HoldsOffice}
 use Rattle.office_tables.proofs.StepLemmas.{follows-refl, follows_then}
 use Rattle.office_changes.specs.Carries.{Carries}
+use Rattle.office_load.specs.Reading.{OnlyReads}
+use Rattle.office_load.proofs.FollowLemmas.{reads_then}
 use Rattle.office_store.proofs.CertainLemmas.{accepted_is_stored}
 use Rattle.office_store.specs.Keeping.{changes_take_memory}
 use Rattle.office_store.specs.Desk.{DeskState, HandlesAt, IsTold, KeepsOn, Shows, StandsFor, reaches_tables}
@@ -63,12 +65,13 @@ pub stays_kept : (office : Office) (request : Request) (answer : Answer) → Han
 stays_kept office request answer handled certain = record { certain = certain; stays = λ none. refl; goes_on = handled; lost = λ none. absurd (cc) }
 
 -- none is kept after changes of the office that was taken
-lost_after : (taken after : Option Office) (office : Office) (changes : List Change) → taken ≡ Some office
-    → IfSome taken (λ o. after ≡ None → changes_take_memory o changes ≡ true) → after ≡ None → changes_take_memory office changes ≡ true
-lost_after taken after office changes e h = subst (λ t. IfSome t (λ o. after ≡ None → changes_take_memory o changes ≡ true)) e h
+lost_after : (taken after : Option Office) (office : Office) (changes all : List Change) → taken ≡ Some office → changes ≡ all
+    → IfSome taken (λ o. after ≡ None → changes_take_memory o changes ≡ true) → after ≡ None → changes_take_memory office all ≡ true
+lost_after taken after office changes all e same h none =
+    subst (λ l. changes_take_memory office l ≡ true) same (subst (λ t. IfSome t (λ o. after ≡ None → changes_take_memory o changes ≡ true)) e h none)
 
 -- nothing is asked of what is kept where nothing is
-pub none_keeps : (kept : Option Office) (request : Request) (answer : Answer) (next : Option Office) → kept ≡ None → IfSome kept (λ office. KeepsOn office request answer next)
+none_keeps : (kept : Option Office) (request : Request) (answer : Answer) (next : Option Office) → kept ≡ None → IfSome kept (λ office. KeepsOn office request answer next)
 none_keeps kept request answer next none = subst (λ k. IfSome k (λ office. KeepsOn office request answer next)) (sym none) tt
 
 -- none was kept where none is kept now
@@ -95,8 +98,26 @@ through None mid A B C kept a b both = tt
 through (Some o) mid A B C kept a b both = both a (subst (λ k. IfSome k (λ o. B)) kept b)
 
 -- nothing is kept, so nothing is said
-pub none_said : (kept : Option Office) (A : Type 0) → kept ≡ None → IfSome kept (λ o. A)
+none_said : (kept : Option Office) (A : Type 0) → kept ≡ None → IfSome kept (λ o. A)
 none_said kept A none = subst (λ k. IfSome k (λ o. A)) (sym none) tt
+
+none_is_not_some : (kept : Option Office) → kept ≡ None → IsSome kept → ⊥
+none_is_not_some None none some = absurd (cc)
+none_is_not_some (Some o) none some = absurd (cc)
+
+-- something is kept, so what is said of it is so
+some_said : (kept : Option Office) (A : Type 0) → IfSome kept (λ o. A) → IsSome kept → A
+some_said None A said some = absurd (cc)
+some_said (Some o) A said some = said
+
+-- one is kept where the one that was is still kept
+some_after : (old mid : Option Office) → IfSome old (λ kept. mid ≡ Some kept) → IsSome old → IsSome mid
+some_after None mid kept some = absurd (cc)
+some_after (Some o) mid kept some = subst (λ k. IsSome k) (sym kept) refl
+
+-- where nothing is done, tables are only read
+pub reads-refl : (a : State) → OnlyReads a a
+reads-refl a = record { follows = follows-refl a; same = λ honest has. refl }
 
 -- a request that is answered `Unavailable` is not accepted
 never_accepted : (request : Request) → IsAccepted request Unavailable → ⊥
@@ -157,19 +178,30 @@ module _ {S : Type 0} (g : Ghosts S) where
   }
 
   -- nothing is changed
-  pub unavailable : (old new : DeskState S) (request : Request) → Follows (state g old.conn) (state g new.conn)
+  pub unavailable : (old new : DeskState S) (request : Request) → OnlyReads (state g old.conn) (state g new.conn)
+      → (IsSome old.kept → IsHonest (state g new.conn) → (state g new.conn).now ≡ (state g old.conn).now)
       → IfSome old.kept (λ office. KeepsOn office request Unavailable new.kept)
       → IfSome old.kept (λ office. reaches_tables request Unavailable ≡ false → new.conn ≡ old.conn)
       → (HasCleanDisk (state g new.conn) → (office : Office) → StandsFor g old office → StandsFor g new office) → HandlesAt g old request Unavailable new
-  unavailable old new request follows keeps untouched still = record {
-    follows = follows;
+  unavailable old new request reads undone keeps untouched still = record {
+    follows = reads.follows;
     told = inr refl;
     keeps = keeps;
     untouched = untouched;
+    reads = λ none. reads;
+    undone = λ none. undone;
     remembers = λ told none. absurd (told refl);
+    regains = λ accepted lost. absurd (never_accepted request accepted);
     stored = λ clean accepted. absurd (never_accepted request accepted);
     steps = λ clean office stands. (office, inr (refl, refl), still clean office stands);
   }
+
+  -- and no office was kept
+  pub unavailable_unkept : (old new : DeskState S) (request : Request) → old.kept ≡ None → OnlyReads (state g old.conn) (state g new.conn)
+      → (HasCleanDisk (state g new.conn) → (office : Office) → StandsFor g old office → StandsFor g new office) → HandlesAt g old request Unavailable new
+  unavailable_unkept old new request none reads still =
+      unavailable old new request reads (λ some honest. absurd (none_is_not_some old.kept none some)) (none_keeps old.kept request Unavailable new.kept none)
+      (none_said old.kept (reaches_tables request Unavailable ≡ false → new.conn ≡ old.conn) none) still
 
   -- what is answered by the office that is kept, and changes nothing
   pub answered : (desk : DeskState S) (kept : Office) (request : Request) (answer : Answer) → desk.kept ≡ Some kept → IsLawful kept → Handles kept request answer kept
@@ -182,23 +214,41 @@ module _ {S : Type 0} (g : Ghosts S) where
     ];
     keeps = subst (λ k. IfSome k (λ office. KeepsOn office request answer k)) (sym is) (stays_kept kept request answer handled certain);
     untouched = subst (λ k. IfSome k (λ o. reaches_tables request answer ≡ false → desk.conn ≡ desk.conn)) (sym is) (λ none. refl);
+    reads = λ refused. reads-refl (state g desk.conn);
+    undone = λ refused some honest. refl;
     remembers = λ told accepted. subst (λ k. IsSome k) (sym is) refl;
+    regains = λ accepted lost. absurd (none accepted);
     stored = λ clean accepted. absurd (none accepted);
     steps = λ clean office stands. (office, subst (λ o. Handles o request answer o) (kept_is desk kept office is stands) handled, stands);
   }
 
   -- after what lets the desk stand for the same
-  pub handles_after : (old mid new : DeskState S) (request : Request) (answer : Answer) → Follows (state g old.conn) (state g mid.conn) → IfSome old.kept (λ kept. mid.kept ≡ Some kept)
+  pub handles_after : (old mid new : DeskState S) (request : Request) (answer : Answer) → OnlyReads (state g old.conn) (state g mid.conn) → IfSome old.kept (λ kept. mid.kept ≡ Some kept)
       → IfSome old.kept (λ kept. mid.conn ≡ old.conn)
       → (HasCleanDisk (state g mid.conn) → (office : Office) → StandsFor g old office → StandsFor g mid office) → HandlesAt g mid request answer new → HandlesAt g old request answer new
-  handles_after old mid new request answer follows kept same still h = record {
-    follows = follows_then _ _ _ follows h.follows;
+  handles_after old mid new request answer reads kept same still h = record {
+    follows = follows_then _ _ _ reads.follows h.follows;
     told = told_after old.kept mid.kept request answer kept h.told;
     keeps = keeps_after old.kept mid.kept request answer new.kept kept h.keeps;
     untouched =
         through old.kept mid.kept (mid.conn ≡ old.conn) (reaches_tables request answer ≡ false → new.conn ≡ mid.conn)
         (reaches_tables request answer ≡ false → new.conn ≡ old.conn) kept same h.untouched (λ first then none. then none ∙ first);
+    reads = λ refused. reads_then _ _ _ reads (h.reads refused);
+    undone = λ refused some honest.
+        let unread = some_said old.kept (mid.conn ≡ old.conn) same some in
+        h.undone refused (some_after old.kept mid.kept kept some) honest ∙ ap (λ (conn : Held S). (state g conn).now) unread;
     remembers = h.remembers;
+    regains = λ accepted lost.
+        let kept_by = h.regains accepted lost in
+        let taken = kept_by.1 in (
+          kept_by.0,
+          record {
+            lawful = taken.lawful;
+            answers = taken.answers;
+            takes = taken.takes;
+            stood = λ clean stood stands. taken.stood clean stood (still (h.follows.clean clean) stood stands);
+          },
+        );
     stored = h.stored;
     steps = λ clean office stands. h.steps clean office (still (h.follows.clean clean) office stands);
   }
@@ -223,10 +273,21 @@ module _ {S : Type 0} (g : Ghosts S) where
               goes_on_after kept (next kept command) (request.Office command) (Reply decision.reply) after
               (accepted_handles kept command decision.reply d.accepted d.replied)
               (subst (λ n. IfSome after (λ o. o ≡ n)) goes (kept_after taken after kept changes took done));
-          lost = λ none. subst (λ all. changes_take_memory kept all ≡ true) (same ∙ d.changed) (lost_after taken after kept changes took lost none);
+          lost = lost_after taken after kept changes (changes_of kept command) took (same ∙ d.changed) lost;
         };
     untouched = λ none. absurd (cc);
+    reads = λ refused. absurd (refused tt);
+    undone = λ refused some honest. absurd (refused tt);
     remembers = λ told none. absurd (none tt);
+    regains = λ accepted none. (
+      kept,
+      record {
+        lawful = lawful;
+        answers = accepted_answer kept command decision.reply d.accepted d.replied;
+        takes = lost_after taken after kept changes (changes_of kept command) took (same ∙ d.changed) lost none;
+        stood = λ clean stood stands. stands.kept;
+      },
+    );
     stored = λ clean accepted. is_open clean;
     steps = λ clean office stands.
         let is : kept ≡ office = stands.kept in

@@ -8,8 +8,9 @@ use Rattle.office_core.specs.Office.Invariants.{IsLawful}
 use Rattle.office_core.specs.contracts.office.Office as office
 use Rattle.office_core.specs.declared.office.Office.{Office}
 use Rattle.office_cells.specs.Spelled.{IsSpelled}
+use Rattle.office_load.specs.Reading.{OnlyReads}
 use Rattle.office_rows.specs.Tables.{rows_of}
-use Rattle.office_tables.specs.Steps.{Follows}
+use Rattle.office_tables.specs.Steps.{Follows, IsHonest}
 use Rattle.office_tables.specs.Tables.{HoldsOffice}
 use Rattle.office_store.specs.Certain.{is_certain}
 use Rattle.office_store.specs.Keeping.{keeping_takes_memory}
@@ -72,17 +73,34 @@ reaches_tables (request.Office command) (Refused refusal) = false
 reaches_tables (request.Office command) Unavailable = true
 reaches_tables (request.Ask query) answer = false
 
+-- Memory is taken to keep this office after the request, which it answers so. It is lawful, and where the disk returned
+-- what was written, it is the one that the desk stood for.
+pub record TakesMemory {S : Type 0} (g : Ghosts S) (old : DeskState S) (request : Request) (answer : Answer)
+    (new : DeskState S) (office : Office) : Type 0 where
+  pub lawful : IsLawful office
+  pub answers : answer ≡ answer_to office request
+  pub takes : keeping_takes_memory office request ≡ true
+  pub stood : HasCleanDisk (state g new.conn) → (stood : Office) → StandsFor g old stood → office ≡ stood
+
 -- A request at a desk. Where the disk returned what was written, the office that the desk stands for has handled it,
 -- and the desk stands for the next one. Then a command is accepted only where the connection is open, so that the
--- tables have its changes. An office that is kept answers queries, and refuses, without its tables. After whatever
--- is answered an office is kept, unless a command is accepted.
+-- tables have its changes. An office that is kept answers queries, and refuses, without its tables.
+--
+-- Unless a command is accepted, an office's tables are only read. Where an office is kept, they stay as they were, whatever
+-- is declared, if the disk returned what was written and the connection is open. After a reply to a query and after a
+-- refusal an office is kept, and after a command that is accepted, unless memory is taken to keep it.
 pub record HandlesAt {S : Type 0} (g : Ghosts S) (old : DeskState S) (request : Request) (answer : Answer)
     (new : DeskState S) : Type 0 where
   pub follows : Follows (state g old.conn) (state g new.conn)
   pub told : IsTold old.kept request answer
   pub keeps : IfSome old.kept (λ office. KeepsOn office request answer new.kept)
   pub untouched : IfSome old.kept (λ office. reaches_tables request answer ≡ false → new.conn ≡ old.conn)
+  pub reads : ¬ IsAccepted request answer → OnlyReads (state g old.conn) (state g new.conn)
+  pub undone : ¬ IsAccepted request answer → IsSome old.kept → IsHonest (state g new.conn)
+      → (state g new.conn).now ≡ (state g old.conn).now
   pub remembers : ¬ (answer ≡ Unavailable) → ¬ IsAccepted request answer → IsSome new.kept
+  pub regains : IsAccepted request answer → new.kept ≡ None
+      → (office : Office) × TakesMemory g old request answer new office
   pub stored : HasCleanDisk (state g new.conn) → IsAccepted request answer → IsTrue (state g new.conn).is_open
   pub steps : HasCleanDisk (state g new.conn) → (office : Office) → StandsFor g old office
       → (next : Office) × Handles office request answer next × StandsFor g new next

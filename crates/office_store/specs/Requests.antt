@@ -36,8 +36,8 @@ abbrev pub office_after : Office → Request → Office
 office_after office (request.Office command) = office_but (accepts office command) office (next office command)
 office_after office (request.Ask query) = office
 
--- The request has its answer and its effect. Or it is answered that memory is wanting, and the
--- office stays: the only free choice.
+-- The request has its answer and its effect. Or it is answered that memory or the database did not
+-- serve, and the office stays: the only free choice.
 abbrev pub Handles : Office → Request → Answer → Office → Type 0
 Handles old request answer new =
     ((answer ≡ answer_to old request) × (new ≡ office_after old request))

@@ -8,7 +8,7 @@ ghost use Rattle.office_core.specs.Command.Decision.{IsDecision};
 ghost use Rattle.office_core.specs.Office.Invariants.{IsLawful};
 ghost use Rattle.office_core.specs.Replies.{RowsAscend};
 ghost use Rattle.office_core.specs.declared.office.Office.{Office as AnyOffice};
-ghost use Rattle.office_tables.specs.Steps.{Follows};
+ghost use Rattle.office_load.specs.Reading.{OnlyReads};
 ghost use Rattle.office_store.specs.Certain.{is_certain};
 ghost use Rattle.office_store.specs.Desk.{HandlesAt, StandsFor};
 ghost use Rattle.office_store.specs.Requests.{AnswerAscends, Handles, IsAccepted, answer_to};
@@ -103,7 +103,7 @@ fn decided(alloc: Global, office: &Office, command: &Command) -> Result<Decision
 impl<S: Alter> Desk<S> {
     // Reads the office where none is kept, and tells whether one is kept then.
     fn recall(&mut self, alloc: Global) -> bool
-        ensures follows { Follows (state S.Store self.old.conn) (state S.Store self.new.conn) }
+        ensures reads { OnlyReads (state S.Store self.old.conn) (state S.Store self.new.conn) }
         ensures kept { IfSome self.old.kept (λ kept. self.new.kept ≡ Some kept) }
         ensures untouched { IfSome self.old.kept (λ kept. self.new.conn ≡ self.old.conn) }
         ensures none { result ≡ false → self.old.kept ≡ None }

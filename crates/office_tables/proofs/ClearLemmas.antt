@@ -1,5 +1,5 @@
--- The table of the lists is dropped, and declared again where it was.
-use Rattle.std.proofs.Common.{◌≡◌, ℕ, List, [], Ok, None, false, refl, sym, ap, ◌∙◌, subst}
+-- The table of choices is dropped, and declared again where it was.
+use Rattle.std.proofs.Common.{◌≡◌, ℕ, List, [], Ok, None, false, refl, sym, ap, ◌∙◌, subst, inl, inr, arith}
 use Rattle.std.proofs.lemmas.Bool.{MatchBool-at_false}
 use Rattle.sqlite_schema.specs.declared.schema.Schema.{Schema}
 use Rattle.sqlite_schema.specs.declared.schema.Table.{Table}
@@ -16,12 +16,12 @@ use Rattle.sqlite.specs.Rows.{Task}
 use Rattle.sqlite.specs.State.{State, HasCleanDisk, Writes, Executes, mode_of}
 use Rattle.sqlite.proofs.Callers.{IsPlain, command_of, statement_of, runs_as}
 use Rattle.office_cells.specs.Columns as columns
-use Rattle.office_tables.specs.Declaring.{Adds, LosesChoices, RegainsChoices}
+use Rattle.office_tables.specs.Declaring.{Adds, LosesChoices, MayLackChoices, RegainsChoices}
 use Rattle.office_tables.specs.Edits as edit
 use Rattle.office_tables.specs.Holds.{Holds}
 use Rattle.office_tables.specs.Makes.{Makes}
 use Rattle.office_tables.specs.Schema.{office_schema, all_but_choices, choice, choice_text}
-use Rattle.office_tables.specs.Steps.{Ran}
+use Rattle.office_tables.specs.Steps.{Ran, StaysInside, IsUndone}
 use Rattle.office_tables.specs.Texts as text
 use Rattle.office_tables.proofs.CommandLemmas.{drop_table_is}
 use Rattle.office_tables.proofs.HoldLemmas.{none_held}
@@ -138,3 +138,17 @@ clears old mid new early loss gain = record {
       };
   mode = λ clean. gain.mode clean ∙ loss.mode (early clean);
 }
+
+-- the second was refused, or failed, after the first
+pub half_cleared : (old mid new : State) → StaysInside old mid → StaysInside mid new → LosesChoices old mid → IsUndone mid new → MayLackChoices old new
+half_cleared old mid new before later loss undone honest =
+    let early : HasCleanDisk new → HasCleanDisk mid = λ clean. omega (arith, clean, later.survives.clean) in
+    elim (undone honest) [
+      | inl same ↦ inl (record {
+        shown = λ clean has. subst (λ (d : Database). (d.schema ≡ all_but_choices) × KeepsRows all_but_choices.tables old.now.trees d.trees) (sym same.0) (loss.shown (early clean) has);
+        mode = λ clean. same.1 ∙ loss.mode (early clean);
+      })
+      | inr rolled ↦
+          let was_open = (later.kept honest.0).was_open honest.1 in
+          inr (inr (rolled.0 ∙ (before.kept (early honest.0)).committed was_open, rolled.1))
+    ]

@@ -1,19 +1,22 @@
 -- States of a connection that follow one another, and calls inside a transaction, one after another.
-use Rattle.std.proofs.Common.{ℕ, ◌≤◌, refl, inl, inr, arith}
+use Rattle.std.proofs.Common.{◌⊎◌, ℕ, ◌≤◌, List, Err, refl, ◌∙◌, inl, inr, arith}
 use Rattle.sqlite_disk.specs.Disk.{MoreFaults}
-use Rattle.sqlite.specs.State.{State}
+use Rattle.sqlite_value.specs.Order.{Row}
+use Rattle.sqlite.specs.declared.error.Error.{Error}
+use Rattle.sqlite.specs.State.{State, ExecutesInside, IsUnchanged, IsRolledBack}
 use Rattle.sqlite.proofs.StateLemmas.{survives_then}
 use Rattle.sqlite.proofs.InsideLemmas.{keeps_then}
-use Rattle.office_tables.specs.Steps.{Follows, IsHonest, StaysInside}
+use Rattle.office_tables.specs.Steps.{Follows, IsHonest, StaysInside, SeesTheSame, RollsBack, IsUndone}
 
 pub follows-refl : (a : State) → Follows a a
-follows-refl a = record { clean = λ h. h; was_open = λ h o. o; counts = omega arith; closes = λ h o. inl o }
+follows-refl a = record { clean = λ h. h; was_open = λ h o. o; counts = omega arith; limit = refl; closes = λ h o. inl o }
 
 pub follows_then : (a b c : State) → Follows a b → Follows b c → Follows a c
 follows_then a b c p q = record {
   clean = λ h. p.clean (q.clean h);
   was_open = λ h o. p.was_open (q.clean h) (q.was_open h o);
   counts = omega (arith, p.counts, q.counts);
+  limit = q.limit ∙ p.limit;
   closes = λ h o. elim (p.closes (q.clean h) o) [
     | inl open_then ↦ elim (q.closes h open_then) [
       | inl open_now ↦ inl open_now
@@ -52,3 +55,18 @@ inside_then a b c p q = record {
   kept = λ clean. keeps_then a b c (p.kept (omega (arith, q.survives.clean))) (q.kept clean);
   survives = survives_then a b c _ _ (λ _. ⊥) (λ _ db none. none) (λ _ db none. none) p.survives q.survives;
 }
+
+-- refused before any statement
+pub undone_none : (a : State) → IsUndone a a
+undone_none a honest = inl (refl, refl)
+
+-- what the engine says of a statement that it refused, or that failed
+pub undone_by : (held : ℕ) (sql : List ℕ) (params : Row) (e : Error) (old new : State) → ExecutesInside held sql params old new (Err e) → IsUndone old new
+undone_by held sql params e old new h honest = elim h [
+  | inl failed ↦ either failed.1
+  | inr refused ↦ either (inl refused.2)
+]
+  where
+    either : IsUnchanged old new ⊎ IsRolledBack old new → SeesTheSame old new ⊎ RollsBack old new
+    either (inl same) = inl (same.0.now_is, same.0.mode)
+    either (inr undone) = inr ((undone.undone honest.1).0, undone.autocommit)

@@ -192,7 +192,7 @@ index_of name tree table columns = record {
 abbrev pub no_schema : Schema
 no_schema = record { tables = []; indexes = []; views = [] }
 
--- The schema that the texts make, one after another. The table of the lists is the last, so that it can be taken out and
+-- The schema that the texts make, one after another. The table of choices is the last, so that it can be taken out and
 -- made anew where it was.
 abbrev pub office_schema : Schema
 office_schema = record {
@@ -215,6 +215,6 @@ first_tables tables indexes = record {
   views = [];
 }
 
--- all tables of an office but that of the lists
+-- all tables of an office but that of choices
 abbrev pub all_but_choices : Schema
 all_but_choices = first_tables 7 9

@@ -1,11 +1,11 @@
-//! The table of recorded lists.
-ghost use Rattle.std.specs.Prelude.{◌≡◌, OnOk};
+//! The table of choices: a row for each place of a recorded list.
+ghost use Rattle.std.specs.Prelude.{◌≡◌, OnOk, OnErr};
 ghost use Rattle.sqlite.specs.Held.{state};
-ghost use Rattle.office_tables.specs.Declaring.{LosesChoices, RegainsChoices};
+ghost use Rattle.office_tables.specs.Declaring.{LosesChoices, MayLackChoices, RegainsChoices};
 ghost use Rattle.office_tables.specs.Edits.{with_choice, without_choices_of, without_choices};
 ghost use Rattle.office_tables.specs.Makes.{Makes};
 ghost use Rattle.office_tables.specs.Schema.{choice_text};
-ghost use Rattle.office_tables.specs.Steps.{StaysInside};
+ghost use Rattle.office_tables.specs.Steps.{IsUndone, StaysInside};
 
 use crate::running::run;
 use room_types::{PersonId, RoomCode};
@@ -23,6 +23,8 @@ pub fn add_choice<S: Alter>(
     ensures made { OnOk result
         (Makes (state S.Store tx.old.conn.now) (state S.Store tx.new.conn.now)
         (with_choice person.now place room.now)) }
+    ensures undone { OnErr result
+        (IsUndone (state S.Store tx.old.conn.now) (state S.Store tx.new.conn.now)) }
     ensures inside { StaysInside (state S.Store tx.old.conn.now) (state S.Store tx.new.conn.now) }
 {
     run(
@@ -38,6 +40,8 @@ pub fn drop_choices<S: Alter>(tx: &mut Transaction<'_, S>, person: &PersonId) ->
     ensures made { OnOk result
         (Makes (state S.Store tx.old.conn.now) (state S.Store tx.new.conn.now)
         (without_choices_of person.now)) }
+    ensures undone { OnErr result
+        (IsUndone (state S.Store tx.old.conn.now) (state S.Store tx.new.conn.now)) }
     ensures inside { StaysInside (state S.Store tx.old.conn.now) (state S.Store tx.new.conn.now) }
 {
     run(
@@ -47,13 +51,15 @@ pub fn drop_choices<S: Alter>(tx: &mut Transaction<'_, S>, person: &PersonId) ->
     )
 }
 
-/// Takes all lists out. The table is dropped and made anew, in the place where it was: the store in memory looks at
-/// every row of a table for each that it deletes.
+/// Takes all choices out. The table is dropped and made anew, in the place where it was: the store in memory looks at
+/// every row of a table for each that it deletes. Where it fails, the table may be gone, as long as the transaction goes on.
 pub fn clear_choices<S: Alter>(tx: &mut Transaction<'_, S>) -> Result<(), Error>
     ensures same_reference { tx.new.conn.ghost_name ≡ tx.old.conn.ghost_name }
     ensures made { OnOk result
         (Makes (state S.Store tx.old.conn.now) (state S.Store tx.new.conn.now)
         (without_choices)) }
+    ensures undone { OnErr result
+        (MayLackChoices (state S.Store tx.old.conn.now) (state S.Store tx.new.conn.now)) }
     ensures inside { StaysInside (state S.Store tx.old.conn.now) (state S.Store tx.new.conn.now) }
 {
     drop_table(tx)?;
@@ -74,6 +80,8 @@ fn drop_table<S: Alter>(tx: &mut Transaction<'_, S>) -> Result<(), Error>
     ensures same_reference { tx.new.conn.ghost_name ≡ tx.old.conn.ghost_name }
     ensures made { OnOk result
         (LosesChoices (state S.Store tx.old.conn.now) (state S.Store tx.new.conn.now)) }
+    ensures undone { OnErr result
+        (IsUndone (state S.Store tx.old.conn.now) (state S.Store tx.new.conn.now)) }
     ensures inside { StaysInside (state S.Store tx.old.conn.now) (state S.Store tx.new.conn.now) }
 {
     run(tx, "DROP TABLE choice", &[])
@@ -84,6 +92,8 @@ fn make_table<S: Alter>(tx: &mut Transaction<'_, S>) -> Result<(), Error>
     ensures same_reference { tx.new.conn.ghost_name ≡ tx.old.conn.ghost_name }
     ensures made { OnOk result
         (RegainsChoices (state S.Store tx.old.conn.now) (state S.Store tx.new.conn.now)) }
+    ensures undone { OnErr result
+        (IsUndone (state S.Store tx.old.conn.now) (state S.Store tx.new.conn.now)) }
     ensures inside { StaysInside (state S.Store tx.old.conn.now) (state S.Store tx.new.conn.now) }
 {
     run(tx, table_text(), &[])

@@ -1,6 +1,7 @@
 //! The tables of an office in a database: one function a statement, inside a transaction. What a statement makes of the
-//! rows is said of typed records. A statement that is refused changes no row, and one that fails, for memory or the disk,
-//! rolls the whole transaction back; so says the engine. The clauses here say of both that nothing is committed.
+//! rows is said of typed records. A statement that is refused, or that fails, for memory or the disk, changes no row, or
+//! the whole transaction is rolled back (`undone`), and nothing is committed (`inside`). `clear_choices` is two statements:
+//! where the second fails, the first may stand inside the transaction.
 #![tactic(auto)]
 
 mod cells;

@@ -1,10 +1,10 @@
 //! The table of kept lists.
-ghost use Rattle.std.specs.Prelude.{◌≡◌, OnOk};
+ghost use Rattle.std.specs.Prelude.{◌≡◌, OnOk, OnErr};
 ghost use Rattle.sqlite.specs.Held.{state};
 ghost use Rattle.office_core.specs.declared.office.kept_list.KeptList.{KeptList};
 ghost use Rattle.office_tables.specs.Edits.{with_kept};
 ghost use Rattle.office_tables.specs.Makes.{Makes};
-ghost use Rattle.office_tables.specs.Steps.{StaysInside};
+ghost use Rattle.office_tables.specs.Steps.{IsUndone, StaysInside};
 
 use crate::running::run;
 use room_types::{Label, ListKind, Listing};
@@ -23,6 +23,8 @@ pub fn add_list<S: Alter>(
     ensures made { OnOk result
         (Makes (state S.Store tx.old.conn.now) (state S.Store tx.new.conn.now)
         (with_kept label.now (record { kind = kind; bytes = bytes.now; count = count }))) }
+    ensures undone { OnErr result
+        (IsUndone (state S.Store tx.old.conn.now) (state S.Store tx.new.conn.now)) }
     ensures inside { StaysInside (state S.Store tx.old.conn.now) (state S.Store tx.new.conn.now) }
 {
     run(

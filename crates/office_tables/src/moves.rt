@@ -1,9 +1,9 @@
 //! The table of moves.
-ghost use Rattle.std.specs.Prelude.{◌≡◌, OnOk};
+ghost use Rattle.std.specs.Prelude.{◌≡◌, OnOk, OnErr};
 ghost use Rattle.sqlite.specs.Held.{state};
 ghost use Rattle.office_tables.specs.Edits.{with_move};
 ghost use Rattle.office_tables.specs.Makes.{Makes};
-ghost use Rattle.office_tables.specs.Steps.{StaysInside};
+ghost use Rattle.office_tables.specs.Steps.{IsUndone, StaysInside};
 
 use crate::cells::{code_of, number_of};
 use crate::running::run;
@@ -16,6 +16,8 @@ pub fn add_move<S: Alter>(tx: &mut Transaction<'_, S>, row: &Move) -> Result<(),
     ensures made { OnOk result
         (Makes (state S.Store tx.old.conn.now) (state S.Store tx.new.conn.now)
         (with_move row.now)) }
+    ensures undone { OnErr result
+        (IsUndone (state S.Store tx.old.conn.now) (state S.Store tx.new.conn.now)) }
     ensures inside { StaysInside (state S.Store tx.old.conn.now) (state S.Store tx.new.conn.now) }
 {
     run(

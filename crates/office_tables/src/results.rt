@@ -1,9 +1,9 @@
 //! The table of results.
-ghost use Rattle.std.specs.Prelude.{◌≡◌, OnOk};
+ghost use Rattle.std.specs.Prelude.{◌≡◌, OnOk, OnErr};
 ghost use Rattle.sqlite.specs.Held.{state};
 ghost use Rattle.office_tables.specs.Edits.{with_result, without_result_of, without_results};
 ghost use Rattle.office_tables.specs.Makes.{Makes};
-ghost use Rattle.office_tables.specs.Steps.{StaysInside};
+ghost use Rattle.office_tables.specs.Steps.{IsUndone, StaysInside};
 
 use crate::cells::code_of;
 use crate::running::run;
@@ -21,6 +21,8 @@ pub fn add_result<S: Alter>(
     ensures made { OnOk result
         (Makes (state S.Store tx.old.conn.now) (state S.Store tx.new.conn.now)
         (with_result person.now room.now)) }
+    ensures undone { OnErr result
+        (IsUndone (state S.Store tx.old.conn.now) (state S.Store tx.new.conn.now)) }
     ensures inside { StaysInside (state S.Store tx.old.conn.now) (state S.Store tx.new.conn.now) }
 {
     run(
@@ -36,6 +38,8 @@ pub fn drop_result<S: Alter>(tx: &mut Transaction<'_, S>, person: &PersonId) -> 
     ensures made { OnOk result
         (Makes (state S.Store tx.old.conn.now) (state S.Store tx.new.conn.now)
         (without_result_of person.now)) }
+    ensures undone { OnErr result
+        (IsUndone (state S.Store tx.old.conn.now) (state S.Store tx.new.conn.now)) }
     ensures inside { StaysInside (state S.Store tx.old.conn.now) (state S.Store tx.new.conn.now) }
 {
     run(
@@ -51,6 +55,8 @@ pub fn clear_results<S: Alter>(tx: &mut Transaction<'_, S>) -> Result<(), Error>
     ensures made { OnOk result
         (Makes (state S.Store tx.old.conn.now) (state S.Store tx.new.conn.now)
         (without_results)) }
+    ensures undone { OnErr result
+        (IsUndone (state S.Store tx.old.conn.now) (state S.Store tx.new.conn.now)) }
     ensures inside { StaysInside (state S.Store tx.old.conn.now) (state S.Store tx.new.conn.now) }
 {
     run(tx, "DELETE FROM result", &[])

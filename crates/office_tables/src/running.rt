@@ -1,9 +1,9 @@
 //! One statement inside a transaction.
-ghost use Rattle.std.specs.Prelude.{◌≡◌, OnOk};
+ghost use Rattle.std.specs.Prelude.{◌≡◌, OnOk, OnErr};
 ghost use Rattle.sqlite.specs.Held.{state};
 ghost use Rattle.sqlite.specs.State.{HasCleanDisk};
 ghost use Rattle.sqlite.specs.Values.{bound};
-ghost use Rattle.office_tables.specs.Steps.{Ran, StaysInside};
+ghost use Rattle.office_tables.specs.Steps.{Ran, IsUndone, StaysInside};
 
 use sqlite::types::ValueRef;
 use sqlite::{Alter, Error, Transaction};
@@ -18,6 +18,8 @@ pub fn run<S: Alter>(
     ensures ran { OnOk result (HasCleanDisk (state S.Store tx.new.conn.now)
         → Ran text.now (bound params.now)
         (state S.Store tx.old.conn.now) (state S.Store tx.new.conn.now)) }
+    ensures undone { OnErr result
+        (IsUndone (state S.Store tx.old.conn.now) (state S.Store tx.new.conn.now)) }
     ensures inside { StaysInside (state S.Store tx.old.conn.now) (state S.Store tx.new.conn.now) }
 {
     tx.execute(text, params)?;

@@ -1,9 +1,9 @@
 //! The table of the words of a draw.
-ghost use Rattle.std.specs.Prelude.{◌≡◌, OnOk};
+ghost use Rattle.std.specs.Prelude.{◌≡◌, OnOk, OnErr};
 ghost use Rattle.sqlite.specs.Held.{state};
 ghost use Rattle.office_tables.specs.Edits.{with_word, without_word_of, without_words};
 ghost use Rattle.office_tables.specs.Makes.{Makes};
-ghost use Rattle.office_tables.specs.Steps.{StaysInside};
+ghost use Rattle.office_tables.specs.Steps.{IsUndone, StaysInside};
 
 use crate::running::run;
 use room_types::{PersonId, Word};
@@ -21,6 +21,8 @@ pub fn add_word<S: Alter>(
     ensures made { OnOk result
         (Makes (state S.Store tx.old.conn.now) (state S.Store tx.new.conn.now)
         (with_word person.now word)) }
+    ensures undone { OnErr result
+        (IsUndone (state S.Store tx.old.conn.now) (state S.Store tx.new.conn.now)) }
     ensures inside { StaysInside (state S.Store tx.old.conn.now) (state S.Store tx.new.conn.now) }
 {
     let hex = format!(in alloc; "{word}")?;
@@ -37,6 +39,8 @@ pub fn drop_word<S: Alter>(tx: &mut Transaction<'_, S>, person: &PersonId) -> Re
     ensures made { OnOk result
         (Makes (state S.Store tx.old.conn.now) (state S.Store tx.new.conn.now)
         (without_word_of person.now)) }
+    ensures undone { OnErr result
+        (IsUndone (state S.Store tx.old.conn.now) (state S.Store tx.new.conn.now)) }
     ensures inside { StaysInside (state S.Store tx.old.conn.now) (state S.Store tx.new.conn.now) }
 {
     run(
@@ -52,6 +56,8 @@ pub fn clear_words<S: Alter>(tx: &mut Transaction<'_, S>) -> Result<(), Error>
     ensures made { OnOk result
         (Makes (state S.Store tx.old.conn.now) (state S.Store tx.new.conn.now)
         (without_words)) }
+    ensures undone { OnErr result
+        (IsUndone (state S.Store tx.old.conn.now) (state S.Store tx.new.conn.now)) }
     ensures inside { StaysInside (state S.Store tx.old.conn.now) (state S.Store tx.new.conn.now) }
 {
     run(tx, "DELETE FROM word", &[])

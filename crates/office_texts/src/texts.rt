@@ -23,8 +23,9 @@ pub const NOT_UNDERSTOOD: u8 = 2;
 /// The status where memory or a device failed.
 pub const UNAVAILABLE: u8 = 3;
 
-/// The lines that are printed, where the rows of a reply ascend, as handlers give them. A constant text is lent and takes no
-/// memory, so that want of memory can be told without any; nor does a text without bytes.
+/// The lines that are printed, where the rows of a reply ascend, as handlers give them. The texts that the desk is unavailable and
+/// that a line is not understood are lent and take no memory, so that want of memory can be told without any; nor does a text
+/// without bytes.
 pub fn text_of(alloc: Global, said: &Said) -> Result<CowStr<'static, Global>, OutOfMemory>
     requires ascending { SaidAscends said.now }
     ensures text { IfOk result (λ text. cow_str_bytes text ≡ text-of said.now) }

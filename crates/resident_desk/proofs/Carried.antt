@@ -116,6 +116,7 @@ module _ {H K : Type 0} (handles : H → Request → DeskAnswer → H → Type 0
                 limit = h.limit;
                 each = h.each;
                 asks = h.asks;
+                unended = h.unended;
                 ended = h.ended;
                 responds = record { answer = h.responds.answer; answers = n.1; delivers = h.responds.delivers };
               },
@@ -128,7 +129,7 @@ module _ {H K : Type 0} (handles : H → Request → DeskAnswer → H → Type 0
       → Carried old new (λ k n. Converses does served k n before after)
   converses_carried (Answered status) old new before after h = replies_carried (Answered status) old new before after h
   converses_carried Silent old new before after h =
-      carried_same old new _ h.same (λ k. record { read = h.read; at_end = h.at_end; ended = h.ended; untouched = h.untouched; same = refl })
+      carried_same old new _ h.same (λ k. record { read = h.read; each = h.each; at_end = h.at_end; ended = h.ended; untouched = h.untouched; same = refl })
   converses_carried ReadFault old new before after h = carried_same old new _ h.same (λ k. record {
     bytes = h.bytes;
     read = h.read;

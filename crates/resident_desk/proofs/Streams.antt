@@ -1,6 +1,6 @@
 -- What was read of a stream, and what went out on it.
 use Rattle.std.proofs.Common.{◌≡◌, ℕ, ◌+◌, ◌<◌, ◌≤◌, Bool, true, false, List, [], ◌++◌, length, take, drop, refl, sym, ap, ◌∙◌, subst, arith, append-nil, length-append, rules, tests, Option, None, Some, inl, inr}
-use Rattle.std.specs.Prelude.{◌||◌, ◌&&◌, ◌==◌, nat_lt, OnSome}
+use Rattle.std.specs.Prelude.{◌||◌, ◌&&◌, ◌==◌, nat_lt, if◌then◌else◌, OnSome}
 use Rattle.std.proofs.Math.Bool.{or-true}
 use Rattle.std.specs.Io.KnownBytes.{Appends, Consumes, Keeps, IsAtEnd}
 use Rattle.std.proofs.KnownBytes.{Consumes-trans, Consumes-kept, Keeps-refl, Keeps-trans}
@@ -11,7 +11,7 @@ use Rattle.room_types.specs.Streams.{Output, Puts, count_after}
 use Rattle.room_types.specs.Watched.{counted}
 use Rattle.office_store.specs.declared.requests.Answer.{Answer as DeskAnswer}
 use Rattle.office_store.specs.declared.requests.Request.{Request}
-use Rattle.resident_http.specs.Asks.{Asked, Asks, more, seen}
+use Rattle.resident_http.specs.Asks.{Asked, Asks, is_more, more, seen}
 use Rattle.resident_http.specs.declared.ask.AskState.{AskState}
 use Rattle.resident_http.specs.declared.ask.AskState.TheVariants as state
 use Rattle.resident_desk.specs.Conversations.{Connection, Converses, Delivers, IsUntouched, Replies, Responds}
@@ -112,7 +112,7 @@ delivers-after (WriteFault sent) status bs a b c u d = (
   d.0,
   elim d.1 [
     | inl front ↦ inl (front.0, puts-after a b c _ u front.1, front.2 ∙ u.flushes)
-    | inr all ↦ inr (all.0, puts-after a b c bs u all.1, all.2 ∙ ap (λ n. counted n 1) u.flushes)
+    | inr all ↦ inr (all.0, puts-after a b c bs u all.1, all.2 ∙ ap (λ n. counted n 1) u.flushes, all.3)
   ],
 )
 delivers-after Silent status bs a b c u d = absurd d
@@ -121,16 +121,18 @@ delivers-after ReadFault status bs a b c u d = absurd d
 module _ {H : Type 0} (handles : H → Request → DeskAnswer → H → Type 0) where
   replies-responded : (served : Served) (old new : H) (before mid after : Connection) (bytes : List ℕ) (asked : Asked)
       → Consumes before.input.remaining mid.input.remaining bytes → Keeps mid.input.remaining after.input.remaining → IsUntouched before.output mid.output
-      → length bytes ≤ 9216 → after.input.reads ≤ length bytes + 1 → Asks bytes asked
+      → length bytes ≤ 9216 → after.input.reads ≤ length bytes + (if is_more asked then 1 else 0) → Asks bytes asked
+      → (is_more asked ≡ false → after.ended ≡ before.ended)
       → (asked ≡ more → (0 < length bytes) × (after.ended ≡ true) × IsAtEnd mid.input.remaining)
       → Responds handles asked old new served mid.output after.output → Replies handles old new served before after
-  replies-responded served old new before mid after bytes asked read kept untouched limit each asks ended responds = record {
+  replies-responded served old new before mid after bytes asked read kept untouched limit each asks unended ended responds = record {
     bytes = bytes;
     asked = asked;
     read = Consumes-kept _ _ _ bytes read kept;
     limit = limit;
     each = each;
     asks = asks;
+    unended = unended;
     ended = λ e. let h = ended e in (h.0, h.1, still_at_end before.input.remaining mid.input.remaining after.input.remaining bytes read h.2 kept);
     responds = record {
       answer = responds.answer;
@@ -142,12 +144,13 @@ module _ {H : Type 0} (handles : H → Request → DeskAnswer → H → Type 0) 
   -- what was asked by the bytes that were read was answered
   pub converses-responded : (served : Served) (old new : H) (before mid after : Connection) (bytes : List ℕ) (asked : Asked)
       → Consumes before.input.remaining mid.input.remaining bytes → Keeps mid.input.remaining after.input.remaining → IsUntouched before.output mid.output
-      → length bytes ≤ 9216 → after.input.reads ≤ length bytes + 1 → Asks bytes asked
+      → length bytes ≤ 9216 → after.input.reads ≤ length bytes + (if is_more asked then 1 else 0) → Asks bytes asked
+      → (is_more asked ≡ false → after.ended ≡ before.ended)
       → (asked ≡ more → (0 < length bytes) × (after.ended ≡ true) × IsAtEnd mid.input.remaining)
       → Responds handles asked old new served mid.output after.output → Converses handles served old new before after
-  converses-responded (Answered status) old new before mid after bytes asked read kept untouched limit each asks ended responds =
-      replies-responded (Answered status) old new before mid after bytes asked read kept untouched limit each asks ended responds
-  converses-responded (WriteFault sent) old new before mid after bytes asked read kept untouched limit each asks ended responds =
-      replies-responded (WriteFault sent) old new before mid after bytes asked read kept untouched limit each asks ended responds
-  converses-responded Silent old new before mid after bytes asked read kept untouched limit each asks ended responds = absurd responds.delivers
-  converses-responded ReadFault old new before mid after bytes asked read kept untouched limit each asks ended responds = absurd responds.delivers
+  converses-responded (Answered status) old new before mid after bytes asked read kept untouched limit each asks unended ended responds =
+      replies-responded (Answered status) old new before mid after bytes asked read kept untouched limit each asks unended ended responds
+  converses-responded (WriteFault sent) old new before mid after bytes asked read kept untouched limit each asks unended ended responds =
+      replies-responded (WriteFault sent) old new before mid after bytes asked read kept untouched limit each asks unended ended responds
+  converses-responded Silent old new before mid after bytes asked read kept untouched limit each asks unended ended responds = absurd responds.delivers
+  converses-responded ReadFault old new before mid after bytes asked read kept untouched limit each asks unended ended responds = absurd responds.delivers

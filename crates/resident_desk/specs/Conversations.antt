@@ -1,6 +1,6 @@
 -- A conversation with a resident over a stream, by how it ended.
 use Rattle.std.specs.Prelude.{◌≡◌, ◌⊎◌, ℕ, ◌+◌, ◌<◌, ◌≤◌, Bool}
-use Rattle.std.specs.Prelude.{true, false, List, [], length, take, Option, OnSome}
+use Rattle.std.specs.Prelude.{true, false, if◌then◌else◌, List, [], length, take, Option, OnSome}
 use Rattle.std.specs.Io.KnownBytes.{Consumes, IsAtEnd, Keeps}
 use Rattle.room_types.specs.Streams.{Input, Output, Puts, input_of, output_of}
 use Rattle.room_types.specs.Watched.{counted, watched_ended}
@@ -8,7 +8,7 @@ use Rattle.room_types.specs.declared.watched.Watched.{Watched}
 use Rattle.office_store.specs.declared.requests.Answer.{Answer as DeskAnswer}
 use Rattle.office_store.specs.declared.requests.Request.{Request}
 use Rattle.resident_http.specs.Answers.{Answer, bytes_of}
-use Rattle.resident_http.specs.Asks.{Asked, Asks, more}
+use Rattle.resident_http.specs.Asks.{Asked, Asks, is_more, more}
 use Rattle.resident_desk.specs.Serving.{Answers}
 use Rattle.resident_desk.specs.declared.served.Served.{Served}
 use Rattle.resident_desk.specs.declared.served.Served.TheVariants.{Answered, ReadFault, Silent, WriteFault}
@@ -44,12 +44,14 @@ pub record IsDelivered (bytes : List ℕ) (before after : Output) : Type 0 where
   pub clear : after.pending ≡ false
   pub well : after.failed ≡ false
 
--- So many of the bytes went out, and a write failed; or all of them, and the flush failed.
+-- The stream failed. So many of the bytes went out, and it was not flushed; or all of them, and they wait for the flush that
+-- was tried.
 abbrev pub IsCut : ℕ → List ℕ → Output → Output → Type 0
 IsCut sent bytes before after =
     (after.failed ≡ true)
     × (((sent < length bytes) × Puts before after (take sent bytes) × (after.flushes ≡ before.flushes))
-    ⊎ ((sent ≡ length bytes) × Puts before after bytes × (after.flushes ≡ counted before.flushes 1)))
+    ⊎ ((sent ≡ length bytes) × Puts before after bytes × (after.flushes ≡ counted before.flushes 1)
+    × (0 < sent → after.pending ≡ true)))
 
 -- The bytes of an answer of this status went out, or a front of them.
 abbrev pub Delivers : Served → ℕ → List ℕ → Output → Output → Type 0
@@ -65,22 +67,24 @@ module _ {H : Type 0} (handles : H → Request → DeskAnswer → H → Type 0) 
     pub answers : Answers handles asked old answer new
     pub delivers : Delivers served answer.status (bytes_of answer) before after
 
-  -- These bytes were read, by at most one read more than there are bytes, and what they ask was answered. Where they ask for
-  -- more, the stream had ended after at least one byte.
+  -- These bytes were read, by at most one read a byte, and what they ask was answered. Where they ask for more, one read more
+  -- may have been, and the stream had ended after at least one byte. Else no read has found its end.
   pub record Replies (old new : H) (served : Served) (before after : Connection) : Type 0 where
     pub bytes : List ℕ
     pub asked : Asked
     pub read : Consumes before.input.remaining after.input.remaining bytes
     pub limit : length bytes ≤ connection_limit
-    pub each : after.input.reads ≤ length bytes + 1
+    pub each : after.input.reads ≤ length bytes + (if is_more asked then 1 else 0)
     pub asks : Asks bytes asked
+    pub unended : is_more asked ≡ false → after.ended ≡ before.ended
     pub ended : asked ≡ more → (0 < length bytes) × (after.ended ≡ true)
         × OnSome before.input.remaining (IsAtEnd after.input.remaining)
     pub responds : Responds asked old new served before.output after.output
 
-  -- The stream had ended before any byte.
+  -- The stream had ended before any byte, as one read has found.
   pub record IsSilent (old new : H) (before after : Connection) : Type 0 where
     pub read : Consumes before.input.remaining after.input.remaining []
+    pub each : after.input.reads ≤ 1
     pub at_end : IsAtEnd after.input.remaining
     pub ended : after.ended ≡ true
     pub untouched : IsUntouched before.output after.output

@@ -3,7 +3,7 @@ ghost use Rattle.std.specs.Prelude.{◌≡◌, ◌<◌, length, take, IfErr, OnE
 ghost use Rattle.std.specs.Io.KnownBytes.{Keeps};
 ghost use Rattle.room_types.specs.Streams.{Puts, output_of};
 ghost use Rattle.room_types.specs.Watched.{watched_ended, watched_failed, watched_flushes, watched_inner};
-ghost use Rattle.room_types.specs.Watched.{watched_late, watched_reads};
+ghost use Rattle.room_types.specs.Watched.{watched_late, watched_pending, watched_reads};
 ghost use Rattle.resident_desk.specs.Conversations.{Delivers};
 
 use crate::served::Served;
@@ -41,6 +41,7 @@ fn send_all<T: Stream>(stream: &mut Watched<T>, text: &[u8]) -> Result<(), usize
     ensures well { OnOk result (watched_failed stream.new ≡ false) }
     ensures failed { OnErr result (watched_failed stream.new ≡ true) }
     ensures flushes { watched_flushes stream.new ≡ watched_flushes stream.old }
+    ensures pends { OnOk result (0 < length text.now → watched_pending stream.new ≡ true) }
     ensures kept { Keeps (T.remaining (watched_inner stream.old))
         (T.remaining (watched_inner stream.new)) }
     ensures reads { watched_reads stream.new ≡ watched_reads stream.old }

@@ -13,7 +13,7 @@ pub enum Served {
     Silent,
     /// A read failed. Nothing was written, and nothing changed.
     ReadFault,
-    /// A write failed after so many bytes of the answer, or the flush after all of them. What was done stands.
+    /// The stream failed after so many bytes of the answer, or at the flush after all of them. What was done stands.
     WriteFault {
         /// How many bytes of the answer went out.
         sent: usize,

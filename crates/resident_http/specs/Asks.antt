@@ -98,13 +98,13 @@ pub record AwaitsHead (bytes : List ℕ) : Type 0 where
   pub none : HasNoRequest bytes
   pub can_come : MayBecomeRequest bytes
 
--- No head within the limits can come.
+-- Each head that can come has more than 64 fields, or 8,192 bytes hold no whole head.
 abbrev pub LacksHead : List ℕ → Type 0
 LacksHead bytes =
     RequestOverflows field_limit (window bytes) ⊎ ((head_limit ≤ length bytes) × HasNoRequest (window bytes))
 
--- What the bytes ask: what their head and the bytes after it ask; or more, while a head can come;
--- or they are refused, where none within the limits can.
+-- What the bytes ask: what their head and the bytes after it ask; or more, while a head can come; or they are refused,
+-- where each that can come has too many fields, or where there are 8,192 bytes without a whole one.
 abbrev pub Asks : List ℕ → Asked → Type 0
 Asks bytes asked =
     ((head : RequestHead) × (rest : List ℕ) × HasHead bytes head rest × (asked ≡ asked_by head rest))

@@ -1,5 +1,5 @@
 -- Residents who are served, one connection after the other.
-use Rattle.std.specs.Prelude.{◌≡◌, ◌⊎◌, ⊤, ℕ, zero, suc, false, List, Option, Some, None}
+use Rattle.std.specs.Prelude.{◌≡◌, ◌⊎◌, ◌≤◌, ⊤, ℕ, zero, suc, false, List, Option, Some, None}
 use Rattle.std.specs.declared.net.tcp.TcpListener.{TcpListener}
 use Rattle.std.specs.declared.net.tcp.TcpStream.{TcpStream}
 use Rattle.sqlite.specs.Held.{state}
@@ -10,11 +10,11 @@ use Rattle.office_lines.specs.Saying.{Says, SaysUnavailable}
 use Rattle.office_store.specs.Desk.{DeskState, HandlesAt, StandsFor}
 use Rattle.office_store.specs.Requests.{Handles}
 use Rattle.office_tables.specs.Steps.{Follows}
-use Rattle.resident_desk.specs.Conversations.{Connection, Converses, connection_of}
+use Rattle.resident_desk.specs.Conversations.{Connection, Converses, connection_limit, connection_of}
 use Rattle.resident_desk.specs.declared.served.Served.{Served}
 use Rattle.resident_server.specs.Texts.{listening_text, served_text}
 use Rattle.room_types.specs.Streams.{Output}
-use Rattle.room_types.specs.Watched.{watched_inner}
+use Rattle.room_types.specs.Watched.{StopsAtEnd, watched_inner, watched_reads}
 use Rattle.room_types.specs.declared.watched.Watched.{Watched}
 
 -- a connection that was just accepted: nothing was read from it, written to it or flushed
@@ -23,6 +23,7 @@ pub record IsNew (connection : Connection) : Type 0 where
   pub reads : connection.input.reads ≡ 0
   pub taken : connection.output.taken ≡ 0
   pub flushes : connection.output.flushes ≡ 0
+  pub pending : connection.output.pending ≡ false
   pub ended : connection.ended ≡ false
 
 module _ {S : Type 0} (g : Ghosts S) where
@@ -36,7 +37,8 @@ module _ {S : Type 0} (g : Ghosts S) where
         → (next : Office) × Converses Handles served office next before after × StandsFor g new next
 
   module _ {L T : Type 0} (remaining contents : T → Option (List ℕ)) (comes : L → Output → Option T → L → Type 0) (goes : L → Watched T → L → Type 0) (said : Output) where
-    -- A connection came, it had its conversation, and was let go.
+    -- A connection came, it had its conversation, and was let go. Nothing was asked of it after a failure, and nothing read
+    -- after its end.
     pub record Serves (listener : L) (old : DeskState S) (listener' : L) (new : DeskState S) : Type 0 where
       pub between : L
       pub before : Watched T
@@ -44,6 +46,8 @@ module _ {S : Type 0} (g : Ghosts S) where
       pub came : comes listener said (Some (watched_inner before)) between
       pub begins : IsNew (connection_of remaining contents before)
       pub talks : Talks old new (connection_of remaining contents before) (connection_of remaining contents after)
+      pub few : watched_reads after ≤ connection_limit
+      pub no_late : StopsAtEnd before after
       pub gone : goes between after listener'
 
     -- A connection was asked for: one was served, or none could be accepted and nothing happened.

@@ -21,10 +21,6 @@ impl Copied for bool {
     ghost same = { λ x y h. h };
 }
 
-impl Copied for u64 {
-    ghost same = { λ x y h. h };
-}
-
 impl Copied for () {
     ghost same = { λ x y h. h };
 }

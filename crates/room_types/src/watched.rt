@@ -57,7 +57,7 @@ impl<T> Watched<T> {
         self.failed
     }
 
-    /// How often `read` was called. It stays at the greatest number.
+    /// How often it was read, by `read` or `read_some`. It stays at the greatest number.
     pub fn reads(&self) -> u64
         ensures { result ≡ watched_reads self.now }
     {
@@ -71,7 +71,7 @@ impl<T> Watched<T> {
         self.taken
     }
 
-    /// How often `flush` was called. It stays at the greatest number.
+    /// How often it was flushed, by `flush` or `flush_all`. It stays at the greatest number.
     pub fn flushes(&self) -> u64
         ensures { result ≡ watched_flushes self.now }
     {

@@ -10,7 +10,7 @@ use std::marker::Model;
 /// How many hexadecimal digits a word has.
 pub const WORD_DIGITS: usize = 16;
 
-/// A word of 64 bits, as a participant draws it. It is compared by value.
+/// A word of 64 bits, as one is drawn for each participant. It is compared by value.
 #[derive(Clone, Copy, Debug, PartialEq, Eq, PartialOrd, Ord)]
 pub struct Word {
     value: u64,

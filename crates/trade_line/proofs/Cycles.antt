@@ -1,5 +1,5 @@
--- Whole cycles leave the other cycles of their stage as they are, and people who wait for one another's homes are on a cycle.
-use Rattle.std.proofs.Common.{◌≡◌, ℕ, zero, suc, ◌+◌, ◌<◌, Bool, true, false, not, ◌==◌, List, [], ◌∷◌, Option, Some, None, refl, sym, ap, ◌∙◌, subst, inl, inr, arith, eqb-true, eq-eqb, le_refl}
+-- Whole cycles leave the other cycles of their stage as they are, and people who wait for one another's homes are whole cycles.
+use Rattle.std.proofs.Common.{◌≡◌, ◌⊎◌, ℕ, zero, suc, ◌+◌, ◌<◌, Bool, true, false, not, ◌==◌, List, [], ◌∷◌, Option, Some, None, refl, sym, ap, ◌∙◌, subst, inl, inr, arith, eqb-true, eq-eqb, le_refl}
 use Rattle.std.proofs.lemmas.Bool.{and_from, cond-false, or_cases, or_left, or_right, both_ways, not_from_false}
 use Rattle.std.specs.Fn.{iterate}
 use Rattle.trade_line.proofs.Lines.{among_self}
@@ -97,10 +97,35 @@ module _ (m : Market) (ok : IsMarket m) (s : Stage) (known : IsStageOf m s) wher
         | inr f ↦ (there (subst (λ z. Reach (successor m s) z y) (sym next) (rest y f).0), (rest y f).1)
       ]
 
-  row_cycle : (room person : ℕ) (others : List ℕ) → holder m s room ≡ person → AllRemain s (person ∷ others) → WishOnTo m s person others room → (p : ℕ) → among (person ∷ others) p ≡ true → on_cycle m s p ≡ true
-  row_cycle room person others to remain wishes p h =
-      let both : Reach (successor m s) person p × Reach (successor m s) (successor m s p) person = along person others room person to remain wishes p h in
-      cycle_from m s known p (remain p h) (reach_trans (successor m s) both.1 both.0)
+  -- each of them points to another in the row, or to whom the room points
+  onward : (p : ℕ) (xs : List ℕ) (room q : ℕ) → holder m s room ≡ q → AllRemain s (p ∷ xs) → WishOnTo m s p xs room → (y : ℕ) → among (p ∷ xs) y ≡ true → (among xs (successor m s y) ≡ true) ⊎ (successor m s y ≡ q)
+  onward p [] room q to remain w y h =
+      elim (or_cases (p == y) false h) [
+        | inl e ↦ inr (ap (successor m s) (sym (eqb-true p y e)) ∙ successor_at m s p (Some room) w ∙ to)
+        | inr f ↦ absurd (both_ways false refl f)
+      ]
+  onward p (x ∷ xs) room q to remain w y h =
+      let self : among (x ∷ xs) x ≡ true = or_left (x == x) (among xs x) (eq-eqb x x refl) in
+      let next : successor m s p ≡ x = points_to p x (remain x (or_right (p == x) (among (x ∷ xs) x) self)) w.0 in
+      elim (or_cases (p == y) (among (x ∷ xs) y) h) [
+        | inl e ↦ inl (subst (λ z. among (x ∷ xs) z ≡ true) (sym next ∙ ap (successor m s) (eqb-true p y e)) self)
+        | inr f ↦ elim (onward x xs room q to (λ z hz. remain z (or_right (p == z) (among (x ∷ xs) z) hz)) w.1 y f) [
+          | inl g ↦ inl (or_right (x == successor m s y) (among xs (successor m s y)) g)
+          | inr e ↦ inr e
+        ]
+      ]
+
+  row_cycles : (room person : ℕ) (others : List ℕ) → holder m s room ≡ person → AllRemain s (person ∷ others) → WishOnTo m s person others room → AreCycles m s (among (person ∷ others))
+  row_cycles room person others to remain wishes = record {
+    each = λ p h.
+        let both : Reach (successor m s) person p × Reach (successor m s) (successor m s p) person = along person others room person to remain wishes p h in
+        cycle_from m s known p (remain p h) (reach_trans (successor m s) both.1 both.0);
+    closed = λ p h.
+        elim (onward person others room person to remain wishes p h) [
+          | inl f ↦ or_right (person == successor m s p) (among others (successor m s p)) f
+          | inr e ↦ or_left (person == successor m s p) (among others (successor m s p)) (eq-eqb person (successor m s p) (sym e))
+        ];
+  }
 
   free_holder : (room : ℕ) → ((t : ℕ) → tenant m room ≡ Some t → s.people t ≡ false) → holder m s room ≡ first m s
   unfolding holder
@@ -110,11 +135,11 @@ module _ (m : Market) (ok : IsMarket m) (s : Stage) (known : IsStageOf m s) wher
       by_tenant None e = refl
       by_tenant (Some t) e = cond-false (s.people t) t (first m s) (free t e)
 
-pub loop_cycle : (m : Market) → IsMarket m → (s : Stage) → IsStageOf m s → (person : ℕ) (others : List ℕ) → IsLoop m s person others → (p : ℕ) → among (person ∷ others) p ≡ true → on_cycle m s p ≡ true
-loop_cycle m ok s known person others loop =
+pub loop_cycles : (m : Market) → IsMarket m → (s : Stage) → IsStageOf m s → (person : ℕ) (others : List ℕ) → IsLoop m s person others → AreCycles m s (among (person ∷ others))
+loop_cycles m ok s known person others loop =
     let there_still : s.people person ≡ true = loop.remain person (among_self person others) in
-    row_cycle m ok s known loop.room person others (home_holder m ok s person loop.room (known person there_still) loop.lives there_still) loop.remain loop.wishes
+    row_cycles m ok s known loop.room person others (home_holder m ok s person loop.room (known person there_still) loop.lives there_still) loop.remain loop.wishes
 
-pub chain_cycle : (m : Market) → IsMarket m → (s : Stage) → IsStageOf m s → (person : ℕ) (others : List ℕ) → IsChain m s person others → (p : ℕ) → among (person ∷ others) p ≡ true → on_cycle m s p ≡ true
-chain_cycle m ok s known person others chain =
-    row_cycle m ok s known chain.room person others (free_holder m ok s known chain.room chain.free ∙ chain.leads) chain.remain chain.wishes
+pub chain_cycles : (m : Market) → IsMarket m → (s : Stage) → IsStageOf m s → (person : ℕ) (others : List ℕ) → IsChain m s person others → AreCycles m s (among (person ∷ others))
+chain_cycles m ok s known person others chain =
+    row_cycles m ok s known chain.room person others (free_holder m ok s known chain.room chain.free ∙ chain.leads) chain.remain chain.wishes

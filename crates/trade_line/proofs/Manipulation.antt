@@ -4,10 +4,10 @@ use Rattle.std.proofs.lemmas.Bool.{cases_lt}
 use Rattle.trade_line.specs.Market.{Market, IsMarket}
 use Rattle.trade_line.specs.TopTradingCycles.{gets}
 use Rattle.trade_line.specs.Rank.{rank}
-use Rattle.trade_line.specs.OtherList.{with_list, IsListProof}
+use Rattle.trade_line.specs.OtherList.{with_list, IsStrategyproof}
 use Rattle.trade_line.proofs.Groups.{alone}
 
-pub list_proof : (m : Market) → IsMarket m → IsListProof m
+pub list_proof : (m : Market) → IsMarket m → IsStrategyproof m
 list_proof m ok p l h ok2 =
     elim (cases_lt (rank m p (gets (with_list m p l) p)) (rank m p (gets m p))) [
       | inl lt ↦

@@ -7,7 +7,8 @@ abbrev pub want_of_memory_text : List ℕ
 want_of_memory_text = codes "memory was refused"
 
 abbrev pub fault_text : TradeFault → List ℕ
-fault_text BadIndex = codes "a home or a list is missing, or a number is out of range"
+fault_text BadIndex =
+    codes "there is not one home entry and one list for each person, or a number is out of range"
 fault_text HomeShared = codes "two people have the same home"
 fault_text ListRepeats = codes "a list has a room twice"
 fault_text OwnRoomListed = codes "a person lists their own home"

@@ -40,7 +40,7 @@ IsFirstListFault m p l OutOfMemory = IsListIndexed m p l
 
 -- nobody gets a room by another list that they rank, by their own list, above the one that they
 -- get by it
-abbrev pub IsListProof : Market → Type 0
-IsListProof m =
+abbrev pub IsStrategyproof : Market → Type 0
+IsStrategyproof m =
     (p : ℕ) (l : List ℕ) → p < m.people → IsMarket (with_list m p l)
     → rank m p (gets m p) ≤ rank m p (gets (with_list m p l) p)

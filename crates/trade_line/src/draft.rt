@@ -71,7 +71,7 @@ pub(crate) fn lacks(list: &[usize], home: Option<usize>) -> bool
 }
 
 impl Draft {
-    // Whether there is a home entry and a list for each person, and each room is below the number of rooms.
+    // Whether there is one home entry and one list for each person, and each room is below the number of rooms.
     pub(crate) fn is_indexed(&self) -> bool
         ensures { IsTrue result ↔ IsIndexed (drafted self.now) }
     {

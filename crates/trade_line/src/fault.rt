@@ -10,7 +10,7 @@ use std::fmt;
 
 /// The refusals, in the order in which they are looked for. That memory was refused may be told wherever no index is at
 /// fault, in place of any later one.
-#[derive(Clone, Copy, Debug, PartialEq, Eq, Hash)]
+#[derive(Clone, Copy, Debug, PartialEq, Eq)]
 pub enum TradeFault {
     /// A vector is not as long as there are people, a room is not below the number of rooms, or a person not below the
     /// number of people.
@@ -30,7 +30,8 @@ impl fmt::Display for TradeFault {
 
     fn fmt<W: fmt::Write>(&self, f: &mut fmt::Formatter<W>) -> fmt::Result {
         f.write_str(match self {
-            TradeFault::BadIndex => "a home or a list is missing, or a number is out of range",
+            TradeFault::BadIndex =>
+                "there is not one home entry and one list for each person, or a number is out of range",
             TradeFault::HomeShared => "two people have the same home",
             TradeFault::ListRepeats => "a list has a room twice",
             TradeFault::OwnRoomListed => "a person lists their own home",

@@ -1,18 +1,18 @@
 //! Laws of the definitions, for every market. The contract is the law; the function does nothing.
-ghost use Rattle.std.specs.Prelude.{◌≡◌, ℕ, ◌<◌, Bool, true, Option, List, ◌∷◌};
+ghost use Rattle.std.specs.Prelude.{◌≡◌, ℕ, ◌<◌, Bool, Option, List, ◌∷◌};
 ghost use Rattle.trade_line.specs.Core.{HasNoVacantRoom, IsOnlyInStrictCore, IsStrictCoreByTradesApart, KeepsSelfContained};
 ghost use Rattle.trade_line.specs.Cycles.{AreCycles, IsChain, IsLoop, IsStageOf, LeavesOtherCycles};
 ghost use Rattle.trade_line.specs.Groups.{IsGroupStrategyproof, IsNonbossy};
 ghost use Rattle.trade_line.specs.Market.{Market, IsMarket};
 ghost use Rattle.trade_line.specs.Member.{among};
-ghost use Rattle.trade_line.specs.OtherList.{IsListProof};
+ghost use Rattle.trade_line.specs.OtherList.{IsStrategyproof};
 ghost use Rattle.trade_line.specs.Removals.{IsGivenByRemovals};
-ghost use Rattle.trade_line.specs.TopTradingCycles.{Stage, gets, on_cycle, start};
+ghost use Rattle.trade_line.specs.TopTradingCycles.{Stage, gets, start};
 
 /// By no other list does anybody get a room that their own list ranks above the one that they get
 /// by it, while all others keep theirs (Roth 1982; Abdulkadiroglu and Sönmez 1999).
 pub fn own_list_is_best()
-    ensures { (m : Market) → IsMarket m → IsListProof m }
+    ensures { (m : Market) → IsMarket m → IsStrategyproof m }
 {}
 
 /// Whichever lists the people of a group hand in together, while all others keep theirs: somebody
@@ -62,11 +62,11 @@ pub fn cycles_leave_in_any_order()
 {}
 
 /// People who remain at a stage, each of whom wishes for the home of the next, and the last for the
-/// home of the first, are all on a cycle.
+/// home of the first, are whole cycles of it.
 pub fn loops_are_cycles()
     ensures { (m : Market) → IsMarket m → (s : Stage) → IsStageOf m s
         → (person : ℕ) (others : List ℕ) → IsLoop m s person others
-        → (p : ℕ) → among (person ∷ others) p ≡ true → on_cycle m s p ≡ true }
+        → AreCycles m s (among (person ∷ others)) }
 {}
 
 /// So are people who remain, each of whom wishes for the home of the next, and the last for a room
@@ -74,5 +74,5 @@ pub fn loops_are_cycles()
 pub fn chains_are_cycles()
     ensures { (m : Market) → IsMarket m → (s : Stage) → IsStageOf m s
         → (person : ℕ) (others : List ℕ) → IsChain m s person others
-        → (p : ℕ) → among (person ∷ others) p ≡ true → on_cycle m s p ≡ true }
+        → AreCycles m s (among (person ∷ others)) }
 {}

@@ -29,7 +29,7 @@ impl Lists {
         ensures { IfOk result (λ copied. copied ≡ map (λ list. list.items) lists.now) }
     {
         let mut entries = Vec::new(alloc);
-        let mut starts = Vec::with_capacity(alloc, lists.len())?;
+        let mut starts = Vec::with_capacity(alloc, lists.len() + 1)?;
         starts.push(0)?;
         for list in lists {
             entries.extend_from_slice(list)?;

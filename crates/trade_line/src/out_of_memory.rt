@@ -7,7 +7,7 @@ use std::error::Error;
 use std::fmt;
 
 /// The memory that a call needs was refused.
-#[derive(Clone, Copy, Debug, PartialEq, Eq, Hash)]
+#[derive(Clone, Copy, Debug, PartialEq, Eq)]
 pub struct OutOfMemory;
 
 impl fmt::Display for OutOfMemory {

@@ -25,9 +25,9 @@ const EXPORTS: [(ExportKind, &str); 3] = [
     ),
 ];
 
-/// Whether the exports after these lines are written, each whole or a front of it that is told, and the office stays.
-pub fn exports_are_told(alloc: Global, lines: &str) -> Result<bool, OutOfMemory> {
-    let requests = lines_asked(alloc, lines)?;
+/// Whether the exports after the lines of these texts are written, each whole or a front of it that is told, and the office stays.
+pub fn exports_are_told(alloc: Global, texts: &[&str]) -> Result<bool, OutOfMemory> {
+    let requests = lines_asked(alloc, texts)?;
     let office = office_after(alloc, &requests)?;
     told(alloc, &requests, &office)
 }

@@ -15,9 +15,9 @@ struct Read {
     second: Option<Office>,
 }
 
-/// Whether the office after these lines is read each time, and is lawful.
-pub fn office_is_read(alloc: Global, lines: &str) -> Result<bool, OutOfMemory> {
-    let requests = lines_asked(alloc, lines)?;
+/// Whether the office after the lines of these texts is read each time, and is lawful.
+pub fn office_is_read(alloc: Global, texts: &[&str]) -> Result<bool, OutOfMemory> {
+    let requests = lines_asked(alloc, texts)?;
     let read = read_twice(alloc, &requests)?;
     read_judged(alloc, &read, &requests)
 }

@@ -23,11 +23,22 @@ pub fn are_as_accepted(
     refusals: usize,
 ) -> Result<bool, OutOfMemory> {
     let told = told_by_new_desk(alloc, requests, None)?;
+    if told.answers.is_empty() {
+        return nothing_judged(alloc, &told);
+    }
     let again = told_by_new_desk(alloc, requests, Some(told.answers.as_slice()))?;
     if are_same_answers(alloc, &told.answers, &again.answers)? {
         answers_judged(&told, &again, refusals)
     } else {
         Ok(false)
+    }
+}
+
+// Where all requests were refused at once, none of them was handled.
+fn nothing_judged(alloc: Global, told: &Told) -> Result<bool, OutOfMemory> {
+    match &told.office {
+        Some(found) if is_same_office(&Office::empty(alloc), found) => verdict(1),
+        _ => Ok(false),
     }
 }
 
@@ -103,20 +114,19 @@ fn told_by_new_desk(
     };
     let told = match known {
         Some(answers) => told_without(alloc, &mut desk, requests, answers),
-        None => told_at(alloc, &mut desk, requests),
+        None => Ok(told_at(alloc, &mut desk, requests)),
     };
     let_go(desk);
     told
 }
 
-fn told_at(
-    alloc: Global,
-    desk: &mut Desk<MemStore>,
-    requests: &[Request],
-) -> Result<Told, OutOfMemory> {
-    let answers = desk.handle_all(alloc, requests)?;
+fn told_at(alloc: Global, desk: &mut Desk<MemStore>, requests: &[Request]) -> Told {
+    let answers = match desk.handle_all(alloc, requests) {
+        Ok(answers) => answers,
+        Err(_) => Vec::new(alloc),
+    };
     let office = desk.load(alloc).ok();
-    Ok(Told { answers, office })
+    Told { answers, office }
 }
 
 // Memory that is refused here is wanting for the comparison.

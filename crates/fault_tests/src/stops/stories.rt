@@ -1,39 +1,11 @@
 //! What an office is asked while one of its files stops.
 use crate::asking::{ask_lines, ask_list, lines_asked, office_after};
 use crate::stops::files::{Calls, Held, desk_over, files_of, files_under};
+use crate::texts::{CHOICES, PEOPLE, REGISTER, ROOMS, ROUND};
 use office_core::Office;
 use office_store::Request;
 use room_types::{ListKind, OutOfMemory};
 use std::alloc::Global;
-
-// Three rooms and three people, a room out of use and back, and a round in which everybody moves.
-const YEAR: &str = "\
-room H1\n\
-room H2\n\
-room V\n\
-person T1 key00000000000t1 Tim Tan\n\
-person T2 key00000000000t2 Tom Tao\n\
-person N key000000000000n Nia Noor\n\
-home T1 H1\n\
-home T2 H2\n\
-shut V\n\
-reopen V\n\
-open\n\
-choose T1 H2\n\
-choose T2 H1\n\
-choose N H1 V\n\
-close\n\
-draw 0000000000000003 0000000000000001 0000000000000002\n\
-run\n\
-publish\n\
-settle\n";
-
-const ROOMS: &str = "room\nH1\nH2\nV\n";
-
-const PEOPLE: &str = "person,name,key,home\nT1,Tim Tan,key00000000000t1,H1\n\
-    T2,Tom Tao,key00000000000t2,H2\nN,Nia Noor,key000000000000n,\n";
-
-const CHOICES: &str = "person,choices\nT1,H2\nT2,H1\nN,H1 V\n";
 
 /// What is asked of an office, and what the office is before and after each request.
 #[derive(Drop)]
@@ -58,9 +30,10 @@ pub fn making(alloc: Global) -> Option<Story> {
     })
 }
 
-/// A small year, a command at a time.
+/// A small year, a command at a time. A room is out of use for a while.
 pub fn small_year(alloc: Global) -> Option<Story> {
-    story_of(alloc, lines_asked(alloc, YEAR).ok()?)
+    let texts = [REGISTER, "shut V\nreopen V\n", ROUND, "settle\n"];
+    story_of(alloc, lines_asked(alloc, &texts).ok()?)
 }
 
 /// Lists that come in, one of them twice.

@@ -13,7 +13,7 @@ use Rattle.std.specs.FinMap.Entries.{below_all, is_sorted}
 use Rattle.room_types.specs.Texts.{Text, TextMap, text_cmp}
 use Rattle.room_types.specs.TextMaps.{exact_texts, contains_key-put, contains_key-put_same, text_cases, differ, first_holds, second_holds, get-put_other, less_from_test}
 use Rattle.office_core.specs.Office.Invariants.{Unshared}
-use Rattle.office_core.specs.Soundness.{differ_from}
+use Rattle.office_core.specs.Inner.Soundness.{differ_from}
 use Rattle.office_core.specs.declared.office.person.Person.{Person}
 use Rattle.room_types.proofs.MapEntries.{each_weaker, entries_found, each-find, later}
 use Rattle.office_core.proofs.OfficeLemmas.People.{found_above}

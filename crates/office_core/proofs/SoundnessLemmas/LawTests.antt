@@ -1,5 +1,5 @@
 -- Each law, by the tests that show it.
-use Rattle.std.proofs.Common.{◌≡◌, ℕ, Bool, true, false, not, ◌||◌, ◌&&◌, ◌≤◌, List, [], ◌∷◌, length, Option, Some, None, refl, ap, ◌∙◌, sym, inl, inr}
+use Rattle.std.proofs.Common.{◌≡◌, ℕ, Bool, true, false, not, ◌||◌, ◌&&◌, ◌≤◌, ◌<◌, List, [], ◌∷◌, length, Option, Some, None, Result, Ok, Err, OnErr, refl, ap, ◌∙◌, sym, subst, inl, inr}
 use Rattle.std.specs.Prelude.{nat_le, eqb}
 use Rattle.std.specs.Bool.{Decides}
 use Rattle.std.specs.Cmp.Derive.{both_true}
@@ -8,7 +8,7 @@ use Rattle.std.specs.Option.{is_some, option_and_then}
 use Rattle.std.specs.Cmp.{nat_cmp_total}
 use Rattle.std.specs.Cmp.Lexicographic.{nat_list_cmp_total}
 use Rattle.std.specs.FinMap as map
-use Rattle.std.specs.FinMap.{get-empty, len-empty, empty_of_len, same_map, nat_cmp-IsAntisymmetric}
+use Rattle.std.specs.FinMap.{get-empty, len-empty, len-entries, empty_of_len, same_map, nat_cmp-IsAntisymmetric}
 use Rattle.std.proofs.lemmas.Bool.{leb-true, le-leb, eq-eqb, and_parts, both_ways}
 use Rattle.std.proofs.lemmas.Bool.Decides.{eqb_tells}
 use Rattle.std.proofs.lemmas.List.Elements.{recursion_from_All, All-from_recursion}
@@ -17,11 +17,13 @@ use Rattle.room_types.specs.declared.choices.TheConstants.{CHOICE_LIMIT}
 use Rattle.room_types.specs.Repeats.{first_repeated}
 use Rattle.room_types.specs.Texts.{Text, TextMap, text_cmp}
 use Rattle.room_types.specs.TextMaps.{exact_texts}
+use Rattle.office_core.specs.Office.Invariants.{HomesOpen}
 use Rattle.office_core.specs.Office.Moves.{moves_of}
-use Rattle.office_core.specs.Office.{had_by, is_over, is_same_text}
+use Rattle.office_core.specs.Office.{is_over, is_same_text}
 use Rattle.office_core.specs.Empty.{is_empty}
-use Rattle.office_core.specs.Soundness.{is_home_open, is_unshut, is_choices, is_recorded_list, is_given, is_kept_round, is_short}
-use Rattle.office_core.specs.Office.Limits.{byte_limit}
+use Rattle.office_core.specs.Inner.Soundness.{is_home_open, is_unshut, is_choices, is_recorded_list, is_given, is_kept_round, is_short}
+use Rattle.office_core.specs.Office.Limits.{byte_limit, people_limit, room_limit}
+use Rattle.office_core.specs.Soundness.{AreNoted}
 use Rattle.office_lists.specs.Records.{record_limit}
 use Rattle.office_core.specs.declared.office.kept_list.KeptList.{KeptList}
 use Rattle.office_core.specs.declared.office.moves.Moved.{Moved}
@@ -40,6 +42,11 @@ never f = (λ e. absurd (cc), λ p. absurd (f p))
 
 pub as_well : {P Q : Type 0} (b : Bool) → (P → Q) → (Q → P) → Decides b P → Decides b Q
 as_well b f g d = (λ e. f (d.0 e), λ q. d.1 (g q))
+
+-- what is so anyway is so where a call refuses
+pub on_err : {T E Q : Type 0} (r : Result T E) → Q → OnErr r Q
+on_err (Ok x) q = tt
+on_err (Err y) q = q
 
 -- a map has no entries where it is the empty one
 pub empty-decides : {X : Type 0} (m : TextMap X) → Decides (eqb (map.len m) 0) (m ≡ map.empty)
@@ -61,9 +68,6 @@ module _ {X Y : Type 0} (m : TextMap X) (n : TextMap Y) where
 
 -- rooms and people
 module _ (rooms : TextMap Bool) (people : TextMap Person) where
-  abbrev pub HomesOpen : Type 0
-  HomesOpen = (p room : Text) → had_by (λ p. p.home) people p ≡ Some room → map.get rooms room ≡ Some false
-
   unshut_at : (o : Option Bool) → is_unshut o ≡ true → o ≡ Some false
   unshut_at None e = cc
   unshut_at (Some true) e = cc
@@ -72,7 +76,7 @@ module _ (rooms : TextMap Bool) (people : TextMap Person) where
   abbrev open_at : Option Text → Bool
   open_at home = elim home as (λ _. Bool) [ None ↦ true | Some room ↦ is_unshut (map.get rooms room) ]
 
-  pub homes_open-decides : Decides (list_all (λ (e : Text × Person). is_home_open rooms e.1) (map.entries people)) HomesOpen
+  pub homes_open-decides : Decides (list_all (λ (e : Text × Person). is_home_open rooms e.1) (map.entries people)) (HomesOpen rooms people)
   homes_open-decides = (
     λ e p room h.
         let v = then_some (λ (p : Person). p.home) (map.get people p) room h in
@@ -84,6 +88,15 @@ module _ (rooms : TextMap Bool) (people : TextMap Person) where
           | Some room ↦ λ has. ap is_unshut (h k room (ap (option_and_then (λ (p : Person). p.home)) f ∙ has))
         ] refl),
   )
+
+  -- keys and homes are noted once these tests pass
+  pub noted : map.len rooms ≤ room_limit → map.len people ≤ people_limit → list_all (λ (e : Text × Person). is_home_open rooms e.1) (map.entries people) ≡ true → 0 < length (map.entries people) → AreNoted rooms people
+  noted few_rooms few_people unshut somebody = record {
+    somebody = subst (λ n. 0 < n) (sym (len-entries people)) somebody;
+    few_rooms = few_rooms;
+    few_people = few_people;
+    homes_open = homes_open-decides.0 unshut;
+  }
 
 -- lists
 filled_at : (codes : List Text) → (codes ≡ [] → ⊥) → not (is_empty codes) ≡ true

@@ -31,6 +31,6 @@ pub record IsDecision (checks : List Check) (reply : Reply) (changes : List Chan
 
 -- the reply and the changes where no check refuses, and else the first refusal that applies; or out
 -- of memory
-abbrev pub Decides : List Check → Reply → List Change → Result Decision Refusal → Type 0
-Decides checks reply changes result =
+abbrev pub IsDecided : List Check → Reply → List Change → Result Decision Refusal → Type 0
+IsDecided checks reply changes result =
     MatchResult result (IsDecision checks reply changes) (IsRefusal changes checks)

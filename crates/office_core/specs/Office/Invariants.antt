@@ -29,12 +29,16 @@ Unshared which people =
 abbrev pub HomesDiffer : Office → Type 0
 HomesDiffer office = Unshared (λ p. p.home) office.people
 
+-- each home is a known room that is not shut
+abbrev pub HomesOpen : TextMap Bool → TextMap Person → Type 0
+HomesOpen rooms people = (p room : Text) → had_by (λ p. p.home) people p ≡ Some room
+    → map.get rooms room ≡ Some false
+
 -- rooms and people: keys differ, homes differ, and each home is a known room that is not shut
 pub record IsRegister (rooms : TextMap Bool) (people : TextMap Person) : Type 0 where
   pub keys : Unshared (λ p. Some p.key) people
   pub homes : Unshared (λ p. p.home) people
-  pub homes_open : (p room : Text) → had_by (λ p. p.home) people p ≡ Some room
-      → map.get rooms room ≡ Some false
+  pub homes_open : HomesOpen rooms people
   pub few_rooms : map.len rooms ≤ room_limit
   pub few_people : map.len people ≤ people_limit
 

@@ -1,5 +1,5 @@
 //! A person is added, perhaps with a home.
-ghost use Rattle.office_core.specs.Command.Decision.{Decides};
+ghost use Rattle.office_core.specs.Command.Decision.{IsDecided};
 ghost use Rattle.office_core.specs.Command.AddPerson.{checks, reply_to, changes_of};
 
 use crate::change::Change;
@@ -24,7 +24,7 @@ pub fn add_person(
     key: &Key,
     home: &Option<RoomCode>,
 ) -> Result<Decision, Refusal>
-    ensures { Decides (checks office.now person.now name.now key.now home.now)
+    ensures { IsDecided (checks office.now person.now name.now key.now home.now)
         (reply_to office.now person.now)
         (changes_of office.now person.now name.now key.now home.now) result }
 {

@@ -1,5 +1,5 @@
 //! A room that is not shut is added.
-ghost use Rattle.office_core.specs.Command.Decision.{Decides};
+ghost use Rattle.office_core.specs.Command.Decision.{IsDecided};
 ghost use Rattle.office_core.specs.Command.AddRoom.{checks, reply_to, changes_of};
 ghost use Rattle.office_core.specs.Inner.Passes.{Passes};
 
@@ -17,7 +17,7 @@ use std::alloc::Global;
 /// Decides to add a room that is not shut. Refused in turn: `BadPhase` unless idle or open; `DuplicateRoom`;
 /// `LimitReached` at `ROOM_LIMIT` rooms.
 pub fn add_room(alloc: Global, office: &Office, room: &RoomCode) -> Result<Decision, Refusal>
-    ensures { Decides (checks office.now room.now) (reply_to office.now room.now)
+    ensures { IsDecided (checks office.now room.now) (reply_to office.now room.now)
         (changes_of office.now room.now) result }
 {
     may_add(office, &office.rooms, room)?;

@@ -1,5 +1,5 @@
 //! The round is given up.
-ghost use Rattle.office_core.specs.Command.Decision.{Decides};
+ghost use Rattle.office_core.specs.Command.Decision.{IsDecided};
 ghost use Rattle.office_core.specs.Command.Cancel.{checks, reply_to, changes_of};
 
 use crate::change::Change;
@@ -14,7 +14,7 @@ use std::alloc::Global;
 /// Decides to give the round up, whose number stays used. Refused with `BadPhase` where no round is under way, or its
 /// results are published.
 pub fn cancel(alloc: Global, office: &Office) -> Result<Decision, Refusal>
-    ensures { Decides (checks office.now) (reply_to office.now) (changes_of office.now) result }
+    ensures { IsDecided (checks office.now) (reply_to office.now) (changes_of office.now) result }
 {
     if !may_cancel(office.phase) {
         return Err(Refusal::BadPhase(office.phase));

@@ -1,5 +1,5 @@
 //! The lists are final.
-ghost use Rattle.office_core.specs.Command.Decision.{Decides};
+ghost use Rattle.office_core.specs.Command.Decision.{IsDecided};
 ghost use Rattle.office_core.specs.Command.CloseRound.{checks, reply_to, changes_of};
 
 use crate::change::Change;
@@ -13,7 +13,7 @@ use std::alloc::Global;
 
 /// Decides to make the lists final, and counts the participants. Refused with `BadPhase` unless open.
 pub fn close_round(alloc: Global, office: &Office) -> Result<Decision, Refusal>
-    ensures { Decides (checks office.now) (reply_to office.now) (changes_of office.now) result }
+    ensures { IsDecided (checks office.now) (reply_to office.now) (changes_of office.now) result }
 {
     if !is_open(office.phase) {
         return Err(Refusal::BadPhase(office.phase));

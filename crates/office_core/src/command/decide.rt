@@ -1,7 +1,7 @@
 //! What a command leads to.
 ghost use Rattle.std.specs.Prelude.{IfOk, OnOk};
 ghost use Rattle.office_core.specs.Change.{LeadsOn};
-ghost use Rattle.office_core.specs.Command.Decision.{Decides};
+ghost use Rattle.office_core.specs.Command.Decision.{IsDecided};
 ghost use Rattle.office_core.specs.Command.{checks, next, reply_to, changes_of};
 ghost use Rattle.office_core.specs.Inner.Formed.{IsFormed};
 ghost use Rattle.office_core.specs.Office.Invariants.{IsLawful};
@@ -41,7 +41,7 @@ use std::alloc::Global;
 /// refused. A `Withdraw` that is repeated and an `Import` of a list that is kept change nothing, and are always answered.
 pub fn decide(alloc: Global, office: &Office, command: &Command) -> Result<Decision, Refusal>
     requires { IsLawful office.now }
-    ensures decides { Decides (checks office.now command.now) (reply_to office.now command.now)
+    ensures decides { IsDecided (checks office.now command.now) (reply_to office.now command.now)
         (changes_of office.now command.now) result }
     ensures leads { IfOk result
         (λ decision. LeadsOn office.now (next office.now command.now) decision.changes.items) }
@@ -54,7 +54,7 @@ pub fn decide(alloc: Global, office: &Office, command: &Command) -> Result<Decis
 fn decision_of(alloc: Global, office: &Office, command: &Command) -> Result<Decision, Refusal>
     requires { IsLawful office.now }
     ensures formed { OnOk result (IsFormed command.now) }
-    ensures decides { Decides (checks office.now command.now) (reply_to office.now command.now)
+    ensures decides { IsDecided (checks office.now command.now) (reply_to office.now command.now)
         (changes_of office.now command.now) result }
 {
     match command {

@@ -1,6 +1,6 @@
 //! Each participant gets a word.
 ghost use Rattle.std.specs.Prelude.{◌≡◌, IfOk, length};
-ghost use Rattle.office_core.specs.Command.Decision.{Decides};
+ghost use Rattle.office_core.specs.Command.Decision.{IsDecided};
 ghost use Rattle.office_core.specs.Command.Draw.{checks, reply_to, changes_of, words_put};
 
 use crate::change::Change;
@@ -16,7 +16,7 @@ use std::alloc::Global;
 /// `WrongWordCount` unless there is one word for each participant.
 #[tactic(auto, using(crate::proofs::CommandLemmas::Changes::has_last))]
 pub fn draw(alloc: Global, office: &Office, words: &[Word]) -> Result<Decision, Refusal>
-    ensures { Decides (checks office.now words.now) (reply_to office.now words.now)
+    ensures { IsDecided (checks office.now words.now) (reply_to office.now words.now)
         (changes_of office.now words.now) result }
 {
     if !is_closed(office.phase) {

@@ -1,7 +1,7 @@
 //! A list comes in, under a label by which it may come again.
 ghost use Rattle.std.specs.Prelude.{◌≡◌, ◌≤◌, IfOk, IfErr, None, length, []};
 ghost use Rattle.office_lists.specs.Records.{record_limit};
-ghost use Rattle.office_core.specs.Command.Decision.{Decides};
+ghost use Rattle.office_core.specs.Command.Decision.{IsDecided};
 ghost use Rattle.office_core.specs.Command.Import.{checks, reply_to, changes_of};
 ghost use Rattle.office_core.specs.Command.Import.{known_label_checks, new_label_checks, new_label_changes};
 ghost use Rattle.office_core.specs.Command.Import.{may_come, is_same, record_changes};
@@ -41,7 +41,7 @@ pub fn import(
     kind: ListKind,
     bytes: &Listing<u8>,
 ) -> Result<Decision, Refusal>
-    ensures { Decides (checks office.now label.now kind bytes.now)
+    ensures { IsDecided (checks office.now label.now kind bytes.now)
         (reply_to office.now label.now kind bytes.now)
         (changes_of office.now label.now kind bytes.now) result }
 {
@@ -58,7 +58,7 @@ fn import_known(
     kind: ListKind,
     bytes: &Listing<u8>,
 ) -> Result<Decision, Refusal>
-    ensures { Decides (known_label_checks kept.now kind bytes.now) (Reply.Added kept.now.count) []
+    ensures { IsDecided (known_label_checks kept.now kind bytes.now) (Reply.Added kept.now.count) []
         result }
 {
     if !is_same(kept, kind, bytes) {
@@ -85,7 +85,7 @@ fn import_new(
     kind: ListKind,
     bytes: &Listing<u8>,
 ) -> Result<Decision, Refusal>
-    ensures { Decides (new_label_checks office.now kind bytes.now)
+    ensures { IsDecided (new_label_checks office.now kind bytes.now)
         (Reply.Added (record_count bytes.now)) (new_label_changes label.now kind bytes.now)
         result }
 {

@@ -1,5 +1,5 @@
 //! Somebody gives the home up.
-ghost use Rattle.office_core.specs.Command.Decision.{Decides};
+ghost use Rattle.office_core.specs.Command.Decision.{IsDecided};
 ghost use Rattle.office_core.specs.Command.Leave.{checks, reply_to, changes_of};
 
 use crate::change::Change;
@@ -13,7 +13,7 @@ use std::alloc::Global;
 
 /// Decides that a person has no home from then on. Refused in turn: `BadPhase` unless idle; `UnknownPerson`; `NoHome`.
 pub fn leave(alloc: Global, office: &Office, person: &PersonId) -> Result<Decision, Refusal>
-    ensures { Decides (checks office.now person.now) (reply_to office.now person.now)
+    ensures { IsDecided (checks office.now person.now) (reply_to office.now person.now)
         (changes_of office.now person.now) result }
 {
     if !is_idle(office.phase) {

@@ -1,5 +1,5 @@
 //! A round begins.
-ghost use Rattle.office_core.specs.Command.Decision.{Decides};
+ghost use Rattle.office_core.specs.Command.Decision.{IsDecided};
 ghost use Rattle.office_core.specs.Command.OpenRound.{checks, reply_to, changes_of};
 
 use crate::change::Change;
@@ -14,7 +14,7 @@ use std::alloc::Global;
 
 /// Decides to begin the next round. Refused in turn: `BadPhase` unless idle; `LimitReached` after round `ROUND_LIMIT`.
 pub fn open_round(alloc: Global, office: &Office) -> Result<Decision, Refusal>
-    ensures { Decides (checks office.now) (reply_to office.now) (changes_of office.now) result }
+    ensures { IsDecided (checks office.now) (reply_to office.now) (changes_of office.now) result }
 {
     if !is_idle(office.phase) {
         return Err(Refusal::BadPhase(office.phase));

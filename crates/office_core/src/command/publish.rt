@@ -1,5 +1,5 @@
 //! Each participant sees the result.
-ghost use Rattle.office_core.specs.Command.Decision.{Decides};
+ghost use Rattle.office_core.specs.Command.Decision.{IsDecided};
 ghost use Rattle.office_core.specs.Command.Publish.{checks, reply_to, changes_of};
 
 use crate::change::Change;
@@ -13,7 +13,7 @@ use std::alloc::Global;
 
 /// Decides to show each participant the result. Refused with `BadPhase` unless the round has run and is not published.
 pub fn publish(alloc: Global, office: &Office) -> Result<Decision, Refusal>
-    ensures { Decides (checks office.now) (reply_to office.now) (changes_of office.now) result }
+    ensures { IsDecided (checks office.now) (reply_to office.now) (changes_of office.now) result }
 {
     if !is_ran(office.phase) {
         return Err(Refusal::BadPhase(office.phase));

@@ -1,5 +1,5 @@
 //! A person without a home goes.
-ghost use Rattle.office_core.specs.Command.Decision.{Decides};
+ghost use Rattle.office_core.specs.Command.Decision.{IsDecided};
 ghost use Rattle.office_core.specs.Command.Remove.{checks, reply_to, changes_of};
 
 use crate::change::Change;
@@ -14,7 +14,7 @@ use std::alloc::Global;
 /// Decides to forget a person who has no home; recorded moves stay. Refused in turn: `BadPhase` unless idle;
 /// `UnknownPerson`; `HasHome`.
 pub fn remove(alloc: Global, office: &Office, person: &PersonId) -> Result<Decision, Refusal>
-    ensures { Decides (checks office.now person.now) (reply_to office.now person.now)
+    ensures { IsDecided (checks office.now person.now) (reply_to office.now person.now)
         (changes_of office.now person.now) result }
 {
     if !is_idle(office.phase) {

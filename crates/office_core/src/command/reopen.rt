@@ -1,5 +1,5 @@
 //! A shut room is open again, without a tenant.
-ghost use Rattle.office_core.specs.Command.Decision.{Decides};
+ghost use Rattle.office_core.specs.Command.Decision.{IsDecided};
 ghost use Rattle.office_core.specs.Command.Reopen.{checks, reply_to, changes_of};
 
 use crate::change::Change;
@@ -14,7 +14,7 @@ use std::alloc::Global;
 /// Decides to bring a shut room back into use. Refused in turn: `BadPhase` unless idle or open; `UnknownRoom`;
 /// `NotShut`.
 pub fn reopen(alloc: Global, office: &Office, room: &RoomCode) -> Result<Decision, Refusal>
-    ensures { Decides (checks office.now room.now) (reply_to office.now room.now)
+    ensures { IsDecided (checks office.now room.now) (reply_to office.now room.now)
         (changes_of office.now room.now) result }
 {
     if !is_preparing(office.phase) {

@@ -1,7 +1,7 @@
 //! The rooms are traded.
 ghost use Rattle.std.specs.Prelude.{◌≡◌, IfOk, map as map_list};
 ghost use Rattle.std.specs.FinMap as map;
-ghost use Rattle.office_core.specs.Command.Decision.{Decides};
+ghost use Rattle.office_core.specs.Command.Decision.{IsDecided};
 ghost use Rattle.office_core.specs.Command.Run.{checks, reply_to, changes_of, result_put};
 ghost use Rattle.office_core.specs.Office.Invariants.{IsLawful};
 
@@ -22,7 +22,7 @@ use std::alloc::Global;
 #[tactic(auto, using(crate::proofs::CommandLemmas::Changes::has_last))]
 pub fn run(alloc: Global, office: &Office) -> Result<Decision, Refusal>
     requires { IsLawful office.now }
-    ensures { Decides (checks office.now) (reply_to office.now) (changes_of office.now) result }
+    ensures { IsDecided (checks office.now) (reply_to office.now) (changes_of office.now) result }
 {
     if !is_drawn(office.phase) {
         return Err(Refusal::BadPhase(office.phase));

@@ -1,7 +1,7 @@
 //! A list of rooms replaces the one before.
 ghost use Rattle.std.specs.Prelude.{OnOk};
 ghost use Rattle.room_types.specs.Choices.{IsChoices};
-ghost use Rattle.office_core.specs.Command.Decision.{Decides};
+ghost use Rattle.office_core.specs.Command.Decision.{IsDecided};
 ghost use Rattle.office_core.specs.Command.SetChoices.{checks, reply_to, changes_of};
 ghost use Rattle.office_core.specs.Inner.Passes.{Passes};
 
@@ -24,7 +24,7 @@ pub fn set_choices(
     choices: &Choices,
 ) -> Result<Decision, Refusal>
     ensures formed { OnOk result (IsChoices choices.now) }
-    ensures decides { Decides (checks office.now person.now choices.now)
+    ensures decides { IsDecided (checks office.now person.now choices.now)
         (reply_to office.now person.now choices.now) (changes_of office.now person.now choices.now)
         result }
 {

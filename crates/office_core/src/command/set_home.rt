@@ -1,5 +1,5 @@
 //! Somebody without a home gets one.
-ghost use Rattle.office_core.specs.Command.Decision.{Decides};
+ghost use Rattle.office_core.specs.Command.Decision.{IsDecided};
 ghost use Rattle.office_core.specs.Command.SetHome.{checks, reply_to, changes_of};
 
 use crate::change::Change;
@@ -20,7 +20,7 @@ pub fn set_home(
     person: &PersonId,
     room: &RoomCode,
 ) -> Result<Decision, Refusal>
-    ensures { Decides (checks office.now person.now room.now)
+    ensures { IsDecided (checks office.now person.now room.now)
         (reply_to office.now person.now room.now)
         (changes_of office.now person.now room.now) result }
 {

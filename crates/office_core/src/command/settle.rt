@@ -1,7 +1,7 @@
 //! The participants move, the moves are recorded, and the round is over.
 ghost use Rattle.std.specs.Prelude.{◌≡◌, ◌++◌, length, OnOk, map as map_list};
 ghost use Rattle.room_types.specs.declared.moves.Move.{Move};
-ghost use Rattle.office_core.specs.Command.Decision.{Decides};
+ghost use Rattle.office_core.specs.Command.Decision.{IsDecided};
 ghost use Rattle.office_core.specs.Command.Settle.{checks, reply_to, changes_of, leaving, arriving};
 ghost use Rattle.office_core.specs.Office.Invariants.{IsLawful};
 ghost use Rattle.office_core.specs.Round.Settlement.{moves_with};
@@ -23,7 +23,7 @@ use std::alloc::Global;
 #[tactic(auto, using(crate::proofs::CommandLemmas::Changes::has_last))]
 pub fn settle(alloc: Global, office: &Office) -> Result<Decision, Refusal>
     requires { IsLawful office.now }
-    ensures { Decides (checks office.now) (reply_to office.now) (changes_of office.now) result }
+    ensures { IsDecided (checks office.now) (reply_to office.now) (changes_of office.now) result }
 {
     if !is_published(office.phase) {
         return Err(Refusal::BadPhase(office.phase));

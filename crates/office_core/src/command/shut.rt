@@ -1,5 +1,5 @@
 //! A room is shut, and its tenancy ends.
-ghost use Rattle.office_core.specs.Command.Decision.{Decides};
+ghost use Rattle.office_core.specs.Command.Decision.{IsDecided};
 ghost use Rattle.office_core.specs.Command.Shut.{checks, reply_to, changes_of};
 
 use crate::change::Change;
@@ -16,7 +16,7 @@ use std::alloc::Global;
 /// idle or open; `UnknownRoom`; `RoomShut`. It goes through the people.
 #[tactic(auto, using(crate::proofs::CommandLemmas::Changes::has_last))]
 pub fn shut(alloc: Global, office: &Office, room: &RoomCode) -> Result<Decision, Refusal>
-    ensures { Decides (checks office.now room.now) (reply_to office.now room.now)
+    ensures { IsDecided (checks office.now room.now) (reply_to office.now room.now)
         (changes_of office.now room.now) result }
 {
     if !is_preparing(office.phase) {

@@ -1,5 +1,5 @@
 //! Somebody takes no part in the round.
-ghost use Rattle.office_core.specs.Command.Decision.{Decides};
+ghost use Rattle.office_core.specs.Command.Decision.{IsDecided};
 ghost use Rattle.office_core.specs.Command.Withdraw.{checks, reply_to, changes_of};
 
 use crate::change::Change;
@@ -14,7 +14,7 @@ use std::alloc::Global;
 /// Decides that a person, and that person's room, take no part in the round; a repeat changes nothing. Refused in turn:
 /// `BadPhase` unless open; `UnknownPerson`.
 pub fn withdraw(alloc: Global, office: &Office, person: &PersonId) -> Result<Decision, Refusal>
-    ensures { Decides (checks office.now person.now) (reply_to office.now person.now)
+    ensures { IsDecided (checks office.now person.now) (reply_to office.now person.now)
         (changes_of office.now person.now) result }
 {
     if !is_open(office.phase) {

@@ -1,5 +1,5 @@
 //! What is kept of a list that was handed in.
-ghost use Rattle.std.specs.Prelude.{◌≡◌};
+ghost use Rattle.std.specs.Prelude.{◌≡◌, ◌<◌, IfOk, OnErr, length};
 
 use room_types::{Copied, ListKind, Listing};
 use std::alloc::AllocError;
@@ -17,7 +17,10 @@ pub struct KeptList {
 impl Clone for KeptList {
     ghost is_clone = { λ x y. y ≡ x };
 
-    fn clone(&self) -> Result<KeptList, AllocError> {
+    fn clone(&self) -> Result<KeptList, AllocError>
+        ensures copy { IfOk result (λ copy. copy ≡ self.now) }
+        ensures memory { OnErr result (0 < length self.now.bytes) }
+    {
         match self.bytes.copy() {
             Ok(bytes) => Ok(KeptList {
                 kind: self.kind,

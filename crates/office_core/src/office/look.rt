@@ -1,5 +1,6 @@
 //! What is read from an office.
-ghost use Rattle.std.specs.Prelude.{◌≡◌, ◌<◌, IfOk, IsSome, OnErr, length};
+ghost use Rattle.std.specs.Prelude.{◌≡◌, ◌<◌, IfOk, IsSome, List, OnErr, length, ℕ};
+ghost use Rattle.std.specs.FinMap as map;
 ghost use Rattle.std.specs.Option.{option_copied};
 ghost use Rattle.office_core.specs.Office.{tenant, owner, home_of, recorded_result, is_shut, lives_in};
 ghost use Rattle.office_core.specs.Office.{is_same_text, is_text};
@@ -8,7 +9,8 @@ ghost use Rattle.office_core.specs.Office.{has_withdrawn, participants, is_over,
 use crate::office::Office;
 use crate::office::person::Person;
 use crate::office::phases::{is_idle, is_published};
-use room_types::{Grammar, Key, OutOfMemory, PersonId, RoomCode, Text};
+use room_types::grammars::RoomCodes;
+use room_types::{Grammar, Key, OutOfMemory, PersonId, RoomCode, Table, Text};
 use std::alloc::Global;
 
 impl Office {
@@ -22,6 +24,22 @@ impl Office {
             }
         }
         None
+    }
+
+    /// Who lives in each room, found in one pass over the people.
+    pub(crate) fn tenants(&self, alloc: Global) -> Result<Table<RoomCodes, PersonId>, OutOfMemory>
+        ensures { IfOk result
+            (λ tenants. (room : List ℕ) → map.get tenants room ≡ tenant self.now room) }
+    {
+        let mut tenants = Table::new(alloc);
+        for (id, person) in self.people.iter() {
+            if let Some(home) = &person.home {
+                if !tenants.contains_key(home) {
+                    tenants.insert(home.copy()?, id.copy()?)?;
+                }
+            }
+        }
+        Ok(tenants)
     }
 
     /// Whose key it is, or `None` where it is nobody's. It goes through the people.

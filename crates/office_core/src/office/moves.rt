@@ -1,5 +1,5 @@
 //! The moves of all rounds.
-ghost use Rattle.std.specs.Prelude.{◌≡◌, ◌<◌, OnOk, OnErr, IfOk, ℕ};
+ghost use Rattle.std.specs.Prelude.{◌≡◌, ◌<◌, ◌⊎◌, OnOk, OnErr, IfOk, IsSome, ℕ};
 ghost use Rattle.std.specs.Option.{option_copied};
 ghost use Rattle.std.specs.FinMap as map;
 ghost use Rattle.std.specs.Map.Iter.{ShowsInOrder, deref_pair};
@@ -26,7 +26,10 @@ pub struct Moved {
 impl Clone for Moved {
     ghost is_clone = { λ x y. y ≡ x };
 
-    fn clone(&self) -> Result<Moved, AllocError> {
+    fn clone(&self) -> Result<Moved, AllocError>
+        ensures copy { IfOk result (λ copy. copy ≡ self.now) }
+        ensures memory { OnErr result ((IsSome self.now.from) ⊎ (IsSome self.now.to)) }
+    {
         Ok(Moved {
             from: copy_optional(&self.from)?,
             to: copy_optional(&self.to)?,
@@ -48,7 +51,10 @@ pub struct RoundMoves {
 impl Clone for RoundMoves {
     ghost is_clone = { λ x y. y ≡ x };
 
-    fn clone(&self) -> Result<RoundMoves, AllocError> {
+    fn clone(&self) -> Result<RoundMoves, AllocError>
+        ensures copy { IfOk result (λ copy. copy ≡ self.now) }
+        ensures memory { OnErr result (0 < map.len self.now.by_person) }
+    {
         match self.by_person.copy() {
             Ok(by_person) => Ok(RoundMoves { by_person }),
             Err(_) => Err(AllocError),

@@ -61,7 +61,7 @@ fn recorded_choices(
     }
     match Choices::read(Vec::new(alloc)) {
         Ok(choices) => Ok(choices),
-        Err(_) => Err(OutOfMemory {}),
+        Err(_) => unreachable!(),
     }
 }
 

@@ -4,7 +4,7 @@ ghost use Rattle.std.specs.Bool.{Decides};
 ghost use Rattle.std.specs.List.{list_all};
 ghost use Rattle.std.specs.FinMap as map;
 ghost use Rattle.office_core.specs.Office.Invariants.{AreKept};
-ghost use Rattle.office_core.specs.Soundness.{is_short};
+ghost use Rattle.office_core.specs.Inner.Soundness.{is_short};
 
 use crate::office::Office;
 use crate::office::kept_list::KeptList;

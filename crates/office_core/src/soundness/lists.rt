@@ -4,7 +4,7 @@ ghost use Rattle.std.specs.Bool.{Decides};
 ghost use Rattle.std.specs.List.{list_all};
 ghost use Rattle.std.specs.FinMap as map;
 ghost use Rattle.office_core.specs.Office.Invariants.{AreLists};
-ghost use Rattle.office_core.specs.Soundness.{is_recorded_list};
+ghost use Rattle.office_core.specs.Inner.Soundness.{is_recorded_list};
 
 use crate::office::Office;
 use room_types::{Choices, RoomCode};

@@ -6,7 +6,7 @@ ghost use Rattle.std.specs.FinMap as map;
 ghost use Rattle.std.specs.Option.{is_some};
 ghost use Rattle.office_core.specs.Office.Invariants.{AreMoves};
 ghost use Rattle.office_core.specs.Office.{is_over};
-ghost use Rattle.office_core.specs.Soundness.{is_kept_round};
+ghost use Rattle.office_core.specs.Inner.Soundness.{is_kept_round};
 
 use crate::office::Office;
 use crate::office::moves::RoundMoves;

@@ -4,7 +4,8 @@ ghost use Rattle.std.specs.Bool.{Decides};
 ghost use Rattle.std.specs.List.{list_all};
 ghost use Rattle.std.specs.FinMap as map;
 ghost use Rattle.office_core.specs.Office.Invariants.{HomesDiffer, IsRegister};
-ghost use Rattle.office_core.specs.Soundness.{differ_from, is_home_open};
+ghost use Rattle.office_core.specs.Inner.Soundness.{differ_from, is_home_open};
+ghost use Rattle.office_core.specs.Soundness.{AreNoted};
 
 use crate::office::Office;
 use crate::office::limits::{PEOPLE_LIMIT, ROOM_LIMIT};
@@ -17,7 +18,7 @@ use std::alloc::Global;
 pub(crate) fn is_register(alloc: Global, office: &Office) -> Result<bool, OutOfMemory>
     ensures lawful { IfOk result
         (λ lawful. Decides lawful (IsRegister office.now.rooms office.now.people)) }
-    ensures memory { OnErr result (0 < length (map.entries office.now.people)) }
+    ensures memory { OnErr result (AreNoted office.now.rooms office.now.people) }
 {
     if office.rooms.len() > ROOM_LIMIT {
         return Ok(false);

@@ -5,7 +5,7 @@ ghost use Rattle.std.specs.List.{list_all};
 ghost use Rattle.std.specs.FinMap as map;
 ghost use Rattle.office_core.specs.Office.Invariants.{AreResults, HomesDiffer};
 ghost use Rattle.office_core.specs.Office.Phases.{has_results};
-ghost use Rattle.office_core.specs.Soundness.{is_given};
+ghost use Rattle.office_core.specs.Inner.Soundness.{is_given};
 
 use crate::office::look::is_same_room;
 use crate::office::phases::has_results;

@@ -21,8 +21,8 @@ use std::alloc::Global;
 
 impl<S: Alter> Desk<S> {
     /// A desk over a database whose tables are the rows of an office, which it shows. Each table that has one of the
-    /// eight names has to be declared as that table of an office. An office's tables are never answered `NotAnOffice`
-    /// or `OtherVersion`.
+    /// eight names has to be declared as that table of an office: then no table is changed. An office's tables are never
+    /// answered `NotAnOffice` or `OtherVersion`.
     ///
     /// # Errors
     ///
@@ -30,7 +30,8 @@ impl<S: Alter> Desk<S> {
     /// version and the tables are no office's rows. `OtherVersion` only where the row of the round holds that version.
     /// Else `Unavailable`, also where one of the other tables is absent, or anything is declared beside them. The
     /// connection comes back. Where the eight tables do not stand there, in their order, alone, no statement has run on it;
-    /// else its tables are as they were, unless a fault shut it.
+    /// else its tables are as they were where they are declared so, unless a fault shut it or the disk did not return what
+    /// was written.
     pub fn adopt(alloc: Global, connection: Connection<S>) -> Result<Desk<S>, Back<S>>
         requires { connection.in_transaction ≡ false }
         ensures follows { IfOk result
@@ -42,6 +43,9 @@ impl<S: Alter> Desk<S> {
             → AreWhole (state S.Store connection).now.trees
             → (office : AnyOffice) × HoldsOffice (state S.Store connection).now office
             × Shows S.Store desk office) }
+        ensures unchanged { IfOk result (λ desk. IsHonest (state S.Store desk.conn)
+            → AreDeclared (state S.Store connection).now.schema
+            → (state S.Store desk.conn).now ≡ (state S.Store connection).now) }
         ensures outside { IfErr result (λ back. back.connection.in_transaction ≡ false) }
         ensures followed { IfErr result
             (λ back. Follows (state S.Store connection) (state S.Store back.connection)) }

@@ -25,6 +25,8 @@ pub enum DeskFault {
 pub struct Back<S: Alter> {
     /// Why there is no desk.
     pub fault: DeskFault,
-    /// The connection that was handed in, outside a transaction. Its tables are as they were, unless a fault shut it.
+    /// The connection that was handed in, outside a transaction. Its tables are as they were, unless a fault shut it or the
+    /// disk did not return what was written; after `adopt` only where each table that has one of the eight names is declared
+    /// as that table of an office, or no statement has run.
     pub connection: Connection<S>,
 }

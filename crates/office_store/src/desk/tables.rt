@@ -6,6 +6,7 @@ ghost use Rattle.sqlite.specs.Steps.{over_memory};
 ghost use Rattle.office_core.specs.Office.Invariants.{IsLawful};
 ghost use Rattle.office_core.specs.Office.{empty_office};
 ghost use Rattle.office_core.specs.declared.office.Office.{Office as AnyOffice};
+ghost use Rattle.office_load.specs.Reading.{OnlyReads};
 ghost use Rattle.office_tables.specs.Schema.{no_schema};
 ghost use Rattle.office_tables.specs.Steps.{Follows, IsHonest};
 ghost use Rattle.office_create.specs.Names.{NameIsTaken};
@@ -44,7 +45,7 @@ impl<S: Alter> Desk<S> {
     /// `AlreadyThere` exactly where a table, an index, a view or a trigger has one of the eight names. Else `Unavailable`:
     /// something is declared under other names, or the disk or memory did not serve. The connection comes back. Where a name
     /// is taken, or anything else is declared, it is the one that was handed in; else its tables are as they were, unless a
-    /// fault shut it.
+    /// fault shut it or the disk did not return what was written.
     pub fn create(alloc: Global, connection: Connection<S>) -> Result<Desk<S>, Back<S>>
         requires { connection.in_transaction ≡ false }
         ensures follows { IfOk result
@@ -84,10 +85,10 @@ impl<S: Alter> Desk<S> {
         }
     }
 
-    /// The office whose rows the tables hold, read from them. The desk goes on standing for it, and the connection is
-    /// open where it was read.
+    /// The office whose rows the tables hold, read from them. No table of an office changes: the desk goes on standing for
+    /// it, and the connection is open where it was read.
     pub fn load(&mut self, alloc: Global) -> Result<Office, Unavailable>
-        ensures follows { Follows (state S.Store self.old.conn) (state S.Store self.new.conn) }
+        ensures reads { OnlyReads (state S.Store self.old.conn) (state S.Store self.new.conn) }
         ensures is_open { OnOk result (HasCleanDisk (state S.Store self.new.conn)
             → IsTrue (state S.Store self.new.conn).is_open) }
         ensures kept { self.new.kept ≡ self.old.kept }

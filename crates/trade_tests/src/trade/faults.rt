@@ -81,7 +81,7 @@ fn faults_are_told_in_words(rt: HostRuntime) -> Result<(), Fail> {
     let faults = [
         (
             TradeFault::BadIndex,
-            "a home or a list is missing, or a number is out of range",
+            "there is not one home entry and one list for each person, or a number is out of range",
         ),
         (TradeFault::HomeShared, "two people have the same home"),
         (TradeFault::ListRepeats, "a list has a room twice"),

@@ -5,7 +5,6 @@ ghost use Rattle.office_core.specs.Inner.Tries.{HasKeys, IsIndexed, placed};
 
 use crate::office::Office;
 use crate::office::person::Person;
-use crate::query::rooms::tenants;
 use office_lists::PersonEntry;
 use room_types::grammars::{Keys, PersonIds, RoomCodes};
 use room_types::rows::copy_optional;
@@ -31,7 +30,7 @@ impl Register {
         Ok(Register {
             people: office.people.copy()?,
             keys: keys(alloc, &office.people)?,
-            tenants: tenants(alloc, office)?,
+            tenants: office.tenants(alloc)?,
         })
     }
 

@@ -40,3 +40,11 @@ returns-clause-front g c clean office stands =
     let early : HasCleanDisk (state g.S.Store c.in-Ok.rows.conn.now) = omega (arith, late, c.send_rows.ensures.survives.clean) in
     let asked = asked_of g.S.Store g.E.Exported.text c.query.result.now c.args.conn.now c.in-Ok.rows.conn.now office c.query.ensures.asks.plain c.query.ensures.text stands (c.in-Ok.ensures.begun early) in
     c.send_rows.ensures.front late office asked
+
+pub returns-clause-short : goal.returns-clause-short
+returns-clause-short g c clean office stands =
+    let same : c.conn-2-1.given.0 ≡ c.send_rows.new.rows.conn.now = search rules in
+    let late = subst (λ (h : Held g.row.S.Denot). HasCleanDisk (state g.S.Store h)) same clean in
+    let early : HasCleanDisk (state g.S.Store c.in-Ok.rows.conn.now) = omega (arith, late, c.send_rows.ensures.survives.clean) in
+    let asked = asked_of g.S.Store g.E.Exported.text c.query.result.now c.args.conn.now c.in-Ok.rows.conn.now office c.query.ensures.asks.plain c.query.ensures.text stands (c.in-Ok.ensures.begun early) in
+    c.send_rows.ensures.short late office asked

@@ -4,7 +4,7 @@ use Rattle.sqlite.specs.State.{HasCleanDisk}
 use Rattle.room_types.specs.Streams.{output_of}
 use Rattle.office_lists.specs.Exports.{header_of, record_bytes}
 use Rattle.office_export.specs.Stepping.{GivesRecord}
-use Rattle.office_export.proofs.Stepping.{UnderWay, counted_cut, front_cut, front_stopped, head_sent, keeps_still, keeps_then, one_sent, survives_next, survives_still, whole_sent}
+use Rattle.office_export.proofs.Stepping.{UnderWay, counted_cut, front_cut, front_stopped, head_sent, keeps_still, keeps_then, one_sent, short_cut, survives_next, survives_still, whole_sent}
 use Rattle.office_export.proofs.exporting.send_rows.Goals as goal
 
 pub loop-init : goal.loop-init
@@ -32,6 +32,10 @@ returns-in_default-next_record-clause-front g c clean office asked =
     let before : HasCleanDisk (state g.S.Store c.loop.rows.conn.now) = omega (arith, clean, c.next_record.ensures.survives.clean) in
     front_stopped g.S.Store g.E.Exported.kind g.E.Exported.text g.E.Exported.fields c.args.rows.now.conn.now c.loop.rows.conn.now c.loop.sent _ _ c.loop.invariant.sent c.requires before office asked
 
+pub returns-in_default-next_record-clause-short : goal.returns-in_default-next_record-clause-short
+returns-in_default-next_record-clause-short g c clean office asked =
+    (returns-in_default-next_record-clause-front g c clean office asked).within
+
 pub returns-in_default-next-clause-whole : goal.returns-in_default-next-clause-whole
 returns-in_default-next-clause-whole g c clean office asked =
     let before : HasCleanDisk (state g.S.Store c.loop.rows.conn.now) = omega (arith, clean, c.next_record.ensures.survives.clean) in
@@ -43,6 +47,13 @@ pub returns-in-Err-send-clause-front : goal.returns-in-Err-send-clause-front
 returns-in-Err-send-clause-front g c clean office asked =
     let gives = subst (GivesRecord g.S.Store g.E.Exported.fields c.loop.rows.conn.now c.next_record.new.rows.conn.now) c.in-Some.is c.in-Ok-next_record.ensures.gives in
     front_cut g.S.Store g.E.Exported.kind g.E.Exported.text g.E.Exported.fields c.args.rows.now.conn.now c.loop.rows.conn.now c.loop.sent _ _ c.loop.invariant.sent
+    c.next_record.new.rows.conn.now gives.0 c.deref-in-loop.result.now (c.deref-in-loop.ensures.value ∙ gives.1) (λ h. omega (arith, h, c.next_record.ensures.survives.clean)) gives.2 c.in-Ok-next_record.ensures.same
+    _ c.in-Err-send.part c.in-Err-send.ensures.short c.in-Err-send.ensures.front c.requires clean office asked
+
+pub returns-in-Err-send-clause-short : goal.returns-in-Err-send-clause-short
+returns-in-Err-send-clause-short g c clean office asked =
+    let gives = subst (GivesRecord g.S.Store g.E.Exported.fields c.loop.rows.conn.now c.next_record.new.rows.conn.now) c.in-Some.is c.in-Ok-next_record.ensures.gives in
+    short_cut g.S.Store g.E.Exported.kind g.E.Exported.text g.E.Exported.fields c.args.rows.now.conn.now c.loop.rows.conn.now c.loop.sent _ _ c.loop.invariant.sent
     c.next_record.new.rows.conn.now gives.0 c.deref-in-loop.result.now (c.deref-in-loop.ensures.value ∙ gives.1) (λ h. omega (arith, h, c.next_record.ensures.survives.clean)) gives.2 c.in-Ok-next_record.ensures.same
     _ c.in-Err-send.part c.in-Err-send.ensures.short c.in-Err-send.ensures.front c.requires clean office asked
 
@@ -82,3 +93,6 @@ loop-preserved g c =
 pub returns-clause-front : goal.returns-clause-front
 returns-clause-front g c clean office asked =
     front_stopped g.S.Store g.E.Exported.kind g.E.Exported.text g.E.Exported.fields c.args.rows.now.conn.now c.loop.rows.conn.now c.loop.sent _ _ c.loop.invariant.sent c.requires clean office asked
+
+pub returns-clause-short : goal.returns-clause-short
+returns-clause-short g c clean office asked = (returns-clause-front g c clean office asked).within

@@ -11,3 +11,6 @@ returns-in-Err-clause-refuses g c = (
     cause = c.in-Err.ensures.cause;
   },
 )
+
+pub returns-in-Err-clause-absent : goal.returns-in-Err-clause-absent
+returns-in-Err-clause-absent g c absent = (c.in-Err.ensures.absent absent).0

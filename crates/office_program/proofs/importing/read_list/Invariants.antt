@@ -1,7 +1,7 @@
 use Rattle.std.proofs.Common.{◌≡◌, ◌≤◌, ◌-◌, length}
 use Rattle.std.specs.Io.KnownBytes.{Consumes}
 use Rattle.room_types.specs.Watched.{StopsAtEnd, watched_ended, watched_failed, watched_inner, watched_reads}
-use Rattle.office_program.specs.Importing.{read_limit}
+use Rattle.office_program.specs.Importing.{list_limit}
 use Rattle.office_program.proofs.importing.read_list.Given as goal
 
 -- all that was read is kept, and each read gave a byte
@@ -10,7 +10,7 @@ invariant-reads g l =
     let remaining = g.R.Read.remaining in
     record {
       consumed : Consumes (remaining (watched_inner l.fn.source)) (remaining (watched_inner l.source)) l.bytes.items;
-      bounded : length l.bytes.items ≤ read_limit;
+      bounded : length l.bytes.items ≤ list_limit;
       count : watched_reads l.source ≤ length l.bytes.items;
       failed : watched_failed l.source ≡ watched_failed l.fn.source;
       ended : watched_ended l.source ≡ watched_ended l.fn.source;
@@ -18,4 +18,4 @@ invariant-reads g l =
     }
 
 abbrev pub decreases-reads : goal.decreases-reads
-decreases-reads g l = read_limit - length l.bytes.items
+decreases-reads g l = list_limit - length l.bytes.items

@@ -1,4 +1,4 @@
-use Rattle.std.proofs.Common.{◌≡◌, ◌<◌, ◌-◌, length, take, drop, rules, tests, arith, ◌∙◌, refl}
+use Rattle.std.proofs.Common.{◌≡◌, ◌<◌, ◌-◌, length, take, drop, rules, tests, arith, ◌∙◌, refl, true≢false}
 use Rattle.std.proofs.KnownBytes.{Consumes-kept, Consumes-nil}
 use Rattle.std.proofs.Math.Bool.{or-false}
 use Rattle.std.proofs.lemmas.List.{length-take-le, length-take, length-drop}
@@ -24,6 +24,7 @@ returns-then-filled-eq0-clause-converses g c =
     let room : 0 < length c.read_some.new.buf = omega (arith, c.read_some.auto.buf) in
     record {
       read = read_none _ _ _ _ _ _ c.in-Ok-eq0.field-0-test (rw c.if-filled-eq0.true at i.read) h.bytes.0;
+      each = rw h.reads (omega (arith, i.reads, c.if-filled-eq0.true));
       at_end = h.bytes.1 c.in-Ok-eq0.field-0-test room;
       ended = ended_told _ _ c.read_some.new.buf c.in-Ok-eq0.field-0 h.ended c.in-Ok-eq0.field-0-test room;
       untouched = untouched-more _ _ _ i.untouched h.kept h.taken h.flushes h.pending;
@@ -66,6 +67,7 @@ returns-in-Ok-eq0-clause-converses g c =
     (omega (arith, within, count))
     (omega (arith, once, then_none, read_before, count))
     c.in-More.ensures.asks
+    (λ e. absurd (true≢false e))
     (λ e. (some, told, end))
     (rw i.same at c.respond.ensures.responds)
 
@@ -136,6 +138,7 @@ returns-in_default g c =
           (omega (arith, within, count))
           (omega (arith, then_none, read_before, count))
           c.read_ask.ensures.asks
+          (λ e. c.respond-in_default.ensures.ended ∙ i.ended)
           (λ e. absurd (not_more c.read_ask.result c.in_default.not-More e))
           (rw i.same at c.respond-in_default.ensures.responds);
       ready = c.respond-in_default.ensures.ready;

@@ -1,8 +1,9 @@
-use Rattle.std.proofs.Common.{◌≡◌, ◌≤◌, ◌<◌, ◌+◌, ◌-◌, length, take, drop, arith, refl, ap, ◌∙◌, rules, tests}
+use Rattle.std.proofs.Common.{◌≡◌, ◌≤◌, ◌<◌, ◌+◌, ◌-◌, true, length, take, drop, arith, refl, ap, ◌∙◌, rules, tests}
 use Rattle.std.proofs.KnownBytes.{Appends-trans, Keeps-refl, Keeps-trans}
 use Rattle.std.proofs.Math.Seq.{take-add}
 use Rattle.std.proofs.lemmas.List.{length-drop, length-take}
-use Rattle.room_types.specs.Watched.{counted}
+use Rattle.std.specs.Prelude.{◌||◌, nat_lt}
+use Rattle.room_types.specs.Watched.{counted, watched_pending}
 use Rattle.room_types.specs.Streams.{count_after}
 use Rattle.room_types.proofs.StreamLemmas.{Puts-nil, Puts-none, count_after-counted, take_rest, kept_by_write, or_known}
 use Rattle.resident_desk.proofs.delivery.send_all.Goals as goal
@@ -12,6 +13,7 @@ loop-sent-init g c = record {
   within = omega arith;
   written = Puts-nil _;
   flushes = refl;
+  pends = λ some. absurd (omega (arith, some));
   failed = c.requires;
   kept = Keeps-refl _;
   reads = refl;
@@ -30,6 +32,7 @@ loop-sent-preserved g c =
     let bound = rw rest at clauses.bound in
     let all : sent + n ≤ length text = omega (arith, bound, length-drop sent text) in
     let some : 0 < n = search (rules, tests) in
+    let took : nat_lt 0 n ≡ true = search (rules, tests) in
     let counts : length (take sent text) + n ≡ length (take (sent + n) text) = omega (arith, length-take sent text, length-take (sent + n) text) in
     record {
       within = all;
@@ -39,6 +42,7 @@ loop-sent-preserved g c =
             ∙ count_after-counted _ (length (take sent text)) n some ∙ ap (count_after _) counts;
       };
       flushes = clauses.flushes ∙ i.flushes;
+      pends = λ any. clauses.pending ∙ ap (λ t. t || watched_pending c.loop-sent.stream) took;
       failed = clauses.failed ∙ kept_by_write _ _ n some ∙ i.failed;
       kept = Keeps-trans _ _ _ i.kept clauses.kept;
       reads = clauses.reads ∙ i.reads;

@@ -1,6 +1,6 @@
-use Rattle.std.proofs.Common.{length, ◌-◌, ◌≡◌, ◌≤◌, take, false}
+use Rattle.std.proofs.Common.{length, ◌-◌, ◌≡◌, ◌<◌, ◌≤◌, take, true, false}
 use Rattle.std.specs.Io.KnownBytes.{Keeps}
-use Rattle.room_types.specs.Watched.{watched_ended, watched_failed, watched_flushes, watched_inner, watched_late, watched_reads}
+use Rattle.room_types.specs.Watched.{watched_ended, watched_failed, watched_flushes, watched_inner, watched_late, watched_pending, watched_reads}
 use Rattle.room_types.specs.Streams.{Puts, output_of}
 use Rattle.resident_desk.proofs.delivery.send_all.Given as goal
 
@@ -13,6 +13,7 @@ invariant-loop-sent g l =
       within : l.sent ≤ length l.text;
       written : Puts (output_of contents l.fn.stream) (output_of contents l.stream) (take l.sent l.text);
       flushes : watched_flushes l.stream ≡ watched_flushes l.fn.stream;
+      pends : 0 < l.sent → watched_pending l.stream ≡ true;
       failed : watched_failed l.stream ≡ false;
       kept : Keeps (remaining (watched_inner l.fn.stream)) (remaining (watched_inner l.stream));
       reads : watched_reads l.stream ≡ watched_reads l.fn.stream;

@@ -13,8 +13,17 @@ returns g c =
         after = talk.new.stream;
         came = subst (λ stream. g.L.Listener.comes c.args.listener.now (output_of g.W.Write.contents c.args.said.now) stream c.accept.new.self)
             (c.in-Some.is ∙ ap Some (sym opened.inner)) c.accept.ensures;
-        begins = record { failed = opened.failed; reads = opened.reads; taken = opened.taken; flushes = opened.flushes; ended = opened.ended };
+        begins = record {
+          failed = opened.failed;
+          reads = opened.reads;
+          taken = opened.taken;
+          flushes = opened.flushes;
+          pending = opened.pending;
+          ended = opened.ended;
+        };
         talks = record { served = talk.result; follows = talk.ensures.follows; at_desk = talk.ensures.converses; serves = talk.ensures.serves };
+        few = talk.ensures.few;
+        no_late = talk.ensures.no_late;
         gone = c.let_go.ensures;
       });
     }

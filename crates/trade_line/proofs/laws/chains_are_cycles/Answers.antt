@@ -1,5 +1,5 @@
-use Rattle.trade_line.proofs.Cycles.{chain_cycle}
+use Rattle.trade_line.proofs.Cycles.{chain_cycles}
 use Rattle.trade_line.proofs.laws.chains_are_cycles.Goals as goal
 
 pub returns : goal.returns
-returns c = chain_cycle
+returns c = chain_cycles

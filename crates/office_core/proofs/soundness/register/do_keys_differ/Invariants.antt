@@ -1,6 +1,6 @@
 use Rattle.std.proofs.Common.{◌≡◌, ◌≤◌, length, Some}
 use Rattle.std.specs.FinMap as map
-use Rattle.office_core.specs.Soundness.{differ_from}
+use Rattle.office_core.specs.Inner.Soundness.{differ_from}
 use Rattle.office_core.proofs.soundness.register.do_keys_differ.Given as goal
 
 -- whether they differ is whether those that are left do, also from what was seen

@@ -1,19 +1,17 @@
 use Rattle.std.proofs.Common.{◌≡◌, true, false, Some, IfSome, inr, refl, sym, ap, ◌∙◌, subst}
-use Rattle.office_tables.proofs.StepLemmas.{follows-refl}
 use Rattle.sqlite.specs.Held.{state}
 use Rattle.office_core.specs.Office.Invariants.{IsLawful}
 use Rattle.office_store.specs.Desk.{HandlesAt, KeepsOn}
 use Rattle.office_store.specs.declared.requests.Answer.TheVariants.{Reply, Unavailable}
 use Rattle.office_store.specs.declared.requests.Request.TheVariants.{Office as Request-Office}
 use Rattle.office_store.proofs.CertainLemmas.{accepted_is_stored}
-use Rattle.office_store.proofs.DeskLemmas.{answered, carried_out, none_keeps, none_said, stands_still, stays_kept, unavailable}
+use Rattle.office_store.proofs.DeskLemmas.{answered, carried_out, reads-refl, stands_still, stays_kept, unavailable, unavailable_unkept}
 use Rattle.office_store.proofs.desk.Desk.execute.Goals as goal
 
 pub returns-in_default-clause-handles : goal.returns-in_default-clause-handles
 returns-in_default-clause-handles g c =
-    unavailable g.S.Store c.args.self.now c.args.self.now (Request-Office c.args.command.now) (follows-refl (state g.S.Store c.args.self.now.conn))
-    (none_keeps c.args.self.now.kept (Request-Office c.args.command.now) Unavailable c.args.self.now.kept (sym (ap (λ desk. desk.kept) c.self.view_is) ∙ c.in_default.is))
-    (none_said c.args.self.now.kept (true ≡ false → c.args.self.now.conn ≡ c.args.self.now.conn) (sym (ap (λ desk. desk.kept) c.self.view_is) ∙ c.in_default.is)) (λ clean office stands. stands)
+    unavailable_unkept g.S.Store c.args.self.now c.args.self.now (Request-Office c.args.command.now) (sym (ap (λ desk. desk.kept) c.self.view_is) ∙ c.in_default.is)
+    (reads-refl (state g.S.Store c.args.self.now.conn)) (λ clean office stands. stands)
 
 pub returns-in-Err-clause-handles : goal.returns-in-Err-clause-handles
 returns-in-Err-clause-handles g c =
@@ -26,7 +24,8 @@ returns-in_default-store_all-clause-handles g c =
     let new = c.store_all.new.conn in
     let kept = c.self.inside.kept in
     subst (λ desk. HandlesAt g.S.Store desk (Request-Office c.args.command.now) Unavailable (record { conn = new; kept = kept })) c.self.view_is
-    (unavailable g.S.Store (record { conn = old; kept = kept }) (record { conn = new; kept = kept }) (Request-Office c.args.command.now) c.store_all.ensures.follows
+    (unavailable g.S.Store (record { conn = old; kept = kept }) (record { conn = new; kept = kept }) (Request-Office c.args.command.now)
+    (record { follows = c.store_all.ensures.follows; same = λ honest has. c.in_default-store_all.ensures.undone honest }) (λ some honest. c.in_default-store_all.ensures.undone honest)
     (subst (λ k. IfSome k (λ office. KeepsOn office (Request-Office c.args.command.now) Unavailable k)) (sym c.in-Some.is)
     (stays_kept c.in-Some.office (Request-Office c.args.command.now) Unavailable (inr (refl, refl)) (accepted_is_stored c.in-Some.office c.args.command.now Unavailable c.in-Ok.ensures.decides.accepted)))
     (subst (λ k. IfSome k (λ office. true ≡ false → new ≡ old)) (sym c.in-Some.is) (λ none. absurd (cc)))

@@ -6,7 +6,7 @@ use Rattle.std.proofs.lemmas.Map.Iter.{rest_more}
 use Rattle.room_types.specs.Texts.{text_eq}
 use Rattle.office_core.specs.Office.{first_person, lives_in, is_text}
 use Rattle.office_core.proofs.OfficeLemmas.Tenants.{tenants-none, tenants-put}
-use Rattle.office_core.proofs.query.rooms.tenants.Goals as goal
+use Rattle.office_core.proofs.office.Office.tenants.Goals as goal
 
 pub loop-id-init : goal.loop-id-init
 loop-id-init c = record {

@@ -2,7 +2,7 @@ use Rattle.std.proofs.Common.{◌≡◌, List, ℕ}
 use Rattle.std.specs.Option.{option_or}
 use Rattle.std.specs.FinMap as map
 use Rattle.office_core.specs.Office.{first_person, lives_in, tenant}
-use Rattle.office_core.proofs.query.rooms.tenants.Given as goal
+use Rattle.office_core.proofs.office.Office.tenants.Given as goal
 
 -- a room's tenant is the one found so far, or else the first of those who are left
 abbrev pub invariant-loop-id : goal.invariant-loop-id
@@ -10,5 +10,5 @@ invariant-loop-id l = record {
   can : (goal.iterator-loop-id).can_next l.id-iterator;
   ends : (goal.iterator-loop-id).is_finite l.id-iterator;
   found : (room : List ℕ) → option_or (map.get l.tenants room)
-      (first_person (lives_in room) l.id-iterator) ≡ tenant l.office room;
+      (first_person (lives_in room) l.id-iterator) ≡ tenant l.self room;
 }

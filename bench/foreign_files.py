@@ -1,0 +1,19 @@
+"""Files that another program than `rooms` wrote, or has in its hands; bench/foreign-files.sh says what is looked at."""
+
+import sys
+
+from foreign import changed, files, taken
+from foreign.program import Program
+
+
+def main(program: str) -> None:
+    """Tries all groups, and ends well where none of them held a surprise."""
+    words = Program((program,))
+    surprises = taken.try_all(words) + changed.try_all(words) + files.try_all(words)
+    if surprises:
+        sys.exit(f"{surprises} surprises")
+    print("all is as it should be")
+
+
+if __name__ == "__main__":
+    main(*sys.argv[1:])

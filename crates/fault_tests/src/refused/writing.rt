@@ -1,0 +1,86 @@
+//! Rows are written as exports, one of each kind.
+use crate::refused::verdict;
+use office_lists::{WriteEnd, write_moves, write_people, write_rooms};
+use room_types::{
+    Move, Name, OutOfMemory, PersonId, PersonRow, RoomCode, RoomRow, State, Watched, Wave,
+};
+use std::alloc::Global;
+
+const ROOM: &[u8] = b"room,state,tenant\nH1,occupied,T1\n";
+
+const PERSON: &[u8] = b"person,name,home\nT1,\"Tan, Tim\",H1\n";
+
+const MOVE: &[u8] = b"round,wave,person,from,to\n1,swap,T1,H1,H2\n";
+
+/// Whether each export is written, whole or a front of it that is told.
+pub fn rows_are_sent(alloc: Global) -> Result<bool, OutOfMemory> {
+    let mut all = 0usize;
+    for wanting in [room_sent(alloc)?, person_sent(alloc)?, move_sent(alloc)?] {
+        let Some(wanting) = wanting else {
+            return Ok(false);
+        };
+        all = all.saturating_add(wanting);
+    }
+    verdict(all)
+}
+
+// How often memory was wanting, or none where something else was written than the export, or than the front of it that is told.
+fn wanting_in(ended: &Result<(), WriteEnd>, written: &[u8], wanted: &[u8]) -> Option<usize> {
+    match ended {
+        Ok(()) if written == wanted => Some(0),
+        Err(WriteEnd::OutOfMemory { sent })
+            if wanted.starts_with(written) && written.len() as u128 == *sent => { Some(1) }
+        _ => None,
+    }
+}
+
+// A device for which no memory is taken later.
+fn output(alloc: Global) -> Result<Watched<Vec<u8>>, OutOfMemory> {
+    Ok(Watched::new(Vec::with_capacity(alloc, 1_024)?))
+}
+
+fn room(alloc: Global, code: &str) -> Result<RoomCode, OutOfMemory> {
+    RoomCode::read(alloc, code).map_err(|_| OutOfMemory {})
+}
+
+fn person(alloc: Global) -> Result<PersonId, OutOfMemory> {
+    PersonId::read(alloc, "T1").map_err(|_| OutOfMemory {})
+}
+
+fn room_sent(alloc: Global) -> Result<Option<usize>, OutOfMemory> {
+    let rows = [RoomRow {
+        room: room(alloc, "H1")?,
+        state: State::Occupied,
+        tenant: Some(person(alloc)?),
+    }];
+    let mut output = output(alloc)?;
+    let ended = write_rooms(alloc, &rows, &mut output);
+    Ok(wanting_in(&ended, &output.into_inner(), ROOM))
+}
+
+fn person_sent(alloc: Global) -> Result<Option<usize>, OutOfMemory> {
+    let Ok(name) = Name::read(alloc, "Tan, Tim") else {
+        return Err(OutOfMemory {});
+    };
+    let rows = [PersonRow {
+        person: person(alloc)?,
+        name,
+        home: Some(room(alloc, "H1")?),
+    }];
+    let mut output = output(alloc)?;
+    let ended = write_people(alloc, &rows, &mut output);
+    Ok(wanting_in(&ended, &output.into_inner(), PERSON))
+}
+
+fn move_sent(alloc: Global) -> Result<Option<usize>, OutOfMemory> {
+    let rows = [Move {
+        round: 1,
+        person: person(alloc)?,
+        from: Some(room(alloc, "H1")?),
+        to: Some(room(alloc, "H2")?),
+        wave: Wave::Swap,
+    }];
+    let mut output = output(alloc)?;
+    let ended = write_moves(alloc, &rows, &mut output);
+    Ok(wanting_in(&ended, &output.into_inner(), MOVE))
+}

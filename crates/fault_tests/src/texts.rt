@@ -1,0 +1,35 @@
+//! Lines that are told, and lists that come in, in several of these tests.
+
+/// Three rooms and three people, of whom two have a home.
+pub const REGISTER: &str = "\
+room H1\n\
+room H2\n\
+room V\n\
+person T1 key00000000000t1 Tim Tan\n\
+person T2 key00000000000t2 Tom Tao\n\
+person N key000000000000n Nia Noor\n\
+home T1 H1\n\
+home T2 H2\n";
+
+/// A round of them in which everybody moves, until the results are published. The order is T1, T2, N.
+pub const ROUND: &str = "\
+open\n\
+choose T1 H2\n\
+choose T2 H1\n\
+choose N H1 V\n\
+close\n\
+draw 0000000000000003 0000000000000001 0000000000000002\n\
+run\n\
+publish\n";
+
+/// Two rooms.
+pub const ROOMS: &str = "room\nH1\nH2\n";
+
+/// Three people, of whom one has a home: with a byte order mark, records that end as Windows has it, and quotes.
+pub const PEOPLE: &str = "\u{feff}person,name,key,home\r\n\
+E1,Ann Ash,key00000000000e1,H1\r\n\
+E2,\"Bo, B.\",key00000000000e2,\r\n\
+E3,Cy Coy,key00000000000e3,\r\n";
+
+/// What one of them wants.
+pub const CHOICES: &str = "person,choices\nE1,H2\n";
