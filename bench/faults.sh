@@ -6,6 +6,5 @@
 #
 #     bench/faults.sh kill 10
 set -euo pipefail
-cd "$(dirname "$0")/.."
-./rooms rehearse </dev/null
-exec python3 bench/faults.py "${1:-kill}" crates/office_cli/out/office_cli "${2:-5}" examples/year.txt bench/lists.txt
+. "$(dirname "$0")/program.sh"
+exec python3 bench/faults.py "${1:-kill}" "$program" "${2:-5}" examples/year.txt bench/lists.txt

@@ -3,12 +3,9 @@
 # lawful offices, in each phase of a round and in several ways (journal modes, sizes of pages, a killed writer's log): each has to be
 # taken, told as its rows are, and whole after a command. Then one law of an office is broken at a time, which has to be
 # refused by its name with the file as it was; and files that are no database, damaged, held by another program or not permitted,
-# which are unavailable. Prints how many of each kind there were, and the first surprise of each case. Without ROOMS, which may name a
-# program that is built already, the program is built first.
+# which are unavailable. Prints how many of each kind there were, and the first surprise of each case.
 #
 #     bench/foreign-files.sh
 set -euo pipefail
-program=${ROOMS:+$(realpath -- "$ROOMS")}
-cd "$(dirname "$0")/.."
-[ -n "$program" ] || ./rooms rehearse </dev/null
-exec python3 bench/foreign_files.py "${program:-crates/office_cli/out/office_cli}"
+. "$(dirname "$0")/program.sh"
+exec python3 bench/foreign_files.py "$program"

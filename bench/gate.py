@@ -7,7 +7,6 @@ is kept beside the log, once a minute.
 
 import os
 import re
-import shlex
 import signal
 import subprocess
 import sys
@@ -102,7 +101,7 @@ def keep(path, costs, elapsed):
 def main(log, command):
     costs, began, kept = defaultdict(Cost), time.monotonic(), 0.0
     with open(log, "w", encoding="utf-8") as out:
-        gate = subprocess.Popen(shlex.split(command), stdout=out, stderr=subprocess.STDOUT, stdin=subprocess.DEVNULL)
+        gate = subprocess.Popen(command, stdout=out, stderr=subprocess.STDOUT, stdin=subprocess.DEVNULL)
         try:
             while gate.poll() is None:
                 now = time.monotonic()
@@ -122,4 +121,4 @@ def main(log, command):
 
 if __name__ == "__main__":
     signal.signal(signal.SIGTERM, lambda *_: sys.exit(143))
-    sys.exit(main(sys.argv[1], " ".join(sys.argv[2:])))
+    sys.exit(main(sys.argv[1], sys.argv[2:]))

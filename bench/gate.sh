@@ -5,4 +5,5 @@
 set -euo pipefail
 cd "$(dirname "$0")/.."
 mkdir -p out
-exec python3 bench/gate.py out/gate.log "${@:-rt ci}"
+[ $# -gt 0 ] || set -- rt ci
+exec python3 bench/gate.py out/gate.log "$@"

@@ -1,4 +1,4 @@
-#!/bin/sh
+#!/usr/bin/env bash
 # Times the proved line beside the same mechanism in plain Rust (bench/line), on the same drawn markets:
 #
 #     bench/line.sh [ROUNDS]
@@ -8,12 +8,14 @@
 # microseconds, the ratio of the medians, and nanoseconds of the proved line for each ask and look. It refuses where the
 # two programs differ in asks, looks or rooms. A run takes its own memory and gives it back. Both are built for the same
 # processors. It needs `rustc` and the kit.
-set -eu
+set -euo pipefail
 rounds=${1:-31}
-here=$(CDPATH= cd -- "$(dirname -- "$0")" && pwd)
+here=$(CDPATH='' cd -- "$(dirname -- "$0")" && pwd)
 crate=$here/../crates/trade_bench
 scratch=$(mktemp -d)
 trap 'rm -rf "$scratch"' EXIT
+trap 'exit 130' INT
+trap 'exit 143' TERM
 
 echo "line: proving and building the programs" >&2
 if ! (cd "$crate" && rt run) >"$scratch/log" 2>&1 </dev/null; then

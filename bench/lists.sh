@@ -5,6 +5,5 @@
 #
 #     bench/lists.sh 40
 set -euo pipefail
-cd "$(dirname "$0")/.."
-./rooms rehearse </dev/null
-exec python3 bench/lists.py crates/office_cli/out/office_cli "${1:-20}"
+. "$(dirname "$0")/program.sh"
+exec python3 bench/lists.py "$program" "${1:-20}"

@@ -12,8 +12,10 @@ from multiprocessing import Pool
 from pathlib import Path
 
 from faults import ENDS, content_of, copy_office, kept_words
+from residents import free_port
 
 UNAVAILABLE = "unavailable\n"
+UNSERVED = "HTTP/1.1 503 "
 SCRIPT = "bench/lists.txt"
 EXPORTS = ("rooms", "people", "moves")
 KEY = "key0000000000s01"
@@ -73,6 +75,11 @@ def expect(is_so, what, ran):
     assert is_so, f"{what}: status {ran.status}: {ran.text[:300]}"
 
 
+def expect_ample(ran, what, is_ample):
+    """A run that was refused nothing answers as with ample memory: it ends the count, and may not end it early."""
+    expect(ran.is_refused or is_ample, f"{what}, where none was refused", ran)
+
+
 def bytes_of(office):
     """The bytes of an office's file and of the log beside it."""
     paths = [Path(f"{office}{end}") for end in ENDS]
@@ -100,13 +107,16 @@ def rehearsals(program, script):
         return program.run(["rehearse"], given="".join(line + "\n" for line in some)).text
 
     fronts = [said(lines[:length]) for length in range(len(lines) + 1)]
+    assert UNAVAILABLE not in fronts[-1], fronts[-1]
     # what is said where one line is answered `unavailable`, and so does not count
     others = {fronts[i] + UNAVAILABLE + said(lines[:i] + lines[i + 1:])[len(fronts[i]):] for i in range(len(lines))}
 
     def attempt(number):
         ran = program.run(["rehearse"], number, "".join(line + "\n" for line in lines))
         is_known = ran.text in others or ran.text == fronts[-1] or ran.status == 3 and ran.text in (*fronts, UNAVAILABLE)
-        expect(is_known, f"rehearsal of {script} without allocation {number}", ran)
+        what = f"rehearsal of {script} without allocation {number}"
+        expect(is_known, what, ran)
+        expect_ample(ran, what, ran.text == fronts[-1] and ran.status == 0)
         return ran.is_refused
 
     return refuse_each(attempt)
@@ -117,6 +127,7 @@ def rehearsals(program, script):
 def line_over_file(program, words, before, answer, after):
     """One line on copies of an office."""
     is_read = words[0] == "export"
+    expect(answer.text not in ("", UNAVAILABLE), f"{' '.join(words)} with ample memory", answer)
     with tempfile.TemporaryDirectory() as name:
         office, kept = Path(name) / "office.db", Kept(before, after)
 
@@ -131,6 +142,7 @@ def line_over_file(program, words, before, answer, after):
             else:
                 front = answer.text[:len(ran.text)] if is_read else ""
                 expect(ran.status == 3 and content in (kept.before, kept.after) and ran.text == front, what, ran)
+            expect_ample(ran, what, (ran.text, ran.status) == (answer.text, answer.status))
             return ran.is_refused
 
         return refuse_each(attempt)
@@ -176,7 +188,9 @@ def served(program, office, port, request):
     with tempfile.TemporaryDirectory() as name:
         copy = Path(name) / "office.db"
         copy_office(office, copy)
-        ample, _ = serve_once(program, copy, port, request, 0)
+        ample, ran = serve_once(program, copy, port, request, 0)
+        is_served = ample.startswith("HTTP/1.1 ") and not ample.startswith(UNSERVED)
+        expect(is_served, f"{request} with ample memory: {ample[:40]}", ran)
         kept = Kept(office, copy)
 
         def attempt(number):
@@ -186,7 +200,9 @@ def served(program, office, port, request):
             if answer == ample:
                 expect(content == kept.after, what, ran)
             else:
-                expect(content == kept.before and (answer.startswith("HTTP/1.1 503 ") or not answer and ran.status == 3), what, ran)
+                is_told = answer.startswith(UNSERVED) or not answer and ran.status == 3
+                expect(content == kept.before and is_told, what, ran)
+            expect_ample(ran, what, answer == ample and ran.status == 0)
             return ran.is_refused
 
         return refuse_each(attempt)
@@ -229,7 +245,7 @@ def main(path, tests, refuse, jobs):
         refused += tell("lines over a file", pool.starmap(line_over_file, steps, 1), began)
         began = time.monotonic()
         office = next(before for _, words, before, _, _ in steps if words == ["close"])
-        requests = [(program, office, 18300 + number, request) for number, request in enumerate(REQUESTS)]
+        requests = [(program, office, free_port(), request) for request in REQUESTS]
         refused += tell("residents' requests", pool.starmap(served, requests, 1), began)
     print(f"{refused} allocations refused, each answered as it has to be")
 

@@ -8,10 +8,9 @@
 #
 #     bench/memory.sh 4
 set -euo pipefail
-cd "$(dirname "$0")/.."
-./rooms rehearse </dev/null
+. "$(dirname "$0")/program.sh"
 (cd crates/fault_tests && rt test >&2)
 refuse=$(mktemp -d)/refuse.so
 trap 'rm -rf "$(dirname "$refuse")"' EXIT
 cc -shared -fPIC -O1 -o "$refuse" bench/refuse.c
-python3 bench/memory.py crates/office_cli/out/office_cli crates/fault_tests/out/fault_tests_tests "$refuse" "${1:-$(nproc)}"
+python3 bench/memory.py "$program" crates/fault_tests/out/fault_tests_tests "$refuse" "${1:-$(nproc)}"

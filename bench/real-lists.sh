@@ -5,6 +5,5 @@
 #
 #     bench/real-lists.sh
 set -euo pipefail
-cd "$(dirname "$0")/.."
-./rooms rehearse </dev/null
-exec python3 bench/real_lists.py crates/office_cli/out/office_cli
+. "$(dirname "$0")/program.sh"
+exec python3 bench/real_lists.py "$program"

@@ -5,6 +5,5 @@
 #
 #     bench/residents.sh 10000
 set -euo pipefail
-cd "$(dirname "$0")/.."
-./rooms rehearse </dev/null
-exec python3 bench/residents.py crates/office_cli/out/office_cli "${1:-10000}"
+. "$(dirname "$0")/program.sh"
+exec python3 bench/residents.py "$program" "${1:-10000}"

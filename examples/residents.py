@@ -1,12 +1,16 @@
 """Runs a page of documentation: its lines of `./rooms` and `curl`, and its Python, compared with the answers beside them."""
 
 import re
+import select
 import shlex
 import socket
 import subprocess
 import sys
 import tempfile
 from pathlib import Path
+
+# No line of the page takes so many seconds, unless it waits in vain.
+LONGEST = 60
 
 
 def blocks(page):
@@ -29,12 +33,19 @@ class Run:
         if "serve" in words:
             self.end_server()
             self.server = subprocess.Popen(words, cwd=self.folder, stdout=subprocess.PIPE, text=True)
-            if self.server.stdout.readline() != f"listening on 127.0.0.1:{self.port}\n":
+            told, _, _ = select.select([self.server.stdout], [], [], LONGEST)
+            if not told or self.server.stdout.readline() != f"listening on 127.0.0.1:{self.port}\n":
                 sys.exit("the server does not listen")
             return
         if words[0] == self.program:
             self.end_server()
-        self.printed = subprocess.run(words, cwd=self.folder, check=True, capture_output=True, text=True).stdout
+        if words[0] == "curl":
+            words[1:1] = ["-m", "20"]
+        self.printed = self.run(words)
+
+    def run(self, words):
+        """What a command prints."""
+        return subprocess.run(words, cwd=self.folder, check=True, capture_output=True, text=True, timeout=LONGEST).stdout
 
     def compare(self, lines):
         """What was printed is what stands on the page."""
@@ -53,7 +64,7 @@ class Run:
     def block(self, word, lines):
         if word == "python":
             code = "\n".join(lines).replace("8080", self.port)
-            self.printed = subprocess.run([sys.executable, "-c", code], check=True, capture_output=True, text=True).stdout
+            self.printed = self.run([sys.executable, "-c", code])
             return
         answers = []
         for text in lines:

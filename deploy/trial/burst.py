@@ -94,12 +94,14 @@ async def burst(port, during):
 def on_record(stand, residents):
     """Everything that was answered as recorded is on record, and nobody has another list than the one handed in."""
     lists = stand.recorded()
-    for resident in residents:
+    differing = [one for one in residents if lists.get(person_of(one.number), []) != (one.kept or [])]
+    lost = [person_of(one.number) for one in differing if one.kept]
+    check("nothing that was answered is lost", not lost, lost)
+    for resident in differing:
+        # The server was stopped after it had recorded the list and before it had answered; the proxy sent it again.
         recorded = lists.get(person_of(resident.number), [])
-        if recorded != (resident.kept or []):
-            # The server was stopped after it had recorded the list and before it had answered; the proxy sent it again.
-            check(f"{person_of(resident.number)} was told that the round is closed, and has the list handed in",
-                  resident.refused and recorded == choices_of(resident.number), recorded)
+        check(f"{person_of(resident.number)} was told that the round is closed, and has the list handed in",
+              resident.refused and recorded == choices_of(resident.number), recorded)
 
 
 def try_burst(program):
@@ -122,5 +124,4 @@ def try_burst(program):
         stand.kill()
         stand.unit_ended()
         on_record(stand, residents)
-        check("nothing that was answered is lost", True)
         check("no log of the proxy has a key", "key0" not in stand.proxy_log())

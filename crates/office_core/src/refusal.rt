@@ -45,7 +45,7 @@ pub enum Refusal {
     NotInRound,
     /// No round of this number is over: it is 0, has not begun, or is still under way.
     NoSuchRound,
-    /// The room is in use.
+    /// The room is not shut.
     NotShut,
     /// Memory was refused.
     OutOfMemory,

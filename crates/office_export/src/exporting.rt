@@ -27,7 +27,7 @@ use std::io::Write;
 struct NoRecord;
 
 /// Writes the export of the office whose rows the tables are. Its rows are taken one at a time from one query, and each is
-/// written before the next is taken. It does not flush, and changes no table.
+/// written before the next is taken. It does not flush, and no office's table changes.
 ///
 /// # Errors
 ///

@@ -5,7 +5,7 @@ use Rattle.sqlite_store.specs.declared.store.FileStore.{FileStore}
 use Rattle.sqlite_wal.specs.Recovery.{Image}
 use Rattle.sqlite.specs.Files.{file_state}
 use Rattle.sqlite.specs.Held.{Held}
-use Rattle.office_file.specs.Adopted.{BeginsFound, IsFileFault, RefusesFound, ShowsFound}
+use Rattle.office_file.specs.Adopted.{BeginsFound, IsFileFault, RefusesFound, ShowsFound, StaysFound}
 use Rattle.office_file.specs.Files.{BeginsBlank, IsCreateFault, IsOpenedOver, RefusesNew}
 use Rattle.office_load.specs.Layout.{is_laid_out}
 use Rattle.office_store.specs.Desk.{DeskState}
@@ -26,9 +26,9 @@ module _ {D : Type 0} {g : Ghosts D} (contents : Image) (connection : Held (File
 
   pub begins_found : (found : Result (DeskState (FileStore D g)) DeskFault) → IsOpenedOver contents connection
       → OnOk found (IsTrue (is_laid_out (file_state connection).now.schema)) → IfOk found (λ desk. Follows (file_state connection) (file_state desk.conn)) → IfOk found (λ desk. IsSome desk.kept) → IfOk found (ShowsFound connection)
-      → IfOk found (BeginsFound contents)
-  begins_found (Ok desk) opened laid follows kept shows = record { connection = connection; opened = opened; laid = laid; follows = follows; kept = kept; shows = shows }
-  begins_found (Err fault) opened laid follows kept shows = tt
+      → IfOk found (StaysFound connection) → IfOk found (BeginsFound contents)
+  begins_found (Ok desk) opened laid follows kept shows unchanged = record { connection = connection; opened = opened; laid = laid; follows = follows; kept = kept; shows = shows; unchanged = unchanged }
+  begins_found (Err fault) opened laid follows kept shows unchanged = tt
 
   pub file_fault : (found : Result (DeskState (FileStore D g)) DeskFault) → IsOpenedOver contents connection → RefusesFound connection found → IsFileFault contents found
   file_fault (Ok desk) opened refuses = tt

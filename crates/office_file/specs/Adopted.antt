@@ -26,9 +26,18 @@ module _ {D : Type 0} {g : Ghosts D} where
       → AreWhole (file_state connection).now.trees
       → (office : Office) × HoldsOffice (file_state connection).now office × Shows over_files desk office
 
-  -- The database of a connection is refused for this, where the disk returned what was written and the tables are declared
-  -- as those of an office. Its tables are then as they were, as long as no fault shuts the connection. No statement has run
-  -- where it is not laid out as an office's tables are.
+  -- the tables of the desk are those that the connection had, where they are declared as those of an office, as long as no
+  -- fault shuts the connection
+  abbrev pub StaysFound : Held (FileStore D g) → DeskState (FileStore D g) → Type 0
+  StaysFound connection desk =
+      IsHonest (file_state desk.conn) → AreDeclared (file_state connection).now.schema
+      → (file_state desk.conn).now ≡ (file_state connection).now
+
+  -- The database of a connection is refused for this: only as what is declared allows, whatever the disk does (`allowed`); and
+  -- only as what the tables hold allows, where they are declared as those of an office and the disk returns what was written in
+  -- each state that may follow (`cause`). The connection is let go: `refused` is some state that follows it, the connection
+  -- itself or another, and none is known to be the last one. So `follows`, `undone` and `unread` tell nothing of what is left
+  -- in the file.
   pub record MayRefuseFound (connection refused : Held (FileStore D g)) (fault : DeskFault) : Type 0 where
     pub follows : Follows (file_state connection) (file_state refused)
     pub undone : IsHonest (file_state refused) → AreDeclared (file_state connection).now.schema
@@ -42,8 +51,8 @@ module _ {D : Type 0} {g : Ghosts D} where
   RefusesFound connection result = IfErr result (λ fault. (refused : Held (FileStore D g)) × MayRefuseFound connection refused fault)
 
 module _ {D : Type 0} {g : Ghosts D} (contents : Image) where
-  -- The desk goes on from an opening that found the tables of an office, and nothing beside them. It keeps an office, and shows
-  -- the one that was found.
+  -- The desk goes on from an opening that found the tables of an office, and nothing beside them. It keeps an office. It
+  -- shows the one that was found, and the tables stay as they were, each under its own premises (`shows`, `unchanged`).
   pub record BeginsFound (desk : DeskState (FileStore D g)) : Type 0 where
     pub connection : Held (FileStore D g)
     pub opened : IsOpenedOver contents connection
@@ -51,6 +60,7 @@ module _ {D : Type 0} {g : Ghosts D} (contents : Image) where
     pub follows : Follows (file_state connection) (file_state desk.conn)
     pub kept : IsSome desk.kept
     pub shows : ShowsFound connection desk
+    pub unchanged : StaysFound connection desk
 
   -- the files were not opened, or what an opening found is refused
   abbrev pub IsFileFault : Result (DeskState (FileStore D g)) DeskFault → Type 0

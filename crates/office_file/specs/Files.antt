@@ -23,8 +23,9 @@ pub record Finds (contents : Image) (s : State) : Type 0 where
   pub found : FindsIn contents s
 
 module _ {D : Type 0} {g : Ghosts D} where
-  -- The database of a connection is refused for this: `AlreadyThere` exactly where a name is taken. Its tables are then as
-  -- they were, as long as no fault shuts the connection.
+  -- The database of a connection is refused for this: `AlreadyThere` exactly where a name is taken. The connection is
+  -- let go: `refused` is some state that follows it, the connection itself or another, and none is known to be the last one.
+  -- So `follows` and `undone` tell nothing of what is left in the file.
   pub record MayRefuseNew (connection refused : Held (FileStore D g)) (fault : DeskFault) : Type 0 where
     pub follows : Follows (file_state connection) (file_state refused)
     pub undone : IsHonest (file_state refused) → (file_state refused).now ≡ (file_state connection).now

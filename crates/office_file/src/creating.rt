@@ -25,7 +25,7 @@ pub type FileDesk<S> = Desk<FileStore<FileFrom<S>>>;
 ///
 /// `AlreadyThere` only where a table, an index, a view or a trigger of the file has one of the eight names. Else
 /// `Unavailable`: the path names no file that can be opened, the file is no database, other tables are there, or the
-/// disk or memory did not serve. The tables of the file stay as they were.
+/// disk or memory did not serve. What was opened is let go, so that nothing is said of what the file then holds.
 pub fn create_file<S: Start>(
     rt: &HostRuntime,
     path: &str,
@@ -47,7 +47,8 @@ pub fn create_file<S: Start>(
 /// # Errors
 ///
 /// `AlreadyThere` exactly where a table, an index, a view or a trigger has one of the eight names. Else `Unavailable`:
-/// something else is declared, or the disk or memory did not serve. The tables of the file stay as they were.
+/// something else is declared, or the disk or memory did not serve. That the tables are then as they were is said by
+/// `Desk::create`, of the connection that it gives back, and not here.
 pub fn create_over<S: Start>(
     alloc: Global,
     connection: FileConnection<S>,

@@ -2,7 +2,7 @@
 ghost use Rattle.std.specs.Prelude.{◌≡◌, false, IfOk, IsErrAnd, IsSome, IsTrue, OnOk};
 ghost use Rattle.sqlite_wal.specs.Files.{image_at};
 ghost use Rattle.sqlite.specs.Files.{file_state};
-ghost use Rattle.office_file.specs.Adopted.{BeginsFound, IsFileFault, RefusesFound, ShowsFound};
+ghost use Rattle.office_file.specs.Adopted.{BeginsFound, IsFileFault, RefusesFound, ShowsFound, StaysFound};
 ghost use Rattle.office_load.specs.Finding.{names_round};
 ghost use Rattle.office_load.specs.Layout.{is_laid_out};
 ghost use Rattle.office_tables.specs.Steps.{Follows};
@@ -20,7 +20,8 @@ use std::alloc::Global;
 ///
 /// `NotAnOffice` and `OtherVersion` only of a database that was opened, as `Desk::adopt` tells them. Else
 /// `Unavailable`: there is no file that can be opened, the file is no database, what it declares is not the tables of
-/// an office alone, or the disk or memory did not serve. The tables of the file stay as they were.
+/// an office alone, or the disk or memory did not serve. What was opened is let go, so that nothing is said of what the
+/// file then holds.
 pub fn on_file<S: Start>(rt: &HostRuntime, path: &str, start: S) -> Result<FileDesk<S>, DeskFault>
     ensures shows { IfOk result (BeginsFound (image_at S.Start)) }
     ensures cause { IsFileFault (image_at S.Start) result }
@@ -34,7 +35,8 @@ pub fn on_file<S: Start>(rt: &HostRuntime, path: &str, start: S) -> Result<FileD
 ///
 /// # Errors
 ///
-/// Those of `Desk::adopt`. The tables of the file stay as they were.
+/// Those of `Desk::adopt`. That the tables are then as they were is said by `Desk::adopt`, of the connection that it gives
+/// back, and not here.
 pub fn adopt_over<S: Start>(
     alloc: Global,
     connection: FileConnection<S>,
@@ -45,6 +47,7 @@ pub fn adopt_over<S: Start>(
     ensures kept { IfOk result (λ desk. IsSome desk.kept) }
     ensures laid { OnOk result (IsTrue (is_laid_out (file_state connection).now.schema)) }
     ensures shows { IfOk result (ShowsFound connection) }
+    ensures unchanged { IfOk result (StaysFound connection) }
     ensures absent { names_round (file_state connection).now.schema ≡ false
         → IsErrAnd result (λ fault. fault ≡ DeskFault.NotAnOffice) }
     ensures refuses { RefusesFound connection result }

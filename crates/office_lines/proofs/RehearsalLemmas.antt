@@ -17,7 +17,7 @@ use Rattle.office_lines.specs.Runs.{texts_of, greatest_status}
 use Rattle.office_lines.specs.Rehearsals.{WholeInput, PartOfInput, WholeLines, WantsMemory, Rehearses}
 use Rattle.office_lines.specs.Sessions.{ended_from, partial_from, State, Heard, Halted, Finished, Unfinished, Listened, Stopped, Cut, OnlyWhereFailed}
 use Rattle.office_lines.proofs.LineLemmas.{ended_lines-is, last_part-is}
-use Rattle.office_lines.proofs.RunLemmas.{Run-append, greatest_status-append, texts_of-append, texts_front-append, texts_front-more}
+use Rattle.office_lines.proofs.RunLemmas.{Run-append, greatest_status-append, texts_of-append, texts_front-append, texts_front-more, last_is_made-append}
 use Rattle.office_lines.proofs.SessionLemmas.{short_unended}
 use Rattle.room_types.proofs.StreamLemmas.{Puts-trans}
 
@@ -108,6 +108,7 @@ module _ {H : Type 0} (handles : H → Request → Answer → H → Type 0) wher
         | inl k ↦ inl (
           omega (arith, count, f.whole, k.0, texts_front-more answers f.answers (omega (arith, k.1, f.all))),
           omega (arith, count, k.1, f.all, total, ap length (texts_of-append answers f.answers)),
+          last_is_made-append answers f.answers (omega (arith, k.1, f.all)) ∙ k.2,
         )
         | inr k ↦ absurd (omega (arith, k.1))
       ]
@@ -148,7 +149,7 @@ module _ {H : Type 0} (handles : H → Request → Answer → H → Type 0) wher
   wants_halted o o' out out' i i' n m bytes r each f near e =
       let begun : length (last_part f.heard) ≡ length (partial_from [] f.heard) = ap length (last_part-is f.heard) in
       elim f.suits.1 [
-        | inl k ↦ inl (omega (arith, e, f.whole, k.0), omega (arith, e, k.1, f.all))
+        | inl k ↦ inl (omega (arith, e, f.whole, k.0), omega (arith, e, k.1, f.all), k.2)
         | inr k ↦ inr (omega (arith, e, k.0, f.all), sym (ended_lines-is f.heard), omega (arith, begun, k.1), omega (arith, begun, k.2))
       ]
 

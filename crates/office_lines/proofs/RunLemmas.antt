@@ -11,7 +11,7 @@ use Rattle.office_words.specs.declared.sentences.Sentence.{Sentence}
 use Rattle.office_words.specs.declared.sentences.Sentence.TheVariants.{Silent, Asks, Unclear}
 use Rattle.office_texts.specs.declared.said.Said.TheVariants.{Answered}
 use Rattle.office_store.specs.declared.requests.Answer.TheVariants.{Unavailable}
-use Rattle.office_lines.specs.Runs.{Answers, Run, Step, texts_of, greatest_status}
+use Rattle.office_lines.specs.Runs.{Answers, Run, Step, texts_of, last_is_made, greatest_status}
 
 module _ {H : Type 0} (handles : H → Request → Answer → H → Type 0) where
   answers_unavailable : (o : H) (sentence : Sentence) (begins : Bool) → is_silent sentence ≡ false → begins ≡ true
@@ -53,6 +53,13 @@ texts_front-more [] (s ∷ ss) some = omega arith
 texts_front-more (r ∷ []) (s ∷ ss) some = omega (arith, length-append (text_of r) (texts_of (front (s ∷ ss))), length-append (text_of r) [])
 texts_front-more (r ∷ q ∷ rs) (s ∷ ss) some =
     omega (arith, length-append (text_of r) (texts_of (front (q ∷ rs ++ s ∷ ss))), length-append (text_of r) (texts_of (q ∷ rs)), texts_front-more (q ∷ rs) (s ∷ ss) some)
+
+-- the last of two lists, where the second has bytes
+pub last_is_made-append : (rs ss : List Said) → 0 < length (texts_of ss) → last_is_made (rs ++ ss) ≡ last_is_made ss
+last_is_made-append rs [] some = absurd (omega (arith, some))
+last_is_made-append [] (s ∷ ss) some = refl
+last_is_made-append (r ∷ []) (s ∷ ss) some = refl
+last_is_made-append (r ∷ q ∷ rs) (s ∷ ss) some = last_is_made-append (q ∷ rs) (s ∷ ss) some
 
 -- all texts but the last of two lists
 pub texts_front-append : (rs ss : List Said) → length (texts_of (front (rs ++ ss))) ≤ length (texts_of rs) + length (texts_of (front ss))

@@ -1,6 +1,6 @@
 -- What is heard of pieces of the input, one after the other.
 use Rattle.std.proofs.Common.{rules, tests, ◌≡◌, ℕ, ◌+◌, ◌<◌, ◌≤◌, Bool, true, false, eqb, max, List, [], ◌∷◌, ◌++◌, length, refl, sym, ap, ◌∙◌, subst, arith, append_assoc, append-nil, length-append, Option, inl, inr, ◌⊎◌}
-use Rattle.std.specs.Prelude.{◌&&◌, ◌||◌, ◌^◌}
+use Rattle.std.specs.Prelude.{◌^◌}
 use Rattle.std.specs.List.{list_all}
 use Rattle.std.specs.Io.KnownBytes.{Consumes, Keeps}
 use Rattle.std.proofs.KnownBytes.{Consumes-trans, Consumes-nil, Consumes-kept}
@@ -19,7 +19,7 @@ use Rattle.office_texts.specs.Texts.{text_of}
 use Rattle.office_lines.specs.Runs.{texts_of, greatest_status}
 use Rattle.office_lines.specs.Sessions.{ended_from, partial_from, State, Heard, Suits, Halted, Answered, Broken, Finished, Unfinished, Listened, Stopped, OnlyWhereFailed}
 use Rattle.office_lines.proofs.LineLemmas.{ended_from-append, partial_from-append}
-use Rattle.office_lines.proofs.RunLemmas.{Run-append, greatest_status-append, texts_of-append, texts_front-within, texts_front-append, texts_front-more}
+use Rattle.office_lines.proofs.RunLemmas.{Run-append, greatest_status-append, texts_of-append, texts_front-within, texts_front-append, texts_front-more, last_is_made-append}
 use Rattle.room_types.proofs.StreamLemmas.{Puts-nil, Puts-trans, Puts-kept}
 
 -- one read more than gave a byte each
@@ -39,12 +39,13 @@ one_unended : (begun : List ℕ) → 0 < length begun → unended begun ≡ begu
 one_unended [] e = absurd (omega arith)
 one_unended (b ∷ bs) e = refl
 
-Suits-along : (e : Ending) (a a' l l' u n n' : ℕ) → a ≡ a' → (0 < u → l' ≡ l) → n ≡ n' → Suits e a l u n → Suits e a' l' u n'
-Suits-along Ended a a' l l' u n n' p r q h = h
-Suits-along ReadFault a a' l l' u n n' p r q h = (h.0, sym q ∙ h.1)
-Suits-along (WriteFault m) a a' l l' u n n' p r q h = h ∙ p
-Suits-along (NoMemory m) a a' l l' u n n' p r q h =
-    (h.0 ∙ p, elim h.1 [ inl k ↦ inl (r k.1 ∙ k.0, k.1) | inr k ↦ inr (k.0, omega (arith, k.1, q), omega (arith, k.2, q)) ])
+Suits-along : (e : Ending) (a a' l l' u : ℕ) (made made' : Bool) (n n' : ℕ) → a ≡ a' → (0 < u → l' ≡ l) → (0 < u → made' ≡ made) → n ≡ n'
+    → Suits e a l u made n → Suits e a' l' u made' n'
+Suits-along Ended a a' l l' u made made' n n' p r t q h = h
+Suits-along ReadFault a a' l l' u made made' n n' p r t q h = (h.0, sym q ∙ h.1)
+Suits-along (WriteFault m) a a' l l' u made made' n n' p r t q h = h ∙ p
+Suits-along (NoMemory m) a a' l l' u made made' n n' p r t q h =
+    (h.0 ∙ p, elim h.1 [ inl k ↦ inl (r k.1 ∙ k.0, k.1, t k.1 ∙ k.2) | inr k ↦ inr (k.0, omega (arith, k.1, q), omega (arith, k.2, q)) ])
 
 -- what failed, from an earlier time on
 pub OnlyWhereFailed-since : (e : Ending) (a b c : Bool) → b ≡ a → OnlyWhereFailed e b c → OnlyWhereFailed e a c
@@ -128,8 +129,9 @@ module _ {H : Type 0} (handles : H → Request → Answer → H → Type 0) wher
         written = rw (texts, take-append-add first (texts_of q.answers) q.sent) (Puts-trans s.out t.out out _ _ p.written q.written);
         all = omega (arith, q.all, ap length texts, length-append first (texts_of q.answers));
         whole = omega (arith, texts_front-append p.answers q.answers, q.whole);
-        suits = Suits-along e _ _ _ _ _ _ _ (omega (arith, p.sent))
-            (λ some. omega (arith, texts_front-more p.answers q.answers (omega (arith, some, q.all)))) (ap length begun) q.suits;
+        suits = Suits-along e _ _ _ _ _ _ _ _ _ (omega (arith, p.sent))
+            (λ some. omega (arith, texts_front-more p.answers q.answers (omega (arith, some, q.all))))
+            (λ some. last_is_made-append p.answers q.answers (omega (arith, some, q.all))) (ap length begun) q.suits;
       }
 
   -- ---- one byte
@@ -168,7 +170,7 @@ module _ {H : Type 0} (handles : H → Request → Answer → H → Type 0) wher
         written = rw text h.written;
         all = h.all ∙ ap length (sym text);
         whole = omega arith;
-        suits = Suits-along ending _ _ _ _ _ _ _ refl (λ some. omega arith) refl h.suits;
+        suits = Suits-along ending _ _ _ _ _ _ _ _ _ refl (λ some. omega arith) (λ some. refl) refl h.suits;
       })
 
   -- a byte that goes on with a line
@@ -257,7 +259,7 @@ module _ {H : Type 0} (handles : H → Request → Answer → H → Type 0) wher
         written = rw text h.written;
         all = h.all ∙ ap length (sym text);
         whole = omega arith;
-        suits = Suits-along ending _ _ _ _ _ _ _ refl (λ some. omega arith) refl h.suits;
+        suits = Suits-along ending _ _ _ _ _ _ _ _ _ refl (λ some. omega arith) (λ some. refl) refl h.suits;
       }
 
   -- a flush that failed

@@ -1,5 +1,5 @@
 -- A rehearsal over who handles requests is one over what is shown, where each request is.
-use Rattle.std.proofs.Common.{◌≡◌, ℕ, List, [], ◌∷◌, refl, sym, subst}
+use Rattle.std.proofs.Common.{ℕ, List, [], ◌∷◌, refl, sym, subst}
 use Rattle.office_store.specs.declared.requests.Answer.{Answer}
 use Rattle.office_store.specs.declared.requests.Request.{Request}
 use Rattle.office_lines.specs.Lines.{ended_lines, lines_of}

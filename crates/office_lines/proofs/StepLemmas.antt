@@ -1,5 +1,5 @@
 -- A line that somebody hears is heard by what they show, where each request is handled so.
-use Rattle.std.proofs.Common.{◌≡◌, ℕ, Bool, List, inl, inr, refl, sym, subst}
+use Rattle.std.proofs.Common.{ℕ, Bool, List, inl, inr, refl, sym, subst}
 use Rattle.office_store.specs.declared.requests.Answer.{Answer}
 use Rattle.office_store.specs.declared.requests.Request.{Request}
 use Rattle.office_lines.specs.Runs.{Answers}

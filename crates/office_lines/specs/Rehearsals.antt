@@ -11,14 +11,14 @@ use Rattle.office_lines.specs.declared.ending.Ending.{Ending}
 use Rattle.office_lines.specs.declared.ending.Ending.TheVariants.{Ended, ReadFault, WriteFault, NoMemory}
 use Rattle.office_lines.specs.Lines.{is_short, line_limit, piece_limit, read_limit, front, lines_of, ended_lines, last_part}
 use Rattle.room_types.specs.Streams.{Input, Output, Puts}
-use Rattle.office_lines.specs.Runs.{Run, texts_of, greatest_status}
+use Rattle.office_lines.specs.Runs.{Run, texts_of, last_is_made, greatest_status}
 
 -- Why memory was wanting after these lines of what was heard, these answers and so many bytes sent: for the text of the last
--- answer, which has bytes, and none of them went out; or for a line that has begun and is not too long, when all that was
--- answered had gone out.
+-- answer, which is made in memory and has bytes, and none of them went out; or for a line that has begun and is not too long,
+-- when all that was answered had gone out.
 abbrev pub WantsMemory : List ℕ → List (List ℕ) → List Said → ℕ → Type 0
 WantsMemory heard lines answers sent =
-    ((sent ≡ length (texts_of (front answers))) × (sent < length (texts_of answers)))
+    ((sent ≡ length (texts_of (front answers))) × (sent < length (texts_of answers)) × (last_is_made answers ≡ true))
     ⊎ ((sent ≡ length (texts_of answers)) × (lines ≡ ended_lines heard) × (0 < length (last_part heard)) × (length (last_part heard) ≤ line_limit))
 
 module _ {H : Type 0} (handles : H → Request → Answer → H → Type 0) where

@@ -1,5 +1,5 @@
 -- Runs of lines.
-use Rattle.std.specs.Prelude.{◌≡◌, ℕ, Bool, true, ◌⊎◌, max, List, [], ◌∷◌}
+use Rattle.std.specs.Prelude.{◌≡◌, ℕ, Bool, true, false, not, ◌⊎◌, max, List, [], ◌∷◌}
 use Rattle.std.specs.List.{flat_map}
 use Rattle.office_store.specs.declared.requests.Request.{Request}
 use Rattle.office_store.specs.declared.requests.Answer.{Answer}
@@ -9,7 +9,7 @@ use Rattle.office_words.specs.declared.sentences.Sentence.TheVariants.{Silent, A
 use Rattle.office_texts.specs.declared.said.Said.{Said}
 use Rattle.office_texts.specs.declared.said.Said.TheVariants.{Nothing, Answered, NotUnderstood}
 use Rattle.office_words.specs.Sentences.{begins_request, sentence_of}
-use Rattle.office_texts.specs.Texts.{text_of, status_of}
+use Rattle.office_texts.specs.Texts.{is_constant, text_of, status_of}
 
 module _ {H : Type 0} (handles : H → Request → Answer → H → Type 0) where
   -- What may be said of a line that says this, and who handles requests after it. Of a silent line nothing is said. What is not
@@ -37,6 +37,12 @@ module _ {H : Type 0} (handles : H → Request → Answer → H → Type 0) wher
 -- the texts one after another
 abbrev pub texts_of : List Said → List ℕ
 texts_of all = flat_map text_of all
+
+-- The text of the last one is made in memory: there is one, and its text is no constant.
+abbrev pub last_is_made : List Said → Bool
+last_is_made [] = false
+last_is_made (said ∷ []) = not (is_constant said)
+last_is_made (said ∷ next ∷ others) = last_is_made (next ∷ others)
 
 -- the greatest status, 0 without any
 abbrev pub greatest_status : List Said → ℕ

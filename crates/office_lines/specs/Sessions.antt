@@ -1,5 +1,5 @@
 -- What a rehearsal did with a part of its input: words of inner contracts and invariants.
-use Rattle.std.specs.Prelude.{◌≡◌, ℕ, ◌+◌, ◌-◌, ◌<◌, ◌≤◌, ◌⊎◌, Bool, true, max, List, [], ◌∷◌, ◌++◌, length, take, Option, if◌then◌else◌}
+use Rattle.std.specs.Prelude.{◌≡◌, ℕ, ◌+◌, ◌-◌, ◌<◌, ◌≤◌, ◌⊎◌, Bool, true, not, max, List, [], ◌∷◌, ◌++◌, length, take, Option, if◌then◌else◌}
 use Rattle.std.specs.List.{list_all}
 use Rattle.std.specs.Io.KnownBytes.{Consumes}
 use Rattle.office_texts.specs.declared.said.Said.{Said}
@@ -10,8 +10,8 @@ use Rattle.office_store.specs.declared.requests.Answer.{Answer}
 use Rattle.office_store.specs.declared.requests.Request.{Request}
 use Rattle.office_lines.specs.Lines.{is_short, is_line_end, line_limit, piece_limit, read_limit, front, unended}
 use Rattle.room_types.specs.Streams.{Input, Output, Puts}
-use Rattle.office_texts.specs.Texts.{text_of, status_of}
-use Rattle.office_lines.specs.Runs.{Run, Step, texts_of, greatest_status}
+use Rattle.office_texts.specs.Texts.{is_constant, text_of, status_of}
+use Rattle.office_lines.specs.Runs.{Run, Step, texts_of, last_is_made, greatest_status}
 
 -- the lines that the bytes end, where a line has begun already
 abbrev pub ended_from : List ℕ → List ℕ → List (List ℕ)
@@ -41,14 +41,15 @@ state handler out session = record {
   status = session.status;
 }
 
--- How an ending fits the number of bytes sent, of those among them of the last text, of those not sent, and the length of the
--- line that has begun. Memory was wanting for the last text, of which nothing went out, or for the line that has begun.
-abbrev pub Suits : Ending → ℕ → ℕ → ℕ → ℕ → Type 0
-Suits Ended sent of_last unsent begun = ⊥
-Suits ReadFault sent of_last unsent begun = (unsent ≡ 0) × (begun ≡ line_limit + 1)
-Suits (WriteFault n) sent of_last unsent begun = n ≡ sent
-Suits (NoMemory n) sent of_last unsent begun =
-    (n ≡ sent) × (((of_last ≡ 0) × (0 < unsent)) ⊎ ((unsent ≡ 0) × (0 < begun) × (begun ≤ line_limit)))
+-- How an ending fits the number of bytes sent, of those among them of the last text, of those not sent, whether the last text is
+-- made in memory, and the length of the line that has begun. Memory was wanting for the last text, of which nothing went out,
+-- or for the line that has begun.
+abbrev pub Suits : Ending → ℕ → ℕ → ℕ → Bool → ℕ → Type 0
+Suits Ended sent of_last unsent made begun = ⊥
+Suits ReadFault sent of_last unsent made begun = (unsent ≡ 0) × (begun ≡ line_limit + 1)
+Suits (WriteFault n) sent of_last unsent made begun = n ≡ sent
+Suits (NoMemory n) sent of_last unsent made begun =
+    (n ≡ sent) × (((of_last ≡ 0) × (0 < unsent) × (made ≡ true)) ⊎ ((unsent ≡ 0) × (0 < begun) × (begun ≤ line_limit)))
 
 -- how many of the bytes that went out are of the last text
 abbrev pub of_last_text : ℕ → List Said → ℕ
@@ -89,7 +90,7 @@ module _ {H : Type 0} (handles : H → Request → Answer → H → Type 0) wher
     pub written : Puts before.out out (take sent (texts_of answers))
     pub all : sent + unsent ≡ length (texts_of answers)
     pub whole : length (texts_of (front answers)) ≤ sent
-    pub suits : Suits ending (before.sent + sent) (of_last_text sent answers) unsent (length (partial_from before.partial_line heard))
+    pub suits : Suits ending (before.sent + sent) (of_last_text sent answers) unsent (last_is_made answers) (length (partial_from before.partial_line heard))
 
   -- The line that had come was answered, and all of the text went out.
   pub record Answered (before after : State H) : Type 0 where
@@ -110,7 +111,7 @@ module _ {H : Type 0} (handles : H → Request → Answer → H → Type 0) wher
     pub step : Step handles before.handler before.partial_line said handler
     pub written : Puts before.out out (take sent (text_of said))
     pub all : sent + unsent ≡ length (text_of said)
-    pub suits : Suits ending (before.sent + sent) sent unsent 0
+    pub suits : Suits ending (before.sent + sent) sent unsent (not (is_constant said)) 0
 
   -- The last line, if one has begun, was answered and is gone, its text went out, and the output was flushed so often in all.
   pub record Finished (before after : State H) (flushes : ℕ) : Type 0 where
@@ -133,7 +134,7 @@ module _ {H : Type 0} (handles : H → Request → Answer → H → Type 0) wher
     pub written : Puts before.out out (take sent (texts_of answers))
     pub all : sent + unsent ≡ length (texts_of answers)
     pub whole : length (texts_of (front answers)) ≤ sent
-    pub suits : Suits ending (before.sent + sent) (of_last_text sent answers) unsent 0
+    pub suits : Suits ending (before.sent + sent) (of_last_text sent answers) unsent (last_is_made answers) 0
 
   -- All that was read was heard.
   pub record Listened (before after : State H) (unread unread' : Option (List ℕ)) : Type 0 where

@@ -1,7 +1,7 @@
 //! A text is said, with its status.
 ghost use Rattle.room_types.specs.Streams.{output_of};
 ghost use Rattle.room_types.specs.Watched.{StopsAtFailure};
-ghost use Rattle.office_lines.specs.Saying.{Says};
+ghost use Rattle.office_lines.specs.Saying.{Says, SaysUnavailable};
 
 use office_texts::UNAVAILABLE;
 use room_types::Watched;
@@ -21,4 +21,13 @@ pub fn say<W: Write>(output: &mut Watched<W>, text: &str, status: u8) -> u8
         },
         Err(_) => UNAVAILABLE,
     }
+}
+
+/// Says that memory or the database did not serve, and flushes. The exit status is 3.
+pub fn say_unavailable<W: Write>(output: &mut Watched<W>) -> u8
+    ensures no_late_write { StopsAtFailure output.old output.new }
+    ensures says { SaysUnavailable result (output_of W.contents output.old)
+        (output_of W.contents output.new) }
+{
+    say(output, "unavailable\n", UNAVAILABLE)
 }

@@ -10,6 +10,10 @@ use Rattle.room_types.specs.declared.moves.Wave.TheVariants.{Swap, Nth}
 abbrev pub Mover : Type 0
 Mover = Text × Option Text × Option Text
 
+-- how many entries may have waves
+abbrev pub move_limit : ℕ
+move_limit = 2000
+
 -- no room is the new one of two entries
 abbrev pub NewRoomsDiffer : List Mover → Type 0
 NewRoomsDiffer entries =

@@ -2,7 +2,7 @@
 ghost use Rattle.std.specs.Prelude.{◌≡◌, ◌<◌, ◌≤◌, ℕ, List, Some, length, IfOk, OnErr};
 ghost use Rattle.std.specs.BTreeMap.{get_by};
 ghost use Rattle.room_types.specs.Texts.{Text, text_cmp};
-ghost use Rattle.office_lists.specs.Waves.{Mover as AnyMover, NewRoomsDiffer, AreWaves, HaveOneWaveEach, leaver, leavers as leavers_of, followed, waves_of};
+ghost use Rattle.office_lists.specs.Waves.{Mover as AnyMover, NewRoomsDiffer, AreWaves, HaveOneWaveEach, leaver, leavers as leavers_of, followed, move_limit, waves_of};
 ghost use Rattle.office_lists.specs.Followers.{AreApart, AreFollowers, NumbersChain};
 
 use room_types::{OutOfMemory, PersonId, RoomCode, Wave};
@@ -20,9 +20,10 @@ pub type Mover = (PersonId, Option<RoomCode>, Option<RoomCode>);
 
 /// The wave of each entry, in order: 1 where nobody leaves the new room, a swap where the movers pass their rooms
 /// round in a circle, and else the wave after that of the new room's leaver. The leaver of a room is the first entry
-/// whose old room it is. No entries take no memory. It takes n log n comparisons.
+/// whose old room it is. There are at most 2,000 entries, and their new rooms differ. No entries take no memory. It takes
+/// n log n comparisons.
 pub fn waves(alloc: Global, entries: &[Mover]) -> Result<Vec<Wave>, OutOfMemory>
-    requires few { length entries.now ≤ MOVE_LIMIT }
+    requires few { length entries.now ≤ move_limit }
     requires new_rooms_differ { NewRoomsDiffer entries.now }
     ensures each { IfOk result (λ waves. AreWaves entries.now waves.items) }
     ensures computed { IfOk result (λ waves. waves.items ≡ waves_of entries.now) }

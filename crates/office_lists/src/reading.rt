@@ -26,7 +26,7 @@ const NO_HEADER: ListFault = ListFault::Bad {
 
 // The first record after the last that a list may have.
 const TOO_MANY: ListFault = ListFault::Bad {
-    at: 10_001,
+    at: RECORD_LIMIT as u32 + 1,
     cause: Cause::TooMany,
 };
 

@@ -18,8 +18,8 @@ use sqlite::{Alter, Connection, Error, ErrorCode};
 use std::alloc::Global;
 
 /// The lawful office that the tables hold: its rows are the tables', its texts are in their grammars and its numbers in
-/// their ranges. None is found only where the tables hold no such office. No table is changed, and after an answer the
-/// connection is open. An error comes from the database, from memory that was refused, or from rowids that do not rise,
+/// their ranges. None is found only where the tables hold no such office. No office's table changes, and after an answer
+/// the connection is open. An error comes from the database, from memory that was refused, or from rowids that do not rise,
 /// which no table of the engine has.
 pub fn held<S: Alter>(alloc: Global, conn: &mut Connection<S>) -> Result<Option<Office>, Error>
     requires { conn.old.in_transaction ≡ false }

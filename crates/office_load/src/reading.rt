@@ -24,8 +24,8 @@ use sqlite::{Alter, Connection, Error, ErrorCode};
 use std::alloc::Global;
 
 /// The lawful office whose rows the tables are, where their texts are in their grammars and their numbers in their
-/// ranges, and none where they are no lawful office's rows. Each table is read once and none is changed. An error comes
-/// from the database, or from memory that was refused, and leaves the tables of an office as they were.
+/// ranges, and none where they are no lawful office's rows. Each table is read once, and no office's table changes, also where
+/// there is an error, which comes from the database, or from memory that was refused.
 pub fn load<S: Alter>(alloc: Global, conn: &mut Connection<S>) -> Result<Option<Office>, Error>
     requires { conn.old.in_transaction ≡ false }
     ensures outside { conn.new.in_transaction ≡ false }

@@ -5,7 +5,10 @@ use Rattle.std.proofs.lemmas.List.{take_all}
 use Rattle.sqlite.specs.Held.{state}
 use Rattle.sqlite.specs.State.{HasCleanDisk}
 use Rattle.sqlite_trees.specs.declared.store.Store.{Ghosts}
-use Rattle.office_program.specs.AtDesk.{HearsWords, ImportsDesk}
+use Rattle.office_export.specs.Ending.{PutsFront, StopsWithin, has_failed, sent_of}
+use Rattle.office_export.specs.declared.ending.ExportEnd.{ExportEnd}
+use Rattle.office_export.specs.declared.ending.ExportEnd.TheVariants.{Fault, Unavailable}
+use Rattle.office_program.specs.AtDesk.{EndsEarly, HearsWords, ImportsDesk}
 use Rattle.office_program.specs.Importing.{ImportsFrom, import_request}
 use Rattle.office_program.specs.Shelves.{ImportsOpened, Shelf}
 use Rattle.office_lines.proofs.StepLemmas.{words_shown}
@@ -98,3 +101,9 @@ pub unflushed : (bytes : List ℕ) (out mid out' : Output) → Puts out mid byte
 unflushed bytes out mid out' puts keeps taken failed =
     let whole : take (length bytes) bytes ≡ bytes = take_all (length bytes) bytes (omega arith) in
     inr (refl, failed, length bytes, rw whole (Puts-kept _ _ _ _ puts keeps taken))
+
+-- the export came to this early end
+pub ends_early : (bytes : List ℕ) (end : ExportEnd) (out out' : Output) → PutsFront out out' (sent_of end) bytes → StopsWithin (length bytes) end
+    → out'.failed ≡ has_failed out.failed end → EndsEarly bytes out out'
+ends_early bytes (Fault sent) out out' front short failed = record { sent = sent; front = front; short = inr (failed, short) }
+ends_early bytes (Unavailable sent) out out' front short failed = record { sent = sent; front = front; short = inl failed }

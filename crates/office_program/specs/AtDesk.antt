@@ -1,5 +1,5 @@
 -- What is done at a desk, and what is said where there is none.
-use Rattle.std.specs.Prelude.{◌≡◌, ◌⊎◌, ℕ, List, [], ◌∷◌, Result, Ok, Err, codes}
+use Rattle.std.specs.Prelude.{◌≡◌, ◌⊎◌, ◌<◌, ℕ, true, List, [], ◌∷◌, Result, Ok, Err, length, codes}
 use Rattle.sqlite.specs.Held.{state}
 use Rattle.sqlite.specs.State.{HasCleanDisk}
 use Rattle.sqlite_trees.specs.declared.store.Store.{Ghosts}
@@ -29,12 +29,17 @@ abbrev pub TellsMade : {S : Type 0} → Result (DeskState S) DeskFault → ℕ �
 TellsMade (Ok desk) status out out' = Says (line_of (codes "ok" ∷ [])) 0 status out out'
 TellsMade (Err fault) status out out' = RefusesDesk fault status out out'
 
--- The whole export went out, one flush followed, and the status is 0, or 3 where the flush failed. Or a front of it went out,
--- none followed, and the status is 3.
+-- A front of these bytes went out. Either no write failed, or one did, and they did not all go out.
+pub record EndsEarly (bytes : List ℕ) (out out' : Output) : Type 0 where
+  pub sent : ℕ
+  pub front : PutsFront out out' sent bytes
+  pub short : (out'.failed ≡ out.failed) ⊎ ((out'.failed ≡ true) × (sent < length bytes))
+
+-- The whole export went out, one flush followed, and the status is 0, or 3 where the flush failed. Or it came to an early end,
+-- no flush followed, and the status is 3.
 abbrev pub SendsExport : List ℕ → ℕ → Output → Output → Type 0
 SendsExport bytes status out out' =
-    Says bytes 0 status out out'
-    ⊎ ((status ≡ 3) × (out'.flushes ≡ out.flushes) × (sent : ℕ) × PutsFront out out' sent bytes)
+    Says bytes 0 status out out' ⊎ ((status ≡ 3) × (out'.flushes ≡ out.flushes) × EndsEarly bytes out out')
 
 -- Whatever the disk did: a header and records went out, and one flush followed, as above. Or so many bytes went out, none
 -- followed, and the status is 3.

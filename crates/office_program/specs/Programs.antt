@@ -39,8 +39,8 @@ line_of (program.Import path kind label list) = imports path.now kind label list
 line_of (program.Export path kind) = exports path.now kind
 line_of (program.Serve path port count) = serves path.now port count
 
--- The number that a text is in decimal, where it lies in the bounds. The text of a number is as `clap` reads it: an integer
--- with a sign, whose minus is dropped where the bounds begin at 0 (`-0` is 0).
+-- The number that a text is in decimal, where it lies in the bounds. The text is as `clap` states it: of an integer that is read
+-- with a sign the rows hold it without its minus, where the bounds are not negative (`-0` is 0).
 abbrev pub number_between : ℕ → ℕ → Text → Option ℕ
 number_between low high text = if is_unsigned_in low high text then Some (digits_value 10 (without_leading_plus text)) else None
 
@@ -49,16 +49,16 @@ abbrev pub number_of : ℕ → ℕ → Text → List Row → Option ℕ
 number_of low high id rows = option_and_then (number_between low high) (one_of id rows)
 
 -- `new --db FILE`
-abbrev pub new_line : List Row → Option Line
-new_line rows = option_map makes (first_of (codes "db") rows)
+abbrev pub new_program : List Row → Option Line
+new_program rows = option_map makes (first_of (codes "db") rows)
 
 -- `do --db FILE WORD..`
-abbrev pub do_line : List Row → Option Line
-do_line rows = option_and_then (λ path. option_map (does path) (all_of (codes "word") rows)) (first_of (codes "db") rows)
+abbrev pub do_program : List Row → Option Line
+do_program rows = option_and_then (λ path. option_map (does path) (all_of (codes "word") rows)) (first_of (codes "db") rows)
 
 -- `words --seed HEX --count N`
-abbrev pub words_line : List Row → Option Line
-words_line rows = option_and_then (λ seed. option_map (prints seed) (number_of 0 2000 (codes "count") rows)) (option_and_then seed_of (first_of (codes "seed") rows))
+abbrev pub words_program : List Row → Option Line
+words_program rows = option_and_then (λ seed. option_map (prints seed) (number_of 0 2000 (codes "count") rows)) (option_and_then seed_of (first_of (codes "seed") rows))
 
 -- the kind of lists of this name
 abbrev pub list_kind_named : Text → Option ListKind
@@ -76,8 +76,8 @@ abbrev pub label_given : List Row → Option Text
 label_given rows = option_and_then (in_grammar is_label) (first_of (codes "label") rows)
 
 -- `import --db FILE KIND LABEL PATH`
-abbrev pub import_line : List Row → Option Line
-import_line rows =
+abbrev pub import_program : List Row → Option Line
+import_program rows =
     option_and_then (λ path. option_and_then (λ list. option_and_then (λ kind. option_map (λ label. imports path kind label list) (label_given rows))
     (list_kind_given rows)) (first_of (codes "path") rows)) (first_of (codes "db") rows)
 
@@ -90,25 +90,25 @@ kind_named name =
     else None
 
 -- `export --db FILE KIND`
-abbrev pub export_line : List Row → Option Line
-export_line rows =
+abbrev pub export_program : List Row → Option Line
+export_program rows =
     option_and_then (λ path. option_map (exports path) (option_and_then kind_named (first_of (codes "kind") rows)))
     (first_of (codes "db") rows)
 
 -- `serve --db FILE --port N --count K`
-abbrev pub serve_line : List Row → Option Line
-serve_line rows = option_and_then (λ path. option_and_then (λ port. option_map (serves path port) (number_of 1 1000000 (codes "count") rows))
+abbrev pub serve_program : List Row → Option Line
+serve_program rows = option_and_then (λ path. option_and_then (λ port. option_map (serves path port) (number_of 1 1000000 (codes "count") rows))
     (number_of 1 65535 (codes "port") rows)) (first_of (codes "db") rows)
 
 -- the line of a subcommand with its entries
 abbrev pub entered_line : Text × List Row → Option Line
-entered_line (name, rows) = if bytes_eq name (codes "new") then new_line rows
-    else if bytes_eq name (codes "do") then do_line rows
+entered_line (name, rows) = if bytes_eq name (codes "new") then new_program rows
+    else if bytes_eq name (codes "do") then do_program rows
     else if bytes_eq name (codes "rehearse") then Some rehearses
-    else if bytes_eq name (codes "words") then words_line rows
-    else if bytes_eq name (codes "import") then import_line rows
-    else if bytes_eq name (codes "export") then export_line rows
-    else if bytes_eq name (codes "serve") then serve_line rows
+    else if bytes_eq name (codes "words") then words_program rows
+    else if bytes_eq name (codes "import") then import_program rows
+    else if bytes_eq name (codes "export") then export_program rows
+    else if bytes_eq name (codes "serve") then serve_program rows
     else None
 
 abbrev pub has_none : Kinds → Bool

@@ -10,7 +10,7 @@ use crate::desk_faults::refuse_desk;
 use crate::importing::import_list;
 use crate::lists::Lists;
 use office_lines::do_line::do_words;
-use office_lines::say::say;
+use office_lines::say::{say, say_unavailable};
 use office_lists::ExportKind;
 use office_store::{Desk, DeskFault, Unavailable};
 use office_texts::{ACCEPTED, UNAVAILABLE};
@@ -79,7 +79,7 @@ pub fn import_at<S: Alter, L: Lists, W: Write>(
     }
 }
 
-// The same at a desk.
+// Imports the list at this desk.
 fn import_desk<S: Alter, L: Lists, W: Write>(
     alloc: Global,
     desk: &mut Desk<S>,
@@ -100,7 +100,7 @@ fn import_desk<S: Alter, L: Lists, W: Write>(
             let mut source = Watched::new(reader);
             import_list(alloc, desk, kind, label, &mut source, output)
         }
-        Err(Unavailable) => say(output, "unavailable\n", UNAVAILABLE),
+        Err(Unavailable) => say_unavailable(output),
     }
 }
 
@@ -124,7 +124,7 @@ pub fn export_at<S: Alter, W: Write>(
     }
 }
 
-// The same at a desk.
+// Exports the office of this desk.
 fn export_desk<S: Alter, W: Write>(
     alloc: Global,
     desk: &mut Desk<S>,

@@ -14,9 +14,9 @@ use crate::program::program;
 use crate::usage::Program;
 use crate::word_lines::words_text;
 use office_lines::rehearse::rehearse;
-use office_lines::say::say;
+use office_lines::say::{say, say_unavailable};
 use office_store::Desk;
-use office_texts::{ACCEPTED, NOT_UNDERSTOOD, UNAVAILABLE};
+use office_texts::{ACCEPTED, NOT_UNDERSTOOD};
 use office_words::WordFault;
 use room_types::Watched;
 use sqlite::{FileFrom, Start, Wary};
@@ -51,7 +51,8 @@ pub fn carry_out<'a, R: Read, W: Write, E: Write>(
     carry_out_from(rt, words, Wary, rt, input, output, error)
 }
 
-/// The same, whatever the file of an office and its log held, for which `start` stands, and wherever lists lie.
+/// Does what these words after the program's name ask for, and gives the exit status, whatever the file of an office and its log
+/// held, for which `start` stands, and wherever lists lie.
 pub fn carry_out_from<'a, S: Start, L: Lists, R: Read, W: Write, E: Write>(
     rt: &HostRuntime,
     words: &'a [&'a str],
@@ -122,7 +123,7 @@ fn rehearse_anew<R: Read, W: Write>(
 {
     match Desk::in_memory(alloc) {
         Ok(mut desk) => rehearse(alloc, &mut desk, input, output).status,
-        Err(_) => say(output, "unavailable\n", UNAVAILABLE),
+        Err(_) => say_unavailable(output),
     }
 }
 
@@ -142,6 +143,6 @@ pub fn refuse<W: Write, E: Write>(
 {
     match fault {
         WordFault::NotUnderstood => say(error, "rooms: not understood\n", NOT_UNDERSTOOD),
-        WordFault::OutOfMemory => say(output, "unavailable\n", UNAVAILABLE),
+        WordFault::OutOfMemory => say_unavailable(output),
     }
 }

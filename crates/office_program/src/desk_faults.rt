@@ -4,9 +4,9 @@ ghost use Rattle.room_types.specs.Streams.{output_of};
 ghost use Rattle.room_types.specs.Watched.{IsFresh, StopsAtFailure};
 ghost use Rattle.office_program.specs.DeskFaults.{RefusesDesk, RefusesVersion, other_version_text};
 
-use office_lines::say::say;
+use office_lines::say::{say, say_unavailable};
 use office_store::DeskFault;
-use office_texts::{REFUSED, UNAVAILABLE};
+use office_texts::REFUSED;
 use room_types::Watched;
 use std::alloc::{AllocError, Global};
 use std::io::Write;
@@ -19,7 +19,7 @@ pub fn refuse_desk<W: Write>(alloc: Global, fault: DeskFault, output: &mut Watch
         (output_of W.contents output.new) }
 {
     match fault {
-        DeskFault::Unavailable => say(output, "unavailable\n", UNAVAILABLE),
+        DeskFault::Unavailable => say_unavailable(output),
         DeskFault::NotAnOffice => say(output, "refused 21 NotAnOffice\n", REFUSED),
         DeskFault::OtherVersion(version) => refuse_version(alloc, version, output),
         DeskFault::AlreadyThere => say(output, "refused 23 AlreadyThere\n", REFUSED),
@@ -35,7 +35,7 @@ fn refuse_version<W: Write>(alloc: Global, version: i64, output: &mut Watched<W>
 {
     match version_line(alloc, version) {
         Ok(line) => say(output, line.as_str(), REFUSED),
-        Err(_) => say(output, "unavailable\n", UNAVAILABLE),
+        Err(_) => say_unavailable(output),
     }
 }
 

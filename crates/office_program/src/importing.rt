@@ -6,9 +6,9 @@ ghost use Rattle.office_program.specs.Importing.{CannotRead, ImportsFrom, ReadsL
 
 use office_core::{BYTE_LIMIT, Command};
 use office_lines::do_line::tell;
-use office_lines::say::say;
+use office_lines::say::say_unavailable;
 use office_store::{Handler, Request, Unavailable};
-use office_texts::{Said, UNAVAILABLE};
+use office_texts::Said;
 use room_types::{Label, ListKind, Listing, Watched};
 use std::alloc::Global;
 use std::io::{Read, Write};
@@ -40,23 +40,23 @@ pub fn import_list<H: Handler, R: Read, W: Write>(
         result handler.new (output_of W.contents output.old) (output_of W.contents output.new) }
     ensures ready { H.is_ready handler.new }
 {
-    match read_list(alloc, source) {
+    match read_bytes(alloc, source) {
         Ok(bytes) => {
             let bytes = Listing::new(bytes);
             let request = Request::Office(Command::Import { label, kind, bytes });
             let said = Said::Answered(handler.handle(alloc, &request));
             tell(alloc, &said, output)
         }
-        Err(Unavailable) => say(output, "unavailable\n", UNAVAILABLE),
+        Err(Unavailable) => say_unavailable(output),
     }
 }
 
-/// Reads a list to its end, or as much of it as is read at most.
+/// Reads the bytes of a list to its end, or as many of them as are read at most.
 ///
 /// # Errors
 ///
 /// `Unavailable` where a read fails, or memory is refused for what has come.
-pub fn read_list<R: Read>(alloc: Global, source: &mut Watched<R>) -> Result<Vec<u8>, Unavailable>
+pub fn read_bytes<R: Read>(alloc: Global, source: &mut Watched<R>) -> Result<Vec<u8>, Unavailable>
     requires fresh { IsFresh source.old }
     ensures reads { IfOk result (λ bytes. ReadsList R.remaining source.old source.new bytes.items) }
     ensures wanting { OnErr result (CannotRead R.remaining source.old source.new) }

@@ -1,8 +1,8 @@
 //! The words after the program's name.
 ghost use Rattle.std.specs.Prelude.{◌≡◌, ◌≢◌, ◌<◌, ◌≤◌, IfErr, IfSome, length, map, option_map};
 ghost use Rattle.clap.specs.Words.{all_of, first_of, found_of, kind_of, rows_of};
-ghost use Rattle.office_program.specs.Programs.{do_line, entered_line, export_line, import_line, kind_named, label_given, line_of};
-ghost use Rattle.office_program.specs.Programs.{list_kind_given, list_kind_named, new_line, number_of, program_of, serve_line, words_line};
+ghost use Rattle.office_program.specs.Programs.{do_program, entered_line, export_program, import_program, kind_named, label_given, line_of};
+ghost use Rattle.office_program.specs.Programs.{list_kind_given, new_program, number_of, program_of, serve_program, words_program};
 ghost use Rattle.office_words.specs.Understanding.{Understands, UnderstandsAs};
 
 use crate::seeds::seed_of;
@@ -45,13 +45,13 @@ fn entered_line<'a>(
         (entered_line (name.now, rows_of (found_of entries.now))) result }
 {
     match name {
-        "new" => understood(new_line(entries)),
-        "do" => do_line(alloc, entries),
+        "new" => understood(new_program(entries)),
+        "do" => do_program(alloc, entries),
         "rehearse" => Ok(Program::Rehearse),
-        "words" => understood(words_line(entries)),
-        "import" => import_line(alloc, entries),
-        "export" => understood(export_line(entries)),
-        "serve" => understood(serve_line(entries)),
+        "words" => understood(words_program(entries)),
+        "import" => import_program(alloc, entries),
+        "export" => understood(export_program(entries)),
+        "serve" => understood(serve_program(entries)),
         _ => Err(WordFault::NotUnderstood),
     }
 }
@@ -63,16 +63,16 @@ fn understood<'a>(line: Option<Program<'a>>) -> Result<Program<'a>, WordFault>
     line.ok_or(WordFault::NotUnderstood)
 }
 
-fn new_line<'a>(entries: &ArgMatches<'a>) -> Option<Program<'a>>
-    ensures { option_map line_of result ≡ new_line (rows_of (found_of entries.now)) }
+fn new_program<'a>(entries: &ArgMatches<'a>) -> Option<Program<'a>>
+    ensures { option_map line_of result ≡ new_program (rows_of (found_of entries.now)) }
 {
     let database = text(entries, "db")?;
     Some(Program::New { database })
 }
 
 // The words are copied out of the entries, which takes memory.
-fn do_line<'a>(alloc: Global, entries: &ArgMatches<'a>) -> Result<Program<'a>, WordFault>
-    ensures { UnderstandsAs line_of (do_line (rows_of (found_of entries.now))) result }
+fn do_program<'a>(alloc: Global, entries: &ArgMatches<'a>) -> Result<Program<'a>, WordFault>
+    ensures { UnderstandsAs line_of (do_program (rows_of (found_of entries.now))) result }
 {
     let Some(database) = text(entries, "db") else {
         return Err(WordFault::NotUnderstood);
@@ -84,8 +84,8 @@ fn do_line<'a>(alloc: Global, entries: &ArgMatches<'a>) -> Result<Program<'a>, W
     Ok(Program::Do { database, words })
 }
 
-fn words_line<'a>(entries: &ArgMatches<'a>) -> Option<Program<'a>>
-    ensures { option_map line_of result ≡ words_line (rows_of (found_of entries.now)) }
+fn words_program<'a>(entries: &ArgMatches<'a>) -> Option<Program<'a>>
+    ensures { option_map line_of result ≡ words_program (rows_of (found_of entries.now)) }
 {
     let seed = seed_of(text(entries, "seed")?)?;
     let count = number(entries, "count", 0, WORDS_LIMIT)?;
@@ -93,8 +93,8 @@ fn words_line<'a>(entries: &ArgMatches<'a>) -> Option<Program<'a>>
 }
 
 // The label is copied out of the entries, which takes memory.
-fn import_line<'a>(alloc: Global, entries: &ArgMatches<'a>) -> Result<Program<'a>, WordFault>
-    ensures { UnderstandsAs line_of (import_line (rows_of (found_of entries.now))) result }
+fn import_program<'a>(alloc: Global, entries: &ArgMatches<'a>) -> Result<Program<'a>, WordFault>
+    ensures { UnderstandsAs line_of (import_program (rows_of (found_of entries.now))) result }
 {
     let Some(database) = text(entries, "db") else {
         return Err(WordFault::NotUnderstood);
@@ -117,14 +117,7 @@ fn import_line<'a>(alloc: Global, entries: &ArgMatches<'a>) -> Result<Program<'a
 fn list_kind_given(entries: &ArgMatches) -> Option<ListKind>
     ensures { result ≡ list_kind_given (rows_of (found_of entries.now)) }
 {
-    list_kind_named(text(entries, "kind")?)
-}
-
-// The kind of lists of this name.
-fn list_kind_named(name: &str) -> Option<ListKind>
-    ensures { result ≡ list_kind_named name.now }
-{
-    ListKind::named(name)
+    ListKind::named(text(entries, "kind")?)
 }
 
 fn label_given(alloc: Global, entries: &ArgMatches) -> Result<Label, WordFault>
@@ -140,8 +133,8 @@ fn label_given(alloc: Global, entries: &ArgMatches) -> Result<Label, WordFault>
     }
 }
 
-fn export_line<'a>(entries: &ArgMatches<'a>) -> Option<Program<'a>>
-    ensures { option_map line_of result ≡ export_line (rows_of (found_of entries.now)) }
+fn export_program<'a>(entries: &ArgMatches<'a>) -> Option<Program<'a>>
+    ensures { option_map line_of result ≡ export_program (rows_of (found_of entries.now)) }
 {
     let database = text(entries, "db")?;
     let kind = kind_named(text(entries, "kind")?)?;
@@ -160,8 +153,8 @@ fn kind_named(name: &str) -> Option<ExportKind>
     }
 }
 
-fn serve_line<'a>(entries: &ArgMatches<'a>) -> Option<Program<'a>>
-    ensures { option_map line_of result ≡ serve_line (rows_of (found_of entries.now)) }
+fn serve_program<'a>(entries: &ArgMatches<'a>) -> Option<Program<'a>>
+    ensures { option_map line_of result ≡ serve_program (rows_of (found_of entries.now)) }
 {
     let database = text(entries, "db")?;
     let port = number(entries, "port", 1, PORT_LIMIT)?;

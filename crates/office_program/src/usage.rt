@@ -2,7 +2,8 @@
 ghost use Rattle.std.specs.Prelude.{◌≡◌, IfOk, false};
 ghost use Rattle.clap.specs.Words.{app_of, rule_of};
 ghost use Rattle.office_program.specs.Usage.{IsCommand, do_usage, export_usage, import_usage, new_usage};
-ghost use Rattle.office_program.specs.Usage.{operand as operand_rule, option as option_rule, plain_usage, serve_usage, usage, words_usage};
+ghost use Rattle.office_program.specs.Usage.{number as number_rule, operand as operand_rule, option as option_rule};
+ghost use Rattle.office_program.specs.Usage.{plain_usage, serve_usage, usage, words_usage};
 
 use crate::seeds::Seed;
 use clap::{Arg, ArgAction, Command};
@@ -102,9 +103,9 @@ fn do_command<'a>(alloc: Global) -> Result<Command<'a>, AllocError>
 fn words_command<'a>(alloc: Global) -> Result<Command<'a>, AllocError>
     ensures { IfOk result (IsCommand words_usage) }
 {
-    let seed = option(alloc, "seed");
-    let count = option(alloc, "count").value_parser(clap::value_parser!(u32).range(0..=2000));
-    Command::new(alloc, "words").arg(seed)?.arg(count)
+    Command::new(alloc, "words")
+        .arg(option(alloc, "seed"))?
+        .arg(number(alloc, "count", 0, WORDS_LIMIT))
 }
 
 // `import --db FILE KIND LABEL PATH`.
@@ -139,13 +140,10 @@ fn operand<'a>(alloc: Global, name: &'a str) -> Arg<'a>
 fn serve_command<'a>(alloc: Global) -> Result<Command<'a>, AllocError>
     ensures { IfOk result (IsCommand serve_usage) }
 {
-    let database = option(alloc, "db");
-    let port = option(alloc, "port").value_parser(clap::value_parser!(u32).range(1..=65535));
-    let count = option(alloc, "count").value_parser(clap::value_parser!(u32).range(1..=1000000));
     Command::new(alloc, "serve")
-        .arg(database)?
-        .arg(port)?
-        .arg(count)
+        .arg(option(alloc, "db"))?
+        .arg(number(alloc, "port", 1, PORT_LIMIT))?
+        .arg(number(alloc, "count", 1, CONNECTIONS_LIMIT))
 }
 
 // `--name VALUE`, which has to be there.
@@ -157,6 +155,15 @@ fn option<'a>(alloc: Global, name: &'a str) -> Arg<'a>
         .long(name)
         .action(ArgAction::Set)
         .required(true)
+}
+
+// `--name N`, a number from `least` to `most`, which has to be there.
+fn number<'a>(alloc: Global, name: &'a str, least: u32, most: u32) -> Arg<'a>
+    ensures rule { rule_of result ≡ number_rule least most name.entry.now }
+    ensures local { result.global ≡ false }
+{
+    let numbers = i64::from(least)..=i64::from(most);
+    option(alloc, name).value_parser(clap::value_parser!(u32).range(numbers))
 }
 
 // The program without its subcommands: one has to be given, and there are no words for help.

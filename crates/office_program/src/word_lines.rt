@@ -1,5 +1,5 @@
 //! The words of a draw, as they are printed.
-ghost use Rattle.std.specs.Prelude.{◌≡◌, IfOk, string_bytes};
+ghost use Rattle.std.specs.Prelude.{◌≡◌, ◌<◌, IfOk, OnErr, length, string_bytes};
 ghost use Rattle.std.specs.List.{flat_map};
 ghost use Rattle.office_program.specs.WordLines.{words_of_seed, word_line, words_text};
 
@@ -10,16 +10,18 @@ use rand_core::SeedableRng;
 use room_types::{OutOfMemory, Word};
 use std::alloc::Global;
 
-/// The first words of the generator of this seed, one on a line.
+/// The first words of the generator of this seed, one on a line. No words take no memory.
 pub fn words_text(alloc: Global, seed: Seed, count: usize) -> Result<String, OutOfMemory>
-    ensures { IfOk result (λ text. string_bytes text ≡ words_text seed count) }
+    ensures text { IfOk result (λ text. string_bytes text ≡ words_text seed count) }
+    ensures memory { OnErr result (0 < count) }
 {
     let words = words_of_seed(alloc, seed, count)?;
     lines_of(alloc, words.as_slice())
 }
 
 fn words_of_seed(alloc: Global, seed: Seed, count: usize) -> Result<Vec<Word>, OutOfMemory>
-    ensures { IfOk result (λ words. words.items ≡ words_of_seed seed count) }
+    ensures words { IfOk result (λ words. words.items ≡ words_of_seed seed count) }
+    ensures memory { OnErr result (0 < count) }
 {
     let mut generator = ChaCha20Rng::from_seed(seed);
     words_from(alloc, &mut generator, count)
@@ -27,7 +29,8 @@ fn words_of_seed(alloc: Global, seed: Seed, count: usize) -> Result<Vec<Word>, O
 
 // Each word on a line.
 fn lines_of(alloc: Global, words: &[Word]) -> Result<String, OutOfMemory>
-    ensures { IfOk result (λ text. string_bytes text ≡ flat_map word_line words.now) }
+    ensures text { IfOk result (λ text. string_bytes text ≡ flat_map word_line words.now) }
+    ensures memory { OnErr result (0 < length words.now) }
 {
     let mut text = String::new(alloc);
     for word in words {

@@ -28,7 +28,7 @@ use Rattle.office_rows.specs.Rows.{AreKeptLists, choices_from, list_rows, choice
 use Rattle.office_rows.specs.Inner.Gathered.{list_at, gathered, chosen_from, row_cmp}
 use Rattle.office_rows.specs.Reads.{Reads}
 use Rattle.office_rows.specs.declared.records.ChoiceRecord.{ChoiceRecord}
-use Rattle.office_rows.proofs.RowOrder.{sorted_rows}
+use Rattle.office_rows.proofs.RowOrder.{sorted_rows, rows_sorted}
 
 abbrev Lists : Type 0
 Lists = TextMap (List Text)
@@ -113,6 +113,11 @@ gathered-rows lists sound =
     (at_entries nat_list_cmp_total exact_texts (λ p codes. codes ≡ [] → ⊥) lists (λ p codes f none. sound.none_empty p (f ∙ ap (λ l. Some l) none)))
     (all_new (map.entries lists))
     ∙ ap (λ m. Some m) (with_all-entries lists)
+
+-- rows tell what the lists are
+pub one_lists : (m n : Lists) → AreKeptLists m → AreKeptLists n → IsPermutation (choice_rows m) (choice_rows n) → m ≡ n
+one_lists m n kept_m kept_n same =
+    same_Some m n (sym (gathered-rows m kept_m) ∙ ap (gathered map.empty) (sym (sorted_rows m (choice_rows n) same (rows_sorted n))) ∙ gathered-rows n kept_n)
 
 -- ---- what was gathered has the rows
 

@@ -220,7 +220,7 @@ at_moves P m h round p moved f =
           (at_keys nat_cmp_total nat_cmp-IsAntisymmetric (λ r k. AllByRecursion P (round_rows (r, k))) m (all_apart P round_rows (maps.entries m) h) round kept some)) p moved g
     ] refl f
 
-one_moves : (m n : Moves) → AreKeptMoves m → AreKeptMoves n → IsPermutation (move_rows m) (move_rows n) → m ≡ n
+pub one_moves : (m n : Moves) → AreKeptMoves m → AreKeptMoves n → IsPermutation (move_rows m) (move_rows n) → m ≡ n
 one_moves m n sound_m sound_n same =
     let alike : (round : ℕ) → moves_of m round ≡ moves_of n round = λ round.
     same_finds nat_list_cmp_total exact_texts (moves_of m round) (moves_of n round)

@@ -125,7 +125,7 @@ ids_differ p rows same =
     (moved_keys nat_list_cmp_total exact_texts p.people (map entry_of rows) (entries_moved p rows same))
 
 -- rows tell who the people are, and who has withdrawn
-one_people : (p q : People) → AreKept p → AreKept q → IsPermutation (people_rows p) (people_rows q) → p ≡ q
+pub one_people : (p q : People) → AreKept p → AreKept q → IsPermutation (people_rows p) (people_rows q) → p ≡ q
 one_people p q known_p known_q same =
     let people : p.people ≡ q.people =
     one_map nat_list_cmp_total exact_texts p.people q.people (subst (λ l. IsPermutation (maps.entries p.people) l) (listed q) (entries_moved p (people_rows q) same)) in

@@ -1,5 +1,5 @@
 -- The one row of the round.
-use Rattle.std.proofs.Common.{◌≡◌, ◌≢◌, List, [], ◌∷◌, length, Option, Some, None, refl, sym, ap, ◌∙◌, arith}
+use Rattle.std.proofs.Common.{◌≡◌, ◌≢◌, List, [], ◌∷◌, length, Option, Some, None, refl, sym, ap, ◌∙◌, arith, IsPermutation}
 use Rattle.std.specs.Prelude.{unwrap_or, slice_index_or}
 use Rattle.std.proofs.lemmas.List.Sorted.{IsPermutation-refl, length_permutation}
 use Rattle.office_rows.specs.Rows.{only_row}
@@ -7,11 +7,15 @@ use Rattle.office_rows.specs.Reads.{Reads, IsAny}
 use Rattle.office_rows.specs.declared.records.RoundRecord.{RoundRecord}
 use Rattle.room_types.proofs.MapEntries.{moved_all}
 
+-- the row tells the round
+pub one_round : (m n : RoundRecord) → IsPermutation (only_row m) (only_row n) → m ≡ n
+one_round m n same = sym (moved_all (λ x. x ≡ m) (m ∷ []) (n ∷ []) same (refl, tt)).0
+
 pub one_row : (rows : List RoundRecord) (d : RoundRecord) → length rows ≡ 1 → Reads IsAny only_row rows (Some (slice_index_or rows 0 d))
 one_row [] d e = absurd (omega (arith, e))
 one_row (r ∷ []) d e = record {
   told = (tt, IsPermutation-refl (r ∷ []));
-  only = λ m sound same. ap (λ x. Some x) (moved_all (λ x. x ≡ m) (m ∷ []) (r ∷ []) same (refl, tt)).0;
+  only = λ m sound same. ap (λ x. Some x) (sym (one_round m r same));
 }
 one_row (r ∷ s ∷ rows) d e = absurd (omega (arith, e))
 

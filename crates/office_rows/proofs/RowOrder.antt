@@ -1,7 +1,7 @@
 -- The rows of recorded lists ascend.
-use Rattle.std.proofs.Common.{◌≡◌, ℕ, ◌+◌, ◌<◌, List, [], ◌∷◌, cond, refl, ap, ◌∙◌, T, arith, eqb, IsPermutation, IsSorted}
+use Rattle.std.proofs.Common.{◌≡◌, ℕ, suc, zero, ◌+◌, ◌<◌, List, [], ◌∷◌, cond, refl, ap, ◌∙◌, T, arith, add-one, eqb, IsPermutation, IsSorted}
 use Rattle.std.specs.declared.cmp.Ordering.TheVariants.{Less, Equal, Greater}
-use Rattle.std.specs.Ordering.{nat_cmp, ordering_then}
+use Rattle.std.specs.Ordering.{is_lt, nat_cmp, ordering_reverse, ordering_then}
 use Rattle.std.specs.Cmp.{IsTotalOrder, tied_itself}
 use Rattle.std.specs.Cmp.Lexicographic.{nat_list_cmp_total}
 use Rattle.std.proofs.lemmas.Bool.{lt-ltb}
@@ -63,3 +63,12 @@ rows_up (e ∷ es) s =
 -- sorted rows of some lists are the rows of the lists in their order
 pub sorted_rows : (lists : TextMap (List Text)) (rows : List ChoiceRecord) → IsPermutation (choice_rows lists) rows → IsSorted row_cmp rows → rows ≡ choice_rows lists
 sorted_rows lists rows same sorted = sorted_unique row_cmp row_total (choice_rows lists) rows (rows_up (map.entries lists) (entries_sorted lists)) same sorted
+
+up_sorted : (rows : List ChoiceRecord) → IsAscending Before rows → IsSorted row_cmp rows
+up_sorted [] up k d low high = absurd (omega (arith, high))
+up_sorted (r ∷ []) up k d low high = absurd (omega (arith, high))
+up_sorted (r ∷ t ∷ rows) up zero d low high = ap is_lt (row_total.antisymm t r ∙ ap ordering_reverse up.0.0)
+up_sorted (r ∷ t ∷ rows) up (suc k) d low high = rw add-one (rw add-one at (up_sorted (t ∷ rows) up.1 k d (omega arith) (omega arith)))
+
+pub rows_sorted : (lists : TextMap (List Text)) → IsSorted row_cmp (choice_rows lists)
+rows_sorted lists = up_sorted (choice_rows lists) (rows_up (map.entries lists) (entries_sorted lists))

@@ -3,4 +3,5 @@ pub mod People
 pub mod Reads
 pub mod ReadsOffice
 pub mod Rows
+pub mod SameRows
 pub mod Tables

@@ -1,8 +1,9 @@
 -- What a reader of the rows of all tables finds.
-use Rattle.std.specs.Prelude.{◌≡◌, ℕ, ◌+◌, length, Option, Some}
+use Rattle.std.specs.Prelude.{◌≡◌, ℕ, ◌+◌, ◌<◌, ◌⊎◌, length, Option, Some}
 use Rattle.std.specs.Option.{IfSome}
 use Rattle.std.specs.List.Sorted.{IsPermutation}
 use Rattle.office_core.specs.Office.Invariants.{IsLawful}
+use Rattle.office_core.specs.Soundness.{AreFoundAgain}
 use Rattle.office_core.specs.declared.office.Office.{Office}
 use Rattle.office_rows.specs.Tables.{Tables, rows_of}
 use Rattle.office_rows.specs.declared.records.OfficeRecords.{OfficeRecords}
@@ -18,12 +19,23 @@ pub record AreRecordsOf (tables : Tables) (records : OfficeRecords) : Type 0 whe
   pub moves : IsPermutation tables.moves records.moves.items
   pub lists : IsPermutation tables.lists records.lists.items
 
--- how many records the tables have
-abbrev pub record_count : OfficeRecords → ℕ
-record_count records =
-    length records.rooms.items + length records.people.items + length records.rounds.items
-    + length records.choices.items + length records.words.items + length records.results.items
-    + length records.moves.items + length records.lists.items
+-- how many records the tables other than that of the round have
+abbrev pub count_beside_round : OfficeRecords → ℕ
+count_beside_round records =
+    length records.rooms.items + length records.people.items + length records.choices.items
+    + length records.words.items + length records.results.items + length records.moves.items
+    + length records.lists.items
+
+-- the results of an office with these rows are found again: its phase has some, and every other law
+-- holds
+pub record HaveResultsAgain (records : OfficeRecords) : Type 0 where
+  pub office : Office
+  pub rows : AreRecordsOf (rows_of office) records
+  pub again : AreFoundAgain office
+
+-- a table other than that of the round has a record, or results are found again
+abbrev pub TakesMemory : OfficeRecords → Type 0
+TakesMemory records = 0 < count_beside_round records ⊎ HaveResultsAgain records
 
 -- What is found is a lawful office with these rows, and the only one. Nothing is found only where no lawful office has
 -- them.

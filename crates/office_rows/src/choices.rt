@@ -29,7 +29,7 @@ pub fn read_choices(
     all_chosen(alloc, &lists)
 }
 
-// Ascending by person, and then by place.
+// Ascending by person, and then by place, and then by room.
 fn sort_rows(rows: &mut Vec<ChoiceRecord>)
     ensures moved { IsPermutation rows.old.items rows.new.items }
     ensures ascending { IsSorted row_cmp rows.new.items }

@@ -1,14 +1,15 @@
 //! The rows of an office: records of the types that an office has, and the one office that has these rows, in whatever
-//! order they come. Nothing here knows of a database.
+//! order they come. No definition or code here knows of a database.
 #![tactic(auto)]
 
-pub mod choices;
-pub mod moves;
-pub mod office;
-pub mod people;
-pub mod records;
-pub mod round;
-pub mod tables;
+mod choices;
+pub mod laws;
+mod moves;
+mod office;
+mod people;
+mod records;
+mod round;
+mod tables;
 
 pub use crate::choices::read_choices;
 pub use crate::moves::read_moves;

@@ -1,7 +1,7 @@
 //! An office, from the rows of all its tables.
-ghost use Rattle.std.specs.Prelude.{◌≡◌, ◌<◌, IfOk, IfSome, OnErr};
+ghost use Rattle.std.specs.Prelude.{◌<◌, IfOk, OnErr};
 ghost use Rattle.office_rows.specs.Inner.Makes.{Makes};
-ghost use Rattle.office_rows.specs.ReadsOffice.{ReadsOffice, record_count};
+ghost use Rattle.office_rows.specs.ReadsOffice.{ReadsOffice, TakesMemory, count_beside_round};
 
 use crate::choices::read_choices;
 use crate::moves::read_moves;
@@ -14,11 +14,11 @@ use room_types::OutOfMemory;
 use std::alloc::Global;
 
 /// The lawful office with these rows, in whatever order they come: none where no lawful office has them, and else the
-/// only one that has. It takes n log n steps and those of a run of the round, and is refused only for memory, which is
-/// taken where there is a row.
+/// only one that has. It takes n log n steps and those of a run of the round, and is refused only for memory. The row of
+/// the round is read without any, and none is taken where there is no other row, unless results are found again.
 pub fn read_office(alloc: Global, records: OfficeRecords) -> Result<Option<Office>, OutOfMemory>
     ensures reads { IfOk result (λ found. ReadsOffice records found) }
-    ensures memory { OnErr result (0 < record_count records) }
+    ensures memory { OnErr result (TakesMemory records) }
 {
     let Some(office) = make_office(alloc, records)? else {
         return Ok(None);
@@ -33,8 +33,7 @@ pub fn read_office(alloc: Global, records: OfficeRecords) -> Result<Option<Offic
 #[tactic(auto, unfolding(crate::specs::Tables::rows_of))]
 fn make_office(alloc: Global, records: OfficeRecords) -> Result<Option<Office>, OutOfMemory>
     ensures makes { IfOk result (λ made. Makes records made) }
-    ensures some { IfOk result (λ made. IfSome made (λ _. 0 < record_count records)) }
-    ensures memory { OnErr result (0 < record_count records) }
+    ensures memory { OnErr result (0 < count_beside_round records) }
 {
     let Some(rooms) = read_table(alloc, records.rooms)? else {
         return Ok(None);

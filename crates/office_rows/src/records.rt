@@ -12,7 +12,7 @@ pub struct PersonRecord {
 }
 
 /// A record of a recorded list: the room that a person listed at this place, from 0. Records compare by person, and
-/// then by place.
+/// then by place, and then by room.
 #[derive(Debug, PartialEq, Eq, PartialOrd, Ord, Drop)]
 pub struct ChoiceRecord {
     pub person: PersonId,

@@ -43,16 +43,16 @@ fn requests_of(alloc: Global, lines: &str) -> Result<Vec<Request>, Fail> {
     Ok(requests)
 }
 
-// What the desk tells of its office.
-fn shown(alloc: Global, desk: &mut Desk<MemStore>) -> Vec<u8> {
+/// What the desk tells of its office.
+pub fn shown(alloc: Global, desk: &mut Desk<MemStore>) -> Vec<u8> {
     let mut input = Watched::new(SHOWS.as_bytes());
     let mut output = Watched::new(Vec::new(alloc));
     let _how = rehearse(alloc, desk, &mut input, &mut output);
     output.into_inner()
 }
 
-// Whether a rehearsal of the lines tells this of its office at the end.
-fn is_told_after(alloc: Global, lines: &str, kept: &[u8]) -> Result<bool, Fail> {
+/// Whether a rehearsal of the lines tells this of its office at the end.
+pub fn is_told_after(alloc: Global, lines: &str, kept: &[u8]) -> Result<bool, Fail> {
     let mut all = String::from_str(alloc, lines)?;
     all.push_str(SHOWS)?;
     let (_, told) = rehearsed(alloc, all.as_bytes());

@@ -9,124 +9,46 @@ use std::test::Fail;
 
 const NOT_A_LINE: &str = "rooms: not understood\n";
 
-// Words that are no line of the program are told on standard error, before a file is looked at.
+const OFFICE: &str = "imports_other/office.db";
+
+// Kinds and labels of which one is none.
+const OTHER_LISTS: [(&str, &str); 9] = [
+    ("moves", "r-1"),
+    ("Rooms", "r-1"),
+    ("room", "r-1"),
+    ("", "r-1"),
+    ("rooms", ""),
+    ("rooms", "R-1"),
+    ("rooms", "r 1"),
+    ("rooms", "-1"),
+    ("rooms", "r23456789012345678901234567890123"),
+];
+
+// Whether the words are told on standard error to be no line of the program.
+fn is_no_line(rt: &HostRuntime, words: &[&str]) -> bool {
+    let (status, printed, told) = carried(rt, words);
+    status == 2 && printed.is_empty() && told.as_slice() == NOT_A_LINE.as_bytes()
+}
+
+// No file is looked at before all words are in order.
 #[test]
 fn refuses_other_import_lines(rt: HostRuntime) -> Result<(), Fail> {
     make_folder(&rt, "imports_other")?;
     for words in [
         ["import"].as_slice(),
         ["import", "rooms", "r-1", "list"].as_slice(),
-        ["import", "--db", "imports_other/office.db"].as_slice(),
-        ["import", "--db", "imports_other/office.db", "rooms"].as_slice(),
-        ["import", "--db", "imports_other/office.db", "rooms", "r-1"].as_slice(),
-        [
-            "import",
-            "--db",
-            "imports_other/office.db",
-            "rooms",
-            "r-1",
-            "list",
-            "list",
-        ]
-        .as_slice(),
-        [
-            "import",
-            "--db",
-            "imports_other/office.db",
-            "moves",
-            "r-1",
-            "list",
-        ]
-        .as_slice(),
-        [
-            "import",
-            "--db",
-            "imports_other/office.db",
-            "Rooms",
-            "r-1",
-            "list",
-        ]
-        .as_slice(),
-        [
-            "import",
-            "--db",
-            "imports_other/office.db",
-            "room",
-            "r-1",
-            "list",
-        ]
-        .as_slice(),
-        [
-            "import",
-            "--db",
-            "imports_other/office.db",
-            "",
-            "r-1",
-            "list",
-        ]
-        .as_slice(),
-        [
-            "import",
-            "--db",
-            "imports_other/office.db",
-            "rooms",
-            "",
-            "list",
-        ]
-        .as_slice(),
-        [
-            "import",
-            "--db",
-            "imports_other/office.db",
-            "rooms",
-            "R-1",
-            "list",
-        ]
-        .as_slice(),
-        [
-            "import",
-            "--db",
-            "imports_other/office.db",
-            "rooms",
-            "r 1",
-            "list",
-        ]
-        .as_slice(),
-        [
-            "import",
-            "--db",
-            "imports_other/office.db",
-            "rooms",
-            "-1",
-            "list",
-        ]
-        .as_slice(),
-        [
-            "import",
-            "--db",
-            "imports_other/office.db",
-            "rooms",
-            "--",
-            "-1",
-            "list",
-        ]
-        .as_slice(),
-        [
-            "import",
-            "--db",
-            "imports_other/office.db",
-            "rooms",
-            "r23456789012345678901234567890123",
-            "list",
-        ]
-        .as_slice(),
+        ["import", "--db", OFFICE].as_slice(),
+        ["import", "--db", OFFICE, "rooms"].as_slice(),
+        ["import", "--db", OFFICE, "rooms", "r-1"].as_slice(),
+        ["import", "--db", OFFICE, "rooms", "r-1", "list", "list"].as_slice(),
+        ["import", "--db", OFFICE, "rooms", "--", "-1", "list"].as_slice(),
     ] {
-        let (status, printed, told) = carried(&rt, words);
-        assert_eq!(rt; status, 2);
-        assert!(rt; printed.is_empty());
-        assert_eq!(rt; told.as_slice(), NOT_A_LINE.as_bytes());
+        assert!(rt; is_no_line(&rt, words));
     }
-    assert!(rt; !fs::exists(&rt, "imports_other/office.db")?);
+    for (kind, label) in OTHER_LISTS {
+        assert!(rt; is_no_line(&rt, &["import", "--db", OFFICE, kind, label, "list"]));
+    }
+    assert!(rt; !fs::exists(&rt, OFFICE)?);
     fs::remove_dir_all(&rt, "imports_other")?;
     Ok(())
 }

@@ -5,7 +5,8 @@ use office_lines::Ending;
 use std::alloc::Global;
 use std::test::Fail;
 
-const REGISTER: [(&str, &str); 28] = [
+/// Rooms, people and homes, two rounds begun, and most refusals on the way.
+pub const REGISTER: [(&str, &str); 28] = [
     ("room H1", "ok\n"),
     ("room H2", "ok\n"),
     ("person T1 key00000000000t1 Tim Tan", "ok\n"),

@@ -1,7 +1,7 @@
 //! Answers whose bytes are made.
 ghost use Rattle.std.specs.Prelude.{◌≡◌, ◌==◌, IfOk, true, false};
-ghost use Rattle.resident_http.specs.Answers.{is_answered};
-ghost use Rattle.resident_http.specs.Faults.{fault_answer, is_one_fault, success_answer, wrong_method_answer};
+ghost use Rattle.resident_http.specs.Faults.{fault_answer, is_one_fault, names_fault};
+ghost use Rattle.resident_http.specs.Faults.{success_answer, wrong_method_answer};
 ghost use Rattle.resident_desk.specs.Dues.{one_fault};
 ghost use Rattle.resident_desk.specs.Letters.{IsLetter};
 
@@ -45,10 +45,9 @@ pub fn success_letter(alloc: Global, body: Listing<u8>) -> Result<Letter, NoLett
     letter_of(alloc, HttpAnswer::success(body))
 }
 
-/// The letter of a fault of this name.
+/// The letter of a fault of this name, which goes with the status.
 pub fn fault_letter(alloc: Global, status: StatusCode, name: &str) -> Result<Letter, NoLetter>
-    requires answered { is_answered status ≡ true }
-    requires without_allow { (status == 405) ≡ false }
+    requires named { names_fault status name.now ≡ true }
     ensures { IfOk result (λ letter. IsLetter letter (fault_answer status name.now)) }
 {
     let answer = HttpAnswer::fault(alloc, status, name)?;
@@ -57,7 +56,6 @@ pub fn fault_letter(alloc: Global, status: StatusCode, name: &str) -> Result<Let
 
 /// The letter of the faults with this status, which have one name.
 pub fn one_fault_letter(alloc: Global, status: StatusCode) -> Result<Letter, NoLetter>
-    requires answered { is_answered status ≡ true }
     requires without_allow { (status == 405) ≡ false }
     requires one { is_one_fault status ≡ true }
     ensures { IfOk result (λ letter. IsLetter letter (one_fault status)) }

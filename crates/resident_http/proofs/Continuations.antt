@@ -1,12 +1,12 @@
 -- What is found in some bytes is found in each continuation of them.
-use Rattle.std.proofs.Common.{◌≡◌, ℕ, ◌+◌, ◌-◌, ◌<◌, ◌≤◌, ◌⊎◌, Bool, true, false, cond, ltb, List, [], ◌++◌, length, take, drop, refl, sym, ap, ◌∙◌, subst, arith, append_assoc, length-append, Option, Result, Ok, Err, inl, inr, map, codes}
-use Rattle.std.proofs.lemmas.List.{take-append-le, take-append-drop}
+use Rattle.std.proofs.Common.{◌≡◌, ℕ, ◌+◌, ◌-◌, ◌≤◌, Bool, true, false, cond, ltb, List, [], ◌++◌, length, take, drop, refl, sym, ap, ◌∙◌, subst, arith, append_assoc, length-append, Option, Result, Ok, Err, inl, inr, map, codes}
+use Rattle.std.proofs.lemmas.List.{take-append-le}
 use Rattle.std.proofs.lemmas.Bool.Decides.{nat_tests}
 use Rattle.httparse.specs.Grammar.{RequestHead, print_request, ReadsRequest, HasNoRequest, NeverHasRequest, MayBecomeRequest, EndsInTarget}
 use Rattle.httparse.specs.Spans.{name_and_value, RequestOverflows}
 use Rattle.httparse.proofs.GrammarLemmas.{request_unique, ReadsRequest-append}
 use Rattle.resident_http.specs.Fields.{NamedValue, values_of}
-use Rattle.resident_http.specs.Asks.{Asked, more, ask, fault, is_more, is_request, has_bad_host, is_there, key_of, length_of, path_of, asked_of, asked_with, asked_by, window, head_limit, field_limit, HasHead, AwaitsHead, LacksHead, Asks, BeginsTooManyFields}
+use Rattle.resident_http.specs.Asks.{Asked, more, ask, fault, is_more, is_request, has_bad_host, is_there, key_of, length_of, path_of, asked_of, asked_with, asked_by, window, head_limit, field_limit, HasHead, Asks, BeginsTooManyFields}
 use Rattle.resident_http.proofs.Windows.{window-few, window-rest, in_window}
 use Rattle.resident_http.proofs.Targets.{target_began}
 

@@ -6,7 +6,7 @@ use Rattle.serde_json.specs.Written.{has_float, items_have_float}
 use Rattle.room_types.specs.Texts.{Text}
 use Rattle.room_types.specs.declared.rows.RoomRow.{RoomRow}
 use Rattle.office_core.specs.declared.reply.Standing.{Standing}
-use Rattle.resident_http.specs.Bodies.{choices_data, room_data, rooms_data, standing_data, text_array, text_or_null}
+use Rattle.resident_http.specs.Bodies.{choices_data, room_data, rooms_data, standing_data, text_or_null}
 
 texts : (all : List Text) → items_have_float (items_of (map string all)) ≡ false
 texts [] = refl

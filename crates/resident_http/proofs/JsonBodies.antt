@@ -10,7 +10,7 @@ use Rattle.room_types.specs.Choices.{choices_fault, RepeatsRoom}
 use Rattle.room_types.specs.Texts.{Text}
 use Rattle.room_types.specs.declared.fault.TypeFault.{TypeFault}
 use Rattle.room_types.specs.declared.fault.TypeFault.TheVariants.{OutOfMemory}
-use Rattle.resident_http.specs.Bodies.{json_of, codes_in, codes_of_body, unless_fault, choices_from, choices_of_body}
+use Rattle.resident_http.specs.Bodies.{json_of, codes_in, unless_fault, choices_from, choices_of_body}
 
 pub json_of_text : (bytes : List ℕ) (value : Data) → IsUtf8 bytes → read bytes ≡ Some value → json_of bytes ≡ Some value
 json_of_text bytes value text e = rw (is_utf8-from_IsUtf8 bytes text) e

@@ -1,5 +1,5 @@
 -- Keys are text.
-use Rattle.std.proofs.Common.{◌≡◌, ℕ, ◌<◌, ◌≤◌, Bool, true, false, cond, ◌&&◌, List, length, get_or, Option, Some, None, refl, sym, arith, lit<, inl, inr, IsUtf8}
+use Rattle.std.proofs.Common.{◌≡◌, ℕ, ◌<◌, Bool, true, false, cond, ◌&&◌, List, length, get_or, Some, None, refl, sym, arith, lit<, inl, inr, IsUtf8}
 use Rattle.std.proofs.lemmas.Bool.{cases_lt}
 use Rattle.std.proofs.lemmas.Bool.Decides.{nat_tests}
 use Rattle.std.proofs.lemmas.List.{get_or_past}
@@ -8,7 +8,6 @@ use Rattle.std.proofs.lemmas.Str.{IsUtf8-from_ascii}
 use Rattle.std.specs.Int.{is_in_range}
 use Rattle.std.specs.List.{list_all}
 use Rattle.room_types.specs.Grammars.{is_key, is_key_byte}
-use Rattle.resident_http.specs.Asks.{key_of}
 
 is_ascii : (b : ℕ) → is_key_byte b ≡ true → b < 128
 is_ascii b h = grind (arith, nat_tests)

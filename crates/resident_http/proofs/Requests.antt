@@ -1,5 +1,5 @@
 -- A whole head with a whole body is a request.
-use Rattle.std.proofs.Common.{◌≡◌, ℕ, ◌+◌, ◌-◌, ◌≤◌, Bool, false, List, length, take, drop, refl, sym, arith, codes, Option, Result, Ok, nat_lt, get_or, IsUtf8, true, ◌<◌, cond}
+use Rattle.std.proofs.Common.{◌≡◌, ℕ, ◌+◌, ◌-◌, ◌≤◌, false, List, length, take, drop, refl, sym, arith, codes, Option, Ok, nat_lt}
 use Rattle.std.proofs.lemmas.Bool.Decides.{nat_tests}
 use Rattle.std.proofs.lemmas.List.{take_all, length-drop}
 use Rattle.resident_http.specs.Fields.{NamedValue, values_of}

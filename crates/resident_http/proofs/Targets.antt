@@ -1,11 +1,11 @@
 -- Bytes that end in a request target, and the bytes at their front.
-use Rattle.std.proofs.Common.{◌≡◌, ℕ, ◌+◌, ◌-◌, ◌<◌, ◌≤◌, ◌⊎◌, List, [], ◌∷◌, ◌++◌, length, take, drop, get_or, zero, suc, refl, sym, ap, ◌∙◌, arith, append_assoc, append-nil, inl, inr, lit<, lit≤, IsTrue}
+use Rattle.std.proofs.Common.{◌≡◌, ℕ, ◌+◌, ◌-◌, ◌<◌, ◌⊎◌, List, [], ◌∷◌, ◌++◌, length, take, drop, get_or, zero, suc, refl, sym, ap, ◌∙◌, arith, append_assoc, append-nil, inl, inr, lit<, lit≤, IsTrue}
 use Rattle.std.proofs.lemmas.Bool.{cases_lt}
 use Rattle.std.proofs.Math.Seq.{take-append-add, take-append_seam}
 use Rattle.std.proofs.lemmas.List.{take-append-le, take-append-drop}
 use Rattle.std.proofs.lemmas.List.Elements.{All-take, All-nil, All-cons}
 use Rattle.std.proofs.lemmas.Str.{IsUtf8-from_ascii}
-use Rattle.httparse.specs.Grammar.{LineEnd, crlf, print_end, print_blank, print_version, print_section, Field, IsField, RequestHead, print_request, IsToken, AllPass, is_uri_byte, IsRequestHead, ReadsRequest, EndsInTarget}
+use Rattle.httparse.specs.Grammar.{LineEnd, crlf, print_end, print_blank, print_version, print_section, IsField, RequestHead, print_request, IsToken, is_uri_byte, IsRequestHead, ReadsRequest, EndsInTarget}
 
 -- a request of this method for `/`
 plain : List LineEnd → List ℕ → RequestHead

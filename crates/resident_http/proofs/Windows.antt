@@ -7,7 +7,7 @@ use Rattle.httparse.specs.declared.spans.HeaderSpan.{HeaderSpan}
 use Rattle.httparse.specs.declared.spans.RequestSpans.{RequestSpans}
 use Rattle.httparse.specs.Spans.{RequestOverflows, IsRequestWithin, IsRequestOf, AreFieldsAt, span_bytes, header_bytes, name_and_value}
 use Rattle.resident_http.specs.Fields.{NamedValue}
-use Rattle.resident_http.specs.Asks.{window, head_limit, field_limit, Asked, more, fault, asked_of, HasHead, AwaitsHead, LacksHead, Asks}
+use Rattle.resident_http.specs.Asks.{window, head_limit, field_limit, Asked, more, fault, asked_of, Asks}
 
 -- few bytes are all within it
 short : (n : ℕ) (xs : List ℕ) → length xs < n → take n xs ≡ xs

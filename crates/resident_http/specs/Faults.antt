@@ -2,7 +2,7 @@
 use Rattle.std.specs.Prelude.{ℕ, Bool, List, [], ◌∷◌, codes, if◌then◌else◌, ◌==◌, None, Some}
 use Rattle.std.specs.List.{list_any}
 use Rattle.serde_json.specs.Written.{compact_text}
-use Rattle.room_types.specs.Texts.{Text}
+use Rattle.room_types.specs.Texts.{Text, text_eq}
 use Rattle.resident_http.specs.Answers.{Answer}
 use Rattle.resident_http.specs.Bodies.{fault_data}
 use Rattle.resident_http.specs.declared.method.Method.{Method}
@@ -23,6 +23,19 @@ name_of status =
     else if status == 417 then codes "ExpectationFailed"
     else if status == 501 then codes "NotImplemented"
     else codes "Unavailable"
+
+-- the names of the faults with this status; 405 has none here, since its answer names a method besides
+abbrev pub fault_names : ℕ → List Text
+fault_names status =
+    if status == 405 then []
+    else if status == 409 then codes "BadPhase" ∷ codes "Withdrawn" ∷ []
+    else if status == 422 then codes "TooManyChoices" ∷ codes "RoomRepeated" ∷ codes "UnknownRoom" ∷ codes "RoomShut" ∷ []
+    else if is_one_fault status then name_of status ∷ []
+    else []
+
+-- the name goes with the status
+abbrev pub names_fault : ℕ → Text → Bool
+names_fault status name = list_any (text_eq name) (fault_names status)
 
 abbrev pub success_answer : List ℕ → Answer
 success_answer body = record { status = 200; allow = None; body = body }

@@ -1,6 +1,6 @@
 //! Answers, and their bytes.
-ghost use Rattle.std.specs.Prelude.{◌≡◌, ◌++◌, IfOk, OnOk, string_bytes};
-ghost use Rattle.resident_http.specs.Answers.{bytes_of, head_of, reason_of, allow_line};
+ghost use Rattle.std.specs.Prelude.{◌≡◌, ◌++◌, IfOk, OnOk, string_bytes, true};
+ghost use Rattle.resident_http.specs.Answers.{allow_line, bytes_of, head_of, is_answered, reason_of};
 
 use crate::method::Method;
 use http::StatusCode;
@@ -60,6 +60,7 @@ fn head_text(
     allow: Option<Method>,
     body_length: usize,
 ) -> Result<String, AllocError>
+    requires { is_answered status ≡ true }
     ensures { IfOk result (λ text. string_bytes text ≡ head_of status allow body_length) }
 {
     let code = status.as_u16();
@@ -84,8 +85,9 @@ fn push_allow(text: &mut String, allow: Option<Method>) -> Result<(), AllocError
     Ok(())
 }
 
-// The phrase that goes with the status.
+// The phrase that goes with the status, which is one that residents are answered with.
 fn reason(status: StatusCode) -> &'static str
+    requires { is_answered status ≡ true }
     ensures { result.now ≡ reason_of status }
 {
     match status.as_u16() {
@@ -99,6 +101,8 @@ fn reason(status: StatusCode) -> &'static str
         417 => "Expectation Failed",
         422 => "Unprocessable Entity",
         501 => "Not Implemented",
-        _ => "Service Unavailable",
+        503 => "Service Unavailable",
+        // A status may be any number from 100 to 999, which asks for this arm; that no other comes is proved.
+        _ => unreachable!(),
     }
 }

@@ -1,7 +1,7 @@
 //! The answers that all is well, and those of faults.
-ghost use Rattle.std.specs.Prelude.{◌≡◌, ◌==◌, IfOk, true, false};
-ghost use Rattle.resident_http.specs.Answers.{is_answered};
-ghost use Rattle.resident_http.specs.Faults.{fault_answer, is_one_fault, name_of, success_answer, wrong_method_answer};
+ghost use Rattle.std.specs.Prelude.{◌≡◌, IfOk, true};
+ghost use Rattle.resident_http.specs.Faults.{fault_answer, is_one_fault, name_of, names_fault};
+ghost use Rattle.resident_http.specs.Faults.{success_answer, wrong_method_answer};
 
 use crate::answer::HttpAnswer;
 use crate::bodies::fault_body;
@@ -22,15 +22,14 @@ impl HttpAnswer {
         }
     }
 
-    /// The answer of a fault, whose body tells its name. The status is one that residents are answered with, and not
-    /// 405, whose answer is `wrong_method`; that the name goes with the status is the caller's to see to.
+    /// The answer of a fault, whose body tells its name. The name goes with the status, which is so neither 200, which is
+    /// no fault, nor 405, whose answer is `wrong_method`.
     ///
     /// # Errors
     ///
     /// `OutOfMemory` where memory for the body is refused.
     pub fn fault(alloc: Global, status: StatusCode, name: &str) -> Result<Self, OutOfMemory>
-        requires answered { is_answered status ≡ true }
-        requires without_allow { (status == 405) ≡ false }
+        requires named { names_fault status name.now ≡ true }
         ensures { IfOk result (λ answer. answer ≡ fault_answer status name.now) }
     {
         let body = fault_body(alloc, name)?;
@@ -71,6 +70,8 @@ pub fn fault_name(status: StatusCode) -> &'static str
         413 => "ContentTooLarge",
         417 => "ExpectationFailed",
         501 => "NotImplemented",
-        _ => "Unavailable",
+        503 => "Unavailable",
+        // A status may be any number from 100 to 999, which asks for this arm; that no other comes is proved.
+        _ => unreachable!(),
     }
 }

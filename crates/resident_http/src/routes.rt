@@ -44,7 +44,7 @@ pub enum Routed<'b> {
         /// The method to use.
         allow: Method,
     },
-    /// No key was handed in: the request has no field with one, several, or one whose value is no key.
+    /// No key was handed in. The request has no field `Room-Key`, or several, or one whose value is no key.
     Forbidden,
     /// The path stands for something, and a key was handed in.
     To {

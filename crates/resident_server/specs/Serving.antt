@@ -14,7 +14,7 @@ use Rattle.resident_desk.specs.Conversations.{Connection, Converses, connection_
 use Rattle.resident_desk.specs.declared.served.Served.{Served}
 use Rattle.resident_server.specs.Texts.{listening_text, served_text}
 use Rattle.room_types.specs.Streams.{Output}
-use Rattle.room_types.specs.Watched.{StopsAtEnd, watched_inner, watched_reads}
+use Rattle.room_types.specs.Watched.{StopsAtEnd, watched_inner, watched_late, watched_reads}
 use Rattle.room_types.specs.declared.watched.Watched.{Watched}
 
 -- a connection that was just accepted: nothing was read from it, written to it or flushed
@@ -45,6 +45,7 @@ module _ {S : Type 0} (g : Ghosts S) where
       pub after : Watched T
       pub came : comes listener said (Some (watched_inner before)) between
       pub begins : IsNew (connection_of remaining contents before)
+      pub prompt : watched_late before ≡ false
       pub talks : Talks old new (connection_of remaining contents before) (connection_of remaining contents after)
       pub few : watched_reads after ≤ connection_limit
       pub no_late : StopsAtEnd before after

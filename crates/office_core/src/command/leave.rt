@@ -22,7 +22,7 @@ pub fn leave(alloc: Global, office: &Office, person: &PersonId) -> Result<Decisi
     let Some(kept) = office.people.get(person) else {
         return Err(Refusal::UnknownPerson);
     };
-    if !kept.home.is_some() {
+    if kept.home.is_none() {
         return Err(Refusal::NoHome);
     }
     let person = person.copy()?;

@@ -1,11 +1,12 @@
 //! Exports of the office of a desk.
-ghost use Rattle.std.specs.Prelude.{◌≡◌, IfErr, OnOk};
+ghost use Rattle.std.specs.Prelude.{◌≡◌, IfErr, OnOk, length};
 ghost use Rattle.room_types.specs.Streams.{Puts, output_of};
 ghost use Rattle.room_types.specs.Watched.{StopsAtFailure, watched_failed, watched_flushes};
 ghost use Rattle.sqlite.specs.Held.{state};
 ghost use Rattle.sqlite.specs.State.{HasCleanDisk};
 ghost use Rattle.office_core.specs.declared.office.Office.{Office as AnyOffice};
-ghost use Rattle.office_export.specs.Ending.{PutsCount, PutsExport, PutsFront, has_failed, sent_of};
+ghost use Rattle.office_export.specs.Ending.{PutsCount, PutsExport, PutsFront, StopsWithin};
+ghost use Rattle.office_export.specs.Ending.{has_failed, sent_of};
 ghost use Rattle.office_export.specs.Exports.{exported};
 ghost use Rattle.office_lists.specs.Exports.{export_bytes};
 ghost use Rattle.office_load.specs.Reading.{OnlyReads};
@@ -21,13 +22,13 @@ use std::io::Write;
 
 impl<S: Alter> Desk<S> {
     /// Writes an export of the office that the desk stands for, row by row from its tables: each record is written before
-    /// the next row is taken. It does not flush. No table changes, and the desk can be used on. Whatever the disk does, a
-    /// header and whole records are written, or so many bytes as an early end tells.
+    /// the next row is taken. It does not flush. No office's table changes, and the desk can be used on. Whatever the disk
+    /// does, a header and whole records are written, or so many bytes as an early end tells.
     ///
     /// # Errors
     ///
-    /// `Fault` after a write that failed or took nothing. `Unavailable` where the database or memory does not serve; the
-    /// records before were written whole.
+    /// `Fault` after a write that failed or took nothing: where the disk returned what was written, some of the export was
+    /// left out then. `Unavailable` where the database or memory does not serve; the records before were written whole.
     pub fn export<W: Write>(
         &mut self,
         alloc: Global,
@@ -46,6 +47,9 @@ impl<S: Alter> Desk<S> {
             → IfErr result (λ end. PutsFront (output_of W.contents output.old)
             (output_of W.contents output.new) (sent_of end)
             (export_bytes (exported kind office))) }
+        ensures short { HasCleanDisk (state S.Store self.new.conn) → (office : AnyOffice)
+            → StandsFor S.Store self.old office
+            → IfErr result (StopsWithin (length (export_bytes (exported kind office)))) }
         ensures formed { OnOk result (PutsExport kind (output_of W.contents output.old)
             (output_of W.contents output.new)) }
         ensures counted { IfErr result (λ end. PutsCount (output_of W.contents output.old)

@@ -28,6 +28,10 @@ fn cuts_do_not_matter(rt: HostRuntime) -> Result<(), Fail> {
         assert_eq!(rt; answer.as_slice(), ANSWER.as_bytes(), "{piece}");
         assert_eq!(rt; desk.load(rt.alloc())?.choices.len(), 2);
     }
+    println!(rt;
+        "a request in two pieces, or a byte a read: {} cuts",
+        REQUEST.len()
+    )?;
     Ok(())
 }
 
@@ -48,6 +52,7 @@ fn fronts_are_refused(rt: HostRuntime) -> Result<(), Fail> {
         assert_eq!(rt; answer.is_empty(), len == 0);
     }
     assert_eq!(rt; desk.load(rt.alloc())?.choices.len(), 1);
+    println!(rt; "a request that ends too early: {} cuts", REQUEST.len())?;
     Ok(())
 }
 
@@ -67,6 +72,7 @@ fn stops_where_a_read_fails(rt: HostRuntime) -> Result<(), Fail> {
         assert!(rt; answer.is_empty());
     }
     assert_eq!(rt; desk.load(rt.alloc())?.choices.len(), 1);
+    println!(rt; "a request whose reads fail: {} faults", REQUEST.len())?;
     Ok(())
 }
 
@@ -90,6 +96,10 @@ fn stops_where_a_write_fails(rt: HostRuntime) -> Result<(), Fail> {
         assert_eq!(rt; written.as_slice(), &ANSWER.as_bytes()[..sent]);
         assert_eq!(rt; desk.load(rt.alloc())?.choices.len(), 2);
     }
+    println!(rt;
+        "an answer whose writes or flush fail: {} faults",
+        ANSWER.len() + 1
+    )?;
     Ok(())
 }
 

@@ -130,6 +130,7 @@ fn a_device_that_is_full(rt: HostRuntime) -> Result<(), Fail> {
         );
         assert_eq!(rt; output.into_inner().written.as_slice(), &ROOMS[..room]);
     }
+    println!(rt; "an export whose writer is full: {} faults", ROOMS.len())?;
     Ok(())
 }
 
@@ -147,6 +148,7 @@ fn each_write_failing_in_turn(rt: HostRuntime) -> Result<(), Fail> {
         );
         assert_eq!(rt; output.into_inner().written.as_slice(), &MOVES[..writes]);
     }
+    println!(rt; "an export whose writes fail: {} faults", MOVES.len())?;
     Ok(())
 }
 

@@ -1,6 +1,6 @@
 use Rattle.std.proofs.Common.{◌∙◌, inl, inr, refl}
 use Rattle.std.proofs.Math.Bool.{or-true}
-use Rattle.office_program.proofs.AtDeskLemmas.{unflushed}
+use Rattle.office_program.proofs.AtDeskLemmas.{ends_early, unflushed}
 use Rattle.office_program.proofs.at_desk.export_desk.Goals as goal
 
 pub returns-in-Err-flush-clause-exports : goal.returns-in-Err-flush-clause-exports
@@ -23,5 +23,8 @@ returns-in-Err-clause-exports g c =
     record {
       reads = end.reads;
       told = inr (refl, end.flushes, _, end.counted);
-      done = λ clean office stands. (inr (refl, end.flushes, _, end.front clean office stands), end.same clean office stands);
+      done = λ clean office stands. (
+        inr (refl, end.flushes, ends_early _ c.in-Err._end _ _ (end.front clean office stands) (end.short clean office stands) end.failed),
+        end.same clean office stands,
+      );
     }

@@ -23,4 +23,4 @@ returns-in-Ok-clause-imports g c =
 pub returns-in-Err-clause-imports : goal.returns-in-Err-clause-imports
 returns-in-Err-clause-imports g c =
     let shelf = shelf_of g.L.Lists.opens g.L.Lists.fails g.L.List.Read.remaining c.args.lists.now in
-    no_list g.S.Store shelf _ c.args.kind c.args.label c.args.list.now c.say.result _ _ c.in-Err.ensures.failed c.say.ensures.says
+    no_list g.S.Store shelf _ c.args.kind c.args.label c.args.list.now c.say_unavailable.result _ _ c.in-Err.ensures.failed c.say_unavailable.ensures.says

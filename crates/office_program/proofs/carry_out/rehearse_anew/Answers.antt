@@ -14,4 +14,4 @@ returns-in-Ok-clause-rehearses g c =
     inl (c.rehearse.result.ending, shown.0, shown.1)
 
 pub returns-in-Err-clause-rehearses : goal.returns-in-Err-clause-rehearses
-returns-in-Err-clause-rehearses g c = inr (c.say.ensures.says, refl)
+returns-in-Err-clause-rehearses g c = inr (c.say_unavailable.ensures.says, refl)

@@ -2,4 +2,4 @@ use Rattle.std.proofs.Common.{inr, refl}
 use Rattle.office_program.proofs.importing.import_list.Goals as goal
 
 pub returns-in-Err-clause-imports : goal.returns-in-Err-clause-imports
-returns-in-Err-clause-imports g c = inr (refl, c.in-Err.ensures.wanting, c.say.ensures.says)
+returns-in-Err-clause-imports g c = inr (refl, c.in-Err.ensures.wanting, c.say_unavailable.ensures.says)

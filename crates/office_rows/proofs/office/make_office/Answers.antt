@@ -1,5 +1,4 @@
-use Rattle.std.proofs.Common.{Some, sym, subst, IsPermutation, arith}
-use Rattle.std.proofs.lemmas.List.Sorted.{length_permutation}
+use Rattle.std.proofs.Common.{Some, sym, subst, IsPermutation}
 use Rattle.room_types.proofs.Options.{none_some}
 use Rattle.office_rows.specs.Rows.{only_row}
 use Rattle.office_rows.specs.declared.records.RoundRecord.{RoundRecord}
@@ -60,9 +59,3 @@ returns-clause-makes c = record {
         phase = (round i).phase;
       });
 }
-
-pub returns-clause-some : goal.returns-clause-some
-returns-clause-some c =
-    let round = c.in-Some-read_round.round in
-    let one = length_permutation (only_row round) c.args.records.rounds.items (subst (λ l. IsPermutation (only_row round) l) c.as_slice.ensures.value (rw c.in-Some-read_round.is at c.read_round.ensures.told).1) in
-    omega (arith, one)

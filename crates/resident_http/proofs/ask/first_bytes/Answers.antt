@@ -1,4 +1,4 @@
-use Rattle.std.proofs.Common.{◌≡◌, arith, sym}
+use Rattle.std.proofs.Common.{sym}
 use Rattle.resident_http.proofs.Windows.{window-few, window-is, first_cut}
 use Rattle.resident_http.proofs.ask.first_bytes.Goals as goal
 

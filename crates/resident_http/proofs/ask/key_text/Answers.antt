@@ -1,4 +1,3 @@
-use Rattle.std.proofs.Common.{sym, ◌∙◌}
 use Rattle.resident_http.proofs.Keys.{no_key_of}
 use Rattle.resident_http.proofs.ask.key_text.Goals as goal
 

@@ -21,6 +21,7 @@ returns g c =
           pending = opened.pending;
           ended = opened.ended;
         };
+        prompt = opened.late;
         talks = record { served = talk.result; follows = talk.ensures.follows; at_desk = talk.ensures.converses; serves = talk.ensures.serves };
         few = talk.ensures.few;
         no_late = talk.ensures.no_late;

@@ -1,4 +1,4 @@
-use Rattle.std.proofs.Common.{rules, ◌≡◌, ◌-◌, length, arith, ap, ◌∙◌, refl, inl}
+use Rattle.std.proofs.Common.{rules, ◌≡◌, ◌-◌, not, length, arith, ap, ◌∙◌, refl, inl}
 use Rattle.office_texts.specs.Texts.{text_of}
 use Rattle.room_types.proofs.StreamLemmas.{Puts-nil}
 use Rattle.office_lines.proofs.session.Session.answer_line.Goals as goal
@@ -40,5 +40,5 @@ returns-clause-broken g c = record {
   step = rw c.deref.ensures.value at c.hear-said.ensures.step;
   written = Puts-nil _;
   all = omega arith;
-  suits = (omega arith, inl (refl, c.in-Err.ensures.memory));
+  suits = (omega arith, inl (refl, c.in-Err.ensures.memory, ap not c.in-Err.ensures.made));
 }

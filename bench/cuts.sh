@@ -1,0 +1,23 @@
+#!/usr/bin/env bash
+# Cuts what comes and goes at each place: a resident's request in two pieces at each byte, a byte a read, and at its end too early;
+# each read and each write failing in turn, of a conversation, of a rehearsed register, and of exports. These are tests of
+# `resident_tests`, `program_tests` and `trade_tests`, which tell how often they did it. It proves the tests first, which takes some
+# minutes.
+#
+#     bench/cuts.sh
+set -euo pipefail
+cd "$(dirname "$0")/../crates"
+
+# The tests of a module of a crate, each with what it tells.
+tell() {
+    local crate=$1 module=$2 test
+    shift 2
+    (cd "$crate" && rt test >&2)
+    for test in "$@"; do
+        "$crate/out/${crate}_tests" "$module::$test"
+    done
+}
+
+tell resident_tests desk::faults cuts_do_not_matter fronts_are_refused stops_where_a_read_fails stops_where_a_write_fails
+tell program_tests streams stops_where_a_read_fails stops_where_a_write_takes_nothing stops_where_a_write_fails
+tell trade_tests lists::exports a_device_that_is_full each_write_failing_in_turn

@@ -1,0 +1,23 @@
+-- Offices with the same rows.
+use Rattle.std.specs.Prelude.{◌≡◌}
+use Rattle.std.specs.List.Sorted.{IsPermutation}
+use Rattle.office_core.specs.Office.Invariants.{IsLawful}
+use Rattle.office_core.specs.declared.office.Office.{Office}
+use Rattle.office_rows.specs.Tables.{Tables, rows_of}
+
+-- each table has the same rows, in some order
+pub record AreSameRows (tables others : Tables) : Type 0 where
+  pub rooms : IsPermutation tables.rooms others.rooms
+  pub people : IsPermutation tables.people others.people
+  pub rounds : IsPermutation tables.rounds others.rounds
+  pub choices : IsPermutation tables.choices others.choices
+  pub words : IsPermutation tables.words others.words
+  pub results : IsPermutation tables.results others.results
+  pub moves : IsPermutation tables.moves others.moves
+  pub lists : IsPermutation tables.lists others.lists
+
+-- two lawful offices with the same rows are one
+abbrev pub RowsTellTheOffice : Type 0
+RowsTellTheOffice =
+    (one other : Office) → IsLawful one → IsLawful other → AreSameRows (rows_of one) (rows_of other)
+    → one ≡ other
