@@ -1,5 +1,5 @@
 //! Desks made over a connection, read back from its tables, and let go.
-ghost use Rattle.std.specs.Prelude.{◌≡◌, ◌≢◌, ◌⊎◌, false, IfErr, IfOk, IsErrAnd, IsTrue, OnOk, Some};
+ghost use Rattle.std.specs.Prelude.{◌≡◌, ◌≢◌, ◌⊎◌, false, IfErr, IfOk, IsErrAnd, IsTrue, None, OnOk, Some};
 ghost use Rattle.sqlite.specs.Held.{state};
 ghost use Rattle.sqlite.specs.State.{HasCleanDisk};
 ghost use Rattle.sqlite.specs.Steps.{over_memory};
@@ -21,10 +21,12 @@ use sqlite::{Alter, Connection, MemStore};
 use std::alloc::Global;
 
 impl Desk<MemStore> {
-    /// A desk over a new database in memory, which shows the empty office.
+    /// A desk over a new database in memory, which shows the empty office. The engine refuses none of its statements for the
+    /// rows that it visits.
     pub fn in_memory(alloc: Global) -> Result<Desk<MemStore>, Unavailable>
         ensures shows { IfOk result (λ desk. Shows over_memory desk empty_office) }
         ensures kept { IfOk result (λ desk. desk.kept ≡ Some empty_office) }
+        ensures unlimited { IfOk result (λ desk. (state over_memory desk.conn).step_limit ≡ None) }
     {
         let Ok(connection) = Connection::open_in_memory(alloc) else {
             return Err(Unavailable);
