@@ -78,7 +78,7 @@ module _ {H K : Type 0} (handles : H → Request → DeskAnswer → H → Type 0
   greets_carried route body me answer old new (inl h) =
       let c = does_carried route h.0 body answer old new h.2 in
       (c.0, λ well k s. let n = c.1 well k s in (n.0, inl (h.0, h.1, n.1), n.2))
-  greets_carried route body me answer old new (inr (inl h)) = carried_same old new _ h.3 (λ k. inr (inl (h.0, h.1, h.2, refl)))
+  greets_carried route body me answer old new (inr (inl h)) = carried_same old new _ h.2 (λ k. inr (inl (h.0, h.1, refl)))
   greets_carried route body me answer old new (inr (inr h)) = carried_same old new _ h.1 (λ k. inr (inr (h.0, refl)))
 
   admits_carried : (route : Route) (key : Text) (body : List ℕ) (answer : Answer) (old new : H) → Admits handles route key body old answer new

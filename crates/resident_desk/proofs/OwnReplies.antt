@@ -215,7 +215,7 @@ module _ (a b : Office) (same : a.rooms ≡ b.rooms) (occupied : (room : Text) �
       reply_told : (told : Result Reply Refusal) (r : Reply) → answer_told told ≡ desk.Reply r → told ≡ Ok r
       reply_told (Ok s) r e = cc
       reply_told (Err cause) r e = absurd (cc)
-  greets_same route key body who answer next agree told (inr (inl h)) = (b, inr (inl (h.0, h.1, h.2, refl)))
+  greets_same route key body who answer next agree told (inr (inl h)) = (b, inr (inl (h.0, h.1, refl)))
   greets_same route key body who answer next agree told (inr (inr h)) = (b, inr (inr (h.0, refl)))
 
   admits_same : (route : Route) (key : Text) (body : List ℕ) (answer : Answer) (next : Office) → AgreeOnKey a b key
@@ -230,7 +230,7 @@ module _ (a b : Office) (same : a.rooms ≡ b.rooms) (occupied : (room : Text) �
     where
       unserved : (route : Route) (body : List ℕ) (who : DeskAnswer) (answer : Answer) (old new : Office) → who ≡ desk.Unavailable → Greets Handles route body who old answer new → answer ≡ unavailable_answer
       unserved route body who answer old new e (inl g) = absurd (let d = sym e ∙ g.1 in cc)
-      unserved route body who answer old new e (inr (inl g)) = absurd (let d = sym e ∙ g.1 in cc)
+      unserved route body who answer old new e (inr (inl g)) = absurd (let d = sym e ∙ g.0 in cc)
       unserved route body who answer old new e (inr (inr g)) = g.0
   admits_same route key body answer next agree (inr h) = (b, inr (h.0, refl))
 
@@ -298,7 +298,7 @@ does_keep route.Choices standing body answer old new h e = records_keep standing
 
 greets_keep : (route : Route) (body : List ℕ) (who : DeskAnswer) (answer : Answer) (old new : Office) → Greets Handles route body who old answer new → answer.status ≡ 503 → new ≡ old
 greets_keep route body who answer old new (inl h) e = does_keep route h.0 body answer old new h.2 e
-greets_keep route body who answer old new (inr (inl h)) e = h.3
+greets_keep route body who answer old new (inr (inl h)) e = h.2
 greets_keep route body who answer old new (inr (inr h)) e = h.1
 
 wanted_keep : (what : Wanted) (body : List ℕ) (answer : Answer) (old new : Office) → AnswersWanted Handles what body old answer new → answer.status ≡ 503 → new ≡ old

@@ -7,7 +7,7 @@ use Rattle.room_types.specs.declared.rows.RoomRow.{RoomRow}
 use Rattle.office_core.specs.declared.command.Command.{Command}
 use Rattle.office_core.specs.declared.command.Command.TheVariants.{SetChoices, Withdraw}
 use Rattle.office_core.specs.declared.query.Query.TheVariants as query
-use Rattle.office_core.specs.declared.refusal.Refusal.{Refusal}
+use Rattle.office_core.specs.declared.refusal.Refusal.TheVariants.{UnknownPerson}
 use Rattle.office_core.specs.declared.reply.Reply.TheVariants as reply
 use Rattle.office_core.specs.declared.reply.Standing.{Standing}
 use Rattle.office_store.specs.declared.requests.Answer.{Answer as DeskAnswer}
@@ -62,11 +62,11 @@ module _ {H : Type 0} (handles : H → Request → DeskAnswer → H → Type 0) 
   Does route.Withdrawal standing body = Withdraws standing.person
   Does route.Choices standing body = Records standing.person (choices_of_body body)
 
-  -- The desk has told whose the key is, or has refused since it is nobody's; or memory is wanting, or the desk did not serve.
+  -- The desk has told whose the key is, or that it is nobody's; or memory is wanting, or the desk did not serve.
   abbrev pub Greets : Route → List ℕ → DeskAnswer → H → Answer → H → Type 0
   Greets route body me old answer new =
       ((standing : Standing) × (me ≡ desk.Reply (reply.Me standing)) × Does route standing body old answer new)
-      ⊎ (((cause : Refusal) × (me ≡ desk.Refused cause) × (answer ≡ one_fault 403) × (new ≡ old))
+      ⊎ (((me ≡ desk.Refused UnknownPerson) × (answer ≡ one_fault 403) × (new ≡ old))
       ⊎ ((answer ≡ unavailable_answer) × (new ≡ old)))
 
   -- The desk is asked first whose the key is. Or memory is wanting before that.

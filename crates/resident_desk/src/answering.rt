@@ -13,7 +13,7 @@ use crate::letters::{
     Letter, NoLetter, fault_letter, one_fault_letter, success_letter, wrong_method_letter,
 };
 use http::StatusCode;
-use office_core::{Command, Query, Reply, Standing};
+use office_core::{Command, Query, Refusal, Reply, Standing};
 use office_store::{Answer, Handler, Request};
 use resident_http::{
     AskState, Route, Routed, choices_body, choices_of_body, rooms_body, route_request,
@@ -122,7 +122,7 @@ fn greet<H: Handler>(
 {
     match me {
         Answer::Reply(Reply::Me(standing)) => answer_owner(alloc, handler, route, standing, body),
-        Answer::Refused(_) => one_fault_letter(alloc, StatusCode::FORBIDDEN),
+        Answer::Refused(Refusal::UnknownPerson) => one_fault_letter(alloc, StatusCode::FORBIDDEN),
         _ => Err(NoLetter),
     }
 }
