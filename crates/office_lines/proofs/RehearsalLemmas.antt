@@ -93,6 +93,16 @@ module _ {H : Type 0} (handles : H → Request → Answer → H → Type 0) wher
         written = rw (texts, ← count, take-append-add (texts_of answers) (texts_of f.answers) f.sent) (Puts-trans out t.out out' _ _ h.heard.written f.written);
         whole = omega (arith, texts_front-append answers f.answers, f.whole, count);
         within = omega (arith, ap length texts, length-append (texts_of answers) (texts_of f.answers), f.all, count);
+        flushed = elim f.flushed [
+          | inl none ↦ inl (none ∙ h.heard.flushes)
+          | inr one ↦ inr (
+            end,
+            refl,
+            refl,
+            omega (arith, ap length texts, length-append (texts_of answers) (texts_of f.answers), f.all, count, one.0),
+            one.1 ∙ ap (λ n. counted n 1) h.heard.flushes,
+          )
+        ];
       }
 
   -- memory was wanting for the text of the last line
@@ -139,6 +149,7 @@ module _ {H : Type 0} (handles : H → Request → Answer → H → Type 0) wher
     written = let same : n ≡ f.sent = omega (arith, e) in rw same f.written;
     whole = omega (arith, f.whole, e);
     within = omega (arith, f.all, e);
+    flushed = inl f.unflushed;
   }
 
   -- memory was wanting within a piece
@@ -167,6 +178,7 @@ module _ {H : Type 0} (handles : H → Request → Answer → H → Type 0) wher
         short = rw (ended_lines-is f.heard) f.short;
         run = rw (ended_lines-is f.heard) f.run;
         written = rw all at f.written;
+        unflushed = f.unflushed;
         cause = inl (rw (last_part-is f.heard) f.suits.1, w);
       }
 
@@ -182,6 +194,7 @@ module _ {H : Type 0} (handles : H → Request → Answer → H → Type 0) wher
     short = rw (ended_lines-is bytes) f.heard.short;
     run = rw (ended_lines-is bytes, f.handler_is) f.heard.run;
     written = rw f.out_is f.heard.written;
+    unflushed = ap (λ (o : Output). o.flushes) f.out_is ∙ f.heard.flushes;
     cause =
         let begun : length (last_part bytes) ≡ length f.after.partial_line = ap length (last_part-is bytes ∙ sym f.heard.partial_line) in
         inr (refl, omega (arith, begun, f.begun), f.cause);

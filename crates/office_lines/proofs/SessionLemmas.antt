@@ -101,6 +101,7 @@ module _ {H : Type 0} (handles : H → Request → Answer → H → Type 0) wher
     short = h.short;
     run = h.run;
     written = h.written;
+    unflushed = h.unflushed;
     all = h.all;
     whole = h.whole;
     suits = h.suits;
@@ -127,6 +128,7 @@ module _ {H : Type 0} (handles : H → Request → Answer → H → Type 0) wher
         short = ap (list_all is_short) ended ∙ list_all-append is_short (ended_from s.partial_line xs) (ended_from t.partial_line q.heard) ∙ and_from _ _ p.short q.short;
         run = rw ended (Run-append handles s.handler t.handler o _ _ _ _ p.run q.run);
         written = rw (texts, take-append-add first (texts_of q.answers) q.sent) (Puts-trans s.out t.out out _ _ p.written q.written);
+        unflushed = q.unflushed ∙ p.flushes;
         all = omega (arith, q.all, ap length texts, length-append first (texts_of q.answers));
         whole = omega (arith, texts_front-append p.answers q.answers, q.whole);
         suits = Suits-along e _ _ _ _ _ _ _ _ _ (omega (arith, p.sent))
@@ -168,6 +170,7 @@ module _ {H : Type 0} (handles : H → Request → Answer → H → Type 0) wher
         short = one_short s.partial_line short;
         run = (o, h.step, refl);
         written = rw text h.written;
+        unflushed = h.unflushed;
         all = h.all ∙ ap length (sym text);
         whole = omega arith;
         suits = Suits-along ending _ _ _ _ _ _ _ _ _ refl (λ some. omega arith) (λ some. refl) refl h.suits;
@@ -202,6 +205,7 @@ module _ {H : Type 0} (handles : H → Request → Answer → H → Type 0) wher
     short = rw e refl;
     run = rw e refl;
     written = Puts-nil s.out;
+    unflushed = refl;
     all = refl;
     whole = omega arith;
     suits = (refl, rw e (omega (arith, long, length-append s.partial_line (b ∷ []))));
@@ -223,6 +227,7 @@ module _ {H : Type 0} (handles : H → Request → Answer → H → Type 0) wher
         short = rw e refl;
         run = rw e refl;
         written = Puts-nil s.out;
+        unflushed = refl;
         all = refl;
         whole = omega arith;
         suits = (omega arith, inr (refl, rw e (omega (arith, longer)), rw e (omega (arith, longer, short))));
@@ -257,21 +262,24 @@ module _ {H : Type 0} (handles : H → Request → Answer → H → Type 0) wher
         short = short_unended s.partial_line short;
         run = rw (one_unended s.partial_line some) (o, h.step, refl);
         written = rw text h.written;
+        flushed = inl h.unflushed;
         all = h.all ∙ ap length (sym text);
         whole = omega arith;
         suits = Suits-along ending _ _ _ _ _ _ _ _ _ refl (λ some. omega arith) (λ some. refl) refl h.suits;
       }
 
   -- a flush that failed
-  pub Finished-unflushed : (s t : State H) (out : Output) (flushes : ℕ) → length s.partial_line ≤ line_limit
-      → Finished handles s t flushes → Keeps t.out.contents out.contents → out.taken ≡ t.out.taken → Unfinished handles s (WriteFault t.sent) t.handler out
-  Finished-unflushed s t out flushes short h k taken = record {
+  pub Finished-unflushed : (s t : State H) (out : Output) → length s.partial_line ≤ line_limit
+      → Finished handles s t s.out.flushes → Keeps t.out.contents out.contents → out.taken ≡ t.out.taken → out.flushes ≡ counted t.out.flushes 1
+      → Unfinished handles s (WriteFault t.sent) t.handler out
+  Finished-unflushed s t out short h k taken once = record {
     answers = h.answers;
     sent = length (texts_of h.answers);
     unsent = 0;
     short = short_unended s.partial_line short;
     run = h.run;
     written = rw (take_all (length (texts_of h.answers)) (texts_of h.answers) (omega arith)) (Puts-kept _ _ _ _ h.written k taken);
+    flushed = inr (refl, once ∙ ap (λ n. counted n 1) h.flushed);
     all = omega arith;
     whole = texts_front-within h.answers;
     suits = h.sent;

@@ -59,6 +59,7 @@ module _ {H K : Type 0} (handles : H → Request → Answer → H → Type 0) (d
     written = h.written;
     whole = h.whole;
     within = h.within;
+    flushed = h.flushed;
   }
 
   whole_lines : (old new : H) (k last : K) (i i' : Input) (o o' : Output) → (h : WholeLines handles old new i i' o o')
@@ -73,6 +74,7 @@ module _ {H K : Type 0} (handles : H → Request → Answer → H → Type 0) (d
     short = h.short;
     run = run;
     written = h.written;
+    unflushed = h.unflushed;
     cause = h.cause;
   }
 

@@ -41,7 +41,8 @@ module _ {H : Type 0} (handles : H → Request → Answer → H → Type 0) wher
 
   -- All that was read was heard, up to less than one piece. Its lines were answered, and the first `sent` bytes of their texts went
   -- out: all texts but the last went out whole. No line that was answered is too long. A line is ended by its line feed, or by
-  -- the end of the input where that was reached and nothing is unheard. Each read but the last gave a byte.
+  -- the end of the input where that was reached and nothing is unheard. Each read but the last gave a byte. Nothing was flushed,
+  -- but once where the end of the input was reached and all texts had gone out.
   pub record PartOfInput (old new : H) (input input' : Input) (output output' : Output) (sent : ℕ) : Type 0 where
     pub heard : List ℕ
     pub ahead : List ℕ
@@ -56,11 +57,15 @@ module _ {H : Type 0} (handles : H → Request → Answer → H → Type 0) wher
     pub written : Puts output output' (take sent (texts_of answers))
     pub whole : length (texts_of (front answers)) ≤ sent
     pub within : sent ≤ length (texts_of answers)
+    pub flushed :
+        (output'.flushes ≡ output.flushes)
+        ⊎ (IsAtEnd input'.remaining × (ahead ≡ []) × (lines ≡ lines_of heard) × (sent ≡ length (texts_of answers))
+        × (output'.flushes ≡ counted output.flushes 1))
 
   -- The lines that were ended before a fault were answered, none of them too long, and all their texts went out. Then a
   -- line is too long by its last byte, though no read failed, and less than one piece is unheard; or all that was read was
   -- heard, what has begun of a line is not too long, and a read failed or too many were made that each gave a byte. Each
-  -- read but the last gave a byte.
+  -- read but the last gave a byte. Nothing was flushed.
   pub record WholeLines (old new : H) (input input' : Input) (output output' : Output) : Type 0 where
     pub heard : List ℕ
     pub unheard : List ℕ
@@ -71,6 +76,7 @@ module _ {H : Type 0} (handles : H → Request → Answer → H → Type 0) wher
     pub short : list_all is_short (ended_lines heard) ≡ true
     pub run : Run handles old (ended_lines heard) answers new
     pub written : Puts output output' (texts_of answers)
+    pub unflushed : output'.flushes ≡ output.flushes
     pub cause :
         ((length (last_part heard) ≡ line_limit + 1) × (input'.failed ≡ false))
         ⊎ ((unheard ≡ []) × (length (last_part heard) ≤ line_limit) × ((input'.failed ≡ true)

@@ -10,6 +10,7 @@ use Rattle.office_store.specs.declared.requests.Answer.{Answer}
 use Rattle.office_store.specs.declared.requests.Request.{Request}
 use Rattle.office_lines.specs.Lines.{is_short, is_line_end, line_limit, piece_limit, read_limit, front, unended}
 use Rattle.room_types.specs.Streams.{Input, Output, Puts}
+use Rattle.room_types.specs.Watched.{counted}
 use Rattle.office_texts.specs.Texts.{is_constant, text_of, status_of}
 use Rattle.office_lines.specs.Runs.{Run, Step, texts_of, last_is_made, greatest_status}
 
@@ -76,7 +77,7 @@ module _ {H : Type 0} (handles : H → Request → Answer → H → Type 0) wher
     pub status : after.status ≡ max before.status (greatest_status answers)
 
   -- The rehearsal stopped within the bytes, after the first of them or later. The lines that the bytes up to there ended were answered, and a front of their texts
-  -- went out, all but the last text whole.
+  -- went out, all but the last text whole. Nothing was flushed.
   pub record Halted (before : State H) (ending : Ending) (handler : H) (out : Output) (bytes : List ℕ) : Type 0 where
     pub heard : List ℕ
     pub rest : List ℕ
@@ -88,6 +89,7 @@ module _ {H : Type 0} (handles : H → Request → Answer → H → Type 0) wher
     pub short : list_all is_short (ended_from before.partial_line heard) ≡ true
     pub run : Run handles before.handler (ended_from before.partial_line heard) answers handler
     pub written : Puts before.out out (take sent (texts_of answers))
+    pub unflushed : out.flushes ≡ before.out.flushes
     pub all : sent + unsent ≡ length (texts_of answers)
     pub whole : length (texts_of (front answers)) ≤ sent
     pub suits : Suits ending (before.sent + sent) (of_last_text sent answers) unsent (last_is_made answers) (length (partial_from before.partial_line heard))
@@ -103,13 +105,14 @@ module _ {H : Type 0} (handles : H → Request → Answer → H → Type 0) wher
     pub sent : after.sent ≡ before.sent + length (text_of said)
     pub status : after.status ≡ max before.status (status_of said)
 
-  -- The line that had come was answered, and a front of the text went out.
+  -- The line that had come was answered, and a front of the text went out. Nothing was flushed.
   pub record Broken (before : State H) (ending : Ending) (handler : H) (out : Output) : Type 0 where
     pub said : Said
     pub sent : ℕ
     pub unsent : ℕ
     pub step : Step handles before.handler before.partial_line said handler
     pub written : Puts before.out out (take sent (text_of said))
+    pub unflushed : out.flushes ≡ before.out.flushes
     pub all : sent + unsent ≡ length (text_of said)
     pub suits : Suits ending (before.sent + sent) sent unsent (not (is_constant said)) 0
 
@@ -124,7 +127,7 @@ module _ {H : Type 0} (handles : H → Request → Answer → H → Type 0) wher
     pub sent : after.sent ≡ before.sent + length (texts_of answers)
     pub status : after.status ≡ max before.status (greatest_status answers)
 
-  -- The last line, if one has begun, was answered, and a front of its text went out.
+  -- The last line, if one has begun, was answered, and a front of its text went out. Nothing was flushed, but once after all of it.
   pub record Unfinished (before : State H) (ending : Ending) (handler : H) (out : Output) : Type 0 where
     pub answers : List Said
     pub sent : ℕ
@@ -132,6 +135,7 @@ module _ {H : Type 0} (handles : H → Request → Answer → H → Type 0) wher
     pub short : list_all is_short (unended before.partial_line) ≡ true
     pub run : Run handles before.handler (unended before.partial_line) answers handler
     pub written : Puts before.out out (take sent (texts_of answers))
+    pub flushed : (out.flushes ≡ before.out.flushes) ⊎ ((unsent ≡ 0) × (out.flushes ≡ counted before.out.flushes 1))
     pub all : sent + unsent ≡ length (texts_of answers)
     pub whole : length (texts_of (front answers)) ≤ sent
     pub suits : Suits ending (before.sent + sent) (of_last_text sent answers) unsent (last_is_made answers) 0

@@ -28,6 +28,7 @@ returns-in-Ok-clause-broken g c =
       unsent = length c.as_bytes.result.now - c.in-Err-send.sent;
       step = step;
       written = rw text at c.in-Err-send.ensures.front;
+      unflushed = c.send.ensures.flushes;
       all = omega (arith, short, ap length text);
       suits = refl;
     }
@@ -39,6 +40,7 @@ returns-clause-broken g c = record {
   unsent = length (text_of c.hear-said.result);
   step = rw c.deref.ensures.value at c.hear-said.ensures.step;
   written = Puts-nil _;
+  unflushed = refl;
   all = omega arith;
   suits = (omega arith, inl (refl, c.in-Err.ensures.memory, ap not c.in-Err.ensures.made));
 }
