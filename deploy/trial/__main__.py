@@ -1,7 +1,7 @@
-"""Tries all that stands round `rooms serve`, end to end: python3 deploy/trial PROGRAM FOLDER.
+"""Tries all that stands round `rooms serve`, end to end: /usr/bin/python3 deploy/trial PROGRAM FOLDER.
 
 The folder gets the photographs of the page. It ends at the first thing that is not as it should be, and leaves nothing running.
-Debian: apt-get install haproxy chromium chromium-driver python3-selenium sqlite3 openssl.
+Debian: apt-get install haproxy chromium chromium-driver python3-selenium sqlite3 openssl. Selenium is there for Debian's own Python.
 """
 
 import sys
@@ -16,7 +16,7 @@ from page import try_page
 
 if __name__ == "__main__":
     if len(sys.argv) != 3:
-        sys.exit("usage: python3 deploy/trial PROGRAM FOLDER")
+        sys.exit("usage: /usr/bin/python3 deploy/trial PROGRAM FOLDER")
     folder = Path(sys.argv[2])
     folder.mkdir(parents=True, exist_ok=True)
     try_page(sys.argv[1], folder)
