@@ -1,5 +1,6 @@
 //! Requests, and desks in memory at which they are made.
-use office_core::{Command, Office};
+use office_core::Command;
+use office_state::Office;
 use office_store::{Answer, Desk, Handler, Request};
 use office_words::{Sentence, read_line};
 use room_types::{Label, ListKind, Listing, OutOfMemory};

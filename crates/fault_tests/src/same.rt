@@ -1,5 +1,5 @@
 //! Whether two offices are the same. It takes no memory.
-use office_core::{Assigned, KeptList, Moved, Office, Person, RoundMoves};
+use office_state::{Assigned, KeptList, Moved, Office, Person, RoundMoves};
 use room_types::{Choices, Word};
 
 /// Whether both offices have the same rooms, people, round, moves and lists.

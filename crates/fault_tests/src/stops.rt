@@ -9,7 +9,7 @@ use crate::stops::files::{
     Calls, FileDesk, StoppingFile, contents_left, desk_over, files_of, files_under, is_working,
 };
 use crate::stops::stories::{Story, coming_lists, making, small_year};
-use office_core::Office;
+use office_state::Office;
 use office_store::{DeskFault, Request};
 use sqlite::Files;
 use std::alloc::Global;

@@ -7,8 +7,8 @@ use Rattle.room_types.specs.Phases.{phase_text}
 use Rattle.room_types.specs.Texts.{Text as Bytes}
 use Rattle.room_types.specs.Words.{word_text}
 use Rattle.room_types.specs.declared.moves.Move.{Move}
-use Rattle.office_core.specs.declared.office.Assigned.{Assigned}
-use Rattle.office_core.specs.declared.office.kept_list.KeptList.{KeptList}
+use Rattle.office_state.specs.declared.office.Assigned.{Assigned}
+use Rattle.office_state.specs.declared.office.kept_list.KeptList.{KeptList}
 use Rattle.office_rows.specs.declared.records.ChoiceRecord.{ChoiceRecord}
 use Rattle.office_rows.specs.declared.records.RoundRecord.{RoundRecord}
 use Rattle.office_rows.specs.declared.records.PersonRecord.{PersonRecord}

@@ -7,7 +7,7 @@ ghost use Rattle.office_cells.specs.Cells.{IsKind};
 
 use crate::cells::{bytes_in, short_in, str_in, text_in};
 use crate::records::Record;
-use office_core::KeptList;
+use office_state::KeptList;
 use room_types::{Label, ListKind, OutOfMemory};
 use sqlite::Row;
 use std::alloc::Global;

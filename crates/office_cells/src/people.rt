@@ -1,8 +1,8 @@
 //! Rows of people.
 use crate::cells::{flag_in, optional_text_in, text_in};
 use crate::records::Record;
-use office_core::Person;
 use office_rows::PersonRecord;
+use office_state::Person;
 use room_types::OutOfMemory;
 use sqlite::Row;
 use std::alloc::Global;

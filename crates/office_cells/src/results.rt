@@ -1,7 +1,7 @@
 //! Rows of results.
 use crate::cells::{optional_text_in, text_in};
 use crate::records::Record;
-use office_core::Assigned;
+use office_state::Assigned;
 use room_types::{OutOfMemory, PersonId};
 use sqlite::Row;
 use std::alloc::Global;

@@ -4,8 +4,8 @@ use Rattle.std.specs.Prelude.{ℕ, Bool}
 use Rattle.std.proofs.lemmas.List.Sorted.{IsPermutation-refl, IsPermutation-trans}
 use Rattle.room_types.specs.Texts.{Text}
 use Rattle.room_types.specs.declared.moves.Move.{Move}
-use Rattle.office_core.specs.declared.office.Assigned.{Assigned}
-use Rattle.office_core.specs.declared.office.kept_list.KeptList.{KeptList}
+use Rattle.office_state.specs.declared.office.Assigned.{Assigned}
+use Rattle.office_state.specs.declared.office.kept_list.KeptList.{KeptList}
 use Rattle.office_rows.specs.Tables.{Tables}
 use Rattle.office_rows.specs.declared.records.ChoiceRecord.{ChoiceRecord}
 use Rattle.office_rows.specs.declared.records.PersonRecord.{PersonRecord}

@@ -2,9 +2,9 @@
 use Rattle.std.proofs.Common.{◌∙◌}
 use Rattle.sqlite.specs.Effect.{Database}
 use Rattle.sqlite.specs.State.{State, HasCleanDisk}
-use Rattle.office_core.specs.Change.{applied, Fits}
-use Rattle.office_core.specs.declared.change.Change.{Change}
-use Rattle.office_core.specs.declared.office.Office.{Office}
+use Rattle.office_state.specs.Change.{applied, Fits}
+use Rattle.office_state.specs.declared.change.Change.{Change}
+use Rattle.office_state.specs.declared.office.Office.{Office}
 use Rattle.office_cells.specs.Columns.{room_columns, person_columns, round_columns, choice_columns}
 use Rattle.office_cells.specs.Columns.{word_columns, result_columns, move_columns, list_columns}
 use Rattle.office_cells.specs.Spelled.{IsSpelled}

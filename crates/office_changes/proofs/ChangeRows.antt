@@ -18,14 +18,14 @@ use Rattle.room_types.specs.declared.moves.Move.{Move}
 use Rattle.room_types.specs.declared.phase.Phase.{Phase}
 use Rattle.room_types.proofs.Trees.{entries-empty}
 use Rattle.room_types.proofs.Options.{none_if_not_some, some_of}
-use Rattle.office_core.specs.Change.{applied}
-use Rattle.office_core.specs.Office.Moves.{moves_of}
-use Rattle.office_core.specs.Office.{knows_room, has_withdrawn}
-use Rattle.office_core.specs.declared.change.Change.TheVariants.{PutRoom, PutPerson, DropPerson, PutHome, PutWithdrawn}
-use Rattle.office_core.specs.declared.change.Change.TheVariants.{PutChoices, PutWord, PutResult, AddMove}
-use Rattle.office_core.specs.declared.change.Change.TheVariants.{PutRound, ClearRound, KeepList}
-use Rattle.office_core.specs.declared.office.Office.{Office}
-use Rattle.office_core.specs.declared.office.person.Person.{Person}
+use Rattle.office_state.specs.Change.{applied}
+use Rattle.office_state.specs.Office.Moves.{moves_of}
+use Rattle.office_state.specs.Office.{knows_room, has_withdrawn}
+use Rattle.office_state.specs.declared.change.Change.TheVariants.{PutRoom, PutPerson, DropPerson, PutHome, PutWithdrawn}
+use Rattle.office_state.specs.declared.change.Change.TheVariants.{PutChoices, PutWord, PutResult, AddMove}
+use Rattle.office_state.specs.declared.change.Change.TheVariants.{PutRound, ClearRound, KeepList}
+use Rattle.office_state.specs.declared.office.Office.{Office}
+use Rattle.office_state.specs.declared.office.person.Person.{Person}
 use Rattle.office_rows.specs.Rows.{person_row, person_rows, choices_from, list_rows}
 use Rattle.office_rows.specs.Tables.{Tables, rows_of}
 use Rattle.office_rows.specs.declared.records.ChoiceRecord.{ChoiceRecord}

@@ -13,8 +13,8 @@ use Rattle.room_types.specs.Grammars.{is_person_id, is_room_code, is_key, is_nam
 use Rattle.room_types.specs.Texts.{Text, text_eq}
 use Rattle.room_types.specs.declared.moves.Move.{Move}
 use Rattle.room_types.specs.declared.phase.Phase.{Phase}
-use Rattle.office_core.specs.declared.office.kept_list.KeptList.{KeptList}
-use Rattle.office_core.specs.declared.office.person.Person.{Person}
+use Rattle.office_state.specs.declared.office.kept_list.KeptList.{KeptList}
+use Rattle.office_state.specs.declared.office.person.Person.{Person}
 use Rattle.office_cells.specs.Cells.{IsTextOf, IsOptionalTextOf, text_or_null}
 use Rattle.office_cells.specs.Columns.{room_columns, person_columns, round_shown, choice_columns, word_columns}
 use Rattle.office_cells.specs.Columns.{result_columns, move_columns, list_columns}

@@ -1,9 +1,9 @@
 -- What calls make of a database that has the tables of an office.
 use Rattle.std.specs.Prelude.{◌≡◌, List}
 use Rattle.sqlite.specs.State.{State, HasCleanDisk}
-use Rattle.office_core.specs.Change.{applied, applied_all, Fits, AllFit}
-use Rattle.office_core.specs.declared.change.Change.{Change}
-use Rattle.office_core.specs.declared.office.Office.{Office}
+use Rattle.office_state.specs.Change.{applied, applied_all, Fits, AllFit}
+use Rattle.office_state.specs.declared.change.Change.{Change}
+use Rattle.office_state.specs.declared.office.Office.{Office}
 use Rattle.office_cells.specs.Spelled.{IsSpelled}
 use Rattle.office_rows.specs.Tables.{Tables, rows_of}
 use Rattle.office_tables.specs.Tables.{HasTables, HoldsOffice}

@@ -1,7 +1,7 @@
 //! Changes of the lists.
 ghost use Rattle.std.specs.Prelude.{◌≡◌, OnOk};
 ghost use Rattle.sqlite.specs.Held.{state};
-ghost use Rattle.office_core.specs.declared.change.Change.TheVariants.{PutChoices};
+ghost use Rattle.office_state.specs.declared.change.Change.TheVariants.{PutChoices};
 ghost use Rattle.office_tables.specs.Steps.{StaysInside};
 ghost use Rattle.office_changes.specs.Carries.{CarriesAlways, Turns};
 ghost use Rattle.office_changes.specs.Choosing.{with_choices};

@@ -1,12 +1,12 @@
 //! Changes of the rooms.
 ghost use Rattle.std.specs.Prelude.{◌≡◌, OnOk};
 ghost use Rattle.sqlite.specs.Held.{state};
-ghost use Rattle.office_core.specs.declared.change.Change.TheVariants.{PutRoom};
+ghost use Rattle.office_state.specs.declared.change.Change.TheVariants.{PutRoom};
 ghost use Rattle.office_tables.specs.Steps.{StaysInside};
 ghost use Rattle.office_changes.specs.Carries.{CarriesOne};
 
 use crate::cells::know_text;
-use office_core::Office;
+use office_state::Office;
 use office_tables::rooms::{add_room, set_shut};
 use room_types::RoomCode;
 use sqlite::{Alter, Error, Transaction};

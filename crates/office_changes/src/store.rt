@@ -12,7 +12,7 @@ use crate::results::{put_result, record_move};
 use crate::rooms::put_room;
 use crate::round::{clear_round, put_round};
 use crate::words::put_word;
-use office_core::{Change, Office};
+use office_state::{Change, Office};
 use sqlite::{Alter, Connection, Error, Transaction};
 use std::alloc::Global;
 

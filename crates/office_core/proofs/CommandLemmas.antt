@@ -8,10 +8,13 @@ pub mod Changes
 pub mod CloseRound
 pub mod Draw
 pub mod Import
+pub mod Indexed
+pub mod Kept
 pub mod Leave
 pub mod ListChecks
 pub mod OpenRound
 pub mod Publish
+pub mod Recorded
 pub mod Records
 pub mod Remove
 pub mod Reopen
@@ -19,18 +22,19 @@ pub mod Run
 pub mod SetChoices
 pub mod SetHome
 pub mod Settle
+pub mod Settling
 pub mod Shut
 pub mod Withdraw
 pub mod Words
-use Rattle.office_core.specs.Change.{LeadsOn}
+use Rattle.office_state.specs.Change.{LeadsOn}
+use Rattle.office_state.specs.Office.Invariants.{IsLawful}
+use Rattle.office_state.specs.declared.office.Office.{Office}
 use Rattle.office_core.specs.Command.Decision.{IsDecided}
 use Rattle.office_core.specs.Command.{checks, accepts, next, reply_to, changes_of}
 use Rattle.office_core.specs.Inner.Formed.{IsFormed}
-use Rattle.office_core.specs.Office.Invariants.{IsLawful}
 use Rattle.office_core.specs.declared.command.Command.{Command}
 use Rattle.office_core.specs.declared.command.Command.TheVariants as command
 use Rattle.office_core.specs.declared.command.decision.Decision.{Decision}
-use Rattle.office_core.specs.declared.office.Office.{Office}
 use Rattle.office_core.specs.declared.refusal.Refusal.{Refusal}
 use Rattle.office_core.proofs.CommandLemmas.AddPerson.{add_person-leads}
 use Rattle.office_core.proofs.CommandLemmas.AddRoom.{add_room-leads}

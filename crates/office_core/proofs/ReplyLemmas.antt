@@ -4,11 +4,15 @@ use Rattle.std.specs.FinMap as maps
 use Rattle.std.specs.Prelude.{ℕ, List, Result, Ok, Err, IfOk, Bool, true, false, Option, None, Some, if◌then◌else◌, refl}
 use Rattle.room_types.specs.TextMaps.{rows_ascend}
 use Rattle.room_types.specs.Texts.{Text}
+use Rattle.office_state.specs.Office.{is_over, owner}
+use Rattle.office_state.specs.Office.Phases.{has_results, has_words}
+use Rattle.office_state.specs.Round.{result_by}
+use Rattle.office_state.specs.declared.office.Office.{Office}
+use Rattle.office_state.specs.declared.office.kept_list.KeptList.{KeptList}
+use Rattle.office_state.specs.declared.office.person.Person.{Person}
 use Rattle.office_core.specs.Command.{checks, reply_to, changes_of}
 use Rattle.office_core.specs.Command.Decision.{IsDecided}
 use Rattle.office_core.specs.Command.Import.{reply_where}
-use Rattle.office_core.specs.Office.{is_over, owner}
-use Rattle.office_core.specs.Office.Phases.{has_results, has_words}
 use Rattle.office_core.specs.Query.{told}
 use Rattle.office_core.specs.Query.Answer.{Tells}
 use Rattle.office_core.specs.Query.Me.{told_owner, told_person}
@@ -20,13 +24,9 @@ use Rattle.office_core.specs.Query.Rooms.{room_row}
 use Rattle.office_core.specs.Query.WhatIf.{told_unless, checks as list_checks}
 use Rattle.office_core.specs.Refusal.Checks.{first_refusal}
 use Rattle.office_core.specs.Replies.{RowsAscend}
-use Rattle.office_core.specs.Round.{result_by}
 use Rattle.office_core.specs.declared.command.Command.{Command}
 use Rattle.office_core.specs.declared.command.Command.TheVariants as command
 use Rattle.office_core.specs.declared.command.decision.Decision.{Decision}
-use Rattle.office_core.specs.declared.office.Office.{Office}
-use Rattle.office_core.specs.declared.office.kept_list.KeptList.{KeptList}
-use Rattle.office_core.specs.declared.office.person.Person.{Person}
 use Rattle.office_core.specs.declared.query.Query.{Query}
 use Rattle.office_core.specs.declared.query.Query.TheVariants as query
 use Rattle.office_core.specs.declared.refusal.Refusal.{Refusal}

@@ -5,7 +5,7 @@ use Rattle.std.proofs.lemmas.Bool.{eqb-true}
 use Rattle.std.specs.FinMap as maps
 use Rattle.std.specs.FinMap.{len-entries}
 use Rattle.room_types.specs.Texts.{Text, TextMap}
-use Rattle.office_core.specs.Empty.{is_empty}
+use Rattle.office_state.specs.Empty.{is_empty}
 
 none_of_none : {A B : Type 0} (f : A → B) (es : List A) → eqb (length es) 0 ≡ true → map f es ≡ []
 none_of_none f [] e = refl

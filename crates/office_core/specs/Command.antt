@@ -18,9 +18,9 @@ pub mod SetHome
 pub mod Settle
 pub mod Shut
 pub mod Withdraw
+use Rattle.office_state.specs.declared.office.Office.{Office}
+use Rattle.office_state.specs.declared.change.Change.{Change}
 use Rattle.office_core.specs.Refusal.Checks.{Check, first_refusal}
-use Rattle.office_core.specs.declared.office.Office.{Office}
-use Rattle.office_core.specs.declared.change.Change.{Change}
 use Rattle.office_core.specs.declared.reply.Reply.{Reply}
 use Rattle.office_core.specs.declared.refusal.Refusal.{Refusal}
 use Rattle.office_core.specs.declared.command.Command.{Command}

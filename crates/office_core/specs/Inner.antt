@@ -1,6 +1,4 @@
 -- Words that only the contracts of private functions use.
 pub mod Formed
 pub mod Passes
-pub mod RoundProblem
-pub mod Soundness
 pub mod Tries

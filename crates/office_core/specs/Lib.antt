@@ -1,11 +1,6 @@
-pub mod Change
 pub mod Command
-pub mod Empty
 pub mod Inner
-pub mod Office
-pub mod Puts
+pub mod Laws
 pub mod Query
 pub mod Refusal
 pub mod Replies
-pub mod Round
-pub mod Soundness

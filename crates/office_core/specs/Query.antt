@@ -9,7 +9,7 @@ pub mod Results
 pub mod Rooms
 pub mod Round
 pub mod WhatIf
-use Rattle.office_core.specs.declared.office.Office.{Office}
+use Rattle.office_state.specs.declared.office.Office.{Office}
 use Rattle.office_core.specs.declared.query.Query.{Query}
 use Rattle.office_core.specs.declared.query.Query.TheVariants as query
 use Rattle.office_core.specs.declared.refusal.Refusal.{Refusal}

@@ -9,11 +9,11 @@ use Rattle.sqlite.specs.Effect.{Database}
 use Rattle.room_types.specs.Texts.{Text, text_cmp}
 use Rattle.room_types.proofs.Trees.{entries-empty}
 use Rattle.room_types.specs.declared.phase.Phase.TheVariants.{Idle}
-use Rattle.office_core.specs.Office.{empty_office}
-use Rattle.office_core.specs.declared.office.Assigned.{Assigned}
-use Rattle.office_core.specs.declared.office.kept_list.KeptList.{KeptList}
-use Rattle.office_core.specs.declared.office.moves.RoundMoves.{RoundMoves}
-use Rattle.office_core.specs.declared.office.person.Person.{Person}
+use Rattle.office_state.specs.Office.{empty_office}
+use Rattle.office_state.specs.declared.office.Assigned.{Assigned}
+use Rattle.office_state.specs.declared.office.kept_list.KeptList.{KeptList}
+use Rattle.office_state.specs.declared.office.moves.RoundMoves.{RoundMoves}
+use Rattle.office_state.specs.declared.office.person.Person.{Person}
 use Rattle.office_rows.specs.Rows.{person_row, list_rows, round_rows}
 use Rattle.office_rows.specs.Tables.{Tables, rows_of}
 use Rattle.office_cells.specs.Columns as columns

@@ -1,7 +1,7 @@
 -- What the making of the tables does.
 use Rattle.std.specs.Prelude.{◌≡◌}
 use Rattle.sqlite.specs.State.{State, HasCleanDisk}
-use Rattle.office_core.specs.Office.{empty_office}
+use Rattle.office_state.specs.Office.{empty_office}
 use Rattle.office_create.specs.Stages.{AtStage}
 use Rattle.office_tables.specs.Schema.{no_schema}
 use Rattle.office_tables.specs.Tables.{HoldsOffice}

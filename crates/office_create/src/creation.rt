@@ -2,7 +2,7 @@
 ghost use Rattle.std.specs.Prelude.{◌≡◌, ◌≢◌, false, Err, OnOk, OnErr, IfErr, IsTrue};
 ghost use Rattle.sqlite.specs.Held.{state};
 ghost use Rattle.sqlite.specs.State.{HasCleanDisk};
-ghost use Rattle.office_core.specs.Office.{empty_office};
+ghost use Rattle.office_state.specs.Office.{empty_office};
 ghost use Rattle.office_create.specs.Created.{Starts};
 ghost use Rattle.office_create.specs.Names.{NameIsTaken};
 ghost use Rattle.office_tables.specs.Schema.{no_schema};

@@ -12,7 +12,7 @@ use Rattle.sqlite_sql.specs.declared.ops.CompareOp.TheVariants.{Eq}
 use Rattle.sqlite_value.specs.declared.keys.Collation.TheVariants.{Binary}
 use Rattle.sqlite_keyed.proofs.ListLemmas.{filter-map}
 use Rattle.room_types.specs.Texts.{Text as Bytes}
-use Rattle.office_core.specs.Office.{is_text}
+use Rattle.office_state.specs.Office.{is_text}
 use Rattle.office_cells.specs.Cells.{flag, text_or_null}
 use Rattle.office_cells.specs.Columns.{person_columns, room_columns}
 use Rattle.office_rows.specs.declared.records.PersonRecord.{PersonRecord}

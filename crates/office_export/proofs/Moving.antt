@@ -23,11 +23,11 @@ use Rattle.room_types.specs.TextMaps.{first_holds, second_holds}
 use Rattle.room_types.specs.declared.moves.Move.{Move}
 use Rattle.room_types.specs.declared.moves.Wave.{Wave}
 use Rattle.room_types.specs.declared.moves.Wave.TheVariants.{Swap, Nth}
-use Rattle.office_core.specs.Office.Invariants.{IsLawful}
-use Rattle.office_core.specs.Office.Moves.{RoundMap}
-use Rattle.office_core.specs.declared.office.Office.{Office}
-use Rattle.office_core.specs.declared.office.moves.Moved.{Moved}
-use Rattle.office_core.specs.declared.office.moves.RoundMoves.{RoundMoves}
+use Rattle.office_state.specs.Office.Invariants.{IsLawful}
+use Rattle.office_state.specs.Office.Moves.{RoundMap}
+use Rattle.office_state.specs.declared.office.Office.{Office}
+use Rattle.office_state.specs.declared.office.moves.Moved.{Moved}
+use Rattle.office_state.specs.declared.office.moves.RoundMoves.{RoundMoves}
 use Rattle.office_lists.specs.Exports.{header_of, move_fields}
 use Rattle.office_lists.specs.declared.exports.ExportKind.TheVariants.{Moves}
 use Rattle.office_rows.specs.Tables.{rows_of}

@@ -10,10 +10,10 @@ use Rattle.sqlite_trees.specs.Tree.{IsAscending, Trees}
 use Rattle.sqlite_keyed.proofs.ListLemmas.{map-map, map_same, ascending-map, ascending_weaker}
 use Rattle.sqlite.specs.Effect.{Answers, Database}
 use Rattle.room_types.specs.Texts.{Text as Bytes, TextMap, text_cmp}
-use Rattle.office_core.specs.Office.Invariants.{IsLawful}
+use Rattle.office_state.specs.Office.Invariants.{IsLawful}
+use Rattle.office_state.specs.declared.office.Office.{Office}
+use Rattle.office_state.specs.declared.office.person.Person.{Person}
 use Rattle.office_core.specs.Query.People as people
-use Rattle.office_core.specs.declared.office.Office.{Office}
-use Rattle.office_core.specs.declared.office.person.Person.{Person}
 use Rattle.office_lists.specs.Exports.{header_of, person_fields}
 use Rattle.office_lists.specs.declared.exports.ExportKind.TheVariants.{People}
 use Rattle.office_rows.specs.Rows.{person_row, person_rows}

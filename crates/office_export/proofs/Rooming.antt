@@ -9,10 +9,10 @@ use Rattle.sqlite_sql.specs.Query.{Join, Output, inner, left, end, matches, or_n
 use Rattle.sqlite_keyed.proofs.ListLemmas.{map-map, map_same, filter-map, ascending-map, ascending_weaker}
 use Rattle.sqlite.specs.Effect.{Answers, Database}
 use Rattle.room_types.specs.Texts.{Text as Bytes, text_cmp}
-use Rattle.office_core.specs.Office.{is_text, tenant}
-use Rattle.office_core.specs.Office.Invariants.{IsLawful}
+use Rattle.office_state.specs.Office.{is_text, tenant}
+use Rattle.office_state.specs.Office.Invariants.{IsLawful}
+use Rattle.office_state.specs.declared.office.Office.{Office}
 use Rattle.office_core.specs.Query.Rooms.{room_row, state_of}
-use Rattle.office_core.specs.declared.office.Office.{Office}
 use Rattle.office_lists.specs.Exports.{header_of, room_fields}
 use Rattle.office_lists.specs.declared.exports.ExportKind.TheVariants.{Rooms}
 use Rattle.office_rows.specs.Tables.{rows_of}

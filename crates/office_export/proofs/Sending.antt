@@ -5,7 +5,7 @@ use Rattle.std.proofs.lemmas.List.{take-append-le, length-take, map-append}
 use Rattle.std.proofs.Math.Seq.{take-append-add, take-append_seam}
 use Rattle.room_types.specs.Streams.{Output, Puts}
 use Rattle.room_types.proofs.StreamLemmas.{Puts-nil, Puts-trans}
-use Rattle.office_core.specs.declared.office.Office.{Office}
+use Rattle.office_state.specs.declared.office.Office.{Office}
 use Rattle.office_lists.specs.Exports.{export_bytes, header_of, record_bytes}
 use Rattle.office_lists.specs.Records.{Record}
 use Rattle.office_lists.specs.declared.exports.ExportKind.{ExportKind}

@@ -15,7 +15,7 @@ use Rattle.sqlite.specs.State.{State, HasCleanDisk, Survives, Shown, ShowsRows, 
 use Rattle.sqlite.proofs.Callers.{begins_as, begun_plain, given_begin, reads_as, unchanged_then}
 use Rattle.sqlite.proofs.StateLemmas.{survives_then}
 use Rattle.room_types.specs.Streams.{Output, Puts}
-use Rattle.office_core.specs.declared.office.Office.{Office}
+use Rattle.office_state.specs.declared.office.Office.{Office}
 use Rattle.office_lists.specs.Exports.{export_bytes, header_of, record_bytes}
 use Rattle.office_lists.specs.Records.{Record}
 use Rattle.office_lists.specs.declared.exports.ExportKind.{ExportKind}

@@ -13,10 +13,10 @@ use Rattle.sqlite.proofs.Callers.{one_permutation}
 use Rattle.room_types.specs.Texts.{Text, TextMap, text_cmp}
 use Rattle.room_types.specs.TextMaps.{exact_texts}
 use Rattle.room_types.proofs.MapEntries.{entries_found}
-use Rattle.office_core.specs.Office.Invariants.{Unshared}
-use Rattle.office_core.specs.Office.{first_person, had_by, holder, is_text, lives_in}
-use Rattle.office_core.specs.declared.office.person.Person.{Person}
-use Rattle.office_core.proofs.OfficeLemmas.People.{held-is_text}
+use Rattle.office_state.specs.Office.Invariants.{Unshared}
+use Rattle.office_state.specs.Office.{first_person, had_by, holder, is_text, lives_in}
+use Rattle.office_state.specs.declared.office.person.Person.{Person}
+use Rattle.office_state.proofs.OfficeLemmas.People.{held-is_text}
 use Rattle.office_rows.specs.Rows.{person_row, person_rows}
 use Rattle.office_rows.specs.declared.records.PersonRecord.{PersonRecord}
 use Rattle.office_export.proofs.Rising.{entries_rise}

@@ -4,7 +4,7 @@ ghost use Rattle.room_types.specs.Streams.{Puts, output_of};
 ghost use Rattle.room_types.specs.Watched.{StopsAtFailure, watched_failed, watched_flushes};
 ghost use Rattle.sqlite.specs.Held.{state};
 ghost use Rattle.sqlite.specs.State.{HasCleanDisk, IsUnchanged, Survives};
-ghost use Rattle.office_core.specs.declared.office.Office.{Office as AnyOffice};
+ghost use Rattle.office_state.specs.declared.office.Office.{Office as AnyOffice};
 ghost use Rattle.office_lists.specs.Exports.{export_bytes};
 ghost use Rattle.office_load.specs.Reading.{OnlyReads};
 ghost use Rattle.office_export.specs.Asking.{AsksForExport};

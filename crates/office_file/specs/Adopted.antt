@@ -6,7 +6,7 @@ use Rattle.sqlite_wal.specs.Recovery.{Image}
 use Rattle.sqlite.specs.Files.{file_state, over_files}
 use Rattle.sqlite.specs.Held.{Held}
 use Rattle.sqlite.specs.State.{HasCleanDisk}
-use Rattle.office_core.specs.declared.office.Office.{Office}
+use Rattle.office_state.specs.declared.office.Office.{Office}
 use Rattle.office_file.specs.Files.{IsOpenedOver}
 use Rattle.office_load.specs.Finding.{AreDeclared, AreWhole}
 use Rattle.office_load.specs.Layout.{is_laid_out}

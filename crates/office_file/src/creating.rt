@@ -3,7 +3,7 @@ ghost use Rattle.std.specs.Prelude.{◌≡◌, false, IfOk, IsErrAnd, OnOk, Some
 ghost use Rattle.sqlite_wal.specs.Files.{image_at};
 ghost use Rattle.sqlite.specs.Files.{file_state, over_files};
 ghost use Rattle.sqlite.specs.State.{HasCleanDisk};
-ghost use Rattle.office_core.specs.Office.{empty_office};
+ghost use Rattle.office_state.specs.Office.{empty_office};
 ghost use Rattle.office_create.specs.Names.{NameIsTaken};
 ghost use Rattle.office_file.specs.Files.{BeginsBlank, IsCreateFault, RefusesNew};
 ghost use Rattle.office_store.specs.Desk.{Shows};

@@ -2,8 +2,8 @@
 ghost use Rattle.std.specs.Prelude.{◌≡◌, false, Err, IfErr, IfOk, IsTrue, MatchResult, OnOk};
 ghost use Rattle.sqlite.specs.Held.{state};
 ghost use Rattle.sqlite.specs.State.{HasCleanDisk};
-ghost use Rattle.office_core.specs.Office.Invariants.{IsLawful};
-ghost use Rattle.office_core.specs.declared.office.Office.{Office as Books};
+ghost use Rattle.office_state.specs.Office.Invariants.{IsLawful};
+ghost use Rattle.office_state.specs.declared.office.Office.{Office as Books};
 ghost use Rattle.office_rows.specs.Tables.{rows_of};
 ghost use Rattle.office_cells.specs.Spelled.{IsSpelled};
 ghost use Rattle.office_load.specs.Numbers.{IsLaidOut};
@@ -18,7 +18,7 @@ ghost use Rattle.office_load.specs.Reading.{OnlyReads};
 use crate::holding::held;
 use crate::layout::{is_laid_out, names_round};
 use crate::versions::other_version;
-use office_core::Office;
+use office_state::Office;
 use sqlite::{Alter, Connection};
 use std::alloc::Global;
 

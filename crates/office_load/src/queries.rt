@@ -1,7 +1,7 @@
 //! The queries over the whole tables of an office.
 use crate::listed::Listed;
-use office_core::{Assigned, KeptList};
 use office_rows::{ChoiceRecord, PersonRecord, RoundRecord};
+use office_state::{Assigned, KeptList};
 use room_types::{Label, Move, PersonId, RoomCode, Word};
 
 impl Listed for (RoomCode, bool) {

@@ -5,8 +5,8 @@ ghost use Rattle.std.specs.List.Sorted.{IsPermutation};
 ghost use Rattle.std.specs.Option.{IfSome};
 ghost use Rattle.sqlite.specs.Held.{state};
 ghost use Rattle.sqlite.specs.State.{HasCleanDisk};
-ghost use Rattle.office_core.specs.Office.Invariants.{IsLawful};
-ghost use Rattle.office_core.specs.declared.office.Office.{Office as Books};
+ghost use Rattle.office_state.specs.Office.Invariants.{IsLawful};
+ghost use Rattle.office_state.specs.declared.office.Office.{Office as Books};
 ghost use Rattle.office_rows.specs.ReadsOffice.{AreRecordsOf};
 ghost use Rattle.office_rows.specs.Tables.{Tables, rows_of};
 ghost use Rattle.office_cells.specs.Spelled.{IsSpelled};
@@ -18,8 +18,8 @@ ghost use Rattle.office_load.specs.Listing.{ShowRecords};
 ghost use Rattle.office_load.specs.Reading.{AreShown, OnlyReads};
 
 use crate::listed::{Listed, table_records};
-use office_core::Office;
 use office_rows::{OfficeRecords, read_office};
+use office_state::Office;
 use sqlite::{Alter, Connection, Error, ErrorCode};
 use std::alloc::Global;
 

@@ -17,7 +17,7 @@ use Rattle.office_lines.specs.SingleLines.{DoesWords}
 use Rattle.office_store.proofs.DeskRunLemmas.{step_stands}
 use Rattle.office_store.specs.Desk.{DeskState, HandlesAt, StandsFor}
 use Rattle.office_store.specs.LawfulSteps.{HandlesLawfully}
-use Rattle.office_core.specs.declared.office.Office.{Office}
+use Rattle.office_state.specs.declared.office.Office.{Office}
 use Rattle.office_tables.proofs.StepLemmas.{follows-refl}
 use Rattle.office_tables.specs.Steps.{Follows}
 use Rattle.room_types.proofs.StreamLemmas.{Puts-kept}

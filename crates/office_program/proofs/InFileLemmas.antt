@@ -7,7 +7,7 @@ use Rattle.sqlite_store.specs.declared.store.FileStore.{FileStore}
 use Rattle.sqlite_wal.specs.Recovery.{Image}
 use Rattle.office_program.specs.AtDesk.{DoneAt, TellsMade}
 use Rattle.office_program.specs.InFile.{DoneInFile, MakesInFile}
-use Rattle.office_core.specs.Office.{empty_office}
+use Rattle.office_state.specs.Office.{empty_office}
 use Rattle.office_file.specs.Adopted.{BeginsFound, IsFileFault}
 use Rattle.office_file.specs.Files.{BeginsBlank, IsCreateFault}
 use Rattle.office_store.specs.Desk.{DeskState, Shows}

@@ -5,7 +5,7 @@ use Rattle.sqlite.specs.State.{HasCleanDisk}
 use Rattle.sqlite_trees.specs.declared.store.Store.{Ghosts}
 use Rattle.office_program.specs.DeskFaults.{RefusesDesk}
 use Rattle.office_program.specs.Shelves.{ImportsPath, Shelf}
-use Rattle.office_core.specs.declared.office.Office.{Office}
+use Rattle.office_state.specs.declared.office.Office.{Office}
 use Rattle.office_export.specs.Ending.{PutsCount, PutsFront}
 use Rattle.office_export.specs.Exports.{exported}
 use Rattle.office_lines.specs.Saying.{Says}

@@ -1,7 +1,7 @@
 -- What the program does with the words after its name.
 use Rattle.std.specs.Prelude.{◌≡◌, ℕ, ◌<◌, ◌⊎◌, List, [], ◌∷◌, Option, Some, None, length, codes}
-use Rattle.office_core.specs.Office.{empty_office}
-use Rattle.office_core.specs.declared.office.Office.{Office}
+use Rattle.office_state.specs.Office.{empty_office}
+use Rattle.office_state.specs.declared.office.Office.{Office}
 use Rattle.office_store.specs.LawfulSteps.{HandlesLawfully}
 use Rattle.office_lines.specs.declared.ending.Ending.{Ending}
 use Rattle.office_words.specs.declared.word_fault.WordFault.{WordFault}

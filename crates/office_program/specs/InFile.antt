@@ -8,7 +8,7 @@ use Rattle.sqlite_wal.specs.Recovery.{Image}
 use Rattle.office_program.specs.AtDesk.{ExportsDesk, HearsWords, ImportsDesk}
 use Rattle.office_program.specs.DeskFaults.{RefusesDesk}
 use Rattle.office_program.specs.Shelves.{Shelf}
-use Rattle.office_core.specs.Office.{empty_office}
+use Rattle.office_state.specs.Office.{empty_office}
 use Rattle.office_file.specs.Adopted.{BeginsFound, IsFileFault}
 use Rattle.office_file.specs.Files.{BeginsBlank, IsCreateFault}
 use Rattle.office_lines.specs.Saying.{Says}

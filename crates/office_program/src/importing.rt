@@ -4,9 +4,10 @@ ghost use Rattle.room_types.specs.Streams.{output_of};
 ghost use Rattle.room_types.specs.Watched.{IsFresh, StopsAtEnd, StopsAtFailure, watched_reads};
 ghost use Rattle.office_program.specs.Importing.{CannotRead, ImportsFrom, ReadsList, list_limit};
 
-use office_core::{BYTE_LIMIT, Command};
+use office_core::Command;
 use office_lines::do_line::tell;
 use office_lines::say::say_unavailable;
+use office_state::BYTE_LIMIT;
 use office_store::{Handler, Request, Unavailable};
 use office_texts::Said;
 use room_types::{Label, ListKind, Listing, Watched};

@@ -18,12 +18,12 @@ use Rattle.room_types.specs.Choices.{IsChoices}
 use Rattle.room_types.specs.Texts.{Text, TextMap, text_cmp}
 use Rattle.room_types.specs.TextMaps.{exact_texts, text_cases, get-put_same, get-put_other, get-gone_other, less_from_test}
 use Rattle.room_types.proofs.Trees.{entries-empty}
-use Rattle.office_core.specs.Puts.{with_all}
-use Rattle.office_core.specs.Inner.Soundness.{is_choices}
-use Rattle.office_core.proofs.SoundnessLemmas.LawTests.{choices_at, at_choices}
+use Rattle.office_state.specs.Puts.{with_all}
+use Rattle.office_state.specs.Inner.Soundness.{is_choices}
+use Rattle.office_state.proofs.SoundnessLemmas.LawTests.{choices_at, at_choices}
 use Rattle.room_types.proofs.MapEntries.{later, at_keys, at_entries, below_less, each_always, each_weaker, none_below}
 use Rattle.room_types.specs.TextMaps.{first_holds, second_holds}
-use Rattle.office_core.proofs.RoundLemmas.Puts.{with_all-entries}
+use Rattle.office_state.proofs.RoundLemmas.Puts.{with_all-entries}
 use Rattle.office_rows.specs.Rows.{AreKeptLists, choices_from, list_rows, choice_rows}
 use Rattle.office_rows.specs.Inner.Gathered.{list_at, gathered, chosen_from, row_cmp}
 use Rattle.office_rows.specs.Reads.{Reads}

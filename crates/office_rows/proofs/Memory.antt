@@ -4,8 +4,8 @@ use Rattle.std.specs.FinMap as maps
 use Rattle.std.specs.FinMap.{len-entries}
 use Rattle.std.proofs.lemmas.List.{length-map}
 use Rattle.std.proofs.lemmas.List.Sorted.{length_permutation}
-use Rattle.office_core.specs.Soundness as soundness
-use Rattle.office_core.specs.declared.office.Office.{Office}
+use Rattle.office_state.specs.Soundness as soundness
+use Rattle.office_state.specs.declared.office.Office.{Office}
 use Rattle.office_rows.specs.ReadsOffice.{AreRecordsOf, TakesMemory}
 use Rattle.office_rows.specs.Rows.{person_row, person_rows}
 use Rattle.office_rows.specs.Tables.{rows_of}

@@ -21,10 +21,10 @@ use Rattle.room_types.specs.Texts.{Text, TextMap, text_cmp}
 use Rattle.room_types.specs.TextMaps.{exact_texts, get-put_same, get-put_other, less_from_test}
 use Rattle.room_types.specs.declared.moves.Move.{Move}
 use Rattle.room_types.proofs.Trees.{entries-empty}
-use Rattle.office_core.specs.Office.Moves.{RoundMap, moves_of, with_move}
-use Rattle.office_core.specs.declared.office.moves.Moved.{Moved}
-use Rattle.office_core.specs.declared.office.moves.RoundMoves.{RoundMoves}
-use Rattle.office_core.proofs.OfficeLemmas.Moves.{kept_moves}
+use Rattle.office_state.specs.Office.Moves.{RoundMap, moves_of, with_move}
+use Rattle.office_state.specs.declared.office.moves.Moved.{Moved}
+use Rattle.office_state.specs.declared.office.moves.RoundMoves.{RoundMoves}
+use Rattle.office_state.proofs.OfficeLemmas.Moves.{kept_moves}
 use Rattle.room_types.proofs.MapEntries.{at_keys, at_entries, below_less, insert-new, moved_all, none_below, same_finds}
 use Rattle.room_types.specs.TextMaps.{first_holds, second_holds}
 use Rattle.room_types.proofs.Options.{none_if_not_some}

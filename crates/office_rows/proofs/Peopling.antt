@@ -16,7 +16,7 @@ use Rattle.sqlite_keyed.proofs.ListLemmas.{map-map, all_map, all_unmap}
 use Rattle.room_types.specs.Texts.{Text, text_cmp}
 use Rattle.room_types.specs.TextMaps.{exact_texts, text_cases, get-put_other, contains_key-put, contains_key-put_same}
 use Rattle.room_types.proofs.Trees.{entries-empty}
-use Rattle.office_core.specs.declared.office.person.Person.{Person}
+use Rattle.office_state.specs.declared.office.person.Person.{Person}
 use Rattle.room_types.proofs.MapEntries.{at_keys, at_entries, each_always, insert-new, moved_all, moved_keys, one_map}
 use Rattle.room_types.proofs.Options.{none_if_not_some}
 use Rattle.office_rows.specs.Inner.Peopled.{marked, nobody, with_person, peopled}

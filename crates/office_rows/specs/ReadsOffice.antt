@@ -2,9 +2,9 @@
 use Rattle.std.specs.Prelude.{◌≡◌, ℕ, ◌+◌, ◌<◌, ◌⊎◌, length, Option, Some}
 use Rattle.std.specs.Option.{IfSome}
 use Rattle.std.specs.List.Sorted.{IsPermutation}
-use Rattle.office_core.specs.Office.Invariants.{IsLawful}
-use Rattle.office_core.specs.Soundness.{AreFoundAgain}
-use Rattle.office_core.specs.declared.office.Office.{Office}
+use Rattle.office_state.specs.Office.Invariants.{IsLawful}
+use Rattle.office_state.specs.Soundness.{AreFoundAgain}
+use Rattle.office_state.specs.declared.office.Office.{Office}
 use Rattle.office_rows.specs.Tables.{Tables, rows_of}
 use Rattle.office_rows.specs.declared.records.OfficeRecords.{OfficeRecords}
 

@@ -5,10 +5,10 @@ use Rattle.std.specs.FinMap as maps
 use Rattle.room_types.specs.Choices.{IsChoices}
 use Rattle.room_types.specs.Texts.{Text, TextMap}
 use Rattle.room_types.specs.declared.moves.Move.{Move}
-use Rattle.office_core.specs.Office.Moves.{RoundMap}
-use Rattle.office_core.specs.declared.office.moves.Moved.{Moved}
-use Rattle.office_core.specs.declared.office.moves.RoundMoves.{RoundMoves}
-use Rattle.office_core.specs.declared.office.person.Person.{Person}
+use Rattle.office_state.specs.Office.Moves.{RoundMap}
+use Rattle.office_state.specs.declared.office.moves.Moved.{Moved}
+use Rattle.office_state.specs.declared.office.moves.RoundMoves.{RoundMoves}
+use Rattle.office_state.specs.declared.office.person.Person.{Person}
 use Rattle.office_rows.specs.declared.records.ChoiceRecord.{ChoiceRecord}
 use Rattle.office_rows.specs.declared.records.PersonRecord.{PersonRecord}
 use Rattle.office_rows.specs.declared.records.RoundRecord.{RoundRecord}

@@ -1,8 +1,8 @@
 -- Offices with the same rows.
 use Rattle.std.specs.Prelude.{◌≡◌}
 use Rattle.std.specs.List.Sorted.{IsPermutation}
-use Rattle.office_core.specs.Office.Invariants.{IsLawful}
-use Rattle.office_core.specs.declared.office.Office.{Office}
+use Rattle.office_state.specs.Office.Invariants.{IsLawful}
+use Rattle.office_state.specs.declared.office.Office.{Office}
 use Rattle.office_rows.specs.Tables.{Tables, rows_of}
 
 -- each table has the same rows, in some order

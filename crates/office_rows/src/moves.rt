@@ -1,12 +1,12 @@
 //! The moves of all rounds, from their rows.
 ghost use Rattle.std.specs.Prelude.{◌≡◌, ◌<◌, IfOk, OnErr, length, reverse};
 ghost use Rattle.std.specs.FinMap as map;
-ghost use Rattle.office_core.specs.Office.Moves.{moves_of};
+ghost use Rattle.office_state.specs.Office.Moves.{moves_of};
 ghost use Rattle.office_rows.specs.Rows.{AreKeptMoves, move_rows};
 ghost use Rattle.office_rows.specs.Inner.Recorded.{recorded_moves};
 ghost use Rattle.office_rows.specs.Reads.{Reads};
 
-use office_core::{RoundMoves, Rounds};
+use office_state::{RoundMoves, Rounds};
 use room_types::{Move, OutOfMemory};
 use std::alloc::Global;
 

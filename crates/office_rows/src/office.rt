@@ -9,7 +9,7 @@ use crate::people::read_people;
 use crate::records::OfficeRecords;
 use crate::round::read_round;
 use crate::tables::read_table;
-use office_core::{Office, sound};
+use office_state::{Office, sound};
 use room_types::OutOfMemory;
 use std::alloc::Global;
 

@@ -5,7 +5,7 @@ ghost use Rattle.office_rows.specs.People.{AreKept, people_rows};
 ghost use Rattle.office_rows.specs.Reads.{Reads};
 
 use crate::records::PersonRecord;
-use office_core::Person;
+use office_state::Person;
 use room_types::grammars::PersonIds;
 use room_types::{OutOfMemory, Table};
 use std::alloc::Global;

@@ -1,5 +1,5 @@
 //! The records of the tables of an office.
-use office_core::{Assigned, KeptList, Person};
+use office_state::{Assigned, KeptList, Person};
 use room_types::{Label, Move, PersonId, Phase, RoomCode, Word};
 
 /// A record of a person.

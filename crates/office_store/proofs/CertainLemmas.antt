@@ -1,13 +1,13 @@
 -- What is answered where neither memory nor the disk is needed.
 use Rattle.std.proofs.Common.{◌≡◌, ◌≢◌, ◌⊎◌, Bool, true, false, List, Option, Some, None, Result, Ok, Err, inl, inr, sym, ap, ◌∙◌, subst}
 use Rattle.std.specs.Prelude.{not, ◌&&◌, ◌||◌}
+use Rattle.office_state.specs.declared.change.Change.{Change}
+use Rattle.office_state.specs.declared.office.Office.{Office}
 use Rattle.office_core.specs.Command.{accepts}
 use Rattle.office_core.specs.Command.Decision.{IsRefusal, refusal_takes_memory}
 use Rattle.office_core.specs.Query.Answer.{reply_takes_memory}
 use Rattle.office_core.specs.Refusal.Checks.{Check, first_refusal, is_want, names_room, tells_of_list}
-use Rattle.office_core.specs.declared.change.Change.{Change}
 use Rattle.office_core.specs.declared.command.Command.{Command}
-use Rattle.office_core.specs.declared.office.Office.{Office}
 use Rattle.office_core.specs.declared.refusal.Refusal.{Refusal}
 use Rattle.office_core.specs.declared.refusal.Refusal.TheVariants.{OutOfMemory}
 use Rattle.office_core.specs.declared.reply.Reply.{Reply as CoreReply}

@@ -6,9 +6,9 @@ use Rattle.sqlite.specs.Held.{Held, state}
 use Rattle.sqlite.specs.State.{HasCleanDisk}
 use Rattle.sqlite.specs.Steps.{over_memory}
 use Rattle.sqlite.proofs.Callers.{memory_is_clean}
-use Rattle.office_core.specs.Office.Invariants.{IsLawful}
-use Rattle.office_core.specs.declared.office.Office.{Office}
-use Rattle.office_core.proofs.RoundLemmas.WellTraded.{recorded_traded}
+use Rattle.office_state.specs.Office.Invariants.{IsLawful}
+use Rattle.office_state.specs.declared.office.Office.{Office}
+use Rattle.office_state.proofs.RoundLemmas.WellTraded.{recorded_traded}
 use Rattle.office_tables.specs.Steps.{Follows, IsHonest}
 use Rattle.office_tables.proofs.StepLemmas.{follows-refl, follows_then}
 use Rattle.office_store.specs.Desk.{DeskState, HandlesAt, Shows, StandsFor}

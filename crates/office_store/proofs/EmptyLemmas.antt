@@ -11,7 +11,7 @@ use Rattle.room_types.specs.declared.phase.Phase.TheVariants.{Idle}
 use Rattle.office_cells.specs.Columns.{room_columns, person_columns, round_shown, choice_columns, word_columns, result_columns, move_columns, list_columns}
 use Rattle.office_cells.specs.Forms.{IsRoomRow, IsPersonRow, IsRoundRow, IsChoiceRow, IsWordRow, IsResultRow, IsMoveRow, IsListRow}
 use Rattle.office_cells.specs.Spelled.{IsSpelled}
-use Rattle.office_core.specs.Office.{empty_office}
+use Rattle.office_state.specs.Office.{empty_office}
 use Rattle.office_rows.specs.Rows.{list_rows, person_row, round_rows}
 use Rattle.office_rows.specs.Tables.{rows_of}
 

@@ -14,8 +14,8 @@ use Rattle.room_types.specs.Texts.{Text as Bytes, text_eq}
 use Rattle.room_types.specs.Words.{word_text}
 use Rattle.room_types.specs.declared.moves.Move.{Move}
 use Rattle.room_types.specs.declared.phase.Phase.{Phase}
-use Rattle.office_core.specs.declared.office.kept_list.KeptList.{KeptList}
-use Rattle.office_core.specs.declared.office.person.Person.{Person}
+use Rattle.office_state.specs.declared.office.kept_list.KeptList.{KeptList}
+use Rattle.office_state.specs.declared.office.person.Person.{Person}
 use Rattle.office_cells.specs.Cells.{flag, text_or_null, wave_value}
 use Rattle.office_tables.specs.Edits as edit
 use Rattle.office_tables.specs.Makes.{Makes}

@@ -2,7 +2,7 @@
 use Rattle.std.specs.Prelude.{◌≡◌}
 use Rattle.sqlite_trees.specs.Tree.{Trees}
 use Rattle.sqlite.specs.Effect.{Database}
-use Rattle.office_core.specs.declared.office.Office.{Office}
+use Rattle.office_state.specs.declared.office.Office.{Office}
 use Rattle.office_rows.specs.Tables.{Tables, rows_of}
 use Rattle.office_cells.specs.Columns.{room_columns, person_columns, round_columns, choice_columns}
 use Rattle.office_cells.specs.Columns.{word_columns, result_columns, move_columns, list_columns}

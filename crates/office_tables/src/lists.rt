@@ -1,7 +1,7 @@
 //! The table of kept lists.
 ghost use Rattle.std.specs.Prelude.{◌≡◌, OnOk, OnErr};
 ghost use Rattle.sqlite.specs.Held.{state};
-ghost use Rattle.office_core.specs.declared.office.kept_list.KeptList.{KeptList};
+ghost use Rattle.office_state.specs.declared.office.kept_list.KeptList.{KeptList};
 ghost use Rattle.office_tables.specs.Edits.{with_kept};
 ghost use Rattle.office_tables.specs.Makes.{Makes};
 ghost use Rattle.office_tables.specs.Steps.{IsUndone, StaysInside};

@@ -1,7 +1,7 @@
 //! The changes of two commands, stored in a database in memory, with ample memory.
 use office_changes::store_all;
-use office_core::{Change, Office, apply};
 use office_create::create;
+use office_state::{Change, Office, apply};
 use room_types::{Choices, Key, Move, Name, PersonId, Phase, RoomCode, Wave, Word};
 use sqlite::{Connection, MemStore};
 use std::alloc::Global;

@@ -1,10 +1,11 @@
 //! What no line of input asks for, a home from the start and as many people as there may be, and a small round by
 //! the calls themselves.
 ghost use Rattle.std.specs.Prelude.{◌≡◌, IfOk};
-ghost use Rattle.office_core.specs.Change.{applied_all};
-ghost use Rattle.office_core.specs.Office.Invariants.{IsLawful};
+ghost use Rattle.office_state.specs.Change.{applied_all};
+ghost use Rattle.office_state.specs.Office.Invariants.{IsLawful};
 
-use office_core::{Change, Command, Office, Query, Refusal, Reply, answer, apply, decide, sound};
+use office_core::{Command, Query, Refusal, Reply, answer, decide};
+use office_state::{Change, Office, apply, sound};
 use room_types::{Choices, Key, Listing, Name, OutOfMemory, PersonId, RoomCode, Word};
 use std::alloc::Global;
 use std::process::Abort;

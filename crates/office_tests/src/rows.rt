@@ -1,9 +1,9 @@
 //! Each reader once with ample memory, on rows out of order.
-use office_core::{KeptList, Person};
 use office_rows::{
     ChoiceRecord, OfficeRecords, PersonRecord, RoundRecord, read_choices, read_moves, read_office,
     read_people, read_round, read_table,
 };
+use office_state::{KeptList, Person};
 use room_types::{Key, Label, ListKind, Listing, Move, Name, PersonId, Phase, RoomCode, Wave};
 use std::alloc::Global;
 use std::process::Abort;

@@ -4,7 +4,7 @@ use Rattle.sqlite_trees.specs.declared.store.Store.{Ghosts}
 use Rattle.sqlite.specs.Held.{state}
 use Rattle.sqlite.specs.State.{HasCleanDisk}
 use Rattle.sqlite.specs.Steps.{over_memory}
-use Rattle.office_core.specs.declared.office.Office.{Office}
+use Rattle.office_state.specs.declared.office.Office.{Office}
 use Rattle.office_tables.specs.Steps.{Follows}
 use Rattle.office_tables.proofs.StepLemmas.{follows-refl, follows_then}
 use Rattle.office_store.specs.Desk.{DeskState, HandlesAt, Shows, StandsFor}

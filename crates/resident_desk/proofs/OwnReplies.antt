@@ -13,16 +13,16 @@ use Rattle.room_types.specs.Texts.{Text}
 use Rattle.room_types.specs.declared.fault.TypeFault.{TypeFault}
 use Rattle.room_types.specs.declared.rows.RoomRow.{RoomRow}
 use Rattle.room_types.specs.declared.rows.State.TheVariants.{Free, Occupied, Shut}
+use Rattle.office_state.specs.Office.{has_withdrawn, is_shown, is_taken, knows_person, owner, recorded_result}
+use Rattle.office_state.specs.Office.Phases.{is_open, is_published}
+use Rattle.office_state.specs.declared.office.Office.{Office}
+use Rattle.office_state.specs.declared.office.person.Person.{Person}
 use Rattle.office_core.specs.Command.{accepts, next, reply_to}
-use Rattle.office_core.specs.Office.{has_withdrawn, is_shown, is_taken, knows_person, owner, recorded_result}
-use Rattle.office_core.specs.Office.Phases.{is_open, is_published}
 use Rattle.office_core.specs.Query.Me as me
 use Rattle.office_core.specs.Query.Rooms as rooms
 use Rattle.office_core.specs.Refusal.Checks.{Check, first_refusal, room_checks}
 use Rattle.office_core.specs.declared.command.Command.{Command}
 use Rattle.office_core.specs.declared.command.Command.TheVariants.{SetChoices, Withdraw}
-use Rattle.office_core.specs.declared.office.Office.{Office}
-use Rattle.office_core.specs.declared.office.person.Person.{Person}
 use Rattle.office_core.specs.declared.refusal.Refusal.{Refusal}
 use Rattle.office_core.specs.declared.refusal.Refusal.TheVariants.{BadPhase, UnknownPerson, Withdrawn}
 use Rattle.office_core.specs.declared.reply.Reply.{Reply}

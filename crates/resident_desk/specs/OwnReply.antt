@@ -2,9 +2,9 @@
 use Rattle.std.specs.Prelude.{◌≡◌, ℕ, true, List, Some}
 use Rattle.std.specs.FinMap as map
 use Rattle.room_types.specs.Texts.{Text}
-use Rattle.office_core.specs.Office.{choices_of, has_withdrawn, is_taken, owner, recorded_result}
-use Rattle.office_core.specs.Office.Phases.{is_published}
-use Rattle.office_core.specs.declared.office.Office.{Office}
+use Rattle.office_state.specs.Office.{choices_of, has_withdrawn, is_taken, owner, recorded_result}
+use Rattle.office_state.specs.Office.Phases.{is_published}
+use Rattle.office_state.specs.declared.office.Office.{Office}
 use Rattle.office_store.specs.Requests.{Handles}
 use Rattle.resident_http.specs.Answers.{Answer}
 use Rattle.resident_http.specs.Asks.{Asks, ask}

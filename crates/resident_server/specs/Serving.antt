@@ -5,7 +5,7 @@ use Rattle.std.specs.declared.net.tcp.TcpStream.{TcpStream}
 use Rattle.sqlite.specs.Held.{state}
 use Rattle.sqlite.specs.State.{HasCleanDisk}
 use Rattle.sqlite_trees.specs.declared.store.Store.{Ghosts}
-use Rattle.office_core.specs.declared.office.Office.{Office}
+use Rattle.office_state.specs.declared.office.Office.{Office}
 use Rattle.office_lines.specs.Saying.{Says, SaysUnavailable}
 use Rattle.office_store.specs.Desk.{DeskState, HandlesAt, StandsFor}
 use Rattle.office_store.specs.Requests.{Handles}

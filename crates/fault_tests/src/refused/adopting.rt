@@ -4,7 +4,7 @@ ghost use Rattle.std.specs.Prelude.{◌≡◌, false, IfOk};
 use crate::asking::{furnish, let_go, lines_asked, office_after};
 use crate::refused::verdict;
 use crate::same::is_same_office;
-use office_core::Office;
+use office_state::Office;
 use office_store::{Back, Desk, DeskFault, Request};
 use room_types::OutOfMemory;
 use sqlite::{Connection, MemStore};

@@ -2,8 +2,8 @@
 use crate::asking::{furnish, let_go, lines_asked, office_after};
 use crate::refused::verdict;
 use crate::same::is_same_office;
-use office_core::Office;
 use office_lists::ExportKind;
+use office_state::Office;
 use office_store::{Desk, ExportEnd, Request};
 use room_types::{OutOfMemory, Watched};
 use sqlite::MemStore;

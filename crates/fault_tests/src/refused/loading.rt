@@ -2,7 +2,7 @@
 use crate::asking::{furnish, let_go, lines_asked, office_after};
 use crate::refused::verdict;
 use crate::same::is_same_office;
-use office_core::{Office, sound};
+use office_state::{Office, sound};
 use office_store::{Desk, Request};
 use room_types::OutOfMemory;
 use sqlite::MemStore;

@@ -3,7 +3,7 @@ use crate::asking::{furnish, let_go, lines_asked, office_after};
 use crate::refused::verdict;
 use crate::same::is_same_office;
 use http::StatusCode;
-use office_core::Office;
+use office_state::Office;
 use office_store::{Desk, Request};
 use resident_desk::{Served, serve_one};
 use room_types::stream::Pair;

@@ -2,7 +2,7 @@
 use crate::asking::let_go;
 use crate::refused::verdict;
 use crate::same::is_same_office;
-use office_core::Office;
+use office_state::Office;
 use office_store::{Answer, Desk, Handler, Request};
 use room_types::OutOfMemory;
 use sqlite::MemStore;

@@ -2,7 +2,7 @@
 use crate::asking::{ask_lines, ask_list, lines_asked, office_after};
 use crate::stops::files::{Calls, Held, desk_over, files_of, files_under};
 use crate::texts::{CHOICES, PEOPLE, REGISTER, ROOMS, ROUND};
-use office_core::Office;
+use office_state::Office;
 use office_store::Request;
 use room_types::{ListKind, OutOfMemory};
 use std::alloc::Global;

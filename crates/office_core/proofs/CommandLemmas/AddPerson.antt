@@ -5,22 +5,22 @@ use Rattle.std.specs.FinMap as map
 use Rattle.room_types.specs.Texts.{Text}
 use Rattle.room_types.proofs.Options.{none_if_not_some}
 use Rattle.std.specs.Prelude.{nat_le}
-use Rattle.office_core.specs.Change.{LeadsOn}
+use Rattle.office_state.specs.Change.{LeadsOn}
+use Rattle.office_state.specs.Office.Invariants.{IsLawful}
+use Rattle.office_state.specs.declared.office.Office.{Office}
+use Rattle.office_state.specs.Office.Limits.{people_limit}
+use Rattle.office_state.specs.Office.{owner}
+use Rattle.office_state.specs.declared.office.person.Person.{Person}
+use Rattle.office_state.proofs.OfficeLemmas.People.{nobody_has}
+use Rattle.office_state.proofs.OfficeLemmas.Register.{person_put, len-put_within}
+use Rattle.office_state.proofs.OfficeLemmas.Untouched.{prepared, undrawn, words_undrawn}
+use Rattle.office_state.proofs.OfficeLemmas.Untouched.{results_undrawn, moves_stay}
+use Rattle.office_state.proofs.OfficeLemmas.Lists.{person_known, unknown_stays}
 use Rattle.office_core.specs.Refusal.Checks.{first_refusal}
-use Rattle.office_core.specs.Office.Invariants.{IsLawful}
-use Rattle.office_core.specs.declared.office.Office.{Office}
 use Rattle.office_core.proofs.RefusalLemmas.Checks.{none_applies}
 use Rattle.office_core.specs.Command.AddPerson.{checks, next, changes_of}
-use Rattle.office_core.specs.Office.Limits.{people_limit}
-use Rattle.office_core.specs.Office.{owner}
-use Rattle.office_core.specs.declared.office.person.Person.{Person}
 use Rattle.office_core.specs.declared.refusal.Refusal.TheVariants.{LimitReached}
 use Rattle.office_core.proofs.RefusalLemmas.Checks.{may_live_if_any}
-use Rattle.office_core.proofs.OfficeLemmas.People.{nobody_has}
-use Rattle.office_core.proofs.OfficeLemmas.Register.{person_put, len-put_within}
-use Rattle.office_core.proofs.OfficeLemmas.Untouched.{prepared, undrawn, words_undrawn}
-use Rattle.office_core.proofs.OfficeLemmas.Untouched.{results_undrawn, moves_stay}
-use Rattle.office_core.proofs.OfficeLemmas.Lists.{person_known, unknown_stays}
 
 pub add_person-leads : (office : Office) (person name key : Text) (home : Option Text)
     → IsLawful office → first_refusal (checks office person name key home) ≡ None

@@ -1,13 +1,13 @@
 -- A cancelled round keeps the laws.
 use Rattle.std.proofs.Common.{◌≡◌, None, refl}
-use Rattle.office_core.specs.Change.{LeadsOn}
+use Rattle.office_state.specs.Change.{LeadsOn}
+use Rattle.office_state.specs.Office.Invariants.{IsLawful}
+use Rattle.office_state.specs.declared.office.Office.{Office}
+use Rattle.office_state.proofs.OfficeLemmas.Empty.{no_lists}
+use Rattle.office_state.proofs.OfficeLemmas.Over.{over-idle}
+use Rattle.office_state.proofs.OfficeLemmas.Untouched.{results_undrawn, moves_stay}
 use Rattle.office_core.specs.Refusal.Checks.{first_refusal}
-use Rattle.office_core.specs.Office.Invariants.{IsLawful}
-use Rattle.office_core.specs.declared.office.Office.{Office}
 use Rattle.office_core.specs.Command.Cancel.{checks, next, changes_of}
-use Rattle.office_core.proofs.OfficeLemmas.Empty.{no_lists}
-use Rattle.office_core.proofs.OfficeLemmas.Over.{over-idle}
-use Rattle.office_core.proofs.OfficeLemmas.Untouched.{results_undrawn, moves_stay}
 
 pub cancel-leads : (office : Office) → IsLawful office → first_refusal (checks office) ≡ None
     → LeadsOn office (next office) (changes_of office)

@@ -1,7 +1,7 @@
 -- Whether a command has changes.
 use Rattle.std.proofs.Common.{◌≡◌, false, List, [], ◌∷◌, ◌++◌, refl}
-use Rattle.office_core.specs.Empty.{is_empty}
-use Rattle.office_core.specs.declared.change.Change.{Change}
+use Rattle.office_state.specs.Empty.{is_empty}
+use Rattle.office_state.specs.declared.change.Change.{Change}
 
 -- where a change comes last there are changes
 pub has_last : (changes others : List Change) (change : Change)

@@ -2,15 +2,15 @@
 use Rattle.std.proofs.Common.{◌≡◌, None, refl}
 use Rattle.std.proofs.lemmas.Bool.{not-false}
 use Rattle.room_types.specs.declared.phase.Phase.TheVariants.{Closed}
-use Rattle.office_core.specs.Change.{LeadsOn}
+use Rattle.office_state.specs.Change.{LeadsOn}
+use Rattle.office_state.specs.Office.Invariants.{IsLawful}
+use Rattle.office_state.specs.declared.office.Office.{Office}
+use Rattle.office_state.proofs.OfficeLemmas.Over.{over-under_way}
+use Rattle.office_state.proofs.OfficeLemmas.Untouched.{prepared, open_preparing, open_busy, undrawn}
+use Rattle.office_state.proofs.OfficeLemmas.Untouched.{words_undrawn, results_undrawn, moves_stay}
 use Rattle.office_core.specs.Refusal.Checks.{first_refusal}
-use Rattle.office_core.specs.Office.Invariants.{IsLawful}
-use Rattle.office_core.specs.declared.office.Office.{Office}
 use Rattle.office_core.proofs.RefusalLemmas.Checks.{none_applies}
 use Rattle.office_core.specs.Command.CloseRound.{checks, next, changes_of}
-use Rattle.office_core.proofs.OfficeLemmas.Over.{over-under_way}
-use Rattle.office_core.proofs.OfficeLemmas.Untouched.{prepared, open_preparing, open_busy, undrawn}
-use Rattle.office_core.proofs.OfficeLemmas.Untouched.{words_undrawn, results_undrawn, moves_stay}
 
 pub close_round-leads : (office : Office) → IsLawful office → first_refusal (checks office) ≡ None
     → LeadsOn office (next office) (changes_of office)

@@ -9,19 +9,19 @@ use Rattle.std.specs.FinMap as map
 use Rattle.std.specs.FinMap.{get-empty}
 use Rattle.room_types.specs.Texts.{Text, text_cmp}
 use Rattle.room_types.specs.declared.phase.Phase.TheVariants.{Drawn}
-use Rattle.office_core.specs.Change.{LeadsOn}
+use Rattle.office_state.specs.Change.{LeadsOn}
+use Rattle.office_state.specs.Office.Invariants.{IsLawful}
+use Rattle.office_state.specs.Office.{participants, knows_person, has_withdrawn}
+use Rattle.office_state.specs.declared.change.Change.{Change}
+use Rattle.office_state.specs.declared.change.Change.TheVariants.{PutRound}
+use Rattle.office_state.specs.declared.office.Office.{Office}
+use Rattle.office_state.proofs.RoundLemmas.People.{participants_hold}
+use Rattle.office_state.proofs.OfficeLemmas.Over.{over-under_way}
+use Rattle.office_state.proofs.OfficeLemmas.Untouched.{closed_undrawn, closed_busy, undrawn}
+use Rattle.office_state.proofs.OfficeLemmas.Untouched.{results_undrawn, moves_stay}
 use Rattle.office_core.specs.Refusal.Checks.{first_refusal}
 use Rattle.office_core.specs.Command.Draw.{checks, next, changes_of, with_words}
-use Rattle.office_core.specs.Office.Invariants.{IsLawful}
-use Rattle.office_core.specs.Office.{participants, knows_person, has_withdrawn}
-use Rattle.office_core.specs.declared.change.Change.{Change}
-use Rattle.office_core.specs.declared.change.Change.TheVariants.{PutRound}
-use Rattle.office_core.specs.declared.office.Office.{Office}
 use Rattle.office_core.proofs.RefusalLemmas.Checks.{none_applies}
-use Rattle.office_core.proofs.RoundLemmas.People.{participants_hold}
-use Rattle.office_core.proofs.OfficeLemmas.Over.{over-under_way}
-use Rattle.office_core.proofs.OfficeLemmas.Untouched.{closed_undrawn, closed_busy, undrawn}
-use Rattle.office_core.proofs.OfficeLemmas.Untouched.{results_undrawn, moves_stay}
 use Rattle.office_core.proofs.CommandLemmas.Words.{words_put-lead, words_put-apart, words_put-fit}
 use Rattle.office_core.proofs.CommandLemmas.Words.{with_words-has}
 

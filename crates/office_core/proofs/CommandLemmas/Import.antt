@@ -12,32 +12,32 @@ use Rattle.room_types.specs.declared.kinds.ListKind.{ListKind}
 use Rattle.room_types.specs.declared.kinds.ListKind.TheVariants.{Rooms, People, Choices}
 use Rattle.office_lists.specs.Records.{list_fault, record_limit, records_of}
 use Rattle.office_lists.specs.declared.fault.Cause.TheVariants.{Denied}
-use Rattle.office_core.specs.Change.{AllFit, Fits, LeadsOn, StaysApart, applied, applied_all}
+use Rattle.office_state.specs.Change.{AllFit, Fits, LeadsOn, StaysApart, applied, applied_all}
+use Rattle.office_state.specs.Office.{knows_room}
+use Rattle.office_state.specs.Office.Invariants.{AreKept, IsLawful}
+use Rattle.office_state.specs.Office.Limits.{byte_limit, label_limit}
+use Rattle.office_state.specs.Office.Phases.{is_preparing}
+use Rattle.office_state.specs.declared.change.Change.{Change}
+use Rattle.office_state.specs.declared.change.Change.TheVariants.{KeepList}
+use Rattle.office_state.specs.declared.office.Office.{Office}
+use Rattle.office_state.specs.declared.office.kept_list.KeptList.{KeptList}
+use Rattle.office_state.proofs.OfficeLemmas.Register.{len-put_within}
+use Rattle.office_state.proofs.OfficeLemmas.Untouched.{moves_stay, open_preparing, prepared}
+use Rattle.office_state.proofs.OfficeLemmas.Untouched.{results_undrawn, undrawn}
 use Rattle.office_core.specs.Command.Import.{EntryCommand, bad_list, changes_by, changes_of, changes_where}
 use Rattle.office_core.specs.Command.Import.{checks, checks_where, choices_command, entries_in}
 use Rattle.office_core.specs.Command.Import.{new_label_changes, new_label_checks, first_denied, keeping}
 use Rattle.office_core.specs.Command.Import.{list_refusal, may_come, next, next_where, office_after}
 use Rattle.office_core.specs.Command.Import.{office_with, person_command, record_count, refusal_of}
 use Rattle.office_core.specs.Command.Import.{room_command}
-use Rattle.office_core.specs.Office.{knows_room}
-use Rattle.office_core.specs.Office.Invariants.{AreKept, IsLawful}
-use Rattle.office_core.specs.Office.Limits.{byte_limit, label_limit}
-use Rattle.office_core.specs.Office.Phases.{is_preparing}
 use Rattle.office_core.specs.Refusal.{number_of}
 use Rattle.office_core.specs.Refusal.Checks.{first_refusal}
-use Rattle.office_core.specs.declared.change.Change.{Change}
-use Rattle.office_core.specs.declared.change.Change.TheVariants.{KeepList}
-use Rattle.office_core.specs.declared.office.Office.{Office}
-use Rattle.office_core.specs.declared.office.kept_list.KeptList.{KeptList}
 use Rattle.office_core.specs.declared.refusal.Refusal.TheVariants as refused
 use Rattle.office_core.proofs.CommandLemmas.AddPerson.{add_person-leads}
 use Rattle.office_core.proofs.CommandLemmas.AddRoom.{add_room-leads}
 use Rattle.office_core.proofs.CommandLemmas.ListChecks.{first_of_list}
 use Rattle.office_core.proofs.CommandLemmas.Records.{Each, each_recordable, few_records, none_of}
 use Rattle.office_core.proofs.CommandLemmas.SetChoices.{set_choices-leads}
-use Rattle.office_core.proofs.OfficeLemmas.Register.{len-put_within}
-use Rattle.office_core.proofs.OfficeLemmas.Untouched.{moves_stay, open_preparing, prepared}
-use Rattle.office_core.proofs.OfficeLemmas.Untouched.{results_undrawn, undrawn}
 use Rattle.office_core.proofs.RefusalLemmas.Checks.{none_applies}
 
 -- rooms that were known are known

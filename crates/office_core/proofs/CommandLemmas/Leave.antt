@@ -2,14 +2,14 @@
 use Rattle.std.proofs.Common.{◌≡◌, None, refl}
 use Rattle.std.proofs.lemmas.Bool.{not-false}
 use Rattle.room_types.specs.Texts.{Text}
-use Rattle.office_core.specs.Change.{LeadsOn}
+use Rattle.office_state.specs.Change.{LeadsOn}
+use Rattle.office_state.specs.Office.Invariants.{IsLawful}
+use Rattle.office_state.specs.declared.office.Office.{Office}
+use Rattle.office_state.proofs.OfficeLemmas.Homes.{moved-lawful}
+use Rattle.office_state.proofs.OfficeLemmas.Untouched.{prepared, idle_preparing}
 use Rattle.office_core.specs.Refusal.Checks.{first_refusal}
-use Rattle.office_core.specs.Office.Invariants.{IsLawful}
-use Rattle.office_core.specs.declared.office.Office.{Office}
 use Rattle.office_core.proofs.RefusalLemmas.Checks.{none_applies}
 use Rattle.office_core.specs.Command.Leave.{checks, next, changes_of}
-use Rattle.office_core.proofs.OfficeLemmas.Homes.{moved-lawful}
-use Rattle.office_core.proofs.OfficeLemmas.Untouched.{prepared, idle_preparing}
 
 pub leave-leads : (office : Office) (person : Text) → IsLawful office
     → first_refusal (checks office person) ≡ None

@@ -14,20 +14,20 @@ use Rattle.office_lists.specs.declared.entries.ChoicesEntry.{ChoicesEntry}
 use Rattle.office_lists.specs.declared.fault.Cause.TheVariants.{Denied}
 use Rattle.office_lists.specs.declared.fault.ListFault.{ListFault}
 use Rattle.office_lists.specs.declared.fault.ListFault.TheVariants as list
+use Rattle.office_state.specs.Empty.{is_empty}
+use Rattle.office_state.specs.Office.Limits.{byte_limit, label_limit}
+use Rattle.office_state.specs.Change.{with_list}
+use Rattle.office_state.specs.declared.change.Change.{Change}
+use Rattle.office_state.specs.declared.change.Change.TheVariants.{KeepList}
+use Rattle.office_state.specs.declared.office.Office.{Office}
 use Rattle.office_core.specs.Command.Decision.{IsRefusal, refusal_takes_memory}
 use Rattle.office_core.specs.Command.Import.{EntryCommand, bad_list, check_of, entries_in, first_denied}
 use Rattle.office_core.specs.Command.Import.{changes_by, choices_command, list_refusal, record_count, refusal_of}
 use Rattle.office_core.specs.Command.Import.{new_label_changes, new_label_checks, may_come, person_command}
 use Rattle.office_core.specs.Command.Import.{record_changes, room_command}
-use Rattle.office_core.specs.Empty.{is_empty}
-use Rattle.office_core.specs.Office.Limits.{byte_limit, label_limit}
-use Rattle.office_core.specs.Change.{with_list}
 use Rattle.office_core.specs.Inner.Tries.{AreAdded, AreAllowed, IsOrMemory, denial_of}
 use Rattle.office_core.specs.Refusal.{number_of}
 use Rattle.office_core.specs.Refusal.Checks.{Check, first_refusal, is_want, names_room, tells_of_list}
-use Rattle.office_core.specs.declared.change.Change.{Change}
-use Rattle.office_core.specs.declared.change.Change.TheVariants.{KeepList}
-use Rattle.office_core.specs.declared.office.Office.{Office}
 use Rattle.office_core.specs.declared.refusal.Refusal.{Refusal}
 use Rattle.office_core.specs.declared.refusal.Refusal.TheVariants as refused
 use Rattle.office_core.proofs.CommandLemmas.Changes.{has_last}

@@ -3,16 +3,16 @@ use Rattle.std.proofs.Common.{◌≡◌, None, refl, arith}
 use Rattle.std.proofs.lemmas.Bool.{not-false}
 use Rattle.std.proofs.lemmas.Bool.{leb-false}
 use Rattle.room_types.specs.declared.phase.Phase.TheVariants.{Opened}
-use Rattle.office_core.specs.Change.{LeadsOn}
+use Rattle.office_state.specs.Change.{LeadsOn}
+use Rattle.office_state.specs.Office.Invariants.{IsLawful}
+use Rattle.office_state.specs.declared.office.Office.{Office}
+use Rattle.office_state.specs.Office.Limits.{round_limit}
+use Rattle.office_state.proofs.OfficeLemmas.Over.{over-begun}
+use Rattle.office_state.proofs.OfficeLemmas.Untouched.{prepared, idle_preparing, undrawn}
+use Rattle.office_state.proofs.OfficeLemmas.Untouched.{words_undrawn, results_undrawn, moves_stay}
 use Rattle.office_core.specs.Refusal.Checks.{first_refusal}
-use Rattle.office_core.specs.Office.Invariants.{IsLawful}
-use Rattle.office_core.specs.declared.office.Office.{Office}
 use Rattle.office_core.proofs.RefusalLemmas.Checks.{none_applies}
 use Rattle.office_core.specs.Command.OpenRound.{checks, next, changes_of}
-use Rattle.office_core.specs.Office.Limits.{round_limit}
-use Rattle.office_core.proofs.OfficeLemmas.Over.{over-begun}
-use Rattle.office_core.proofs.OfficeLemmas.Untouched.{prepared, idle_preparing, undrawn}
-use Rattle.office_core.proofs.OfficeLemmas.Untouched.{words_undrawn, results_undrawn, moves_stay}
 
 pub open_round-leads : (office : Office) → IsLawful office → first_refusal (checks office) ≡ None
     → LeadsOn office (next office) (changes_of office)

@@ -2,15 +2,15 @@
 use Rattle.std.proofs.Common.{◌≡◌, None, refl, ◌∙◌, sym}
 use Rattle.std.proofs.lemmas.Bool.{not-false}
 use Rattle.room_types.specs.declared.phase.Phase.TheVariants.{Published}
-use Rattle.office_core.specs.Change.{LeadsOn}
+use Rattle.office_state.specs.Change.{LeadsOn}
+use Rattle.office_state.specs.Office.Invariants.{IsLawful}
+use Rattle.office_state.specs.declared.office.Office.{Office}
+use Rattle.office_state.proofs.OfficeLemmas.Over.{over-under_way}
+use Rattle.office_state.proofs.RoundLemmas.Stays.{round_results-along}
+use Rattle.office_state.proofs.OfficeLemmas.Untouched.{ran_worded, ran_busy, ran_given, moves_stay}
 use Rattle.office_core.specs.Refusal.Checks.{first_refusal}
 use Rattle.office_core.specs.Command.Publish.{checks, next, changes_of}
-use Rattle.office_core.specs.Office.Invariants.{IsLawful}
-use Rattle.office_core.specs.declared.office.Office.{Office}
 use Rattle.office_core.proofs.RefusalLemmas.Checks.{none_applies}
-use Rattle.office_core.proofs.OfficeLemmas.Over.{over-under_way}
-use Rattle.office_core.proofs.RoundLemmas.Stays.{round_results-along}
-use Rattle.office_core.proofs.OfficeLemmas.Untouched.{ran_worded, ran_busy, ran_given, moves_stay}
 
 pub publish-leads : (office : Office) → IsLawful office → first_refusal (checks office) ≡ None
     → LeadsOn office (next office) (changes_of office)

@@ -6,17 +6,17 @@ use Rattle.room_types.specs.Texts.{Text}
 use Rattle.std.specs.Option.{is_some}
 use Rattle.std.specs.FinMap.{get-empty}
 use Rattle.room_types.specs.Texts.{text_cmp}
-use Rattle.office_core.specs.Change.{LeadsOn}
+use Rattle.office_state.specs.Change.{LeadsOn}
+use Rattle.office_state.specs.Office.Invariants.{IsLawful}
+use Rattle.office_state.specs.declared.office.Office.{Office}
+use Rattle.office_state.specs.Office.Invariants.{AreLists}
+use Rattle.office_state.proofs.OfficeLemmas.Empty.{no_lists}
+use Rattle.office_state.proofs.OfficeLemmas.Register.{person_gone}
+use Rattle.office_state.proofs.OfficeLemmas.Untouched.{prepared, idle_preparing, undrawn}
+use Rattle.office_state.proofs.OfficeLemmas.Untouched.{words_undrawn, results_undrawn, moves_stay}
 use Rattle.office_core.specs.Refusal.Checks.{first_refusal}
-use Rattle.office_core.specs.Office.Invariants.{IsLawful}
-use Rattle.office_core.specs.declared.office.Office.{Office}
 use Rattle.office_core.proofs.RefusalLemmas.Checks.{none_applies}
 use Rattle.office_core.specs.Command.Remove.{checks, next, changes_of}
-use Rattle.office_core.specs.Office.Invariants.{AreLists}
-use Rattle.office_core.proofs.OfficeLemmas.Empty.{no_lists}
-use Rattle.office_core.proofs.OfficeLemmas.Register.{person_gone}
-use Rattle.office_core.proofs.OfficeLemmas.Untouched.{prepared, idle_preparing, undrawn}
-use Rattle.office_core.proofs.OfficeLemmas.Untouched.{words_undrawn, results_undrawn, moves_stay}
 
 pub remove-leads : (office : Office) (person : Text) → IsLawful office
     → first_refusal (checks office person) ≡ None

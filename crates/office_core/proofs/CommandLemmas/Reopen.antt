@@ -2,18 +2,18 @@
 use Rattle.std.proofs.Common.{◌≡◌, ◌≤◌, false, None, refl, sym, subst}
 use Rattle.std.proofs.lemmas.Bool.{not-false}
 use Rattle.room_types.specs.Texts.{Text}
-use Rattle.office_core.specs.Change.{LeadsOn}
+use Rattle.office_state.specs.Change.{LeadsOn}
+use Rattle.office_state.specs.Office.Invariants.{IsLawful}
+use Rattle.office_state.specs.declared.office.Office.{Office}
+use Rattle.office_state.specs.Office.Limits.{room_limit}
 use Rattle.office_core.specs.Refusal.Checks.{first_refusal}
-use Rattle.office_core.specs.Office.Invariants.{IsLawful}
-use Rattle.office_core.specs.declared.office.Office.{Office}
 use Rattle.office_core.proofs.RefusalLemmas.Checks.{none_applies}
 use Rattle.office_core.specs.Command.Reopen.{checks, next, changes_of}
-use Rattle.office_core.specs.Office.Limits.{room_limit}
 use Rattle.room_types.specs.TextMaps.{len-put_known}
-use Rattle.office_core.proofs.OfficeLemmas.Register.{room_put}
-use Rattle.office_core.proofs.OfficeLemmas.Untouched.{prepared, undrawn, results_undrawn}
-use Rattle.office_core.proofs.OfficeLemmas.Untouched.{moves_stay}
-use Rattle.office_core.proofs.OfficeLemmas.Lists.{room_known}
+use Rattle.office_state.proofs.OfficeLemmas.Register.{room_put}
+use Rattle.office_state.proofs.OfficeLemmas.Untouched.{prepared, undrawn, results_undrawn}
+use Rattle.office_state.proofs.OfficeLemmas.Untouched.{moves_stay}
+use Rattle.office_state.proofs.OfficeLemmas.Lists.{room_known}
 
 pub reopen-leads : (office : Office) (room : Text) → IsLawful office
     → first_refusal (checks office room) ≡ None

@@ -10,24 +10,24 @@ use Rattle.std.specs.FinMap as map
 use Rattle.std.specs.FinMap.{find, get-entries}
 use Rattle.room_types.specs.Texts.{Text, text_cmp}
 use Rattle.room_types.specs.declared.phase.Phase.TheVariants.{Ran}
-use Rattle.office_core.specs.Change.{applied_all, LeadsOn, StaysApart, AllFit}
+use Rattle.office_state.specs.Change.{applied_all, LeadsOn, StaysApart, AllFit}
+use Rattle.office_state.specs.Office.Invariants.{IsLawful, HomesDiffer}
+use Rattle.office_state.specs.Office.{knows_person, has_withdrawn}
+use Rattle.office_state.specs.Round.{round_results}
+use Rattle.office_state.specs.Puts.{with_all}
+use Rattle.office_state.specs.declared.change.Change.{Change}
+use Rattle.office_state.specs.declared.change.Change.TheVariants.{PutRound}
+use Rattle.office_state.specs.declared.office.Assigned.{Assigned}
+use Rattle.office_state.specs.declared.office.Office.{Office}
+use Rattle.office_state.proofs.OfficeLemmas.Over.{over-under_way}
+use Rattle.office_state.proofs.RoundLemmas.Puts.{with_all-entries}
+use Rattle.office_state.proofs.RoundLemmas.Results.{contains_key-round_results}
+use Rattle.office_state.proofs.RoundLemmas.Stays.{round_results-along}
+use Rattle.office_state.proofs.OfficeLemmas.Untouched.{drawn_worded, drawn_busy, drawn_unran}
+use Rattle.office_state.proofs.OfficeLemmas.Untouched.{moves_stay}
 use Rattle.office_core.specs.Refusal.Checks.{first_refusal}
 use Rattle.office_core.specs.Command.Run.{checks, next, changes_of, result_put}
-use Rattle.office_core.specs.Office.Invariants.{IsLawful, HomesDiffer}
-use Rattle.office_core.specs.Office.{knows_person, has_withdrawn}
-use Rattle.office_core.specs.Round.{round_results}
-use Rattle.office_core.specs.Puts.{with_all}
-use Rattle.office_core.specs.declared.change.Change.{Change}
-use Rattle.office_core.specs.declared.change.Change.TheVariants.{PutRound}
-use Rattle.office_core.specs.declared.office.Assigned.{Assigned}
-use Rattle.office_core.specs.declared.office.Office.{Office}
 use Rattle.office_core.proofs.RefusalLemmas.Checks.{none_applies}
-use Rattle.office_core.proofs.OfficeLemmas.Over.{over-under_way}
-use Rattle.office_core.proofs.RoundLemmas.Puts.{with_all-entries}
-use Rattle.office_core.proofs.RoundLemmas.Results.{contains_key-round_results}
-use Rattle.office_core.proofs.RoundLemmas.Stays.{round_results-along}
-use Rattle.office_core.proofs.OfficeLemmas.Untouched.{drawn_worded, drawn_busy, drawn_unran}
-use Rattle.office_core.proofs.OfficeLemmas.Untouched.{moves_stay}
 
 results-lead : (office : Office) (es : List (Text × Assigned)) (rest : List Change)
     → applied_all office (map_list result_put es ++ rest)

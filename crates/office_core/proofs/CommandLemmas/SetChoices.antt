@@ -3,16 +3,16 @@ use Rattle.std.proofs.Common.{◌≡◌, List, None, refl}
 use Rattle.std.proofs.lemmas.Bool.{not-false}
 use Rattle.room_types.specs.Choices.{IsChoices}
 use Rattle.room_types.specs.Texts.{Text}
-use Rattle.office_core.specs.Change.{LeadsOn}
+use Rattle.office_state.specs.Change.{LeadsOn}
+use Rattle.office_state.specs.Office.Invariants.{IsLawful}
+use Rattle.office_state.specs.declared.office.Office.{Office}
+use Rattle.office_state.proofs.OfficeLemmas.Untouched.{prepared, open_preparing, open_busy, undrawn}
+use Rattle.office_state.proofs.OfficeLemmas.Untouched.{results_undrawn, moves_stay}
+use Rattle.office_state.proofs.OfficeLemmas.Lists.{list_put}
 use Rattle.office_core.specs.Refusal.Checks.{first_refusal}
-use Rattle.office_core.specs.Office.Invariants.{IsLawful}
-use Rattle.office_core.specs.declared.office.Office.{Office}
 use Rattle.office_core.proofs.RefusalLemmas.Checks.{none_applies}
 use Rattle.office_core.specs.Command.SetChoices.{checks, next, changes_of}
 use Rattle.office_core.proofs.RefusalLemmas.Checks.{known_all}
-use Rattle.office_core.proofs.OfficeLemmas.Untouched.{prepared, open_preparing, open_busy, undrawn}
-use Rattle.office_core.proofs.OfficeLemmas.Untouched.{results_undrawn, moves_stay}
-use Rattle.office_core.proofs.OfficeLemmas.Lists.{list_put}
 
 pub set_choices-leads : (office : Office) (person : Text) (choices : List Text) → IsChoices choices
     → IsLawful office → first_refusal (checks office person choices) ≡ None

@@ -4,16 +4,16 @@ use Rattle.std.proofs.lemmas.Bool.{not-false}
 use Rattle.std.specs.FinMap as map
 use Rattle.room_types.specs.Texts.{Text}
 use Rattle.std.specs.Prelude.{unwrap_or}
-use Rattle.office_core.specs.Change.{LeadsOn}
+use Rattle.office_state.specs.Change.{LeadsOn}
+use Rattle.office_state.specs.Office.Invariants.{IsLawful}
+use Rattle.office_state.specs.declared.office.Office.{Office}
+use Rattle.office_state.proofs.OfficeLemmas.Homes.{moved-lawful}
+use Rattle.office_state.proofs.OfficeLemmas.People.{nobody_has}
+use Rattle.office_state.proofs.OfficeLemmas.Untouched.{prepared, idle_preparing}
 use Rattle.office_core.specs.Refusal.Checks.{first_refusal}
-use Rattle.office_core.specs.Office.Invariants.{IsLawful}
-use Rattle.office_core.specs.declared.office.Office.{Office}
 use Rattle.office_core.proofs.RefusalLemmas.Checks.{none_applies}
 use Rattle.office_core.specs.Command.SetHome.{checks, next, changes_of}
 use Rattle.office_core.proofs.RefusalLemmas.Checks.{may_live}
-use Rattle.office_core.proofs.OfficeLemmas.Homes.{moved-lawful}
-use Rattle.office_core.proofs.OfficeLemmas.People.{nobody_has}
-use Rattle.office_core.proofs.OfficeLemmas.Untouched.{prepared, idle_preparing}
 
 pub set_home-leads : (office : Office) (person room : Text) → IsLawful office
     → first_refusal (checks office person room) ≡ None

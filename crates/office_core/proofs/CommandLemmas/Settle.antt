@@ -7,33 +7,31 @@ use Rattle.std.specs.FinMap as map
 use Rattle.room_types.specs.Texts.{TextMap}
 use Rattle.room_types.specs.declared.moves.Move.{Move}
 use Rattle.room_types.specs.declared.phase.Phase.TheVariants.{Idle}
-use Rattle.trade_line.specs.Market.{IsMarket}
 use Rattle.office_lists.specs.Waves.{Mover, waves_of}
-use Rattle.office_core.specs.Change.{without_round, LeadsOn}
+use Rattle.office_state.specs.Change.{without_round, LeadsOn}
+use Rattle.office_state.specs.Office.Invariants.{IsLawful, IsRegister, Unshared}
+use Rattle.office_state.specs.Office.Moves.{moves_of}
+use Rattle.office_state.specs.Office.{is_over}
+use Rattle.office_state.specs.Round.Settlement.{movers, settled_moves, settled_people, with_moves}
+use Rattle.office_state.specs.declared.change.Change.{Change}
+use Rattle.office_state.specs.declared.change.Change.TheVariants.{ClearRound, PutRound}
+use Rattle.office_state.specs.declared.office.Office.{Office}
+use Rattle.office_state.proofs.OfficeLemmas.Empty.{no_lists}
+use Rattle.office_state.proofs.OfficeLemmas.Moves.{no_moves_known}
+use Rattle.office_state.proofs.RoundLemmas.Movers.{left_people, arrived_people, people_settled}
+use Rattle.office_state.proofs.RoundLemmas.Movers.{left_within}
+use Rattle.office_state.proofs.OfficeLemmas.Over.{over-idle, under_way-not_over}
+use Rattle.office_state.proofs.RoundLemmas.Problem.{lawful-IsMarket}
+use Rattle.office_state.proofs.RoundLemmas.Settled.{KeepsMoves, with_moves-keeps, fresh, movers_go}
+use Rattle.office_state.proofs.RoundLemmas.Settled.{movers_lead, movers_differ, settled_register}
+use Rattle.office_state.proofs.OfficeLemmas.Untouched.{published_busy, published_given}
+use Rattle.office_state.proofs.OfficeLemmas.Untouched.{results_undrawn}
 use Rattle.office_core.specs.Refusal.Checks.{first_refusal}
 use Rattle.office_core.specs.Command.Settle.{checks, next, changes_of}
-use Rattle.office_core.specs.Office.Invariants.{IsLawful, IsRegister, Unshared}
-use Rattle.office_core.specs.Office.Moves.{moves_of}
-use Rattle.office_core.specs.Office.{is_over}
-use Rattle.office_core.specs.Round.{round_market}
-use Rattle.office_core.specs.Round.Settlement.{movers, settled_moves, settled_people, with_moves}
-use Rattle.office_core.specs.declared.change.Change.{Change}
-use Rattle.office_core.specs.declared.change.Change.TheVariants.{ClearRound, PutRound}
-use Rattle.office_core.specs.declared.office.Office.{Office}
 use Rattle.office_core.proofs.RefusalLemmas.Checks.{none_applies}
-use Rattle.office_core.proofs.OfficeLemmas.Empty.{no_lists}
-use Rattle.office_core.proofs.OfficeLemmas.Moves.{no_moves_known}
-use Rattle.office_core.proofs.RoundLemmas.Movers.{left_people, arrived_people, people_settled}
-use Rattle.office_core.proofs.RoundLemmas.Movers.{left_within}
-use Rattle.office_core.proofs.OfficeLemmas.Over.{over-idle, under_way-not_over}
-use Rattle.office_core.proofs.RoundLemmas.Problem.{lawful-IsMarket}
-use Rattle.office_core.proofs.RoundLemmas.Settled.{KeepsMoves, with_moves-keeps, fresh, movers_go}
-use Rattle.office_core.proofs.RoundLemmas.Settled.{movers_lead, movers_differ, settled_register}
-use Rattle.office_core.proofs.RoundLemmas.Settling.{left-lead, arrived-lead, moves-lead, left-apart}
-use Rattle.office_core.proofs.RoundLemmas.Settling.{arrived-apart, moves-apart, left-fit}
-use Rattle.office_core.proofs.RoundLemmas.Settling.{arrived-fit, moves-fit}
-use Rattle.office_core.proofs.OfficeLemmas.Untouched.{published_busy, published_given}
-use Rattle.office_core.proofs.OfficeLemmas.Untouched.{results_undrawn}
+use Rattle.office_core.proofs.CommandLemmas.Settling.{left-lead, arrived-lead, moves-lead, left-apart}
+use Rattle.office_core.proofs.CommandLemmas.Settling.{arrived-apart, moves-apart, left-fit}
+use Rattle.office_core.proofs.CommandLemmas.Settling.{arrived-fit, moves-fit}
 
 -- nobody has moved in a round that is under way
 none_yet : (office : Office) → IsLawful office → is_over office office.number ≡ false
@@ -53,7 +51,7 @@ settle-leads office l h =
     let published = not-false _ n.0 in
     let busy = published_busy office.phase published in
     let given = l.results.given (published_given office.phase published) in
-    let ok : IsMarket (round_market office) = lawful-IsMarket office l in
+    let ok = lawful-IsMarket office l in
     let new : Office = next office in
     let ms : List Mover = movers office in
     let moves : List Move = settled_moves office in

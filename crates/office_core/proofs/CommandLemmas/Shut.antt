@@ -4,22 +4,22 @@ use Rattle.std.proofs.Common.{subst}
 use Rattle.std.proofs.lemmas.Bool.{not-false}
 use Rattle.std.specs.FinMap as map
 use Rattle.room_types.specs.Texts.{Text}
-use Rattle.office_core.specs.Change.{LeadsOn}
+use Rattle.office_state.specs.Change.{LeadsOn}
+use Rattle.office_state.specs.Office.Invariants.{IsLawful}
+use Rattle.office_state.specs.declared.office.Office.{Office}
+use Rattle.office_state.specs.Change.{with_home}
+use Rattle.office_state.specs.Office.{tenant, home_of}
+use Rattle.office_state.specs.Office.Phases.{has_words}
+use Rattle.office_state.specs.declared.change.Change.TheVariants.{PutRoom}
+use Rattle.office_state.proofs.OfficeLemmas.Homes.{moved-lawful, rooms_stay, phase_stays, left_empty}
+use Rattle.office_state.proofs.OfficeLemmas.People.{nobody_has, holder_has}
+use Rattle.office_state.proofs.OfficeLemmas.Register.{room_shut}
+use Rattle.office_state.proofs.OfficeLemmas.Untouched.{prepared, undrawn, results_undrawn}
+use Rattle.office_state.proofs.OfficeLemmas.Untouched.{moves_stay}
+use Rattle.office_state.proofs.OfficeLemmas.Lists.{room_known}
 use Rattle.office_core.specs.Refusal.Checks.{first_refusal}
-use Rattle.office_core.specs.Office.Invariants.{IsLawful}
-use Rattle.office_core.specs.declared.office.Office.{Office}
 use Rattle.office_core.proofs.RefusalLemmas.Checks.{none_applies}
-use Rattle.office_core.specs.Change.{with_home}
 use Rattle.office_core.specs.Command.Shut.{checks, next, changes_of, without_tenant, leaving}
-use Rattle.office_core.specs.Office.{tenant, home_of}
-use Rattle.office_core.specs.Office.Phases.{has_words}
-use Rattle.office_core.specs.declared.change.Change.TheVariants.{PutRoom}
-use Rattle.office_core.proofs.OfficeLemmas.Homes.{moved-lawful, rooms_stay, phase_stays, left_empty}
-use Rattle.office_core.proofs.OfficeLemmas.People.{nobody_has, holder_has}
-use Rattle.office_core.proofs.OfficeLemmas.Register.{room_shut}
-use Rattle.office_core.proofs.OfficeLemmas.Untouched.{prepared, undrawn, results_undrawn}
-use Rattle.office_core.proofs.OfficeLemmas.Untouched.{moves_stay}
-use Rattle.office_core.proofs.OfficeLemmas.Lists.{room_known}
 
 -- a known room that nobody lives in may be shut
 shut-lawful : (office : Office) (room : Text) → IsLawful office → has_words office.phase ≡ false

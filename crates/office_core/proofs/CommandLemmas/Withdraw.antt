@@ -10,17 +10,17 @@ use Rattle.std.specs.Cmp.Lexicographic.{nat_list_cmp_total}
 use Rattle.std.specs.FinMap.{get-insert, same_map}
 use Rattle.room_types.specs.Texts.{text_cmp}
 use Rattle.room_types.specs.TextMaps.{exact_texts, text_cases}
-use Rattle.office_core.specs.Change.{LeadsOn}
+use Rattle.office_state.specs.Change.{LeadsOn}
+use Rattle.office_state.specs.Office.Invariants.{IsLawful}
+use Rattle.office_state.specs.declared.office.Office.{Office}
+use Rattle.office_state.specs.Office.{has_withdrawn}
+use Rattle.office_state.specs.declared.change.Change.TheVariants.{PutWithdrawn}
+use Rattle.office_state.proofs.OfficeLemmas.Untouched.{prepared, open_preparing, open_busy, undrawn}
+use Rattle.office_state.proofs.OfficeLemmas.Untouched.{words_undrawn, results_undrawn, moves_stay}
+use Rattle.office_state.proofs.OfficeLemmas.Lists.{withdrawn_put}
 use Rattle.office_core.specs.Refusal.Checks.{first_refusal}
-use Rattle.office_core.specs.Office.Invariants.{IsLawful}
-use Rattle.office_core.specs.declared.office.Office.{Office}
 use Rattle.office_core.proofs.RefusalLemmas.Checks.{none_applies}
 use Rattle.office_core.specs.Command.Withdraw.{checks, next, changes_of}
-use Rattle.office_core.specs.Office.{has_withdrawn}
-use Rattle.office_core.specs.declared.change.Change.TheVariants.{PutWithdrawn}
-use Rattle.office_core.proofs.OfficeLemmas.Untouched.{prepared, open_preparing, open_busy, undrawn}
-use Rattle.office_core.proofs.OfficeLemmas.Untouched.{words_undrawn, results_undrawn, moves_stay}
-use Rattle.office_core.proofs.OfficeLemmas.Lists.{withdrawn_put}
 
 the_unit : (o : Option (Unit {0})) → is_some o ≡ true → o ≡ Some tt
 the_unit None h = cc

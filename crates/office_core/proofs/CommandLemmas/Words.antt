@@ -11,13 +11,13 @@ use Rattle.std.specs.Cmp.Lexicographic.{nat_list_cmp_total}
 use Rattle.std.specs.FinMap as map
 use Rattle.std.specs.FinMap.{get-insert}
 use Rattle.room_types.specs.Texts.{Text, TextMap, text_cmp}
-use Rattle.office_core.specs.Change.{applied_all, StaysApart, AllFit}
+use Rattle.office_state.specs.Change.{applied_all, StaysApart, AllFit}
+use Rattle.office_state.specs.Office.Invariants.{HomesDiffer}
+use Rattle.office_state.specs.Office.{knows_person}
+use Rattle.office_state.specs.declared.change.Change.{Change}
+use Rattle.office_state.specs.declared.change.Change.TheVariants.{PutWord}
+use Rattle.office_state.specs.declared.office.Office.{Office}
 use Rattle.office_core.specs.Command.Draw.{words_put, with_words}
-use Rattle.office_core.specs.Office.Invariants.{HomesDiffer}
-use Rattle.office_core.specs.Office.{knows_person}
-use Rattle.office_core.specs.declared.change.Change.{Change}
-use Rattle.office_core.specs.declared.change.Change.TheVariants.{PutWord}
-use Rattle.office_core.specs.declared.office.Office.{Office}
 
 pub words_put_more : (people : List Text) (words : List ℕ) (i : ℕ) (d : Text) (e : ℕ)
     → i < length people → i < length words

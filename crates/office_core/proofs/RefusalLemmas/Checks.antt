@@ -8,10 +8,10 @@ use Rattle.std.proofs.lemmas.List.Elements.{All-nil, All-cons}
 use Rattle.std.specs.FinMap as map
 use Rattle.room_types.specs.Texts.{Text}
 use Rattle.room_types.proofs.Options.{none_if_not_some}
+use Rattle.office_state.specs.Office.{knows_room, tenant}
+use Rattle.office_state.specs.declared.office.Office.{Office}
 use Rattle.office_core.specs.Refusal.Checks.{Check, first_refusal, room_checks, home_checks}
 use Rattle.office_core.specs.Refusal.Checks.{home_checks_if_any}
-use Rattle.office_core.specs.Office.{knows_room, tenant}
-use Rattle.office_core.specs.declared.office.Office.{Office}
 
 -- no check of the list applies
 abbrev pub NoneApplies : List Check → Type 0

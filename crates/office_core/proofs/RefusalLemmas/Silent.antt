@@ -1,14 +1,14 @@
 -- Refusals that tell of no list.
-use Rattle.std.proofs.Common.{◌≡◌, ◌⊎◌, ◌||◌, Bool, true, false, List, [], ◌∷◌, Option, Some, None}
+use Rattle.std.proofs.Common.{◌≡◌, ◌⊎◌, ◌||◌, Bool, true, false, List, [], ◌∷◌, Some, None}
 use Rattle.std.proofs.Common.{Err, cond, refl, ap, ◌∙◌, sym, inl, inr}
 use Rattle.std.specs.List.{flat_map}
 use Rattle.room_types.specs.Texts.{Text}
+use Rattle.office_state.specs.declared.office.Office.{Office}
 use Rattle.office_core.specs.Command.Decision.{IsRefusal, refusal_takes_memory}
 use Rattle.office_core.specs.Query.Answer.{Tells, reply_takes_memory}
 use Rattle.office_core.specs.Query.WhatIf.{told_unless}
 use Rattle.office_core.specs.Refusal.Checks.{Check, first_refusal, names_room, room_checks}
 use Rattle.office_core.specs.Refusal.Checks.{tells_of_list}
-use Rattle.office_core.specs.declared.office.Office.{Office}
 use Rattle.office_core.specs.declared.refusal.Refusal.{Refusal}
 use Rattle.office_core.specs.declared.refusal.Refusal.TheVariants.{OutOfMemory}
 use Rattle.office_core.specs.declared.reply.Reply.{Reply}

@@ -2,13 +2,13 @@
 use Rattle.std.specs.Prelude.{not, nat_le, false, List, [], ◌∷◌}
 use Rattle.std.specs.FinMap as map
 use Rattle.room_types.specs.Texts.{Text}
+use Rattle.office_state.specs.Office.Limits.{room_limit}
+use Rattle.office_state.specs.Office.{knows_room}
+use Rattle.office_state.specs.Office.Phases.{is_preparing}
+use Rattle.office_state.specs.declared.office.Office.{Office}
+use Rattle.office_state.specs.declared.change.Change.{Change}
+use Rattle.office_state.specs.declared.change.Change.TheVariants.{PutRoom}
 use Rattle.office_core.specs.Refusal.Checks.{Check}
-use Rattle.office_core.specs.Office.Limits.{room_limit}
-use Rattle.office_core.specs.Office.{knows_room}
-use Rattle.office_core.specs.Office.Phases.{is_preparing}
-use Rattle.office_core.specs.declared.office.Office.{Office}
-use Rattle.office_core.specs.declared.change.Change.{Change}
-use Rattle.office_core.specs.declared.change.Change.TheVariants.{PutRoom}
 use Rattle.office_core.specs.declared.refusal.Refusal.TheVariants.{BadPhase, DuplicateRoom}
 use Rattle.office_core.specs.declared.refusal.Refusal.TheVariants.{LimitReached}
 use Rattle.office_core.specs.declared.reply.Reply.{Reply}

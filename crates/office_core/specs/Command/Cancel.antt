@@ -1,12 +1,12 @@
 -- The round is given up. Its number stays used.
 use Rattle.std.specs.Prelude.{not, List, [], ◌∷◌}
 use Rattle.room_types.specs.declared.phase.Phase.TheVariants.{Idle}
-use Rattle.office_core.specs.Change.{without_round}
+use Rattle.office_state.specs.Change.{without_round}
+use Rattle.office_state.specs.Office.Phases.{may_cancel}
+use Rattle.office_state.specs.declared.office.Office.{Office}
+use Rattle.office_state.specs.declared.change.Change.{Change}
+use Rattle.office_state.specs.declared.change.Change.TheVariants.{ClearRound, PutRound}
 use Rattle.office_core.specs.Refusal.Checks.{Check}
-use Rattle.office_core.specs.Office.Phases.{may_cancel}
-use Rattle.office_core.specs.declared.office.Office.{Office}
-use Rattle.office_core.specs.declared.change.Change.{Change}
-use Rattle.office_core.specs.declared.change.Change.TheVariants.{ClearRound, PutRound}
 use Rattle.office_core.specs.declared.refusal.Refusal.TheVariants.{BadPhase}
 use Rattle.office_core.specs.declared.reply.Reply.{Reply}
 use Rattle.office_core.specs.declared.reply.Reply.TheVariants as reply

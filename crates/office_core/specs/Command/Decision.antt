@@ -1,10 +1,10 @@
 -- What it is to decide a command by its refusals.
 use Rattle.std.specs.Prelude.{◌≡◌, Bool, true, not, ◌||◌, List, Option, None, Some, ◌⊎◌, MatchResult}
 use Rattle.std.specs.Prelude.{Result}
-use Rattle.office_core.specs.Empty.{is_empty}
+use Rattle.office_state.specs.Empty.{is_empty}
+use Rattle.office_state.specs.declared.change.Change.{Change}
 use Rattle.office_core.specs.Refusal.Checks.{Check, first_refusal, names_room}
 use Rattle.office_core.specs.Refusal.Checks.{tells_of_list}
-use Rattle.office_core.specs.declared.change.Change.{Change}
 use Rattle.office_core.specs.declared.command.decision.Decision.{Decision}
 use Rattle.office_core.specs.declared.refusal.Refusal.{Refusal}
 use Rattle.office_core.specs.declared.refusal.Refusal.TheVariants.{OutOfMemory}

@@ -4,13 +4,13 @@ use Rattle.std.specs.List.{zip}
 use Rattle.std.specs.FinMap as map
 use Rattle.room_types.specs.Texts.{Text, TextMap}
 use Rattle.room_types.specs.declared.phase.Phase.TheVariants.{Drawn}
+use Rattle.office_state.specs.Office.{participants}
+use Rattle.office_state.specs.Puts.{with_all}
+use Rattle.office_state.specs.Office.Phases.{is_closed}
+use Rattle.office_state.specs.declared.office.Office.{Office}
+use Rattle.office_state.specs.declared.change.Change.{Change}
+use Rattle.office_state.specs.declared.change.Change.TheVariants.{PutWord, PutRound}
 use Rattle.office_core.specs.Refusal.Checks.{Check}
-use Rattle.office_core.specs.Office.{participants}
-use Rattle.office_core.specs.Puts.{with_all}
-use Rattle.office_core.specs.Office.Phases.{is_closed}
-use Rattle.office_core.specs.declared.office.Office.{Office}
-use Rattle.office_core.specs.declared.change.Change.{Change}
-use Rattle.office_core.specs.declared.change.Change.TheVariants.{PutWord, PutRound}
 use Rattle.office_core.specs.declared.refusal.Refusal.TheVariants.{BadPhase, WrongWordCount}
 use Rattle.office_core.specs.declared.reply.Reply.{Reply}
 use Rattle.office_core.specs.declared.reply.Reply.TheVariants as reply

@@ -15,18 +15,18 @@ use Rattle.office_lists.specs.declared.entries.PersonEntry.{PersonEntry}
 use Rattle.office_lists.specs.declared.fault.Cause.TheVariants.{Denied}
 use Rattle.office_lists.specs.declared.fault.ListFault.{ListFault}
 use Rattle.office_lists.specs.declared.fault.ListFault.TheVariants as list
+use Rattle.office_state.specs.Office.Limits.{byte_limit, label_limit}
+use Rattle.office_state.specs.Office.Phases.{is_open, is_preparing}
+use Rattle.office_state.specs.declared.change.Change.{Change}
+use Rattle.office_state.specs.declared.change.Change.TheVariants.{KeepList, PutRoom, PutPerson}
+use Rattle.office_state.specs.declared.change.Change.TheVariants.{PutChoices}
+use Rattle.office_state.specs.declared.office.Office.{Office}
+use Rattle.office_state.specs.declared.office.kept_list.KeptList.{KeptList}
 use Rattle.office_core.specs.Command.AddPerson as add_person
 use Rattle.office_core.specs.Command.AddRoom as add_room
 use Rattle.office_core.specs.Command.SetChoices as set_choices
-use Rattle.office_core.specs.Office.Limits.{byte_limit, label_limit}
-use Rattle.office_core.specs.Office.Phases.{is_open, is_preparing}
 use Rattle.office_core.specs.Refusal.{number_of}
 use Rattle.office_core.specs.Refusal.Checks.{Check, first_refusal}
-use Rattle.office_core.specs.declared.change.Change.{Change}
-use Rattle.office_core.specs.declared.change.Change.TheVariants.{KeepList, PutRoom, PutPerson}
-use Rattle.office_core.specs.declared.change.Change.TheVariants.{PutChoices}
-use Rattle.office_core.specs.declared.office.Office.{Office}
-use Rattle.office_core.specs.declared.office.kept_list.KeptList.{KeptList}
 use Rattle.office_core.specs.declared.refusal.Refusal.{Refusal}
 use Rattle.office_core.specs.declared.refusal.Refusal.TheVariants.{BadPhase, BadRecord, LimitReached}
 use Rattle.office_core.specs.declared.refusal.Refusal.TheVariants.{ListDiffers, OutOfMemory}

@@ -1,12 +1,12 @@
 -- A round begins.
 use Rattle.std.specs.Prelude.{◌+◌, not, nat_le, List, [], ◌∷◌}
 use Rattle.room_types.specs.declared.phase.Phase.TheVariants.{Opened}
+use Rattle.office_state.specs.Office.Limits.{round_limit}
+use Rattle.office_state.specs.Office.Phases.{is_idle}
+use Rattle.office_state.specs.declared.office.Office.{Office}
+use Rattle.office_state.specs.declared.change.Change.{Change}
+use Rattle.office_state.specs.declared.change.Change.TheVariants.{PutRound}
 use Rattle.office_core.specs.Refusal.Checks.{Check}
-use Rattle.office_core.specs.Office.Limits.{round_limit}
-use Rattle.office_core.specs.Office.Phases.{is_idle}
-use Rattle.office_core.specs.declared.office.Office.{Office}
-use Rattle.office_core.specs.declared.change.Change.{Change}
-use Rattle.office_core.specs.declared.change.Change.TheVariants.{PutRound}
 use Rattle.office_core.specs.declared.refusal.Refusal.TheVariants.{BadPhase, LimitReached}
 use Rattle.office_core.specs.declared.reply.Reply.{Reply}
 use Rattle.office_core.specs.declared.reply.Reply.TheVariants as reply

@@ -1,12 +1,12 @@
 -- Each participant sees the result.
 use Rattle.std.specs.Prelude.{not, List, [], ◌∷◌, length}
 use Rattle.room_types.specs.declared.phase.Phase.TheVariants.{Published}
+use Rattle.office_state.specs.Office.{participants}
+use Rattle.office_state.specs.Office.Phases.{is_ran}
+use Rattle.office_state.specs.declared.office.Office.{Office}
+use Rattle.office_state.specs.declared.change.Change.{Change}
+use Rattle.office_state.specs.declared.change.Change.TheVariants.{PutRound}
 use Rattle.office_core.specs.Refusal.Checks.{Check}
-use Rattle.office_core.specs.Office.{participants}
-use Rattle.office_core.specs.Office.Phases.{is_ran}
-use Rattle.office_core.specs.declared.office.Office.{Office}
-use Rattle.office_core.specs.declared.change.Change.{Change}
-use Rattle.office_core.specs.declared.change.Change.TheVariants.{PutRound}
 use Rattle.office_core.specs.declared.refusal.Refusal.TheVariants.{BadPhase}
 use Rattle.office_core.specs.declared.reply.Reply.{Reply}
 use Rattle.office_core.specs.declared.reply.Reply.TheVariants as reply

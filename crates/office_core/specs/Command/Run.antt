@@ -3,14 +3,14 @@ use Rattle.std.specs.Prelude.{not, List, [], ◌∷◌, ◌++◌, length, map}
 use Rattle.std.specs.FinMap as maps
 use Rattle.room_types.specs.Texts.{Text}
 use Rattle.room_types.specs.declared.phase.Phase.TheVariants.{Ran}
+use Rattle.office_state.specs.Office.{participants}
+use Rattle.office_state.specs.Office.Phases.{is_drawn}
+use Rattle.office_state.specs.Round.{round_results}
+use Rattle.office_state.specs.declared.office.Office.{Office}
+use Rattle.office_state.specs.declared.change.Change.{Change}
+use Rattle.office_state.specs.declared.change.Change.TheVariants.{PutResult, PutRound}
+use Rattle.office_state.specs.declared.office.Assigned.{Assigned}
 use Rattle.office_core.specs.Refusal.Checks.{Check}
-use Rattle.office_core.specs.Office.{participants}
-use Rattle.office_core.specs.Office.Phases.{is_drawn}
-use Rattle.office_core.specs.Round.{round_results}
-use Rattle.office_core.specs.declared.office.Office.{Office}
-use Rattle.office_core.specs.declared.change.Change.{Change}
-use Rattle.office_core.specs.declared.change.Change.TheVariants.{PutResult, PutRound}
-use Rattle.office_core.specs.declared.office.Assigned.{Assigned}
 use Rattle.office_core.specs.declared.refusal.Refusal.TheVariants.{BadPhase}
 use Rattle.office_core.specs.declared.reply.Reply.{Reply}
 use Rattle.office_core.specs.declared.reply.Reply.TheVariants as reply

@@ -2,13 +2,13 @@
 use Rattle.std.specs.Prelude.{not, List, [], ◌∷◌}
 use Rattle.std.specs.List.{flat_map}
 use Rattle.room_types.specs.Texts.{Text}
-use Rattle.office_core.specs.Change.{with_list}
+use Rattle.office_state.specs.Change.{with_list}
+use Rattle.office_state.specs.Office.{knows_person, has_withdrawn}
+use Rattle.office_state.specs.Office.Phases.{is_open}
+use Rattle.office_state.specs.declared.office.Office.{Office}
+use Rattle.office_state.specs.declared.change.Change.{Change}
+use Rattle.office_state.specs.declared.change.Change.TheVariants.{PutChoices}
 use Rattle.office_core.specs.Refusal.Checks.{Check, room_checks}
-use Rattle.office_core.specs.Office.{knows_person, has_withdrawn}
-use Rattle.office_core.specs.Office.Phases.{is_open}
-use Rattle.office_core.specs.declared.office.Office.{Office}
-use Rattle.office_core.specs.declared.change.Change.{Change}
-use Rattle.office_core.specs.declared.change.Change.TheVariants.{PutChoices}
 use Rattle.office_core.specs.declared.refusal.Refusal.TheVariants.{BadPhase, UnknownPerson}
 use Rattle.office_core.specs.declared.refusal.Refusal.TheVariants.{Withdrawn}
 use Rattle.office_core.specs.declared.reply.Reply.{Reply}

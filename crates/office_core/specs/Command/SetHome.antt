@@ -2,13 +2,13 @@
 use Rattle.std.specs.Prelude.{not, List, [], ◌∷◌, Some}
 use Rattle.std.specs.Option.{is_some}
 use Rattle.room_types.specs.Texts.{Text}
-use Rattle.office_core.specs.Change.{with_home}
+use Rattle.office_state.specs.Change.{with_home}
+use Rattle.office_state.specs.Office.{knows_person, home_of}
+use Rattle.office_state.specs.Office.Phases.{is_idle}
+use Rattle.office_state.specs.declared.office.Office.{Office}
+use Rattle.office_state.specs.declared.change.Change.{Change}
+use Rattle.office_state.specs.declared.change.Change.TheVariants.{PutHome}
 use Rattle.office_core.specs.Refusal.Checks.{Check, home_checks}
-use Rattle.office_core.specs.Office.{knows_person, home_of}
-use Rattle.office_core.specs.Office.Phases.{is_idle}
-use Rattle.office_core.specs.declared.office.Office.{Office}
-use Rattle.office_core.specs.declared.change.Change.{Change}
-use Rattle.office_core.specs.declared.change.Change.TheVariants.{PutHome}
 use Rattle.office_core.specs.declared.refusal.Refusal.TheVariants.{BadPhase, UnknownPerson, HasHome}
 use Rattle.office_core.specs.declared.reply.Reply.{Reply}
 use Rattle.office_core.specs.declared.reply.Reply.TheVariants as reply

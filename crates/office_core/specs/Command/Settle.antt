@@ -2,14 +2,14 @@
 use Rattle.std.specs.Prelude.{not, List, [], ◌∷◌, ◌++◌, length, None, map}
 use Rattle.room_types.specs.declared.phase.Phase.TheVariants.{Idle}
 use Rattle.office_lists.specs.Waves.{Mover}
-use Rattle.office_core.specs.Change.{without_round}
+use Rattle.office_state.specs.Change.{without_round}
+use Rattle.office_state.specs.Office.Phases.{is_published}
+use Rattle.office_state.specs.Round.Settlement.{movers, settled_moves, settled_people, with_moves}
+use Rattle.office_state.specs.declared.office.Office.{Office}
+use Rattle.office_state.specs.declared.change.Change.{Change}
+use Rattle.office_state.specs.declared.change.Change.TheVariants.{PutHome, AddMove, ClearRound}
+use Rattle.office_state.specs.declared.change.Change.TheVariants.{PutRound}
 use Rattle.office_core.specs.Refusal.Checks.{Check}
-use Rattle.office_core.specs.Office.Phases.{is_published}
-use Rattle.office_core.specs.Round.Settlement.{movers, settled_moves, settled_people, with_moves}
-use Rattle.office_core.specs.declared.office.Office.{Office}
-use Rattle.office_core.specs.declared.change.Change.{Change}
-use Rattle.office_core.specs.declared.change.Change.TheVariants.{PutHome, AddMove, ClearRound}
-use Rattle.office_core.specs.declared.change.Change.TheVariants.{PutRound}
 use Rattle.office_core.specs.declared.refusal.Refusal.TheVariants.{BadPhase}
 use Rattle.office_core.specs.declared.reply.Reply.{Reply}
 use Rattle.office_core.specs.declared.reply.Reply.TheVariants as reply

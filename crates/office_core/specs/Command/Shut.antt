@@ -2,13 +2,13 @@
 use Rattle.std.specs.Prelude.{not, true, List, [], ◌∷◌, ◌++◌, Option, None, Some}
 use Rattle.std.specs.FinMap as map
 use Rattle.room_types.specs.Texts.{Text}
-use Rattle.office_core.specs.Change.{with_home}
+use Rattle.office_state.specs.Change.{with_home}
+use Rattle.office_state.specs.Office.{tenant}
+use Rattle.office_state.specs.Office.Phases.{is_preparing}
+use Rattle.office_state.specs.declared.office.Office.{Office}
+use Rattle.office_state.specs.declared.change.Change.{Change}
+use Rattle.office_state.specs.declared.change.Change.TheVariants.{PutRoom, PutHome}
 use Rattle.office_core.specs.Refusal.Checks.{Check, room_checks}
-use Rattle.office_core.specs.Office.{tenant}
-use Rattle.office_core.specs.Office.Phases.{is_preparing}
-use Rattle.office_core.specs.declared.office.Office.{Office}
-use Rattle.office_core.specs.declared.change.Change.{Change}
-use Rattle.office_core.specs.declared.change.Change.TheVariants.{PutRoom, PutHome}
 use Rattle.office_core.specs.declared.refusal.Refusal.TheVariants.{BadPhase}
 use Rattle.office_core.specs.declared.reply.Reply.{Reply}
 use Rattle.office_core.specs.declared.reply.Reply.TheVariants as reply

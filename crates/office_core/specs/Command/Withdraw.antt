@@ -2,12 +2,12 @@
 use Rattle.std.specs.Prelude.{not, List, [], ◌∷◌, if◌then◌else◌}
 use Rattle.std.specs.FinMap as map
 use Rattle.room_types.specs.Texts.{Text}
+use Rattle.office_state.specs.Office.{knows_person, has_withdrawn}
+use Rattle.office_state.specs.Office.Phases.{is_open}
+use Rattle.office_state.specs.declared.office.Office.{Office}
+use Rattle.office_state.specs.declared.change.Change.{Change}
+use Rattle.office_state.specs.declared.change.Change.TheVariants.{PutWithdrawn}
 use Rattle.office_core.specs.Refusal.Checks.{Check}
-use Rattle.office_core.specs.Office.{knows_person, has_withdrawn}
-use Rattle.office_core.specs.Office.Phases.{is_open}
-use Rattle.office_core.specs.declared.office.Office.{Office}
-use Rattle.office_core.specs.declared.change.Change.{Change}
-use Rattle.office_core.specs.declared.change.Change.TheVariants.{PutWithdrawn}
 use Rattle.office_core.specs.declared.refusal.Refusal.TheVariants.{BadPhase, UnknownPerson}
 use Rattle.office_core.specs.declared.reply.Reply.{Reply}
 use Rattle.office_core.specs.declared.reply.Reply.TheVariants as reply

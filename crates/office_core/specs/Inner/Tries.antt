@@ -5,15 +5,15 @@ use Rattle.std.specs.Option.{is_some}
 use Rattle.std.specs.FinMap as map
 use Rattle.room_types.specs.Texts.{Text, TextMap}
 use Rattle.office_lists.specs.declared.fault.Cause.TheVariants.{Denied}
+use Rattle.office_state.specs.Office.{holder}
+use Rattle.office_state.specs.declared.change.Change.{Change}
+use Rattle.office_state.specs.declared.office.Office.{Office}
+use Rattle.office_state.specs.declared.office.person.Person.{Person}
 use Rattle.office_core.specs.Command.Import.{EntryCommand, changes_by, entries_in, first_denied}
 use Rattle.office_core.specs.Command.Import.{list_refusal}
-use Rattle.office_core.specs.Office.{holder}
 use Rattle.office_core.specs.Refusal.{number_of}
 use Rattle.office_core.specs.Refusal.Checks.{is_want}
-use Rattle.office_core.specs.declared.change.Change.{Change}
 use Rattle.office_core.specs.declared.command.import.register.Register.{Register}
-use Rattle.office_core.specs.declared.office.Office.{Office}
-use Rattle.office_core.specs.declared.office.person.Person.{Person}
 use Rattle.office_core.specs.declared.refusal.Refusal.{Refusal}
 use Rattle.office_core.specs.declared.refusal.Refusal.TheVariants.{BadRecord, OutOfMemory}
 

@@ -1,6 +1,6 @@
 -- What a query is to answer.
 use Rattle.std.specs.Prelude.{◌≡◌, Bool, true, false, not, Result, Ok, Err, MatchResult, ◌⊎◌}
-use Rattle.office_core.specs.Empty.{is_empty}
+use Rattle.office_state.specs.Empty.{is_empty}
 use Rattle.office_core.specs.Refusal.Checks.{names_room}
 use Rattle.office_core.specs.declared.refusal.Refusal.{Refusal}
 use Rattle.office_core.specs.declared.refusal.Refusal.TheVariants.{OutOfMemory}

@@ -3,10 +3,10 @@ use Rattle.std.specs.Prelude.{ℕ, List, Result, Ok, Err, if◌then◌else◌, m
 use Rattle.std.specs.FinMap as maps
 use Rattle.room_types.specs.Texts.{Text}
 use Rattle.room_types.specs.declared.moves.Move.{Move}
-use Rattle.office_core.specs.Office.Moves.{moves_of}
-use Rattle.office_core.specs.Office.{is_over}
-use Rattle.office_core.specs.declared.office.Office.{Office}
-use Rattle.office_core.specs.declared.office.moves.Moved.{Moved}
+use Rattle.office_state.specs.Office.Moves.{moves_of}
+use Rattle.office_state.specs.Office.{is_over}
+use Rattle.office_state.specs.declared.office.Office.{Office}
+use Rattle.office_state.specs.declared.office.moves.Moved.{Moved}
 use Rattle.office_core.specs.declared.refusal.Refusal.{Refusal}
 use Rattle.office_core.specs.declared.refusal.Refusal.TheVariants.{NoSuchRound}
 use Rattle.office_core.specs.declared.reply.Reply.{Reply}

@@ -1,9 +1,9 @@
 -- The participants in the drawn order, each with the word.
 use Rattle.std.specs.Prelude.{List, Result, Ok, Err, if◌then◌else◌, map}
 use Rattle.room_types.specs.Texts.{Text}
-use Rattle.office_core.specs.Office.Phases.{has_words}
-use Rattle.office_core.specs.Round.{round_people, word_of}
-use Rattle.office_core.specs.declared.office.Office.{Office}
+use Rattle.office_state.specs.Office.Phases.{has_words}
+use Rattle.office_state.specs.Round.{round_people, word_of}
+use Rattle.office_state.specs.declared.office.Office.{Office}
 use Rattle.office_core.specs.declared.refusal.Refusal.{Refusal}
 use Rattle.office_core.specs.declared.refusal.Refusal.TheVariants.{BadPhase}
 use Rattle.office_core.specs.declared.reply.OrderRow.{OrderRow}

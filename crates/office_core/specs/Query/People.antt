@@ -3,8 +3,8 @@ use Rattle.std.specs.Prelude.{List, Result, Ok, map}
 use Rattle.std.specs.FinMap as maps
 use Rattle.room_types.specs.Texts.{Text}
 use Rattle.room_types.specs.declared.rows.PersonRow.{PersonRow}
-use Rattle.office_core.specs.declared.office.Office.{Office}
-use Rattle.office_core.specs.declared.office.person.Person.{Person}
+use Rattle.office_state.specs.declared.office.Office.{Office}
+use Rattle.office_state.specs.declared.office.person.Person.{Person}
 use Rattle.office_core.specs.declared.refusal.Refusal.{Refusal}
 use Rattle.office_core.specs.declared.reply.Reply.{Reply}
 use Rattle.office_core.specs.declared.reply.Reply.TheVariants as reply

@@ -2,9 +2,9 @@
 use Rattle.std.specs.Prelude.{List, Result, Ok, Err, if◌then◌else◌, map}
 use Rattle.std.specs.FinMap as maps
 use Rattle.room_types.specs.Texts.{Text}
-use Rattle.office_core.specs.Office.Phases.{has_results}
-use Rattle.office_core.specs.declared.office.Assigned.{Assigned}
-use Rattle.office_core.specs.declared.office.Office.{Office}
+use Rattle.office_state.specs.Office.Phases.{has_results}
+use Rattle.office_state.specs.declared.office.Assigned.{Assigned}
+use Rattle.office_state.specs.declared.office.Office.{Office}
 use Rattle.office_core.specs.declared.refusal.Refusal.{Refusal}
 use Rattle.office_core.specs.declared.refusal.Refusal.TheVariants.{BadPhase}
 use Rattle.office_core.specs.declared.reply.Reply.{Reply}

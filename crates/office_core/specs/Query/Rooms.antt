@@ -6,8 +6,8 @@ use Rattle.room_types.specs.Texts.{Text}
 use Rattle.room_types.specs.declared.rows.State.{State}
 use Rattle.room_types.specs.declared.rows.State.TheVariants.{Free, Occupied, Shut}
 use Rattle.room_types.specs.declared.rows.RoomRow.{RoomRow}
-use Rattle.office_core.specs.Office.{tenant}
-use Rattle.office_core.specs.declared.office.Office.{Office}
+use Rattle.office_state.specs.Office.{tenant}
+use Rattle.office_state.specs.declared.office.Office.{Office}
 use Rattle.office_core.specs.declared.refusal.Refusal.{Refusal}
 use Rattle.office_core.specs.declared.reply.Reply.{Reply}
 use Rattle.office_core.specs.declared.reply.Reply.TheVariants as reply

@@ -1,7 +1,7 @@
 -- The round's number and phase, how many people there are, and how many of them have withdrawn.
 use Rattle.std.specs.Prelude.{Result, Ok}
 use Rattle.std.specs.FinMap as map
-use Rattle.office_core.specs.declared.office.Office.{Office}
+use Rattle.office_state.specs.declared.office.Office.{Office}
 use Rattle.office_core.specs.declared.refusal.Refusal.{Refusal}
 use Rattle.office_core.specs.declared.reply.Reply.{Reply}
 use Rattle.office_core.specs.declared.reply.Reply.TheVariants as reply

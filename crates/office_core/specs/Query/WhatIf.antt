@@ -2,11 +2,11 @@
 use Rattle.std.specs.Prelude.{◌≤◌, not, List, ◌∷◌, Option, None, Some, Result, Ok, Err}
 use Rattle.std.specs.List.{flat_map}
 use Rattle.room_types.specs.Texts.{Text}
+use Rattle.office_state.specs.Office.{knows_person, has_withdrawn, recorded_result}
+use Rattle.office_state.specs.Office.Phases.{has_results}
+use Rattle.office_state.specs.Round.{result_by, round_rank}
+use Rattle.office_state.specs.declared.office.Office.{Office}
 use Rattle.office_core.specs.Refusal.Checks.{Check, first_refusal, room_checks}
-use Rattle.office_core.specs.Office.{knows_person, has_withdrawn, recorded_result}
-use Rattle.office_core.specs.Office.Phases.{has_results}
-use Rattle.office_core.specs.Round.{result_by, round_rank}
-use Rattle.office_core.specs.declared.office.Office.{Office}
 use Rattle.office_core.specs.declared.refusal.Refusal.{Refusal}
 use Rattle.office_core.specs.declared.refusal.Refusal.TheVariants.{BadPhase, UnknownPerson}
 use Rattle.office_core.specs.declared.refusal.Refusal.TheVariants.{NotInRound}

@@ -2,8 +2,8 @@
 use Rattle.std.specs.Prelude.{Bool, true, false, not, List, [], ◌∷◌, ◌++◌, Option, None, Some}
 use Rattle.std.specs.Prelude.{if◌then◌else◌}
 use Rattle.room_types.specs.Texts.{Text}
-use Rattle.office_core.specs.Office.{knows_room, is_shut, is_taken}
-use Rattle.office_core.specs.declared.office.Office.{Office}
+use Rattle.office_state.specs.Office.{knows_room, is_shut, is_taken}
+use Rattle.office_state.specs.declared.office.Office.{Office}
 use Rattle.office_core.specs.declared.refusal.Refusal.{Refusal}
 use Rattle.office_core.specs.declared.refusal.Refusal.TheVariants.{UnknownRoom, RoomShut, RoomTaken}
 use Rattle.office_core.specs.declared.refusal.Refusal.TheVariants.{BadRecord, OutOfMemory}

@@ -2,14 +2,12 @@
 ghost use Rattle.office_core.specs.Command.Decision.{IsDecided};
 ghost use Rattle.office_core.specs.Command.AddPerson.{checks, reply_to, changes_of};
 
-use crate::change::Change;
 use crate::command::decision::{Decision, one_change};
-use crate::office::Office;
-use crate::office::limits::PEOPLE_LIMIT;
-use crate::office::phases::is_preparing;
 use crate::refusal::Refusal;
 use crate::refusal::rooms::may_live_if_any;
 use crate::reply::Reply;
+use office_state::phases::is_preparing;
+use office_state::{Change, Office, PEOPLE_LIMIT};
 use room_types::rows::copy_optional;
 use room_types::{Key, Name, PersonId, RoomCode};
 use std::alloc::Global;

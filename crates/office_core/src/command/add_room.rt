@@ -3,13 +3,11 @@ ghost use Rattle.office_core.specs.Command.Decision.{IsDecided};
 ghost use Rattle.office_core.specs.Command.AddRoom.{checks, reply_to, changes_of};
 ghost use Rattle.office_core.specs.Inner.Passes.{Passes};
 
-use crate::change::Change;
 use crate::command::decision::{Decision, one_change};
-use crate::office::Office;
-use crate::office::limits::ROOM_LIMIT;
-use crate::office::phases::is_preparing;
 use crate::refusal::Refusal;
 use crate::reply::Reply;
+use office_state::phases::is_preparing;
+use office_state::{Change, Office, ROOM_LIMIT};
 use room_types::grammars::RoomCodes;
 use room_types::{RoomCode, Table};
 use std::alloc::Global;

@@ -2,12 +2,11 @@
 ghost use Rattle.office_core.specs.Command.Decision.{IsDecided};
 ghost use Rattle.office_core.specs.Command.Cancel.{checks, reply_to, changes_of};
 
-use crate::change::Change;
 use crate::command::decision::{Decision, two_changes};
-use crate::office::Office;
-use crate::office::phases::may_cancel;
 use crate::refusal::Refusal;
 use crate::reply::Reply;
+use office_state::phases::may_cancel;
+use office_state::{Change, Office};
 use room_types::Phase;
 use std::alloc::Global;
 

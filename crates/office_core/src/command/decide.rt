@@ -1,10 +1,10 @@
 //! What a command leads to.
 ghost use Rattle.std.specs.Prelude.{IfOk, OnOk};
-ghost use Rattle.office_core.specs.Change.{LeadsOn};
+ghost use Rattle.office_state.specs.Change.{LeadsOn};
+ghost use Rattle.office_state.specs.Office.Invariants.{IsLawful};
 ghost use Rattle.office_core.specs.Command.Decision.{IsDecided};
 ghost use Rattle.office_core.specs.Command.{checks, next, reply_to, changes_of};
 ghost use Rattle.office_core.specs.Inner.Formed.{IsFormed};
-ghost use Rattle.office_core.specs.Office.Invariants.{IsLawful};
 ghost use Rattle.office_core.specs.Replies.{RowsAscend};
 
 use crate::command::Command;
@@ -26,8 +26,8 @@ use crate::command::set_home::set_home;
 use crate::command::settle::settle;
 use crate::command::shut::shut;
 use crate::command::withdraw::withdraw;
-use crate::office::Office;
 use crate::refusal::Refusal;
+use office_state::Office;
 use std::alloc::Global;
 
 /// Decides a command. It changes nothing by itself: the changes of the decision, each applied by `apply` in their

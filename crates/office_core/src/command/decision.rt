@@ -1,9 +1,9 @@
 //! The decision of a command.
 ghost use Rattle.std.specs.Prelude.{◌≡◌, IfOk, IfErr, [], ◌∷◌};
 
-use crate::change::Change;
 use crate::refusal::Refusal;
 use crate::reply::Reply;
+use office_state::Change;
 use std::alloc::Global;
 
 /// The reply to an accepted command, and the changes that carry it out, in order.

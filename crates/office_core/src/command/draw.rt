@@ -3,12 +3,11 @@ ghost use Rattle.std.specs.Prelude.{◌≡◌, IfOk, length};
 ghost use Rattle.office_core.specs.Command.Decision.{IsDecided};
 ghost use Rattle.office_core.specs.Command.Draw.{checks, reply_to, changes_of, words_put};
 
-use crate::change::Change;
 use crate::command::decision::Decision;
-use crate::office::Office;
-use crate::office::phases::is_closed;
 use crate::refusal::Refusal;
 use crate::reply::Reply;
+use office_state::phases::is_closed;
+use office_state::{Change, Office};
 use room_types::{OutOfMemory, PersonId, Phase, Word};
 use std::alloc::Global;
 

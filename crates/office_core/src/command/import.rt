@@ -14,17 +14,14 @@ pub mod people;
 pub mod register;
 pub mod rooms;
 
-use crate::change::Change;
 use crate::command::decision::Decision;
 use crate::command::import::choices::choices_added;
 use crate::command::import::people::people_added;
 use crate::command::import::rooms::rooms_added;
-use crate::office::Office;
-use crate::office::kept_list::KeptList;
-use crate::office::limits::{BYTE_LIMIT, LABEL_LIMIT};
-use crate::office::phases::{is_open, is_preparing};
 use crate::refusal::Refusal;
 use crate::reply::Reply;
+use office_state::phases::{is_open, is_preparing};
+use office_state::{BYTE_LIMIT, Change, KeptList, LABEL_LIMIT, Office};
 use room_types::{Label, ListKind, Listing, Phase};
 use std::alloc::Global;
 

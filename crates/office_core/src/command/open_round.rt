@@ -2,13 +2,11 @@
 ghost use Rattle.office_core.specs.Command.Decision.{IsDecided};
 ghost use Rattle.office_core.specs.Command.OpenRound.{checks, reply_to, changes_of};
 
-use crate::change::Change;
 use crate::command::decision::{Decision, one_change};
-use crate::office::Office;
-use crate::office::limits::ROUND_LIMIT;
-use crate::office::phases::is_idle;
 use crate::refusal::Refusal;
 use crate::reply::Reply;
+use office_state::phases::is_idle;
+use office_state::{Change, Office, ROUND_LIMIT};
 use room_types::Phase;
 use std::alloc::Global;
 

@@ -2,12 +2,11 @@
 ghost use Rattle.office_core.specs.Command.Decision.{IsDecided};
 ghost use Rattle.office_core.specs.Command.Publish.{checks, reply_to, changes_of};
 
-use crate::change::Change;
 use crate::command::decision::{Decision, one_change};
-use crate::office::Office;
-use crate::office::phases::is_ran;
 use crate::refusal::Refusal;
 use crate::reply::Reply;
+use office_state::phases::is_ran;
+use office_state::{Change, Office};
 use room_types::Phase;
 use std::alloc::Global;
 

@@ -1,17 +1,16 @@
 //! The rooms are traded.
 ghost use Rattle.std.specs.Prelude.{◌≡◌, IfOk, map as map_list};
 ghost use Rattle.std.specs.FinMap as map;
+ghost use Rattle.office_state.specs.Office.Invariants.{IsLawful};
 ghost use Rattle.office_core.specs.Command.Decision.{IsDecided};
 ghost use Rattle.office_core.specs.Command.Run.{checks, reply_to, changes_of, result_put};
-ghost use Rattle.office_core.specs.Office.Invariants.{IsLawful};
 
-use crate::change::Change;
 use crate::command::decision::Decision;
-use crate::office::phases::is_drawn;
-use crate::office::{Assigned, Office};
 use crate::refusal::Refusal;
 use crate::reply::Reply;
-use crate::round::round_results;
+use office_state::phases::is_drawn;
+use office_state::round::round_results;
+use office_state::{Assigned, Change, Office};
 use room_types::grammars::PersonIds;
 use room_types::rows::copy_optional;
 use room_types::{OutOfMemory, Phase, Table};

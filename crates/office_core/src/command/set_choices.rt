@@ -5,13 +5,12 @@ ghost use Rattle.office_core.specs.Command.Decision.{IsDecided};
 ghost use Rattle.office_core.specs.Command.SetChoices.{checks, reply_to, changes_of};
 ghost use Rattle.office_core.specs.Inner.Passes.{Passes};
 
-use crate::change::Change;
 use crate::command::decision::{Decision, one_change};
-use crate::office::Office;
-use crate::office::phases::is_open;
 use crate::refusal::Refusal;
 use crate::refusal::rooms::may_list_all;
 use crate::reply::Reply;
+use office_state::phases::is_open;
+use office_state::{Change, Office};
 use room_types::{Choices, PersonId};
 use std::alloc::Global;
 

@@ -2,13 +2,12 @@
 ghost use Rattle.office_core.specs.Command.Decision.{IsDecided};
 ghost use Rattle.office_core.specs.Command.SetHome.{checks, reply_to, changes_of};
 
-use crate::change::Change;
 use crate::command::decision::{Decision, one_change};
-use crate::office::Office;
-use crate::office::phases::is_idle;
 use crate::refusal::Refusal;
 use crate::refusal::rooms::may_live;
 use crate::reply::Reply;
+use office_state::phases::is_idle;
+use office_state::{Change, Office};
 use room_types::{PersonId, RoomCode};
 use std::alloc::Global;
 

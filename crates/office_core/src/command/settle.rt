@@ -1,19 +1,18 @@
 //! The participants move, the moves are recorded, and the round is over.
 ghost use Rattle.std.specs.Prelude.{◌≡◌, ◌++◌, length, OnOk, map as map_list};
 ghost use Rattle.room_types.specs.declared.moves.Move.{Move};
+ghost use Rattle.office_state.specs.Office.Invariants.{IsLawful};
+ghost use Rattle.office_state.specs.Round.Settlement.{moves_with};
 ghost use Rattle.office_core.specs.Command.Decision.{IsDecided};
 ghost use Rattle.office_core.specs.Command.Settle.{checks, reply_to, changes_of, leaving, arriving};
-ghost use Rattle.office_core.specs.Office.Invariants.{IsLawful};
-ghost use Rattle.office_core.specs.Round.Settlement.{moves_with};
 
-use crate::change::Change;
 use crate::command::decision::Decision;
-use crate::office::Office;
-use crate::office::phases::is_published;
 use crate::refusal::Refusal;
 use crate::reply::Reply;
-use crate::round::settlement::movers;
 use office_lists::{Mover, waves};
+use office_state::phases::is_published;
+use office_state::round::movers;
+use office_state::{Change, Office};
 use room_types::rows::copy_optional;
 use room_types::{Move, OutOfMemory, Phase, Wave};
 use std::alloc::Global;
@@ -72,7 +71,7 @@ fn all_arrive(changes: &mut Vec<Change>, movers: &[Mover]) -> Result<(), OutOfMe
 }
 
 // Each move is recorded, with its wave.
-#[tactic(auto, using(crate::proofs::RoundLemmas::Recorded::moves_with_more))]
+#[tactic(auto, using(crate::proofs::CommandLemmas::Recorded::moves_with_more))]
 fn all_recorded(
     changes: &mut Vec<Change>,
     round: u16,

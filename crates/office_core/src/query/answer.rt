@@ -1,11 +1,10 @@
 //! What a query is answered.
 ghost use Rattle.std.specs.Prelude.{IfOk};
+ghost use Rattle.office_state.specs.Office.Invariants.{IsLawful};
 ghost use Rattle.office_core.specs.Query.Answer.{Tells};
-ghost use Rattle.office_core.specs.Office.Invariants.{IsLawful};
 ghost use Rattle.office_core.specs.Query.{told, GainsNothing};
 ghost use Rattle.office_core.specs.Replies.{RowsAscend};
 
-use crate::office::Office;
 use crate::query::Query;
 use crate::query::me::me;
 use crate::query::moves::moves;
@@ -17,6 +16,7 @@ use crate::query::round::round;
 use crate::query::what_if::what_if;
 use crate::refusal::Refusal;
 use crate::reply::Reply;
+use office_state::Office;
 use std::alloc::Global;
 
 /// Answers a query, and changes nothing. The room that another list would give is never ranked above the result, by the

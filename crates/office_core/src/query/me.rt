@@ -1,14 +1,12 @@
 //! What a person sees by the key.
 ghost use Rattle.std.specs.Prelude.{◌≡◌, IfOk};
+ghost use Rattle.office_state.specs.Office.{choices_of};
 ghost use Rattle.office_core.specs.Query.Answer.{Tells};
-ghost use Rattle.office_core.specs.Office.{choices_of};
 ghost use Rattle.office_core.specs.Query.Me.{told, standing_of, shown_result};
 
-use crate::office::Office;
-use crate::office::look::copy_found;
-use crate::office::person::Person;
 use crate::refusal::Refusal;
 use crate::reply::{Reply, Standing};
+use office_state::{Office, Person, copy_found};
 use room_types::rows::copy_optional;
 use room_types::{Choices, Key, OutOfMemory, PersonId, RoomCode};
 use std::alloc::Global;

@@ -1,12 +1,12 @@
 //! The moves of a round that is over.
 ghost use Rattle.std.specs.Prelude.{◌≡◌, IfOk, OnErr, false};
-ghost use Rattle.office_core.specs.Empty.{is_empty};
+ghost use Rattle.office_state.specs.Empty.{is_empty};
 ghost use Rattle.office_core.specs.Query.Answer.{Tells};
 ghost use Rattle.office_core.specs.Query.Moves.{told, move_rows};
 
-use crate::office::Office;
 use crate::refusal::Refusal;
 use crate::reply::Reply;
+use office_state::Office;
 use room_types::rows::copy_optional;
 use room_types::{Listing, Move, OutOfMemory};
 use std::alloc::Global;

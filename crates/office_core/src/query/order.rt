@@ -3,11 +3,11 @@ ghost use Rattle.std.specs.Prelude.{◌≡◌, ◌<◌, IfOk, OnErr, length, map
 ghost use Rattle.office_core.specs.Query.Answer.{Tells};
 ghost use Rattle.office_core.specs.Query.Order.{told, order_row};
 
-use crate::office::Office;
-use crate::office::phases::has_words;
 use crate::refusal::Refusal;
 use crate::reply::{OrderRow, Reply};
-use crate::round::people::{round_people, word_of};
+use office_state::Office;
+use office_state::phases::has_words;
+use office_state::round::{round_people, word_of};
 use room_types::{Listing, OutOfMemory, PersonId};
 use std::alloc::Global;
 

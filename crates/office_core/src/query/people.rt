@@ -2,9 +2,9 @@
 ghost use Rattle.office_core.specs.Query.Answer.{Tells};
 ghost use Rattle.office_core.specs.Query.People.{told};
 
-use crate::office::Office;
 use crate::refusal::Refusal;
 use crate::reply::Reply;
+use office_state::Office;
 use room_types::rows::copy_optional;
 use room_types::{Listing, PersonRow};
 use std::alloc::Global;

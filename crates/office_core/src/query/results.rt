@@ -1,13 +1,13 @@
 //! What the participants get.
 ghost use Rattle.std.specs.Prelude.{◌≡◌, IfOk, OnErr, false};
-ghost use Rattle.office_core.specs.Empty.{is_empty};
+ghost use Rattle.office_state.specs.Empty.{is_empty};
 ghost use Rattle.office_core.specs.Query.Answer.{Tells};
 ghost use Rattle.office_core.specs.Query.Results.{told, result_rows};
 
-use crate::office::Office;
-use crate::office::phases::has_results;
 use crate::refusal::Refusal;
 use crate::reply::Reply;
+use office_state::Office;
+use office_state::phases::has_results;
 use room_types::rows::copy_optional;
 use room_types::{Listing, OutOfMemory, ResultRow};
 use std::alloc::Global;

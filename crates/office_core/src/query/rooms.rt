@@ -3,10 +3,9 @@ ghost use Rattle.std.specs.Prelude.{◌≡◌};
 ghost use Rattle.office_core.specs.Query.Answer.{Tells};
 ghost use Rattle.office_core.specs.Query.Rooms.{told, state_of};
 
-use crate::office::Office;
-use crate::office::look::copy_found;
 use crate::refusal::Refusal;
 use crate::reply::Reply;
+use office_state::{Office, copy_found};
 use room_types::{Listing, PersonId, RoomRow, State};
 use std::alloc::Global;
 

@@ -2,9 +2,9 @@
 ghost use Rattle.std.specs.Prelude.{◌≡◌};
 ghost use Rattle.office_core.specs.Query.Round.{told};
 
-use crate::office::Office;
 use crate::refusal::Refusal;
 use crate::reply::Reply;
+use office_state::Office;
 
 /// The last round's number, the phase, how many people there are, and how many have withdrawn. It takes no memory.
 pub fn round(office: &Office) -> Result<Reply, Refusal>

@@ -1,16 +1,16 @@
 //! What another list would give a participant.
 ghost use Rattle.std.specs.Prelude.{◌≡◌, IfOk};
+ghost use Rattle.office_state.specs.Office.Invariants.{IsLawful};
 ghost use Rattle.office_core.specs.Query.Answer.{Tells};
 ghost use Rattle.office_core.specs.Inner.Passes.{Passes};
-ghost use Rattle.office_core.specs.Office.Invariants.{IsLawful};
 ghost use Rattle.office_core.specs.Query.WhatIf.{told, checks, GainsNothing};
 
-use crate::office::Office;
-use crate::office::phases::has_results;
 use crate::refusal::Refusal;
 use crate::refusal::rooms::may_list_all;
 use crate::reply::Reply;
-use crate::round::result_by;
+use office_state::Office;
+use office_state::phases::has_results;
+use office_state::round::result_by;
 use room_types::{Choices, PersonId};
 use std::alloc::Global;
 

@@ -3,8 +3,8 @@ ghost use Rattle.std.specs.List.{flat_map};
 ghost use Rattle.office_core.specs.Inner.Passes.{Passes};
 ghost use Rattle.office_core.specs.Refusal.Checks.{room_checks, home_checks, home_checks_if_any};
 
-use crate::office::Office;
 use crate::refusal::{Refusal, room_shut, unknown_room};
+use office_state::Office;
 use room_types::RoomCode;
 
 /// Passes a room that is known and not shut; else it is `UnknownRoom` or `RoomShut`.

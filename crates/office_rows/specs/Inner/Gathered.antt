@@ -5,7 +5,7 @@ use Rattle.std.specs.declared.cmp.Ordering.{Ordering}
 use Rattle.std.specs.Ordering.{nat_cmp, ordering_then}
 use Rattle.std.specs.FinMap as map
 use Rattle.room_types.specs.Texts.{Text, TextMap, text_cmp}
-use Rattle.office_core.specs.Inner.Soundness.{is_choices}
+use Rattle.office_state.specs.Inner.Soundness.{is_choices}
 use Rattle.office_rows.specs.declared.records.ChoiceRecord.{ChoiceRecord}
 
 -- by person, then by place, then by room

@@ -1,8 +1,8 @@
 -- What the maps of all tables are put together to.
 use Rattle.std.specs.Prelude.{◌≡◌, Option, Some}
 use Rattle.std.specs.Option.{IfSome}
-use Rattle.office_core.specs.Office.Invariants.{IsLawful}
-use Rattle.office_core.specs.declared.office.Office.{Office}
+use Rattle.office_state.specs.Office.Invariants.{IsLawful}
+use Rattle.office_state.specs.declared.office.Office.{Office}
 use Rattle.office_rows.specs.ReadsOffice.{AreRecordsOf}
 use Rattle.office_rows.specs.Tables.{rows_of}
 use Rattle.office_rows.specs.declared.records.OfficeRecords.{OfficeRecords}

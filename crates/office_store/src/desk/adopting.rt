@@ -2,8 +2,8 @@
 ghost use Rattle.std.specs.Prelude.{◌≡◌, false, IfErr, IfOk, IsErrAnd, IsSome, IsTrue, MatchResult, OnOk};
 ghost use Rattle.sqlite.specs.Held.{state};
 ghost use Rattle.sqlite.specs.State.{HasCleanDisk};
-ghost use Rattle.office_core.specs.Office.Invariants.{IsLawful};
-ghost use Rattle.office_core.specs.declared.office.Office.{Office as AnyOffice};
+ghost use Rattle.office_state.specs.Office.Invariants.{IsLawful};
+ghost use Rattle.office_state.specs.declared.office.Office.{Office as AnyOffice};
 ghost use Rattle.office_rows.specs.Tables.{rows_of};
 ghost use Rattle.office_cells.specs.Spelled.{IsSpelled};
 ghost use Rattle.office_tables.specs.Steps.{Follows, IsHonest};

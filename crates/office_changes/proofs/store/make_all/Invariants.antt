@@ -1,8 +1,8 @@
 use Rattle.std.proofs.Common.{◌≡◌, drop}
 use Rattle.sqlite.specs.State.{HasCleanDisk}
 use Rattle.sqlite.specs.Held.{state}
-use Rattle.office_core.specs.Change.{applied_all, AllFit}
-use Rattle.office_core.specs.declared.office.Office.{Office}
+use Rattle.office_state.specs.Change.{applied_all, AllFit}
+use Rattle.office_state.specs.declared.office.Office.{Office}
 use Rattle.office_cells.specs.Spelled.{IsSpelled}
 use Rattle.office_rows.specs.Tables.{rows_of}
 use Rattle.office_tables.specs.Steps.{StaysInside}

@@ -4,12 +4,11 @@ ghost use Rattle.office_lists.specs.Records.{record_limit};
 ghost use Rattle.office_core.specs.Command.Import.{choices_command, first_denied, list_refusal};
 ghost use Rattle.office_core.specs.Inner.Tries.{AreAdded, AreAllowed, IsOrMemory};
 
-use crate::change::Change;
 use crate::command::import::denial::denial;
 use crate::command::set_choices::may_choose;
-use crate::office::Office;
 use crate::refusal::Refusal;
 use office_lists::{ChoicesEntry, read_choices};
+use office_state::{Change, Office};
 use room_types::OutOfMemory;
 use std::alloc::Global;
 

@@ -6,15 +6,13 @@ ghost use Rattle.office_core.specs.Inner.Passes.{Passes};
 ghost use Rattle.office_core.specs.Inner.Tries.{AreAdded, AreAllowed, IsIndexed, IsOrMemory};
 ghost use Rattle.office_core.specs.Refusal.Checks.{home_checks_if_any};
 
-use crate::change::Change;
 use crate::command::import::denial::denial;
 use crate::command::import::register::Register;
-use crate::office::Office;
-use crate::office::limits::PEOPLE_LIMIT;
-use crate::office::phases::is_preparing;
 use crate::refusal::Refusal;
 use crate::refusal::rooms::may_list;
 use office_lists::{PersonEntry, read_people};
+use office_state::phases::is_preparing;
+use office_state::{Change, Office, PEOPLE_LIMIT};
 use room_types::rows::copy_optional;
 use room_types::{OutOfMemory, RoomCode};
 use std::alloc::Global;

@@ -3,9 +3,8 @@ ghost use Rattle.std.specs.Prelude.{◌≡◌, false, IfOk, OnOk};
 ghost use Rattle.std.specs.FinMap as map;
 ghost use Rattle.office_core.specs.Inner.Tries.{HasKeys, IsIndexed, placed};
 
-use crate::office::Office;
-use crate::office::person::Person;
 use office_lists::PersonEntry;
+use office_state::{Office, Person};
 use room_types::grammars::{Keys, PersonIds, RoomCodes};
 use room_types::rows::copy_optional;
 use room_types::{OutOfMemory, PersonId, RoomCode, Table};
@@ -35,7 +34,7 @@ impl Register {
     }
 
     /// One more person, who is not known yet.
-    #[tactic(auto, using(crate::proofs::OfficeLemmas::Indexed::still_indexed))]
+    #[tactic(auto, using(crate::proofs::CommandLemmas::Indexed::still_indexed))]
     pub(crate) fn add(&mut self, entry: &PersonEntry) -> Result<(), OutOfMemory>
         requires unknown { map.contains_key self.old.people entry.now.person ≡ false }
         requires indexed { IsIndexed self.old }

@@ -4,12 +4,11 @@ ghost use Rattle.office_lists.specs.Records.{record_limit};
 ghost use Rattle.office_core.specs.Command.Import.{first_denied, list_refusal, room_command};
 ghost use Rattle.office_core.specs.Inner.Tries.{AreAdded, AreAllowed, IsOrMemory};
 
-use crate::change::Change;
 use crate::command::add_room::may_add;
 use crate::command::import::denial::denial;
-use crate::office::Office;
 use crate::refusal::Refusal;
 use office_lists::read_rooms;
+use office_state::{Change, Office};
 use room_types::{OutOfMemory, RoomCode};
 use std::alloc::Global;
 

@@ -1,6 +1,6 @@
 use Rattle.std.proofs.Common.{inl, inr, refl}
 use Rattle.sqlite.specs.Steps.{over_memory}
-use Rattle.office_core.specs.Office.{empty_office}
+use Rattle.office_state.specs.Office.{empty_office}
 use Rattle.office_store.specs.Desk.{HandlesAt, Shows}
 use Rattle.office_store.specs.LawfulSteps.{HandlesLawfully}
 use Rattle.office_store.proofs.DeskRunLemmas.{step_in_memory}

@@ -1,4 +1,4 @@
-use Rattle.office_core.specs.Office.Invariants.{IsLawful}
+use Rattle.office_state.specs.Office.Invariants.{IsLawful}
 use Rattle.office_tests.proofs.office.carry_out_all.Given as goal
 
 -- the office is lawful after each command

@@ -1,6 +1,6 @@
 use Rattle.std.proofs.Common.{◌∙◌, ap, sym, take}
-use Rattle.office_core.specs.Change.{applied, applied_all}
-use Rattle.office_core.proofs.ChangeLemmas.Apply.{applied_all-more}
+use Rattle.office_state.specs.Change.{applied, applied_all}
+use Rattle.office_state.proofs.ChangeLemmas.Apply.{applied_all-more}
 use Rattle.office_tests.proofs.office.changed.Goals as goal
 
 pub loop-change-preserved : goal.loop-change-preserved

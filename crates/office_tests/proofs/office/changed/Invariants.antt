@@ -1,5 +1,5 @@
 use Rattle.std.proofs.Common.{◌≡◌, take}
-use Rattle.office_core.specs.Change.{applied_all}
+use Rattle.office_state.specs.Change.{applied_all}
 use Rattle.office_tests.proofs.office.changed.Given as goal
 
 -- the changes so far are applied

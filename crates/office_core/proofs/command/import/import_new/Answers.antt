@@ -2,7 +2,7 @@ use Rattle.std.proofs.Common.{inr, length, refl}
 use Rattle.std.proofs.lemmas.Bool.{le-ltb, lt-leb}
 use Rattle.std.specs.FinMap as map
 use Rattle.std.proofs.lemmas.Result.{err_from_is_err_and}
-use Rattle.office_core.specs.Office.Limits.{byte_limit, label_limit}
+use Rattle.office_state.specs.Office.Limits.{byte_limit, label_limit}
 use Rattle.office_core.specs.declared.refusal.Refusal.TheVariants as refused
 use Rattle.office_core.proofs.CommandLemmas.ListChecks.{list_is_refused}
 use Rattle.office_core.proofs.command.import.import_new.Goals as goal

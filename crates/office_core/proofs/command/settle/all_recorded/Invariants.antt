@@ -1,7 +1,7 @@
 use Rattle.std.proofs.Common.{◌≡◌, ◌++◌, drop, map}
 use Rattle.room_types.specs.declared.moves.Move.{Move}
-use Rattle.office_core.specs.Round.Settlement.{moves_with}
-use Rattle.office_core.specs.declared.change.Change.TheVariants.{AddMove}
+use Rattle.office_state.specs.Round.Settlement.{moves_with}
+use Rattle.office_state.specs.declared.change.Change.TheVariants.{AddMove}
 use Rattle.office_core.proofs.command.settle.all_recorded.Given as goal
 
 -- the changes so far and those of the moves that are left are all

@@ -1,9 +1,9 @@
 use Rattle.std.proofs.Common.{◌≤◌, sym, subst, ◌∙◌, length}
 use Rattle.office_lists.specs.Waves.{NewRoomsDiffer}
-use Rattle.office_core.specs.Office.Limits.{people_limit}
-use Rattle.office_core.proofs.RoundLemmas.Problem.{lawful-IsMarket}
-use Rattle.office_core.proofs.RoundLemmas.Settled.{new_rooms_differ, few_movers}
-use Rattle.office_core.proofs.OfficeLemmas.Untouched.{published_given}
+use Rattle.office_state.specs.Office.Limits.{people_limit}
+use Rattle.office_state.proofs.RoundLemmas.Problem.{lawful-IsMarket}
+use Rattle.office_state.proofs.RoundLemmas.Settled.{new_rooms_differ, few_movers}
+use Rattle.office_state.proofs.OfficeLemmas.Untouched.{published_given}
 use Rattle.office_core.proofs.command.settle.settle.Goals as goal
 
 pub waves-requires-clause-few : goal.waves-requires-clause-few

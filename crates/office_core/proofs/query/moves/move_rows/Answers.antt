@@ -1,7 +1,7 @@
 use Rattle.std.proofs.Common.{◌∙◌, sym, ap, map}
 use Rattle.std.specs.Option.{option_copied}
+use Rattle.office_state.proofs.OfficeLemmas.Moves.{no_moves}
 use Rattle.office_core.specs.Query.Moves.{move_row}
-use Rattle.office_core.proofs.OfficeLemmas.Moves.{no_moves}
 use Rattle.office_core.proofs.query.moves.move_rows.Goals as goal
 
 pub returns-in_default-clause-rows : goal.returns-in_default-clause-rows

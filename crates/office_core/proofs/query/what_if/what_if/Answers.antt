@@ -1,11 +1,11 @@
 use Rattle.std.proofs.Common.{◌≡◌, ◌≤◌, true, not, ◌&&◌, refl, subst, sym}
 use Rattle.std.proofs.lemmas.Bool.{not-false}
+use Rattle.office_state.specs.Round.{is_participant, round_rank}
+use Rattle.office_state.proofs.RoundLemmas.WellTraded.{recorded}
 use Rattle.office_core.specs.Query.WhatIf.{checks}
-use Rattle.office_core.specs.Round.{is_participant, round_rank}
 use Rattle.office_core.proofs.RefusalLemmas.Checks.{none_applies}
-use Rattle.office_core.proofs.RoundLemmas.WellTraded.{recorded}
 use Rattle.std.proofs.lemmas.Result.{err_from_is_err_and}
-use Rattle.office_core.specs.Round.{result_by}
+use Rattle.office_state.specs.Round.{result_by}
 use Rattle.office_core.specs.declared.reply.Reply.TheVariants as reply
 use Rattle.office_core.proofs.RefusalLemmas.Silent.{asked, rooms_are_silent}
 use Rattle.office_core.proofs.query.what_if.what_if.Goals as goal

@@ -1,5 +1,5 @@
 use Rattle.std.proofs.Common.{subst}
-use Rattle.office_core.specs.Office.Invariants.{IsLawful}
+use Rattle.office_state.specs.Office.Invariants.{IsLawful}
 use Rattle.office_store.proofs.EmptyLemmas.{spelled}
 use Rattle.office_store.proofs.desk.Desk.create.Goals as goal
 

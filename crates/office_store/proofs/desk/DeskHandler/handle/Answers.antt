@@ -1,5 +1,5 @@
 use Rattle.std.proofs.Common.{◌≡◌, true, IfSome, sym, ap, ◌∙◌, subst}
-use Rattle.office_core.specs.Office.Invariants.{IsLawful}
+use Rattle.office_state.specs.Office.Invariants.{IsLawful}
 use Rattle.office_store.specs.Desk.{HandlesAt}
 use Rattle.office_store.specs.Certain.{is_certain}
 use Rattle.office_store.specs.Requests.{Handles, IsAccepted, answer_to}

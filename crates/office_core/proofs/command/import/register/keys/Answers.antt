@@ -5,8 +5,8 @@ use Rattle.std.specs.FinMap.{get-empty}
 use Rattle.std.specs.Map.Iter.{deref_pair}
 use Rattle.std.proofs.lemmas.Map.Iter.{rest_more}
 use Rattle.room_types.specs.Texts.{text_cmp}
-use Rattle.office_core.specs.Office.{first_person, is_text}
-use Rattle.office_core.proofs.OfficeLemmas.Indexed.{keys-put}
+use Rattle.office_state.specs.Office.{first_person, is_text}
+use Rattle.office_core.proofs.CommandLemmas.Indexed.{keys-put}
 use Rattle.office_core.proofs.command.import.register.keys.Goals as goal
 
 pub loop-person-init : goal.loop-person-init

@@ -2,7 +2,7 @@ use Rattle.std.proofs.Common.{◌≡◌, ◌||◌, Some}
 use Rattle.std.specs.Option.{is_some}
 use Rattle.std.specs.FinMap as map
 use Rattle.room_types.specs.Texts.{Text}
-use Rattle.office_core.specs.Office.{first_person, holder, is_text}
+use Rattle.office_state.specs.Office.{first_person, holder, is_text}
 use Rattle.office_core.proofs.command.import.register.keys.Given as goal
 
 -- a key is somebody's where it was found so far, or is that of somebody who is left

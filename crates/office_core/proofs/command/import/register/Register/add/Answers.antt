@@ -1,4 +1,4 @@
-use Rattle.office_core.proofs.OfficeLemmas.Indexed.{still_indexed}
+use Rattle.office_core.proofs.CommandLemmas.Indexed.{still_indexed}
 use Rattle.office_core.proofs.command.import.register.Register.add.Goals as goal
 
 pub returns-clause-indexed : goal.returns-clause-indexed

@@ -1,6 +1,6 @@
 use Rattle.std.proofs.Common.{◌∙◌, sym, ap, Some}
 use Rattle.std.specs.Option.{is_some}
-use Rattle.office_core.specs.Office.{holder}
+use Rattle.office_state.specs.Office.{holder}
 use Rattle.office_core.proofs.command.import.register.Register.of.Goals as goal
 
 pub returns-clause-indexed : goal.returns-clause-indexed

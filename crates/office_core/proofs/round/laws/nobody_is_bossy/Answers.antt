@@ -1,5 +1,0 @@
-use Rattle.office_core.proofs.RoundLemmas.Lists.{none_bossy}
-use Rattle.office_core.proofs.round.laws.nobody_is_bossy.Goals as goal
-
-pub returns : goal.returns
-returns c = none_bossy

@@ -1,5 +1,0 @@
-use Rattle.office_core.proofs.RoundLemmas.WellTraded.{recorded_traded}
-use Rattle.office_core.proofs.round.laws.recorded_results_are_well_traded.Goals as goal
-
-pub returns : goal.returns
-returns c = recorded_traded

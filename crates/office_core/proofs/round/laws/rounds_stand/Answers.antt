@@ -1,5 +1,0 @@
-use Rattle.office_core.proofs.RoundLemmas.Results.{same_round}
-use Rattle.office_core.proofs.round.laws.rounds_stand.Goals as goal
-
-pub returns : goal.returns
-returns c = same_round

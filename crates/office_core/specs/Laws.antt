@@ -1,0 +1,20 @@
+-- What holds of the results of a round while commands are accepted.
+use Rattle.std.specs.Prelude.{◌≡◌, Bool, true, false}
+use Rattle.office_state.specs.Office.Phases.{has_results}
+use Rattle.office_state.specs.Round.Laws.{HaveSameEntries}
+use Rattle.office_state.specs.declared.office.Office.{Office}
+use Rattle.office_core.specs.declared.command.Command.{Command}
+use Rattle.office_core.specs.declared.command.Command.TheVariants as command
+
+-- whether a command ends the round
+abbrev pub ends_round : Command → Bool
+ends_round command.Settle = true
+ends_round command.Cancel = true
+ends_round _ = false
+
+-- the round goes on: entries, number and results stay, and there are results still
+pub record KeepsResults (one other : Office) : Type 0 where
+  pub entries : HaveSameEntries one other
+  pub number : one.number ≡ other.number
+  pub results : one.results ≡ other.results
+  pub still : has_results other.phase ≡ true

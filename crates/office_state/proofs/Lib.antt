@@ -1,0 +1,5 @@
+pub mod ChangeLemmas
+pub mod OfficeLemmas
+pub mod RoundLemmas
+pub mod SoundnessLemmas
+pub mod Truths

@@ -1,0 +1,388 @@
+-- Who moves, and what the settlement makes of the people.
+use Rattle.std.proofs.Common.{◌≡◌, Bool, true, false, ◌&&◌, ◌||◌, List, [], ◌∷◌}
+use Rattle.std.proofs.Common.{map as map_list, Option, Some, None, cond, refl, ap, ◌∙◌, sym, ◌⊎◌}
+use Rattle.std.proofs.Common.{inl, inr}
+use Rattle.std.specs.Option.{is_some, option_map, option_or, option_and_then}
+use Rattle.std.specs.List.{filter, list_any}
+use Rattle.std.specs.Ordering.{eq_by_cmp}
+use Rattle.std.specs.Cmp.Lexicographic.{nat_list_cmp_total}
+use Rattle.std.specs.FinMap as map
+use Rattle.std.specs.FinMap.{find, get-insert, get-entries, get-from_entries, same_map}
+use Rattle.std.proofs.lemmas.Bool.{not-false}
+use Rattle.room_types.specs.Texts.{Text, TextMap, text_cmp}
+use Rattle.room_types.specs.TextMaps.{text_cases, exact_texts, len-put_known}
+use Rattle.room_types.proofs.Options.{none_if_not_some, option_or-none}
+use Rattle.office_lists.specs.Waves.{Mover}
+use Rattle.office_state.specs.Office.{home_of, participants, recorded_result, is_same_text}
+use Rattle.office_state.specs.Round.{is_participant}
+use Rattle.office_state.specs.Round.Settlement.{moves_out, movers, settled_person}
+use Rattle.office_state.specs.Round.Settlement.{settled_people}
+use Rattle.office_state.specs.declared.office.Office.{Office}
+use Rattle.office_state.specs.declared.office.person.Person.{Person}
+use Rattle.office_state.proofs.RoundLemmas.People.{participants_hold}
+use Rattle.office_state.proofs.OfficeLemmas.People.{same_optional}
+
+-- the people after one person's move, by what is known of the person
+abbrev pub rehomed_by : TextMap Person → Text → Option Text → Option Person → TextMap Person
+rehomed_by people person home None = people
+rehomed_by people person home (Some kept) = map.insert people person (record kept { home = home })
+
+abbrev pub rehomed : TextMap Person → Text → Option Text → TextMap Person
+rehomed people person home = rehomed_by people person home (map.get people person)
+
+abbrev pub at_home : Option Text → Person → Person
+at_home home kept = record kept { home = home }
+
+nowhere : (b : Bool) (f : Person → Person) (o : Option Person) → o ≡ None
+    → o ≡ cond b (option_map f o) o
+nowhere true f o e = e ∙ sym (ap (option_map f) e)
+nowhere false f o e = refl
+
+pub get-rehomed : (people : TextMap Person) (person : Text) (home : Option Text) (q : Text)
+    → map.get (rehomed people person home) q
+    ≡ cond (eq_by_cmp text_cmp q person) (option_map (at_home home) (map.get people q))
+    (map.get people q)
+get-rehomed people person home q =
+    elim (map.get people person) as (λ o. map.get people person ≡ o
+    → map.get (rehomed_by people person home o) q
+    ≡ cond (eq_by_cmp text_cmp q person) (option_map (at_home home) (map.get people q))
+    (map.get people q)) [
+      | None ↦ λ unknown. elim (text_cases q person) as
+          (λ _. map.get people q ≡ cond (eq_by_cmp text_cmp q person)
+          (option_map (at_home home) (map.get people q)) (map.get people q)) [
+            | inl same ↦ nowhere (eq_by_cmp text_cmp q person) (at_home home) (map.get people q)
+                (ap (map.get people) same ∙ unknown)
+            | inr other ↦ ap (λ b. cond b (option_map (at_home home) (map.get people q))
+                (map.get people q)) (sym other)
+          ]
+      | Some kept ↦ λ known.
+          get-insert nat_list_cmp_total people person (at_home home kept) q
+          ∙ elim (text_cases q person) as
+          (λ _. cond (eq_by_cmp text_cmp q person) (Some (at_home home kept)) (map.get people q)
+          ≡ cond (eq_by_cmp text_cmp q person) (option_map (at_home home) (map.get people q))
+          (map.get people q)) [
+            | inl same ↦ ap (λ o. cond (eq_by_cmp text_cmp q person) (option_map (at_home home) o)
+                (map.get people q)) (sym (ap (map.get people) same ∙ known))
+            | inr other ↦ ap (λ b. cond b (Some (at_home home kept)) (map.get people q)) other
+                ∙ ap (λ b. cond b (option_map (at_home home) (map.get people q)) (map.get people q))
+                (sym other)
+          ]
+    ] refl
+
+-- all movers have left
+abbrev pub left_people : TextMap Person → List Mover → TextMap Person
+left_people people [] = people
+left_people people (mover ∷ others) = left_people (rehomed people mover.0 None) others
+
+-- and each lives in the new room
+abbrev pub arrived_people : TextMap Person → List Mover → TextMap Person
+arrived_people people [] = people
+arrived_people people (mover ∷ others) = arrived_people (rehomed people mover.0 mover.2) others
+
+abbrev pub is_mover : List Mover → Text → Bool
+is_mover [] q = false
+is_mover (mover ∷ others) q = eq_by_cmp text_cmp q mover.0 || is_mover others q
+
+-- where a mover goes to
+abbrev pub mover_to : List Mover → Text → Option (Option Text)
+mover_to [] q = None
+mover_to (mover ∷ others) q =
+    option_or (mover_to others q) (cond (eq_by_cmp text_cmp q mover.0) (Some mover.2) None)
+
+pub is_some-mover_to : (ms : List Mover) (q : Text) → is_some (mover_to ms q) ≡ is_mover ms q
+is_some-mover_to [] q = refl
+is_some-mover_to (mover ∷ others) q =
+    by (mover_to others q) (eq_by_cmp text_cmp q mover.0)
+    ∙ ap (λ b. eq_by_cmp text_cmp q mover.0 || b) (is_some-mover_to others q)
+  where
+    by : (o : Option (Option Text)) (b : Bool)
+        → is_some (option_or o (cond b (Some mover.2) None)) ≡ (b || is_some o)
+    by None true = refl
+    by None false = refl
+    by (Some to) true = refl
+    by (Some to) false = refl
+
+left_twice : (a b : Bool) (o : Option Person)
+    → cond a (option_map (at_home None) (cond b (option_map (at_home None) o) o))
+    (cond b (option_map (at_home None) o) o) ≡ cond (b || a) (option_map (at_home None) o) o
+left_twice true true None = refl
+left_twice true true (Some kept) = refl
+left_twice true false o = refl
+left_twice false true o = refl
+left_twice false false o = refl
+
+pub get-left : (people : TextMap Person) (ms : List Mover) (q : Text)
+    → map.get (left_people people ms) q
+    ≡ cond (is_mover ms q) (option_map (at_home None) (map.get people q)) (map.get people q)
+get-left people [] q = refl
+get-left people (mover ∷ others) q =
+    get-left (rehomed people mover.0 None) others q
+    ∙ ap (λ o. cond (is_mover others q) (option_map (at_home None) o) o)
+    (get-rehomed people mover.0 None q)
+    ∙ left_twice (is_mover others q) (eq_by_cmp text_cmp q mover.0) (map.get people q)
+
+abbrev pub arrive_at : Option (Option Text) → Option Person → Option Person
+arrive_at None o = o
+arrive_at (Some to) o = option_map (at_home to) o
+
+arrived_after : (t : Option (Option Text)) (b : Bool) (to : Option Text) (o : Option Person)
+    → arrive_at t (cond b (option_map (at_home to) o) o)
+    ≡ arrive_at (option_or t (cond b (Some to) None)) o
+arrived_after None true to o = refl
+arrived_after None false to o = refl
+arrived_after (Some there) true to None = refl
+arrived_after (Some there) true to (Some kept) = refl
+arrived_after (Some there) false to o = refl
+
+get-arrived : (people : TextMap Person) (ms : List Mover) (q : Text)
+    → map.get (arrived_people people ms) q ≡ arrive_at (mover_to ms q) (map.get people q)
+get-arrived people [] q = refl
+get-arrived people (mover ∷ others) q =
+    get-arrived (rehomed people mover.0 mover.2) others q
+    ∙ ap (arrive_at (mover_to others q)) (get-rehomed people mover.0 mover.2 q)
+    ∙ arrived_after (mover_to others q) (eq_by_cmp text_cmp q mover.0) mover.2 (map.get people q)
+
+left_and_arrived : (t : Option (Option Text)) (b : Bool) (o : Option Person) → is_some t ≡ b
+    → arrive_at t (cond b (option_map (at_home None) o) o) ≡ arrive_at t o
+left_and_arrived None true o e = cc
+left_and_arrived None false o e = refl
+left_and_arrived (Some to) true None e = refl
+left_and_arrived (Some to) true (Some kept) e = refl
+left_and_arrived (Some to) false o e = refl
+
+-- the people after both
+pub get-moved : (people : TextMap Person) (ms : List Mover) (q : Text)
+    → map.get (arrived_people (left_people people ms) ms) q
+    ≡ arrive_at (mover_to ms q) (map.get people q)
+get-moved people ms q =
+    get-arrived (left_people people ms) ms q
+    ∙ ap (arrive_at (mover_to ms q)) (get-left people ms q)
+    ∙ left_and_arrived (mover_to ms q) (is_mover ms q) (map.get people q) (is_some-mover_to ms q)
+
+-- where somebody goes who is among those that pass
+module _ (from to : Text → Option Text) (test : Text → Bool) where
+  mover_to-some : (ps : List Text) (q : Text)
+      → mover_to (map_list (λ p. (p, from p, to p)) (filter test ps)) q
+      ≡ cond (list_any (eq_by_cmp text_cmp q) ps && test q) (Some (to q)) None
+  mover_to-some [] q = refl
+  mover_to-some (p ∷ ps) q =
+      let rest : Option (Option Text) =
+      mover_to (map_list (λ p. (p, from p, to p)) (filter test ps)) q in
+      let known : rest ≡ cond (list_any (eq_by_cmp text_cmp q) ps && test q) (Some (to q)) None =
+      mover_to-some ps q in
+      elim (eq_by_cmp text_cmp q p) as (λ b. eq_by_cmp text_cmp q p ≡ b
+      → mover_to (map_list (λ p. (p, from p, to p))
+      (cond (test p) (p ∷ filter test ps) (filter test ps))) q
+      ≡ cond ((b || list_any (eq_by_cmp text_cmp q) ps) && test q) (Some (to q)) None) [
+        | true ↦ λ ties.
+            let same : q ≡ p = elim (text_cases q p) as
+            (λ _. q ≡ p) [ inl same ↦ same | inr other ↦ cc ] in
+            elim (test p) as (λ t. test p ≡ t
+            → mover_to (map_list (λ p. (p, from p, to p))
+            (cond t (p ∷ filter test ps) (filter test ps))) q
+            ≡ cond (test q) (Some (to q)) None) [
+              | true ↦ λ t.
+                  let passes : test q ≡ true = ap test same ∙ t in
+                  (λ i. option_or (known i) (cond (ties i) (Some (to (sym same i))) None))
+                  ∙ ap (λ b. option_or (cond (list_any (eq_by_cmp text_cmp q) ps && b)
+                  (Some (to q)) None) (Some (to q))) passes
+                  ∙ either (list_any (eq_by_cmp text_cmp q) ps && true) (to q)
+                  ∙ ap (λ b. cond b (Some (to q)) None) (sym passes)
+              | false ↦ λ t.
+                  let fails : test q ≡ false = ap test same ∙ t in
+                  known ∙ ap (λ b. cond (list_any (eq_by_cmp text_cmp q) ps && b)
+                  (Some (to q)) None) fails ∙ neither (list_any (eq_by_cmp text_cmp q) ps)
+                  (to q)
+                  ∙ ap (λ b. cond b (Some (to q)) None) (sym fails)
+            ] refl
+        | false ↦ λ apart. elim (test p) as
+            (λ t. mover_to (map_list (λ p. (p, from p, to p))
+            (cond t (p ∷ filter test ps) (filter test ps))) q
+            ≡ cond (list_any (eq_by_cmp text_cmp q) ps && test q) (Some (to q)) None) [
+              | true ↦ ap (λ b. option_or rest (cond b (Some (to p)) None)) apart ∙ option_or-none rest
+                  ∙ known
+              | false ↦ known
+            ]
+      ] refl
+    where
+      either : (b : Bool) (x : Option Text) → option_or (cond b (Some x) None) (Some x) ≡ Some x
+      either true x = refl
+      either false x = refl
+
+      neither : (b : Bool) (x : Option Text) → cond (b && false) (Some x) None ≡ None
+      neither true x = refl
+      neither false x = refl
+
+pub mover_to-movers : (office : Office) (q : Text)
+    → mover_to (movers office) q ≡ cond (is_participant office q && moves_out office q)
+    (Some (recorded_result office q)) None
+mover_to-movers office q =
+    mover_to-some (home_of office) (recorded_result office) (moves_out office)
+    (participants office) q
+    ∙ ap (λ b. cond (b && moves_out office q) (Some (recorded_result office q)) None)
+    (participants_hold office q)
+
+find_changed : (change : Text → Person → Person) (es : List (Text × Person)) (q : Text)
+    → find text_cmp q (map_list (λ e. (e.0, change e.0 e.1)) es)
+    ≡ option_map (change q) (find text_cmp q es)
+find_changed change [] q = refl
+find_changed change (e ∷ es) q =
+    elim (text_cases q e.0) as (λ _. cond (eq_by_cmp text_cmp q e.0) (Some (change e.0 e.1))
+    (find text_cmp q (map_list (λ e. (e.0, change e.0 e.1)) es))
+    ≡ option_map (change q) (cond (eq_by_cmp text_cmp q e.0) (Some e.1) (find text_cmp q es))) [
+      | inl same ↦ elim (eq_by_cmp text_cmp q e.0) as
+          (λ b. cond b (Some (change e.0 e.1))
+          (find text_cmp q (map_list (λ e. (e.0, change e.0 e.1)) es))
+          ≡ option_map (change q) (cond b (Some e.1) (find text_cmp q es))) [
+            | true ↦ ap (λ k. Some (change k e.1)) (sym same)
+            | false ↦ find_changed change es q
+          ]
+      | inr other ↦ ap (λ b. cond b (Some (change e.0 e.1))
+          (find text_cmp q (map_list (λ e. (e.0, change e.0 e.1)) es))) other
+          ∙ find_changed change es q
+          ∙ ap (λ b. option_map (change q) (cond b (Some e.1) (find text_cmp q es))) (sym other)
+    ]
+
+-- what the settlement makes of a person
+abbrev pub settled : Office → Text → Person → Person
+settled office q kept =
+    cond (is_participant office q) (at_home (recorded_result office q) kept) kept
+
+pub get-settled : (office : Office) (q : Text)
+    → map.get (settled_people office) q ≡ option_map (settled office q) (map.get office.people q)
+get-settled office q =
+    get-from_entries nat_list_cmp_total
+    (map_list (settled_person office) (map.entries office.people)) q
+    ∙ find_changed (settled office) (map.entries office.people) q
+    ∙ ap (option_map (settled office q)) (sym (get-entries office.people q))
+
+same_none : (o : Option Person) → o ≡ option_map (λ v. v) o
+same_none None = refl
+same_none (Some v) = refl
+
+stays_put : (to : Option Text) (o : Option Person)
+    → is_same_text (option_and_then (λ p. p.home) o) to ≡ true → o ≡ option_map (at_home to) o
+stays_put to None h = refl
+stays_put to (Some kept) h = ap (λ home. Some (at_home home kept)) (same_optional kept.home to h)
+
+-- leaving and arriving settle the people
+pub people_settled : (office : Office)
+    → arrived_people (left_people office.people (movers office)) (movers office)
+    ≡ settled_people office
+people_settled office = same_map nat_list_cmp_total exact_texts _ _ (λ q.
+    get-moved office.people (movers office) q
+    ∙ ap (λ t. arrive_at t (map.get office.people q)) (mover_to-movers office q)
+    ∙ elim (is_participant office q) as
+    (λ part. arrive_at (cond (part && moves_out office q)
+    (Some (recorded_result office q)) None) (map.get office.people q)
+    ≡ option_map (λ kept. cond part (at_home (recorded_result office q) kept) kept)
+    (map.get office.people q)) [
+      | false ↦ same_none (map.get office.people q)
+      | true ↦ elim (moves_out office q) as
+          (λ out. moves_out office q ≡ out
+          → arrive_at (cond out (Some (recorded_result office q)) None) (map.get office.people q)
+          ≡ option_map (at_home (recorded_result office q)) (map.get office.people q)) [
+            | true ↦ λ _. refl
+            | false ↦ λ stays. stays_put (recorded_result office q) (map.get office.people q)
+                (not-false _ stays)
+          ] refl
+    ]
+    ∙ sym (get-settled office q))
+
+-- the settled home of somebody
+pub home_settled : (office : Office) (q room : Text)
+    → option_and_then (λ (p : Person). p.home) (map.get (settled_people office) q) ≡ Some room
+    → ((is_participant office q ≡ true) × (recorded_result office q ≡ Some room))
+    ⊎ ((is_participant office q ≡ false) × (home_of office q ≡ Some room))
+home_settled office q room h =
+    let at : option_and_then (λ (p : Person). p.home)
+    (option_map (settled office q) (map.get office.people q)) ≡ Some room =
+    ap (option_and_then (λ p. p.home)) (sym (get-settled office q)) ∙ h in
+    elim (map.get office.people q) as
+    (λ o. map.get office.people q ≡ o
+    → option_and_then (λ (p : Person). p.home) (option_map (settled office q) o) ≡ Some room
+    → ((is_participant office q ≡ true) × (recorded_result office q ≡ Some room))
+    ⊎ ((is_participant office q ≡ false) × (home_of office q ≡ Some room))) [
+      | None ↦ λ _ none. cc
+      | Some kept ↦ λ known some. elim (is_participant office q) as
+          (λ b. is_participant office q ≡ b
+          → (cond b (at_home (recorded_result office q) kept) kept).home ≡ Some room
+          → ((is_participant office q ≡ true) × (recorded_result office q ≡ Some room))
+          ⊎ ((is_participant office q ≡ false) × (home_of office q ≡ Some room))) [
+            | true ↦ λ part there. inl (part, there)
+            | false ↦ λ apart there. inr (apart, ap (option_and_then (λ p. p.home)) known ∙ there)
+          ] refl some
+    ] refl at
+
+-- the settlement changes no key
+pub key_settled : (office : Office) (q : Text)
+    → option_and_then (λ (p : Person). Some p.key) (map.get (settled_people office) q)
+    ≡ option_and_then (λ p. Some p.key) (map.get office.people q)
+key_settled office q =
+    ap (option_and_then (λ p. Some p.key)) (get-settled office q)
+    ∙ elim (map.get office.people q) as
+    (λ o. option_and_then (λ (p : Person). Some p.key) (option_map (settled office q) o)
+    ≡ option_and_then (λ p. Some p.key) o) [
+      | None ↦ refl
+      | Some kept ↦ elim (is_participant office q) as
+          (λ b. Some (cond b (at_home (recorded_result office q) kept) kept).key ≡ Some kept.key)
+          [ true ↦ refl | false ↦ refl ]
+    ]
+
+len-rehomed : (people : TextMap Person) (person : Text) (home : Option Text)
+    → map.len (rehomed people person home) ≡ map.len people
+len-rehomed people person home =
+    elim (map.get people person) as
+    (λ o. map.get people person ≡ o → map.len (rehomed_by people person home o) ≡ map.len people) [
+      | None ↦ λ _. refl
+      | Some kept ↦ λ known. len-put_known people person (at_home home kept) (ap is_some known)
+    ] refl
+
+len-left : (people : TextMap Person) (ms : List Mover)
+    → map.len (left_people people ms) ≡ map.len people
+len-left people [] = refl
+len-left people (mover ∷ others) =
+    len-left (rehomed people mover.0 None) others ∙ len-rehomed people mover.0 None
+
+len-arrived : (people : TextMap Person) (ms : List Mover)
+    → map.len (arrived_people people ms) ≡ map.len people
+len-arrived people [] = refl
+len-arrived people (mover ∷ others) =
+    len-arrived (rehomed people mover.0 mover.2) others ∙ len-rehomed people mover.0 mover.2
+
+pub len-settled : (office : Office) → map.len (settled_people office) ≡ map.len office.people
+len-settled office =
+    ap map.len (sym (people_settled office))
+    ∙ len-arrived (left_people office.people (movers office)) (movers office)
+    ∙ len-left office.people (movers office)
+
+-- who still has a home once all movers have left has it after the settlement
+pub left_within : (office : Office) (q room : Text)
+    → option_and_then (λ (p : Person). p.home)
+    (map.get (left_people office.people (movers office)) q) ≡ Some room
+    → option_and_then (λ (p : Person). p.home) (map.get (settled_people office) q) ≡ Some room
+left_within office q room h =
+    let ms = movers office in
+    let at : option_and_then (λ (p : Person). p.home)
+    (cond (is_mover ms q) (option_map (at_home None) (map.get office.people q))
+    (map.get office.people q)) ≡ Some room =
+    ap (option_and_then (λ p. p.home)) (sym (get-left office.people ms q)) ∙ h in
+    let after : map.get (settled_people office) q
+    ≡ arrive_at (mover_to ms q) (map.get office.people q) =
+    ap (λ people. map.get people q) (sym (people_settled office))
+    ∙ get-moved office.people ms q in
+    elim (is_mover ms q) as (λ b. is_some (mover_to ms q) ≡ b
+    → option_and_then (λ (p : Person). p.home)
+    (cond b (option_map (at_home None) (map.get office.people q)) (map.get office.people q))
+    ≡ Some room
+    → option_and_then (λ (p : Person). p.home) (map.get (settled_people office) q) ≡ Some room) [
+      | true ↦ λ _ gone. absurd (nowhere_home (map.get office.people q) room gone)
+      | false ↦ λ stays there. ap (option_and_then (λ p. p.home))
+          (after ∙ ap (λ t. arrive_at t (map.get office.people q))
+          (none_if_not_some (mover_to ms q) stays)) ∙ there
+    ] (is_some-mover_to ms q) at
+  where
+    nowhere_home : (o : Option Person) (room : Text)
+        → option_and_then (λ (p : Person). p.home) (option_map (at_home None) o) ≡ Some room → ⊥
+    nowhere_home None room h = cc
+    nowhere_home (Some kept) room h = cc

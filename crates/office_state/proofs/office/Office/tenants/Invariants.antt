@@ -1,0 +1,14 @@
+use Rattle.std.proofs.Common.{◌≡◌, List, ℕ}
+use Rattle.std.specs.Option.{option_or}
+use Rattle.std.specs.FinMap as map
+use Rattle.office_state.specs.Office.{first_person, lives_in, tenant}
+use Rattle.office_state.proofs.office.Office.tenants.Given as goal
+
+-- a room's tenant is the one found so far, or else the first of those who are left
+abbrev pub invariant-loop-id : goal.invariant-loop-id
+invariant-loop-id l = record {
+  can : (goal.iterator-loop-id).can_next l.id-iterator;
+  ends : (goal.iterator-loop-id).is_finite l.id-iterator;
+  found : (room : List ℕ) → option_or (map.get l.tenants room)
+      (first_person (lives_in room) l.id-iterator) ≡ tenant l.self room;
+}

@@ -1,0 +1,16 @@
+use Rattle.std.proofs.Common.{◌≡◌, ◌++◌, not, map}
+use Rattle.std.specs.List.{filter}
+use Rattle.office_state.specs.Office.{home_of, has_withdrawn, recorded_result}
+use Rattle.office_state.specs.Round.Settlement.{movers, moves_out}
+use Rattle.office_state.proofs.round.settlement.movers.Given as goal
+
+-- the movers so far and those among who is left are all
+abbrev pub invariant-loop-id : goal.invariant-loop-id
+invariant-loop-id l = record {
+  can : (goal.iterator-loop-id).can_next l.id-iterator;
+  ends : (goal.iterator-loop-id).is_finite l.id-iterator;
+  found : l.movers.items ++ map (λ p. (p, home_of l.office p, recorded_result l.office p))
+      (filter (moves_out l.office) (map (λ e. e.0)
+      (filter (λ e. not (has_withdrawn l.office e.0)) l.id-iterator)))
+      ≡ movers l.office;
+}

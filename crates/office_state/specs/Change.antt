@@ -1,0 +1,121 @@
+-- What each change does to an office, and what holds on the way through the changes of a command.
+use Rattle.std.specs.Prelude.{◌≡◌, Bool, true, false, not, List, [], ◌∷◌, Option, None, Some}
+use Rattle.std.specs.FinMap as map
+use Rattle.room_types.specs.Texts.{Text, TextMap}
+use Rattle.office_state.specs.Empty.{is_empty}
+use Rattle.office_state.specs.Office.Invariants.{HomesDiffer, IsLawful}
+use Rattle.office_state.specs.Office.Moves.{moves_of, with_move}
+use Rattle.office_state.specs.Office.{knows_room, knows_person, has_withdrawn}
+use Rattle.office_state.specs.declared.office.Office.{Office}
+use Rattle.office_state.specs.declared.change.Change.{Change}
+use Rattle.office_state.specs.declared.change.Change.TheVariants.{PutRoom, PutPerson, DropPerson}
+use Rattle.office_state.specs.declared.change.Change.TheVariants.{PutHome, PutWithdrawn}
+use Rattle.office_state.specs.declared.change.Change.TheVariants.{PutChoices, PutWord, PutResult}
+use Rattle.office_state.specs.declared.change.Change.TheVariants.{AddMove}
+use Rattle.office_state.specs.declared.change.Change.TheVariants.{PutRound, ClearRound}
+use Rattle.office_state.specs.declared.change.Change.TheVariants.{KeepList}
+
+-- a known person moves to the home
+abbrev pub with_home : Office → Text → Option Text → Office
+with_home office person home = elim (map.get office.people person) [
+  | None ↦ office
+  | Some kept ↦
+      record office { people = map.insert office.people person (record kept { home = home }) }
+]
+
+-- an empty list and none are the same: none is kept
+abbrev pub with_list : TextMap (List Text) → Text → List Text → TextMap (List Text)
+with_list lists person [] = map.remove lists person
+with_list lists person (code ∷ codes) = map.insert lists person (code ∷ codes)
+
+-- no lists, withdrawals, words and results
+abbrev pub without_round : Office → Office
+without_round office = record office {
+  choices = map.empty;
+  withdrawn = map.empty;
+  words = map.empty;
+  results = map.empty;
+}
+
+-- the office after the change
+abbrev pub applied : Office → Change → Office
+applied office (PutRoom room shut) = record office { rooms = map.insert office.rooms room shut }
+applied office (PutPerson person name key home) =
+    record office {
+      people = map.insert office.people person
+          (record { name = name; key = key; home = home });
+    }
+applied office (DropPerson person) = record office { people = map.remove office.people person }
+applied office (PutHome person home) = with_home office person home
+applied office (PutWithdrawn person) =
+    record office { withdrawn = map.insert office.withdrawn person tt }
+applied office (PutChoices person choices) =
+    record office { choices = with_list office.choices person choices }
+applied office (PutWord person word) = record office { words = map.insert office.words person word }
+applied office (PutResult person room) =
+    record office { results = map.insert office.results person (record { room = room }) }
+applied office (AddMove move) = record office { moves = with_move office.moves move }
+applied office (PutRound number phase) = record office { number = number; phase = phase }
+applied office ClearRound = without_round office
+applied office (KeepList label kind bytes count) =
+    record office {
+      lists = map.insert office.lists label
+          (record { kind = kind; bytes = bytes; count = count });
+    }
+
+-- whether the change takes memory: what is taken out, or only set, takes none, and neither does the
+-- home of somebody unknown
+abbrev pub change_takes_memory : Office → Change → Bool
+change_takes_memory office (PutRoom room shut) = true
+change_takes_memory office (PutPerson person name key home) = true
+change_takes_memory office (DropPerson person) = false
+change_takes_memory office (PutHome person home) = knows_person office person
+change_takes_memory office (PutWithdrawn person) = true
+change_takes_memory office (PutChoices person choices) = not (is_empty choices)
+change_takes_memory office (PutWord person word) = true
+change_takes_memory office (PutResult person room) = true
+change_takes_memory office (AddMove move) = true
+change_takes_memory office (PutRound number phase) = false
+change_takes_memory office ClearRound = false
+change_takes_memory office (KeepList label kind bytes count) = true
+
+-- the changes in turn
+abbrev pub applied_all : Office → List Change → Office
+applied_all office [] = office
+applied_all office (change ∷ changes) = applied_all (applied office change) changes
+
+-- homes differ before the changes, between any two of them, and after them
+abbrev pub StaysApart : Office → List Change → Type 0
+StaysApart office [] = HomesDiffer office
+StaysApart office (change ∷ changes) =
+    HomesDiffer office × StaysApart (applied office change) changes
+
+-- What a keeper of rows may rely on at each change, `first` being the office before all of them: a
+-- room is known now as it was at first, who is put or dropped has not withdrawn, who withdraws or
+-- gets a list, a word or a result is known, a person moves once a round, and a label is new.
+abbrev pub Fits : Office → Office → Change → Type 0
+Fits first office (PutRoom room shut) = knows_room office room ≡ knows_room first room
+Fits first office (PutPerson person name key home) = has_withdrawn office person ≡ false
+Fits first office (DropPerson person) = has_withdrawn office person ≡ false
+Fits first office (PutWithdrawn person) = knows_person office person ≡ true
+Fits first office (PutChoices person choices) = knows_person office person ≡ true
+Fits first office (PutWord person word) = knows_person office person ≡ true
+Fits first office (PutResult person room) = knows_person office person ≡ true
+Fits first office (AddMove move) =
+    map.contains_key (moves_of office.moves move.round) move.person ≡ false
+Fits first office (KeepList label kind bytes count) =
+    map.contains_key office.lists label ≡ false
+Fits first office _ = Unit {0}
+
+abbrev pub AllFit : Office → Office → List Change → Type 0
+AllFit first office [] = Unit {0}
+AllFit first office (change ∷ changes) =
+    Fits first office change × AllFit first (applied office change) changes
+
+-- The changes lead from an office to the next one, which is lawful. Homes differ on the way, and
+-- each change fits.
+pub record LeadsOn (office next : Office) (changes : List Change) : Type 0 where
+  pub leads : applied_all office changes ≡ next
+  pub apart : StaysApart office changes
+  pub fits : AllFit office office changes
+  pub lawful : IsLawful next

@@ -1,0 +1,14 @@
+-- What the code keeps of a round's problem, for its inner contracts.
+use Rattle.std.specs.Prelude.{◌≡◌}
+use Rattle.std.specs.FinMap as map
+use Rattle.room_types.specs.Texts.{Text}
+use Rattle.office_state.specs.Round.{round_people, round_rooms, round_market, number_in}
+use Rattle.office_state.specs.declared.office.Office.{Office}
+use Rattle.office_state.specs.declared.round.problem.RoundProblem.{RoundProblem}
+
+-- the round's problem of the office, and the names in it
+pub record IsProblemOf (office : Office) (round : RoundProblem) : Type 0 where
+  pub people : round.people.items ≡ round_people office
+  pub rooms : round.rooms.items ≡ round_rooms office
+  pub numbers : (room : Text) → map.get round.numbers room ≡ number_in (round_rooms office) room
+  pub market : round.problem ≡ round_market office

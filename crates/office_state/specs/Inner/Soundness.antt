@@ -1,0 +1,68 @@
+-- The tests that show whether an office is lawful.
+use Rattle.std.specs.Prelude.{Bool, true, false, not, ◌&&◌, eqb, List, [], ◌∷◌, length, nat_le}
+use Rattle.std.specs.Prelude.{Option, None, Some, if◌then◌else◌}
+use Rattle.std.specs.List.{list_all}
+use Rattle.std.specs.Option.{is_some}
+use Rattle.std.specs.FinMap as map
+use Rattle.room_types.specs.declared.choices.TheConstants.{CHOICE_LIMIT}
+use Rattle.room_types.specs.Repeats.{first_repeated}
+use Rattle.room_types.specs.Texts.{Text, TextMap}
+use Rattle.office_lists.specs.Records.{record_limit}
+use Rattle.office_state.specs.Empty.{is_empty}
+use Rattle.office_state.specs.Office.Limits.{byte_limit}
+use Rattle.office_state.specs.Office.{is_same_text}
+use Rattle.office_state.specs.declared.office.kept_list.KeptList.{KeptList}
+use Rattle.office_state.specs.declared.office.moves.Moved.{Moved}
+use Rattle.office_state.specs.declared.office.moves.RoundMoves.{RoundMoves}
+use Rattle.office_state.specs.declared.office.Assigned.{Assigned}
+use Rattle.office_state.specs.declared.office.person.Person.{Person}
+
+-- no two of these people have the same, and none of them has what was seen
+abbrev pub differ_from : (Person → Option Text) → TextMap (Unit {0}) → List (Text × Person) → Bool
+differ_from which seen [] = true
+differ_from which seen (e ∷ es) = elim (which e.1) [
+  | None ↦ differ_from which seen es
+  | Some text ↦
+      if map.contains_key seen text then false
+      else differ_from which (map.insert seen text tt) es
+]
+
+-- a room that is known and not shut
+abbrev pub is_unshut : Option Bool → Bool
+is_unshut None = false
+is_unshut (Some shut) = not shut
+
+-- whether the person's home, if any, is a known room that is not shut
+abbrev pub is_home_open : TextMap Bool → Person → Bool
+is_home_open rooms person = elim person.home [
+  | None ↦ true
+  | Some home ↦ is_unshut (map.get rooms home)
+]
+
+-- whether it is a list of choices: not too many, and none twice
+abbrev pub is_choices : List Text → Bool
+is_choices codes =
+    nat_le (length codes) CHOICE_LIMIT && not (is_some (first_repeated [] codes))
+
+-- whether a list may be recorded: it is one of choices, is not empty, and its rooms are known
+abbrev pub is_recorded_list : TextMap Bool → List Text → Bool
+is_recorded_list rooms codes =
+    is_choices codes
+    && (not (is_empty codes) && list_all (λ code. map.contains_key rooms code) codes)
+
+-- whether a person has this result in the map
+abbrev pub is_given : TextMap Assigned → Text → Assigned → Bool
+is_given results person found = elim (map.get results person) [
+  | None ↦ false
+  | Some given ↦ is_same_text given.room found.room
+]
+
+-- whether a round has a move, and each of its moves goes into a room
+abbrev pub is_kept_round : RoundMoves → Bool
+is_kept_round kept =
+    not (eqb (map.len kept.by_person) 0)
+    && list_all (λ (e : Text × Moved). is_some e.1.to) (map.entries kept.by_person)
+
+-- whether a kept list is no longer than a list may be
+abbrev pub is_short : KeptList → Bool
+is_short kept = nat_le (length kept.bytes) byte_limit && nat_le kept.count record_limit

@@ -1,0 +1,123 @@
+-- The office as finite maps, and what is read from it.
+pub mod Invariants
+pub mod Limits
+pub mod Moves
+pub mod Phases
+use Rattle.std.specs.Prelude.{ℕ, ◌+◌, Bool, true, false, ◌&&◌, List, [], ◌∷◌, Option, None, Some}
+use Rattle.std.specs.Prelude.{if◌then◌else◌, nat_le, eqb, not, map as map_list}
+use Rattle.std.specs.Option.{is_some, unwrap_or, option_and_then}
+use Rattle.std.specs.List.{filter}
+use Rattle.std.specs.FinMap as map
+use Rattle.room_types.specs.Texts.{Text, TextMap, text_eq}
+use Rattle.room_types.specs.declared.phase.Phase.TheVariants.{Idle}
+use Rattle.office_state.specs.Office.Phases.{is_idle, is_published}
+use Rattle.office_state.specs.declared.office.Assigned.{Assigned}
+use Rattle.office_state.specs.declared.office.Office.{Office}
+use Rattle.office_state.specs.declared.office.person.Person.{Person}
+
+-- nobody, no rooms, before the first round
+abbrev pub empty_office : Office
+empty_office = record {
+  rooms = map.empty;
+  people = map.empty;
+  choices = map.empty;
+  withdrawn = map.empty;
+  words = map.empty;
+  results = map.empty;
+  moves = map.empty;
+  lists = map.empty;
+  number = 0;
+  phase = Idle;
+}
+
+-- how many entries all tables have
+abbrev pub entry_count : Office → ℕ
+entry_count office =
+    map.len office.rooms + map.len office.people + map.len office.choices
+    + map.len office.withdrawn + map.len office.words + map.len office.results
+    + map.len office.moves + map.len office.lists
+
+abbrev pub knows_room : Office → Text → Bool
+knows_room office room = map.contains_key office.rooms room
+
+abbrev pub knows_person : Office → Text → Bool
+knows_person office person = map.contains_key office.people person
+
+-- whether a room is known and shut
+abbrev pub is_shut : Office → Text → Bool
+is_shut office room = unwrap_or (map.get office.rooms room) false
+
+-- what the person has, as a home or a key
+abbrev pub had_by : (Person → Option Text) → TextMap Person → Text → Option Text
+had_by which people person = option_and_then which (map.get people person)
+
+abbrev pub is_text : Option Text → Text → Bool
+is_text None text = false
+is_text (Some other) text = text_eq other text
+
+-- whether two texts, or none, are the same
+abbrev pub is_same_text : Option Text → Option Text → Bool
+is_same_text None None = true
+is_same_text None (Some text) = false
+is_same_text (Some text) other = is_text other text
+
+-- the first person, by identifier, that passes the test
+abbrev pub first_person : (Person → Bool) → List (Text × Person) → Option Text
+first_person test [] = None
+first_person test (e ∷ es) = if test e.1 then Some e.0 else first_person test es
+
+-- the first person that has it
+abbrev pub holder : (Person → Option Text) → TextMap Person → Text → Option Text
+holder which people text = first_person (λ p. is_text (which p) text) (map.entries people)
+
+-- where a person lives
+abbrev pub home_of : Office → Text → Option Text
+home_of office person = had_by (λ p. p.home) office.people person
+
+abbrev pub lives_in : Text → Person → Bool
+lives_in room person = is_text person.home room
+
+-- who lives in a room
+abbrev pub tenant : Office → Text → Option Text
+tenant office room = holder (λ p. p.home) office.people room
+
+-- whose key it is
+abbrev pub owner : Office → Text → Option Text
+owner office key = holder (λ p. Some p.key) office.people key
+
+abbrev pub is_taken : Office → Text → Bool
+is_taken office room = is_some (tenant office room)
+
+abbrev pub key_in_use : Office → Text → Bool
+key_in_use office key = is_some (owner office key)
+
+-- whether a person has withdrawn from the round
+abbrev pub has_withdrawn : Office → Text → Bool
+has_withdrawn office person = map.contains_key office.withdrawn person
+
+-- the recorded list; the empty one where none is recorded
+abbrev pub choices_of : Office → Text → List Text
+choices_of office person = unwrap_or (map.get office.choices person) []
+
+-- the recorded result: the room that a participant gets, or none
+abbrev pub recorded_result : Office → Text → Option Text
+recorded_result office person =
+    option_and_then (λ (given : Assigned). given.room) (map.get office.results person)
+
+-- who has not withdrawn, by identifier
+abbrev pub participants : Office → List Text
+participants office =
+    map_list (λ e. e.0) (filter (λ e. not (has_withdrawn office e.0)) (map.entries office.people))
+
+-- whether the round has begun, and is neither settled nor cancelled
+abbrev pub is_under_way : Office → ℕ → Bool
+is_under_way office round = not (is_idle office.phase) && eqb round office.number
+
+-- whether the round is settled or cancelled
+abbrev pub is_over : Office → ℕ → Bool
+is_over office round =
+    nat_le 1 round && nat_le round office.number && not (is_under_way office round)
+
+-- whether a person sees the result
+abbrev pub is_shown : Office → Text → Bool
+is_shown office person = is_published office.phase && not (has_withdrawn office person)

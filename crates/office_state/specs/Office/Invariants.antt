@@ -1,0 +1,103 @@
+-- The laws of the office: what holds of it between commands.
+use Rattle.std.specs.Prelude.{◌≡◌, ℕ, ◌≤◌, Bool, true, false, ◌&&◌, not, List, [], Option, Some, length}
+use Rattle.std.specs.Option.{is_some}
+use Rattle.std.specs.List.{All}
+use Rattle.std.specs.FinMap as map
+use Rattle.room_types.specs.Choices.{IsChoices}
+use Rattle.room_types.specs.Texts.{Text, TextMap}
+use Rattle.room_types.specs.declared.phase.Phase.{Phase}
+use Rattle.office_state.specs.Office.Limits.{room_limit, people_limit, round_limit}
+use Rattle.office_state.specs.Office.Limits.{label_limit, byte_limit}
+use Rattle.office_lists.specs.Records.{record_limit}
+use Rattle.office_state.specs.Office.Moves.{moves_of}
+use Rattle.office_state.specs.Office.{had_by, is_over}
+use Rattle.office_state.specs.Office.Phases.{is_idle, has_words, has_results}
+use Rattle.office_state.specs.Round.{round_results}
+use Rattle.office_state.specs.declared.office.kept_list.KeptList.{KeptList}
+use Rattle.office_state.specs.declared.office.moves.Moved.{Moved}
+use Rattle.office_state.specs.declared.office.moves.RoundMoves.{RoundMoves}
+use Rattle.office_state.specs.declared.office.Office.{Office}
+use Rattle.office_state.specs.declared.office.person.Person.{Person}
+
+-- no two people have the same
+abbrev pub Unshared : (Person → Option Text) → TextMap Person → Type 0
+Unshared which people =
+    (p q text : Text) → had_by which people p ≡ Some text → had_by which people q ≡ Some text
+    → p ≡ q
+
+-- no room is the home of two people
+abbrev pub HomesDiffer : Office → Type 0
+HomesDiffer office = Unshared (λ p. p.home) office.people
+
+-- each home is a known room that is not shut
+abbrev pub HomesOpen : TextMap Bool → TextMap Person → Type 0
+HomesOpen rooms people = (p room : Text) → had_by (λ p. p.home) people p ≡ Some room
+    → map.get rooms room ≡ Some false
+
+-- rooms and people: keys differ, homes differ, and each home is a known room that is not shut
+pub record IsRegister (rooms : TextMap Bool) (people : TextMap Person) : Type 0 where
+  pub keys : Unshared (λ p. Some p.key) people
+  pub homes : Unshared (λ p. p.home) people
+  pub homes_open : HomesOpen rooms people
+  pub few_rooms : map.len rooms ≤ room_limit
+  pub few_people : map.len people ≤ people_limit
+
+-- lists and withdrawals: of known people alone, and lists of known rooms, at most forty and none
+-- twice, that are not empty
+pub record AreLists (rooms : TextMap Bool) (people : TextMap Person) (choices : TextMap (List Text))
+    (withdrawn : TextMap (Unit {0})) : Type 0 where
+  pub choosers : (p : Text) → map.contains_key choices p ≡ true → map.contains_key people p ≡ true
+  pub listed : (p : Text) (codes : List Text) → map.get choices p ≡ Some codes
+      → All (λ code. map.contains_key rooms code ≡ true) codes
+  pub none_empty : (p : Text) → map.get choices p ≡ Some [] → ⊥
+  pub chosen : (p : Text) (codes : List Text) → map.get choices p ≡ Some codes → IsChoices codes
+  pub withdrawers : (p : Text) → map.contains_key withdrawn p ≡ true
+      → map.contains_key people p ≡ true
+
+-- the round: its number, and nothing that is left over between rounds
+pub record IsRound (number : ℕ) (phase : Phase) (choices : TextMap (List Text))
+    (withdrawn : TextMap (Unit {0})) : Type 0 where
+  pub few_rounds : number ≤ round_limit
+  pub numbered : is_idle phase ≡ false → 1 ≤ number
+  pub idle_choices : is_idle phase ≡ true → choices ≡ map.empty
+  pub idle_withdrawn : is_idle phase ≡ true → withdrawn ≡ map.empty
+
+-- words: from the draw on one for each participant, and none before
+pub record AreWords (phase : Phase) (people : TextMap Person) (withdrawn : TextMap (Unit {0}))
+    (words : TextMap ℕ) : Type 0 where
+  pub none : has_words phase ≡ false → words ≡ map.empty
+  pub each : has_words phase ≡ true → (p : Text)
+      → map.contains_key words p ≡ (map.contains_key people p && not (map.contains_key withdrawn p))
+
+-- results: none before the run, and from the run on those of top trading cycles for the round's
+-- problem
+pub record AreResults (office : Office) : Type 0 where
+  pub none : has_results office.phase ≡ false → office.results ≡ map.empty
+  pub given : has_results office.phase ≡ true → office.results ≡ round_results office
+
+-- moves: of rounds that are over, and each into a room. A round without moves is not recorded.
+pub record AreMoves (office : Office) : Type 0 where
+  pub over : (round : ℕ) → map.contains_key office.moves round ≡ true → is_over office round ≡ true
+  pub none_empty : (round : ℕ) (kept : RoundMoves) → map.get office.moves round ≡ Some kept
+      → kept.by_person ≡ map.empty → ⊥
+  pub arrived : (round : ℕ) (p : Text) (moved : Moved)
+      → map.get (moves_of office.moves round) p ≡ Some moved
+      → is_some moved.to ≡ true
+
+-- kept lists: not too many, and none longer, or counted as more records, than a list may have
+pub record AreKept (lists : TextMap KeptList) : Type 0 where
+  pub few : map.len lists ≤ label_limit
+  pub short : (label : Text) (kept : KeptList) → map.get lists label ≡ Some kept
+      → length kept.bytes ≤ byte_limit
+  pub counted : (label : Text) (kept : KeptList) → map.get lists label ≡ Some kept
+      → kept.count ≤ record_limit
+
+-- all laws: what holds of an office before and after each command
+pub record IsLawful (office : Office) : Type 0 where
+  pub register : IsRegister office.rooms office.people
+  pub lists : AreLists office.rooms office.people office.choices office.withdrawn
+  pub round : IsRound office.number office.phase office.choices office.withdrawn
+  pub words : AreWords office.phase office.people office.withdrawn office.words
+  pub results : AreResults office
+  pub moves : AreMoves office
+  pub kept : AreKept office.lists

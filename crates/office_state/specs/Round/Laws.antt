@@ -1,0 +1,77 @@
+-- What holds of the round's problem and of its results.
+use Rattle.std.specs.Prelude.{◌≡◌, ◌≤◌, Bool, true, Option, Some, is_some}
+use Rattle.room_types.specs.Texts.{Text}
+use Rattle.office_state.specs.Office.{home_of}
+use Rattle.office_state.specs.Round.{is_participant, round_people, round_rooms}
+use Rattle.office_state.specs.Round.{round_market, round_results, round_rank, number_in}
+use Rattle.office_state.specs.declared.office.Office.{Office}
+
+-- rooms of the round, or nothing, for those who take part, and no room twice
+pub record IsRoundAssignment (office : Office) (gives : Text → Option Text) : Type 0 where
+  pub known :
+      (person room : Text) → is_participant office person ≡ true
+      → gives person ≡ Some room → is_some (number_in (round_rooms office) room) ≡ true
+  pub differ :
+      (person other room : Text) → is_participant office person ≡ true
+      → is_participant office other ≡ true
+      → gives person ≡ Some room → gives other ≡ Some room → person ≡ other
+
+-- nobody who takes part ranks what they get below their home, or below no room where they have none
+abbrev pub IsRationalFor : Office → (Text → Option Text) → Type 0
+IsRationalFor office gets =
+    (person : Text) → is_participant office person ≡ true
+    → round_rank office person (gets person) ≤ round_rank office person (home_of office person)
+
+-- an assignment at which nobody who takes part is worse off gives everybody the same: nobody can be
+-- better off
+abbrev pub IsEfficientFor : Office → (Text → Option Text) → Type 0
+IsEfficientFor office gets =
+    (gives : Text → Option Text) → IsRoundAssignment office gives
+    → ((person : Text) → is_participant office person ≡ true
+    → round_rank office person (gives person) ≤ round_rank office person (gets person))
+    → (person : Text) → is_participant office person ≡ true → gives person ≡ gets person
+
+-- participants who live somewhere and hand out their own rooms among themselves
+pub record TradesOwnRooms
+    (office : Office) (group : Text → Bool) (gives : Text → Option Text) : Type 0 where
+  pub participants : (person : Text) → group person ≡ true → is_participant office person ≡ true
+  pub tenants :
+      (person : Text) → group person ≡ true
+      → (room : Text) × (home_of office person ≡ Some room)
+  pub own :
+      (person : Text) → group person ≡ true
+      → (other : Text) × (group other ≡ true) × (gives person ≡ home_of office other)
+  pub differ :
+      (person other : Text) → group person ≡ true → group other ≡ true
+      → gives person ≡ gives other → person ≡ other
+
+-- no such group does better: where none of it is worse off, all of it get the same
+abbrev pub HasNoBetterTradeFor : Office → (Text → Option Text) → Type 0
+HasNoBetterTradeFor office gets =
+    (group : Text → Bool) (gives : Text → Option Text) → TradesOwnRooms office group gives
+    → ((person : Text) → group person ≡ true
+    → round_rank office person (gives person) ≤ round_rank office person (gets person))
+    → (person : Text) → group person ≡ true → gives person ≡ gets person
+
+-- an assignment of the round's rooms, individually rational and Pareto efficient, at which no group
+-- of tenants has a better trade of its own rooms
+pub record IsWellTraded (office : Office) (gets : Text → Option Text) : Type 0 where
+  pub assignment : IsRoundAssignment office gets
+  pub rational : IsRationalFor office gets
+  pub efficient : IsEfficientFor office gets
+  pub apart : HasNoBetterTradeFor office gets
+
+-- two offices have the same rooms, people, lists, withdrawals and words
+pub record HaveSameEntries (one other : Office) : Type 0 where
+  pub rooms : one.rooms ≡ other.rooms
+  pub people : one.people ≡ other.people
+  pub choices : one.choices ≡ other.choices
+  pub withdrawn : one.withdrawn ≡ other.withdrawn
+  pub words : one.words ≡ other.words
+
+-- two offices have the same round
+pub record HaveSameRound (one other : Office) : Type 0 where
+  pub people : round_people one ≡ round_people other
+  pub rooms : round_rooms one ≡ round_rooms other
+  pub market : round_market one ≡ round_market other
+  pub results : round_results one ≡ round_results other

@@ -1,0 +1,61 @@
+-- Participants of a round who hand in other lists, one or several together.
+use Rattle.std.specs.Prelude.{◌≡◌, ◌≤◌, Bool, true, false, List, Option, Some}
+use Rattle.std.specs.FinMap as map
+use Rattle.room_types.specs.Choices.{IsChoices}
+use Rattle.room_types.specs.Texts.{Text, TextMap}
+use Rattle.office_state.specs.Office.{choices_of}
+use Rattle.office_state.specs.Round.{is_participant, result_by, result_of, round_rank}
+use Rattle.office_state.specs.declared.office.Office.{Office}
+
+-- the same office, with other lists recorded
+abbrev pub with_choices : Office → TextMap (List Text) → Office
+with_choices office lists = record office { choices = lists }
+
+-- the same, where one person alone has another list
+abbrev pub with_choices_of : Office → Text → List Text → Office
+with_choices_of office person codes =
+    with_choices office (map.insert office.choices person codes)
+
+-- each of them is at most forty rooms, and none twice
+abbrev pub AreChoices : TextMap (List Text) → Type 0
+AreChoices lists =
+    (person : Text) (codes : List Text) → map.get lists person ≡ Some codes → IsChoices codes
+
+-- by no list does a participant get a room that the recorded list ranks above what they get
+abbrev pub IsOwnListBest : Office → (Text → Option Text) → Type 0
+IsOwnListBest office gets =
+    (person : Text) (codes : List Text) → is_participant office person ≡ true → IsChoices codes
+    → round_rank office person (gets person)
+    ≤ round_rank office person (result_by office person codes)
+
+-- all participants outside the group keep their list
+abbrev pub OthersKeepList : Office → (Text → Bool) → TextMap (List Text) → Type 0
+OthersKeepList office group lists =
+    (person : Text) → is_participant office person ≡ true → group person ≡ false
+    → choices_of (with_choices office lists) person ≡ choices_of office person
+
+-- none in the group loses: by their recorded list, nobody in it ranks what they get by the other
+-- lists below what they get
+abbrev pub NoneLosesBy :
+    Office → (Text → Option Text) → (Text → Bool) → TextMap (List Text) → Type 0
+NoneLosesBy office gets group lists =
+    (person : Text) → is_participant office person ≡ true → group person ≡ true
+    → round_rank office person (result_of (with_choices office lists) person)
+    ≤ round_rank office person (gets person)
+
+-- where a group of participants hands in other lists and none in it loses, every participant, in
+-- the group or not, gets the same
+abbrev pub NoGroupGains : Office → (Text → Option Text) → Type 0
+NoGroupGains office gets =
+    (group : Text → Bool) (lists : TextMap (List Text)) → AreChoices lists
+    → OthersKeepList office group lists → NoneLosesBy office gets group lists
+    → (person : Text) → is_participant office person ≡ true
+    → result_of (with_choices office lists) person ≡ gets person
+
+-- a participant who gets the same by another list leaves every participant with the same
+abbrev pub NobodyIsBossy : Office → (Text → Option Text) → Type 0
+NobodyIsBossy office gets =
+    (person : Text) (codes : List Text) → is_participant office person ≡ true → IsChoices codes
+    → result_by office person codes ≡ gets person
+    → (other : Text) → is_participant office other ≡ true
+    → result_of (with_choices_of office person codes) other ≡ gets other

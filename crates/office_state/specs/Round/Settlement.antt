@@ -1,0 +1,54 @@
+-- What the settlement of a round comes to: who moves, in which wave, and who lives where then.
+use Rattle.std.specs.Prelude.{ℕ, Bool, not, List, [], ◌∷◌}
+use Rattle.std.specs.Prelude.{if◌then◌else◌, map as map_list}
+use Rattle.std.specs.List.{filter, fold}
+use Rattle.std.specs.FinMap as map
+use Rattle.room_types.specs.Texts.{Text, TextMap}
+use Rattle.room_types.specs.declared.moves.Move.{Move}
+use Rattle.room_types.specs.declared.moves.Wave.{Wave}
+use Rattle.office_lists.specs.Waves.{Mover, waves_of}
+use Rattle.office_state.specs.Office.Moves.{RoundMap, with_move}
+use Rattle.office_state.specs.Office.{is_same_text, home_of, participants, recorded_result}
+use Rattle.office_state.specs.Round.{is_participant}
+use Rattle.office_state.specs.declared.office.moves.RoundMoves.{RoundMoves}
+use Rattle.office_state.specs.declared.office.Office.{Office}
+use Rattle.office_state.specs.declared.office.person.Person.{Person}
+
+-- whether a participant's home changes
+abbrev pub moves_out : Office → Text → Bool
+moves_out office person = not (is_same_text (home_of office person) (recorded_result office person))
+
+-- the participants whose home changes, by identifier, each with the old room and the new one
+abbrev pub movers : Office → List Mover
+movers office =
+    map_list (λ person. (person, home_of office person, recorded_result office person))
+    (filter (moves_out office) (participants office))
+
+-- the moves that are recorded, each with its wave
+abbrev pub moves_with : ℕ → List Mover → List Wave → List Move
+moves_with round (mover ∷ others) (wave ∷ waves) =
+    record { round = round; person = mover.0; from = mover.1; to = mover.2; wave = wave }
+    ∷ moves_with round others waves
+moves_with round [] waves = []
+moves_with round (mover ∷ others) [] = []
+
+-- the moves of the round
+abbrev pub settled_moves : Office → List Move
+settled_moves office = moves_with office.number (movers office) (waves_of (movers office))
+
+-- the moves, recorded in turn
+abbrev pub with_moves : RoundMap RoundMoves → List Move → RoundMap RoundMoves
+with_moves = fold with_move
+
+-- a participant lives in the room of the result, and anybody else where they lived
+abbrev pub settled_person : Office → Text × Person → Text × Person
+settled_person office entry = (
+  entry.0,
+  if is_participant office entry.0 then record entry.1 { home = recorded_result office entry.0 }
+      else entry.1,
+)
+
+-- the people after the day of moving
+abbrev pub settled_people : Office → TextMap Person
+settled_people office =
+    map.from_entries (map_list (settled_person office) (map.entries office.people))

@@ -1,0 +1,32 @@
+-- Where it takes memory to tell whether an office is lawful.
+use Rattle.std.specs.Prelude.{◌≡◌, ◌≤◌, ◌<◌, ◌⊎◌, Bool, true}
+use Rattle.std.specs.FinMap as map
+use Rattle.room_types.specs.Texts.{TextMap}
+use Rattle.office_state.specs.Office.Invariants.{AreKept, AreLists, AreMoves, AreWords, HomesOpen}
+use Rattle.office_state.specs.Office.Invariants.{IsRegister, IsRound}
+use Rattle.office_state.specs.Office.Limits.{people_limit, room_limit}
+use Rattle.office_state.specs.Office.Phases.{has_results}
+use Rattle.office_state.specs.declared.office.Office.{Office}
+use Rattle.office_state.specs.declared.office.person.Person.{Person}
+
+-- keys and homes are noted: there are people, rooms and people are not too many, and each home is
+-- a known room that is not shut
+pub record AreNoted (rooms : TextMap Bool) (people : TextMap Person) : Type 0 where
+  pub somebody : 0 < map.len people
+  pub few_rooms : map.len rooms ≤ room_limit
+  pub few_people : map.len people ≤ people_limit
+  pub homes_open : HomesOpen rooms people
+
+-- results are found again: the phase has some, and every other law holds
+pub record AreFoundAgain (office : Office) : Type 0 where
+  pub present : has_results office.phase ≡ true
+  pub register : IsRegister office.rooms office.people
+  pub lists : AreLists office.rooms office.people office.choices office.withdrawn
+  pub round : IsRound office.number office.phase office.choices office.withdrawn
+  pub words : AreWords office.phase office.people office.withdrawn office.words
+  pub moves : AreMoves office
+  pub kept : AreKept office.lists
+
+-- keys and homes are noted, or results are found again
+abbrev pub TakesMemory : Office → Type 0
+TakesMemory office = AreNoted office.rooms office.people ⊎ AreFoundAgain office

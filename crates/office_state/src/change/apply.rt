@@ -1,0 +1,147 @@
+//! Changes, applied to an office.
+ghost use Rattle.std.specs.Prelude.{◌≡◌, OnOk, OnErr, true, false};
+ghost use Rattle.office_state.specs.Change.{applied, change_takes_memory};
+ghost use Rattle.office_state.specs.Change.{with_home, with_list, without_round};
+ghost use Rattle.office_state.specs.Empty.{is_empty};
+ghost use Rattle.office_state.specs.Office.{knows_person};
+
+use crate::change::Change;
+use crate::office::kept_list::KeptList;
+use crate::office::person::Person;
+use crate::office::{Assigned, Office};
+use room_types::rows::copy_optional;
+use room_types::{Choices, Key, Label, ListKind, Listing, Name, OutOfMemory, PersonId, RoomCode};
+
+/// Applies a change. Where memory is refused the office is as before. `DropPerson`, `PutRound` and `ClearRound`, an
+/// empty list in `PutChoices`, and `PutHome` of somebody unknown take no memory, and are never refused.
+pub fn apply(office: &mut Office, change: &Change) -> Result<(), OutOfMemory>
+    ensures ok { OnOk result (office.new ≡ applied office.old change.now) }
+    ensures err { OnErr result (office.new ≡ office.old) }
+    ensures memory { OnErr result (change_takes_memory office.old change.now ≡ true) }
+{
+    match change {
+        Change::PutRoom { room, shut } => office.rooms.insert(room.copy()?, *shut),
+        Change::PutPerson {
+            person,
+            name,
+            key,
+            home,
+        } => put_person(office, person, name, key, home),
+        Change::DropPerson { person } => {
+            office.people.remove(person);
+            Ok(())
+        }
+        Change::PutHome { person, home } => put_home(office, person, home),
+        Change::PutWithdrawn { person } => office.withdrawn.insert(person.copy()?, ()),
+        Change::PutChoices { person, choices } => put_choices(office, person, choices),
+        Change::PutWord { person, word } => office.words.insert(person.copy()?, *word),
+        Change::PutResult { person, room } => put_result(office, person, room),
+        Change::AddMove(moved) => office.moves.add(moved),
+        Change::PutRound { number, phase } => {
+            office.number = *number;
+            office.phase = *phase;
+            Ok(())
+        }
+        Change::ClearRound => {
+            clear_round(office);
+            Ok(())
+        }
+        Change::KeepList {
+            label,
+            kind,
+            bytes,
+            count,
+        } => keep_list(office, label, *kind, bytes, *count),
+    }
+}
+
+fn put_person(
+    office: &mut Office,
+    person: &PersonId,
+    name: &Name,
+    key: &Key,
+    home: &Option<RoomCode>,
+) -> Result<(), OutOfMemory>
+    ensures ok { OnOk result
+        (office.new ≡ applied office.old (Change.PutPerson person.now name.now key.now home.now)) }
+    ensures err { OnErr result (office.new ≡ office.old) }
+{
+    let kept = Person {
+        name: name.copy()?,
+        key: key.copy()?,
+        home: copy_optional(home)?,
+    };
+    office.people.insert(person.copy()?, kept)
+}
+
+fn put_home(
+    office: &mut Office,
+    person: &PersonId,
+    home: &Option<RoomCode>,
+) -> Result<(), OutOfMemory>
+    ensures ok { OnOk result (office.new ≡ with_home office.old person.now home.now) }
+    ensures err { OnErr result (office.new ≡ office.old) }
+    ensures memory { OnErr result (knows_person office.old person.now ≡ true) }
+{
+    let Some(kept) = office.people.get(person) else {
+        return Ok(());
+    };
+    let moved = kept.copy_with_home(home)?;
+    office.people.insert(person.copy()?, moved)
+}
+
+fn put_choices(office: &mut Office, person: &PersonId, choices: &Choices) -> Result<(), OutOfMemory>
+    ensures ok { OnOk result (office.new ≡
+        record office.old { choices = with_list office.old.choices person.now choices.now }) }
+    ensures err { OnErr result (office.new ≡ office.old) }
+    ensures memory { OnErr result (is_empty choices.now ≡ false) }
+{
+    if choices.as_slice().is_empty() {
+        office.choices.remove(person);
+        return Ok(());
+    }
+    office.choices.insert(person.copy()?, choices.copy()?)
+}
+
+fn put_result(
+    office: &mut Office,
+    person: &PersonId,
+    room: &Option<RoomCode>,
+) -> Result<(), OutOfMemory>
+    ensures ok { OnOk result
+        (office.new ≡ applied office.old (Change.PutResult person.now room.now)) }
+    ensures err { OnErr result (office.new ≡ office.old) }
+{
+    let given = Assigned {
+        room: copy_optional(room)?,
+    };
+    office.results.insert(person.copy()?, given)
+}
+
+fn keep_list(
+    office: &mut Office,
+    label: &Label,
+    kind: ListKind,
+    bytes: &Listing<u8>,
+    count: u16,
+) -> Result<(), OutOfMemory>
+    ensures ok { OnOk result
+        (office.new ≡ applied office.old (Change.KeepList label.now kind bytes.now count)) }
+    ensures err { OnErr result (office.new ≡ office.old) }
+{
+    let kept = KeptList {
+        kind,
+        bytes: bytes.copy()?,
+        count,
+    };
+    office.lists.insert(label.copy()?, kept)
+}
+
+fn clear_round(office: &mut Office)
+    ensures { office.new ≡ without_round office.old }
+{
+    office.choices.clear();
+    office.withdrawn.clear();
+    office.words.clear();
+    office.results.clear();
+}

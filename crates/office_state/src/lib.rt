@@ -1,0 +1,18 @@
+//! The state of the office of a college's room exchange: what it keeps, the changes that it is changed by, the round's
+//! problem and its results, and whether what was read is a lawful office.
+#![tactic(auto)]
+
+mod change;
+mod office;
+pub mod round;
+mod soundness;
+
+pub use crate::change::Change;
+pub use crate::change::apply::apply;
+pub use crate::office::kept_list::KeptList;
+pub use crate::office::limits::{BYTE_LIMIT, LABEL_LIMIT, PEOPLE_LIMIT, ROOM_LIMIT, ROUND_LIMIT};
+pub use crate::office::look::copy_found;
+pub use crate::office::moves::{Moved, RoundMoves, Rounds};
+pub use crate::office::person::Person;
+pub use crate::office::{Assigned, Office, phases};
+pub use crate::soundness::sound;

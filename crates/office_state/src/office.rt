@@ -1,0 +1,106 @@
+//! What the office keeps.
+ghost use Rattle.std.specs.Prelude.{◌≡◌, ◌<◌, IfOk, IsSome, OnErr};
+ghost use Rattle.office_state.specs.Office.Invariants.{IsLawful};
+ghost use Rattle.office_state.specs.Office.{empty_office, entry_count};
+
+pub mod kept_list;
+pub mod limits;
+pub mod look;
+pub mod moves;
+pub mod person;
+pub mod phases;
+
+use crate::office::kept_list::KeptList;
+use crate::office::moves::{RoundMoves, Rounds};
+use crate::office::person::Person;
+use room_types::grammars::{Labels, PersonIds, RoomCodes};
+use room_types::rows::copy_optional;
+use room_types::{Choices, Copied, OutOfMemory, Phase, RoomCode, Table, Word};
+use std::alloc::{AllocError, Global};
+
+/// What a participant gets in a round.
+#[derive(Debug, Drop)]
+pub struct Assigned {
+    /// The room, or none for no room.
+    pub room: Option<RoomCode>,
+}
+
+impl Clone for Assigned {
+    ghost is_clone = { λ x y. y ≡ x };
+
+    fn clone(&self) -> Result<Assigned, AllocError>
+        ensures copy { IfOk result (λ copy. copy ≡ self.now) }
+        ensures memory { OnErr result (IsSome self.now.room) }
+    {
+        Ok(Assigned {
+            room: copy_optional(&self.room)?,
+        })
+    }
+}
+
+impl Copied for Assigned {
+    ghost same = { λ x y h. h };
+}
+
+/// The rooms and people of a college, the round under way, the moves of earlier rounds, and the lists that came in.
+#[derive(Drop)]
+pub struct Office {
+    /// Whether each room is shut.
+    pub rooms: Table<RoomCodes, bool>,
+    pub people: Table<PersonIds, Person>,
+    /// The rooms that a person listed, the best first. Nobody has an empty list here.
+    pub choices: Table<PersonIds, Choices>,
+    /// Who has withdrawn from the round.
+    pub withdrawn: Table<PersonIds, ()>,
+    /// The word that each participant drew.
+    pub words: Table<PersonIds, Word>,
+    /// The room that each participant gets, or none.
+    pub results: Table<PersonIds, Assigned>,
+    /// The moves of each round that is over. No round has an empty table here.
+    pub moves: Rounds<RoundMoves>,
+    /// The lists that were handed in, by label.
+    pub lists: Table<Labels, KeptList>,
+    /// The number of the last round, or 0 before the first.
+    pub number: u16,
+    pub phase: Phase,
+}
+
+impl Office {
+    /// The office with nothing in it, before the first round.
+    pub fn empty(alloc: Global) -> Office
+        ensures empty { result ≡ empty_office }
+        ensures lawful { IsLawful result }
+    {
+        Office {
+            rooms: Table::new(alloc),
+            people: Table::new(alloc),
+            choices: Table::new(alloc),
+            withdrawn: Table::new(alloc),
+            words: Table::new(alloc),
+            results: Table::new(alloc),
+            moves: Rounds::new(alloc),
+            lists: Table::new(alloc),
+            number: 0,
+            phase: Phase::Idle,
+        }
+    }
+
+    /// An equal office. Where nothing is kept it takes no memory.
+    pub fn copy(&self) -> Result<Office, OutOfMemory>
+        ensures copy { IfOk result (λ copy. copy ≡ self.now) }
+        ensures memory { OnErr result (0 < entry_count self.now) }
+    {
+        Ok(Office {
+            rooms: self.rooms.copy()?,
+            people: self.people.copy()?,
+            choices: self.choices.copy()?,
+            withdrawn: self.withdrawn.copy()?,
+            words: self.words.copy()?,
+            results: self.results.copy()?,
+            moves: self.moves.copy()?,
+            lists: self.lists.copy()?,
+            number: self.number,
+            phase: self.phase,
+        })
+    }
+}

@@ -1,0 +1,170 @@
+//! What is read from an office.
+ghost use Rattle.std.specs.Prelude.{◌≡◌, ◌<◌, IfOk, IsSome, List, OnErr, length, ℕ};
+ghost use Rattle.std.specs.FinMap as map;
+ghost use Rattle.std.specs.Option.{option_copied};
+ghost use Rattle.office_state.specs.Office.{tenant, owner, home_of, recorded_result, is_shut, lives_in};
+ghost use Rattle.office_state.specs.Office.{is_same_text, is_text};
+ghost use Rattle.office_state.specs.Office.{has_withdrawn, participants, is_over, is_under_way, is_shown};
+
+use crate::office::Office;
+use crate::office::person::Person;
+use crate::office::phases::{is_idle, is_published};
+use room_types::grammars::RoomCodes;
+use room_types::{Grammar, Key, OutOfMemory, PersonId, RoomCode, Table, Text};
+use std::alloc::Global;
+
+impl Office {
+    /// Who lives in a room, or `None` where nobody does. It goes through the people.
+    pub fn tenant(&self, room: &RoomCode) -> Option<&PersonId>
+        ensures { option_copied result ≡ tenant self.now room.now }
+    {
+        for (id, person) in self.people.iter() {
+            if lives_in(person, room) {
+                return Some(id);
+            }
+        }
+        None
+    }
+
+    /// Who lives in each room, found in one pass over the people. It is refused only for memory.
+    pub fn tenants(&self, alloc: Global) -> Result<Table<RoomCodes, PersonId>, OutOfMemory>
+        ensures { IfOk result
+            (λ tenants. (room : List ℕ) → map.get tenants room ≡ tenant self.now room) }
+    {
+        let mut tenants = Table::new(alloc);
+        for (id, person) in self.people.iter() {
+            if let Some(home) = &person.home {
+                if !tenants.contains_key(home) {
+                    tenants.insert(home.copy()?, id.copy()?)?;
+                }
+            }
+        }
+        Ok(tenants)
+    }
+
+    /// Whose key it is, or `None` where it is nobody's. It goes through the people.
+    pub fn owner(&self, key: &Key) -> Option<&PersonId>
+        ensures { option_copied result ≡ owner self.now key.now }
+    {
+        for (id, person) in self.people.iter() {
+            if person.key == *key {
+                return Some(id);
+            }
+        }
+        None
+    }
+
+    /// Where a person lives, or `None` for no home and for somebody unknown.
+    pub fn home_of(&self, person: &PersonId) -> Option<&RoomCode>
+        ensures { option_copied result ≡ home_of self.now person.now }
+    {
+        self.people.get(person)?.home.as_ref()
+    }
+
+    /// The recorded result of a person, or `None` for no room and where none is recorded.
+    pub fn recorded_result(&self, person: &PersonId) -> Option<&RoomCode>
+        ensures { option_copied result ≡ recorded_result self.now person.now }
+    {
+        self.results.get(person)?.room.as_ref()
+    }
+
+    /// Whether a room is known and shut.
+    pub fn is_shut(&self, room: &RoomCode) -> bool
+        ensures { result ≡ is_shut self.now room.now }
+    {
+        self.rooms.get(room).copied().unwrap_or(false)
+    }
+
+    /// Whether a person has withdrawn from the round.
+    pub fn has_withdrawn(&self, person: &PersonId) -> bool
+        ensures { result ≡ has_withdrawn self.now person.now }
+    {
+        self.withdrawn.contains_key(person)
+    }
+
+    /// Whether a person sees the result.
+    pub fn is_shown(&self, person: &PersonId) -> bool
+        ensures { result ≡ is_shown self.now person.now }
+    {
+        is_published(self.phase) && !self.has_withdrawn(person)
+    }
+
+    /// Whether a round is settled or cancelled.
+    pub fn is_over(&self, round: u16) -> bool
+        ensures { result ≡ is_over self.now round }
+    {
+        1 <= round && round <= self.number && !self.is_under_way(round)
+    }
+
+    /// Whether a round has begun, and is neither settled nor cancelled.
+    pub fn is_under_way(&self, round: u16) -> bool
+        ensures { result ≡ is_under_way self.now round }
+    {
+        !is_idle(self.phase) && round == self.number
+    }
+
+    /// How many people have not withdrawn. It takes no memory.
+    pub fn participant_count(&self) -> usize
+        ensures { result ≡ length (participants self.now) }
+    {
+        let mut count = 0;
+        for (id, _) in self.people.iter() {
+            if !self.has_withdrawn(id) {
+                count += 1;
+            }
+        }
+        count
+    }
+
+    /// Who has not withdrawn, by identifier. Nobody takes no memory.
+    pub fn participants(&self, alloc: Global) -> Result<Vec<PersonId>, OutOfMemory>
+        ensures people { IfOk result (λ people. people.items ≡ participants self.now) }
+        ensures memory { OnErr result (0 < length (participants self.now)) }
+    {
+        let mut people = Vec::new(alloc);
+        for (id, _) in self.people.iter() {
+            if !self.has_withdrawn(id) {
+                people.push(id.copy()?)?;
+            }
+        }
+        Ok(people)
+    }
+}
+
+/// A copy of a text that was found, if any. It is refused only for memory; none takes none.
+pub fn copy_found<G: Grammar>(found: Option<&Text<G>>) -> Result<Option<Text<G>>, OutOfMemory>
+    ensures copy { IfOk result (λ copy. copy ≡ option_copied found.entry) }
+    ensures memory { OnErr result (IsSome found.entry) }
+{
+    match found {
+        Some(text) => Ok(Some(text.copy()?)),
+        None => Ok(None),
+    }
+}
+
+fn lives_in(person: &Person, room: &RoomCode) -> bool
+    ensures { result ≡ lives_in room.now person.now }
+{
+    is_room(person.home.as_ref(), room)
+}
+
+/// Whether two rooms, or none, are the same.
+pub(crate) fn is_same_room(one: &Option<RoomCode>, other: &Option<RoomCode>) -> bool
+    ensures { result ≡ is_same_text one.now other.now }
+{
+    match (one, other) {
+        (None, None) => true,
+        (Some(one), Some(other)) => other == one,
+        _ => false,
+    }
+}
+
+/// Whether a room was found, and is this one.
+pub(crate) fn is_room(found: Option<&RoomCode>, room: &RoomCode) -> bool
+    ensures { result ≡ is_text (option_copied found.entry) room.now }
+{
+    match found {
+        Some(found) => found == room,
+        None => false,
+    }
+}

@@ -1,0 +1,79 @@
+//! Tests on phases.
+ghost use Rattle.std.specs.Prelude.{◌≡◌};
+ghost use Rattle.office_state.specs.Office.Phases.{is_idle, is_open, is_closed, is_published, is_preparing, may_cancel};
+ghost use Rattle.office_state.specs.Office.Phases.{has_words, is_drawn, is_ran, has_results};
+
+use room_types::Phase;
+
+/// Whether no round is under way.
+pub fn is_idle(phase: Phase) -> bool
+    ensures { result ≡ is_idle phase }
+{
+    matches!(phase, Phase::Idle)
+}
+
+/// Whether people may list rooms, or withdraw.
+pub fn is_open(phase: Phase) -> bool
+    ensures { result ≡ is_open phase }
+{
+    matches!(phase, Phase::Opened)
+}
+
+/// Whether the lists are final, and nothing is drawn yet.
+pub fn is_closed(phase: Phase) -> bool
+    ensures { result ≡ is_closed phase }
+{
+    matches!(phase, Phase::Closed)
+}
+
+/// Whether the words are drawn, and the rooms not traded yet.
+pub fn is_drawn(phase: Phase) -> bool
+    ensures { result ≡ is_drawn phase }
+{
+    matches!(phase, Phase::Drawn)
+}
+
+/// Whether the rooms are traded, and the results not published yet.
+pub fn is_ran(phase: Phase) -> bool
+    ensures { result ≡ is_ran phase }
+{
+    matches!(phase, Phase::Ran)
+}
+
+/// Whether the results are there.
+pub fn has_results(phase: Phase) -> bool
+    ensures { result ≡ has_results phase }
+{
+    matches!(phase, Phase::Ran | Phase::Published)
+}
+
+/// Whether each participant sees the result.
+pub fn is_published(phase: Phase) -> bool
+    ensures { result ≡ is_published phase }
+{
+    matches!(phase, Phase::Published)
+}
+
+/// Whether rooms and people may be added, and rooms be shut or reopened.
+pub fn is_preparing(phase: Phase) -> bool
+    ensures { result ≡ is_preparing phase }
+{
+    is_idle(phase) || is_open(phase)
+}
+
+/// Whether there is a round that can be given up.
+pub fn may_cancel(phase: Phase) -> bool
+    ensures { result ≡ may_cancel phase }
+{
+    matches!(
+        phase,
+        Phase::Opened | Phase::Closed | Phase::Drawn | Phase::Ran
+    )
+}
+
+/// Whether the words are drawn.
+pub fn has_words(phase: Phase) -> bool
+    ensures { result ≡ has_words phase }
+{
+    matches!(phase, Phase::Drawn | Phase::Ran | Phase::Published)
+}

@@ -1,0 +1,24 @@
+//! The numbers that a problem has in place of names.
+ghost use Rattle.std.specs.Prelude.{◌≡◌, IfOk, List, ℕ};
+ghost use Rattle.std.specs.FinMap as map;
+ghost use Rattle.office_state.specs.Round.{number_in};
+
+use room_types::{Grammar, OutOfMemory, Table, Text};
+use std::alloc::Global;
+
+/// The number of each name: its first place. It takes n log n comparisons.
+pub(crate) fn numbers<G: Grammar>(
+    alloc: Global,
+    names: &[Text<G>],
+) -> Result<Table<G, usize>, OutOfMemory>
+    ensures { IfOk result
+        (λ numbers. (name : List ℕ) → map.get numbers name ≡ number_in names.now name) }
+{
+    let mut numbers = Table::new(alloc);
+    for (number, name) in names.iter().enumerate() {
+        if !numbers.contains_key(name) {
+            numbers.insert(name.copy()?, number)?;
+        }
+    }
+    Ok(numbers)
+}

@@ -1,0 +1,39 @@
+//! Who takes part, in the drawn order.
+ghost use Rattle.std.specs.Prelude.{◌≡◌, ◌<◌, IfOk, OnErr, length};
+ghost use Rattle.office_state.specs.Round.{lots_of, round_people, word_of};
+
+use crate::office::Office;
+use draw_order::order;
+use room_types::{OutOfMemory, PersonId, Word};
+use std::alloc::Global;
+
+/// The participants in the drawn order, in n log n steps for n people. It is refused only for memory; nobody takes none.
+#[tactic(auto, using(crate::proofs::RoundLemmas::People::as_many_as_lots))]
+pub fn round_people(alloc: Global, office: &Office) -> Result<Vec<PersonId>, OutOfMemory>
+    ensures people { IfOk result (λ people. people.items ≡ round_people office.now) }
+    ensures memory { OnErr result (0 < length (round_people office.now)) }
+{
+    let lots = lots(alloc, office)?;
+    order(alloc, &lots)
+}
+
+// The participants by identifier, with their words.
+fn lots(alloc: Global, office: &Office) -> Result<Vec<(PersonId, Word)>, OutOfMemory>
+    ensures lots { IfOk result (λ lots. lots.items ≡ lots_of office.now) }
+    ensures memory { OnErr result (0 < length (lots_of office.now)) }
+{
+    let mut lots = Vec::new(alloc);
+    for (id, _) in office.people.iter() {
+        if !office.withdrawn.contains_key(id) {
+            lots.push((id.copy()?, word_of(office, id)))?;
+        }
+    }
+    Ok(lots)
+}
+
+/// The word that a person drew, or word 0 where none is recorded. From the draw on each participant has one.
+pub fn word_of(office: &Office, person: &PersonId) -> Word
+    ensures { result ≡ word_of office.now person.now }
+{
+    office.words.get(person).copied().unwrap_or(Word::new(0))
+}

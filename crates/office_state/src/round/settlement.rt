@@ -1,0 +1,27 @@
+//! Who moves when a round is settled.
+ghost use Rattle.std.specs.Prelude.{◌≡◌, IfOk};
+ghost use Rattle.office_state.specs.Round.Settlement.{movers};
+
+use crate::office::Office;
+use crate::office::look::{copy_found, is_same_room};
+use office_lists::Mover;
+use room_types::{OutOfMemory, RoomCode};
+use std::alloc::Global;
+
+/// The participants whose home changes, by identifier, each with the old room and the new one. It goes through the
+/// people once, and is refused only for memory.
+pub fn movers(alloc: Global, office: &Office) -> Result<Vec<Mover>, OutOfMemory>
+    ensures { IfOk result (λ found. found.items ≡ movers office.now) }
+{
+    let mut movers = Vec::new(alloc);
+    for (id, _) in office.people.iter() {
+        if !office.has_withdrawn(id) {
+            let from = copy_found(office.home_of(id))?;
+            let to = copy_found(office.recorded_result(id))?;
+            if !is_same_room(&from, &to) {
+                movers.push((id.copy()?, from, to))?;
+            }
+        }
+    }
+    Ok(movers)
+}

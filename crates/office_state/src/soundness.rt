@@ -1,0 +1,52 @@
+//! Whether what was read is a lawful office.
+mod kept;
+mod lists;
+mod moves;
+mod register;
+mod results;
+mod round;
+mod words;
+
+ghost use Rattle.std.specs.Prelude.{IfOk, OnErr};
+ghost use Rattle.std.specs.Bool.{Decides};
+ghost use Rattle.office_state.specs.Office.Invariants.{IsLawful};
+ghost use Rattle.office_state.specs.Soundness.{TakesMemory};
+
+use crate::office::Office;
+use crate::soundness::kept::are_kept;
+use crate::soundness::lists::are_lists;
+use crate::soundness::moves::are_moves;
+use crate::soundness::register::is_register;
+use crate::soundness::results::are_results;
+use crate::soundness::round::is_round;
+use crate::soundness::words::are_words;
+use room_types::OutOfMemory;
+use std::alloc::Global;
+
+/// Whether the office obeys its laws, in n log n steps and those of a run of the round. It is refused for memory alone,
+/// which is taken only where keys and homes are noted, or results are found again: a fault that is seen before is
+/// always told.
+pub fn sound(alloc: Global, office: &Office) -> Result<bool, OutOfMemory>
+    ensures lawful { IfOk result (λ lawful. Decides lawful (IsLawful office.now)) }
+    ensures memory { OnErr result (TakesMemory office.now) }
+{
+    if !is_register(alloc, office)? {
+        return Ok(false);
+    }
+    if !are_lists(office) {
+        return Ok(false);
+    }
+    if !is_round(office) {
+        return Ok(false);
+    }
+    if !are_words(office) {
+        return Ok(false);
+    }
+    if !are_moves(office) {
+        return Ok(false);
+    }
+    if !are_kept(office) {
+        return Ok(false);
+    }
+    are_results(alloc, office)
+}

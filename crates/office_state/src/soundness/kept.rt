@@ -1,0 +1,35 @@
+//! The laws of kept lists.
+ghost use Rattle.std.specs.Prelude.{◌≡◌};
+ghost use Rattle.std.specs.Bool.{Decides};
+ghost use Rattle.std.specs.List.{list_all};
+ghost use Rattle.std.specs.FinMap as map;
+ghost use Rattle.office_state.specs.Office.Invariants.{AreKept};
+ghost use Rattle.office_state.specs.Inner.Soundness.{is_short};
+
+use crate::office::Office;
+use crate::office::kept_list::KeptList;
+use crate::office::limits::{BYTE_LIMIT, LABEL_LIMIT};
+use office_lists::RECORD_LIMIT;
+
+/// Whether the kept lists obey their laws.
+pub(crate) fn are_kept(office: &Office) -> bool
+    ensures { Decides result (AreKept office.now.lists) }
+{
+    if office.lists.len() > LABEL_LIMIT {
+        return false;
+    }
+    are_short(office)
+}
+
+// Whether no kept list is longer than a list may be.
+fn are_short(office: &Office) -> bool
+    ensures { result ≡ list_all (λ e. is_short e.1) (map.entries office.now.lists) }
+{
+    office.lists.iter().all(|(_, kept)| is_short(kept))
+}
+
+fn is_short(kept: &KeptList) -> bool
+    ensures { result ≡ is_short kept.now }
+{
+    kept.bytes.len() <= BYTE_LIMIT && usize::from(kept.count) <= RECORD_LIMIT
+}

@@ -1,0 +1,51 @@
+//! The laws of moves.
+ghost use Rattle.std.specs.Prelude.{◌≡◌};
+ghost use Rattle.std.specs.Bool.{Decides};
+ghost use Rattle.std.specs.List.{list_all};
+ghost use Rattle.std.specs.FinMap as map;
+ghost use Rattle.std.specs.Option.{is_some};
+ghost use Rattle.office_state.specs.Office.Invariants.{AreMoves};
+ghost use Rattle.office_state.specs.Office.{is_over};
+ghost use Rattle.office_state.specs.Inner.Soundness.{is_kept_round};
+
+use crate::office::Office;
+use crate::office::moves::RoundMoves;
+
+/// Whether moves obey their laws.
+pub(crate) fn are_moves(office: &Office) -> bool
+    ensures { Decides result (AreMoves office.now) }
+{
+    if !are_rounds_over(office) {
+        return false;
+    }
+    are_rounds_kept(office)
+}
+
+// Whether each round with moves is over.
+fn are_rounds_over(office: &Office) -> bool
+    ensures { result ≡ list_all (λ e. is_over office.now e.0) (map.entries office.now.moves) }
+{
+    office.moves.iter().all(|(round, _)| office.is_over(*round))
+}
+
+// Whether each round with moves has some, all into rooms.
+fn are_rounds_kept(office: &Office) -> bool
+    ensures { result ≡ list_all (λ e. is_kept_round e.1) (map.entries office.now.moves) }
+{
+    office.moves.iter().all(|(_, moves)| is_kept_round(moves))
+}
+
+fn is_kept_round(moves: &RoundMoves) -> bool
+    ensures { result ≡ is_kept_round moves.now }
+{
+    if moves.by_person.len() == 0 {
+        return false;
+    }
+    have_moves_rooms(moves)
+}
+
+fn have_moves_rooms(moves: &RoundMoves) -> bool
+    ensures { result ≡ list_all (λ e. is_some e.1.to) (map.entries moves.now.by_person) }
+{
+    moves.by_person.iter().all(|(_, moved)| moved.to.is_some())
+}

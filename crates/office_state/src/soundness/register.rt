@@ -1,0 +1,94 @@
+//! The laws of rooms and people.
+ghost use Rattle.std.specs.Prelude.{◌≡◌, ◌<◌, IfOk, OnErr, Some, length};
+ghost use Rattle.std.specs.Bool.{Decides};
+ghost use Rattle.std.specs.List.{list_all};
+ghost use Rattle.std.specs.FinMap as map;
+ghost use Rattle.office_state.specs.Office.Invariants.{HomesDiffer, IsRegister};
+ghost use Rattle.office_state.specs.Inner.Soundness.{differ_from, is_home_open};
+ghost use Rattle.office_state.specs.Soundness.{AreNoted};
+
+use crate::office::Office;
+use crate::office::limits::{PEOPLE_LIMIT, ROOM_LIMIT};
+use crate::office::person::Person;
+use room_types::grammars::{Keys, RoomCodes};
+use room_types::{OutOfMemory, Table};
+use std::alloc::Global;
+
+/// Whether rooms and people obey their laws, in n log n steps.
+pub(crate) fn is_register(alloc: Global, office: &Office) -> Result<bool, OutOfMemory>
+    ensures lawful { IfOk result
+        (λ lawful. Decides lawful (IsRegister office.now.rooms office.now.people)) }
+    ensures memory { OnErr result (AreNoted office.now.rooms office.now.people) }
+{
+    if office.rooms.len() > ROOM_LIMIT {
+        return Ok(false);
+    }
+    if office.people.len() > PEOPLE_LIMIT {
+        return Ok(false);
+    }
+    if !are_homes_open(office) {
+        return Ok(false);
+    }
+    if !do_keys_differ(alloc, office)? {
+        return Ok(false);
+    }
+    do_homes_differ(alloc, office)
+}
+
+// Whether each home is a known room that is not shut.
+fn are_homes_open(office: &Office) -> bool
+    ensures { result ≡
+        list_all (λ e. is_home_open office.now.rooms e.1) (map.entries office.now.people) }
+{
+    office
+        .people
+        .iter()
+        .all(|(_, person)| is_home_open(office, person))
+}
+
+fn is_home_open(office: &Office, person: &Person) -> bool
+    ensures { result ≡ is_home_open office.now.rooms person.now }
+{
+    match &person.home {
+        Some(home) => match office.rooms.get(home) {
+            Some(shut) => !*shut,
+            None => false,
+        },
+        None => true,
+    }
+}
+
+// Whether no two people have the same key, in one pass.
+fn do_keys_differ(alloc: Global, office: &Office) -> Result<bool, OutOfMemory>
+    ensures differ { IfOk result (λ differ. differ ≡
+        differ_from (λ p. Some p.key) map.empty (map.entries office.now.people)) }
+    ensures memory { OnErr result (0 < length (map.entries office.now.people)) }
+{
+    let mut seen: Table<Keys, ()> = Table::new(alloc);
+    for (_, person) in office.people.iter() {
+        if seen.contains_key(&person.key) {
+            return Ok(false);
+        }
+        seen.insert(person.key.copy()?, ())?;
+    }
+    Ok(true)
+}
+
+// Whether no two people have the same home, in one pass.
+fn do_homes_differ(alloc: Global, office: &Office) -> Result<bool, OutOfMemory>
+    ensures differ { IfOk result (λ differ. differ ≡
+        differ_from (λ p. p.home) map.empty (map.entries office.now.people)) }
+    ensures memory { OnErr result (0 < length (map.entries office.now.people)) }
+{
+    let mut seen: Table<RoomCodes, ()> = Table::new(alloc);
+    for (_, person) in office.people.iter() {
+        let Some(home) = &person.home else {
+            continue;
+        };
+        if seen.contains_key(home) {
+            return Ok(false);
+        }
+        seen.insert(home.copy()?, ())?;
+    }
+    Ok(true)
+}

@@ -1,0 +1,24 @@
+//! The laws of the round: its number, and what is left over between rounds.
+ghost use Rattle.std.specs.Bool.{Decides};
+ghost use Rattle.office_state.specs.Office.Invariants.{IsRound};
+
+use crate::office::Office;
+use crate::office::limits::ROUND_LIMIT;
+use crate::office::phases::is_idle;
+
+/// Whether the round obeys its laws.
+pub(crate) fn is_round(office: &Office) -> bool
+    ensures { Decides result
+        (IsRound office.now.number office.now.phase office.now.choices office.now.withdrawn) }
+{
+    if office.number > ROUND_LIMIT {
+        return false;
+    }
+    if !is_idle(office.phase) {
+        return 1 <= office.number;
+    }
+    if office.choices.len() != 0 {
+        return false;
+    }
+    office.withdrawn.len() == 0
+}

@@ -1,0 +1,44 @@
+//! The laws of words.
+ghost use Rattle.std.specs.Prelude.{◌≡◌, ◌||◌};
+ghost use Rattle.std.specs.Bool.{Decides};
+ghost use Rattle.std.specs.List.{list_all};
+ghost use Rattle.std.specs.FinMap as map;
+ghost use Rattle.office_state.specs.Office.Invariants.{AreWords};
+ghost use Rattle.office_state.specs.Office.{has_withdrawn};
+ghost use Rattle.office_state.specs.Round.{is_participant};
+
+use crate::office::Office;
+use crate::office::phases::has_words;
+
+/// Whether words obey their laws.
+pub(crate) fn are_words(office: &Office) -> bool
+    ensures { Decides result
+        (AreWords office.now.phase office.now.people office.now.withdrawn office.now.words) }
+{
+    if !has_words(office.phase) {
+        return office.words.len() == 0;
+    }
+    if !are_words_of_participants(office) {
+        return false;
+    }
+    have_participants_words(office)
+}
+
+// Whether each word is that of a participant.
+fn are_words_of_participants(office: &Office) -> bool
+    ensures { result ≡
+        list_all (λ e. is_participant office.now e.0) (map.entries office.now.words) }
+{
+    office.words.iter().all(|(person, _)| office.people.contains_key(person)
+        && !office.has_withdrawn(person))
+}
+
+// Whether each participant has a word.
+fn have_participants_words(office: &Office) -> bool
+    ensures { result ≡
+        list_all (λ e. has_withdrawn office.now e.0 || map.contains_key office.now.words e.0)
+        (map.entries office.now.people) }
+{
+    office.people.iter().all(|(person, _)| office.has_withdrawn(person)
+        || office.words.contains_key(person))
+}
