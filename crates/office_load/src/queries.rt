@@ -97,7 +97,7 @@ impl Listed for (PersonId, Word) {
 
     ghost text = { words_text };
 
-    ghost tree = { 7 };
+    ghost tree = { 11 };
 
     ghost project = { col 1 1 ∷ col 1 2 ∷ [] };
 
@@ -118,7 +118,7 @@ impl Listed for (PersonId, Assigned) {
 
     ghost text = { results_text };
 
-    ghost tree = { 9 };
+    ghost tree = { 13 };
 
     ghost project = { col 1 1 ∷ col 1 2 ∷ [] };
 
@@ -139,7 +139,7 @@ impl Listed for Move {
 
     ghost text = { moves_text };
 
-    ghost tree = { 12 };
+    ghost tree = { 7 };
 
     ghost project = { col 1 1 ∷ col 1 2 ∷ col 1 3 ∷ col 1 4 ∷ col 1 5 ∷ [] };
 
@@ -161,7 +161,7 @@ impl Listed for (Label, KeptList) {
 
     ghost text = { lists_text };
 
-    ghost tree = { 14 };
+    ghost tree = { 9 };
 
     ghost project = { col 1 1 ∷ col 1 2 ∷ col 1 3 ∷ col 1 4 ∷ [] };
 
