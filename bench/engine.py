@@ -14,6 +14,9 @@ from lists import COUNT, Office, name_of, person_of, room_of, write_choices, wri
 
 LISTED = 40
 TURNS = 5
+WORD = "CREATE TABLE word(person TEXT PRIMARY KEY NOT NULL REFERENCES person(id), hex TEXT NOT NULL) STRICT"
+RESULT = """CREATE TABLE result(person TEXT PRIMARY KEY NOT NULL REFERENCES person(id),
+  room TEXT UNIQUE REFERENCES room(code)) STRICT"""
 CHOICE = """CREATE TABLE choice(person TEXT NOT NULL REFERENCES person(id), place INTEGER NOT NULL,
   room TEXT NOT NULL REFERENCES room(code), PRIMARY KEY(person, place), UNIQUE(person, room)) STRICT"""
 
@@ -69,8 +72,9 @@ def settlement(file):
     leave = [f"UPDATE person SET home = NULL WHERE id = '{move[1]}'" for move in moves]
     arrive = [f"UPDATE person SET home = '{move[3]}' WHERE id = '{move[1]}'" for move in moves]
     record = [f"INSERT INTO move VALUES({', '.join(map(text_of, move))})" for move in moves]
-    return leave + arrive + record + ["DROP TABLE choice", CHOICE, "UPDATE person SET withdrawn = 0 WHERE withdrawn = 1",
-                                      "DELETE FROM word", "DELETE FROM result", "UPDATE round SET phase = 'idle'"]
+    clear = ["DROP TABLE choice", "DROP TABLE result", "DROP TABLE word", WORD, RESULT, CHOICE]
+    return leave + arrive + record + clear + ["UPDATE person SET withdrawn = 0 WHERE withdrawn = 1",
+                                              "UPDATE round SET phase = 'idle'"]
 
 
 def in_one(statements):

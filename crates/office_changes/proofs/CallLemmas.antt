@@ -18,9 +18,9 @@ use Rattle.office_cells.specs.Cells.{IsTextOf, IsOptionalTextOf, text_or_null}
 use Rattle.office_cells.specs.Columns.{move_columns}
 use Rattle.office_cells.specs.Forms.{IsMoveRow}
 use Rattle.office_tables.specs.Edits.{with_room, with_shut, with_person, without_person, with_home, with_withdrawn}
-use Rattle.office_tables.specs.Edits.{without_withdrawn, with_round, without_choices_of, without_choices}
-use Rattle.office_tables.specs.Edits.{with_word, without_word_of, without_words, with_result, without_result_of}
-use Rattle.office_tables.specs.Edits.{without_results, with_move, with_kept}
+use Rattle.office_tables.specs.Edits.{without_withdrawn, with_round, without_choices_of, without_round}
+use Rattle.office_tables.specs.Edits.{with_word, without_word_of, with_result, without_result_of}
+use Rattle.office_tables.specs.Edits.{with_move, with_kept}
 use Rattle.office_tables.specs.Makes.{Makes}
 use Rattle.office_tables.specs.Steps.{StaysInside}
 use Rattle.office_changes.specs.Carries.{Turns, CarriesOne, CarriesAlways}
@@ -31,9 +31,9 @@ use Rattle.office_changes.proofs.ChangeRows.{choices_put, word_put, result_put, 
 use Rattle.office_changes.proofs.ChangeRows.{round_cleared}
 use Rattle.office_changes.proofs.SpelledLemmas.{room_spelled, shut_spelled, person_spelled, without_person_spelled}
 use Rattle.office_changes.proofs.SpelledLemmas.{home_spelled, withdrawn_spelled, without_withdrawn_spelled}
-use Rattle.office_changes.proofs.SpelledLemmas.{without_choices_of_spelled, without_choices_spelled, word_spelled}
-use Rattle.office_changes.proofs.SpelledLemmas.{without_word_of_spelled, without_words_spelled, result_spelled}
-use Rattle.office_changes.proofs.SpelledLemmas.{without_result_of_spelled, without_results_spelled}
+use Rattle.office_changes.proofs.SpelledLemmas.{without_choices_of_spelled, without_round_spelled, word_spelled}
+use Rattle.office_changes.proofs.SpelledLemmas.{without_word_of_spelled, result_spelled}
+use Rattle.office_changes.proofs.SpelledLemmas.{without_result_of_spelled}
 use Rattle.office_changes.proofs.SpelledLemmas.{move_spelled, kept_spelled, round_spelled}
 
 early : (mid new : State) → StaysInside mid new → HasCleanDisk new → HasCleanDisk mid
@@ -137,18 +137,11 @@ module _ (old mid new : State) (inside : StaysInside mid new) where
       (turns old mid _ (λ t h. without_result_of_spelled t h person) m)
       (turns mid new _ (λ t h. result_spelled t h person room is_id code) n))
 
--- ---- the end of a round: four statements
-
-pub carries_cleared : (a b c d e : State) → StaysInside b c → StaysInside c d → StaysInside d e
-    → Makes a b without_choices → Makes b c without_withdrawn → Makes c d without_words → Makes d e without_results
-    → CarriesAlways a e ClearRound
-carries_cleared a b c d e bc cd de lists withdrawals words results first =
-    carries first a e ClearRound (λ t. without_results (without_words (without_withdrawn (without_choices t))))
-    (λ office fits. round_cleared office)
-    (turns_then a d e _ _ (early d e de)
-    (turns_then a c d _ _ (early c d cd)
-    (turns_then a b c _ _ (early b c bc)
-    (turns a b _ (λ t h. without_choices_spelled t h) lists)
-    (turns b c _ (λ t h. without_withdrawn_spelled t h) withdrawals))
-    (turns c d _ (λ t h. without_words_spelled t h) words))
-    (turns d e _ (λ t h. without_results_spelled t h) results))
+  -- the end of a round
+  pub carries_cleared : Makes old mid without_round → Makes mid new without_withdrawn → CarriesAlways old new ClearRound
+  carries_cleared m n first =
+      carries first old new ClearRound (λ t. without_withdrawn (without_round t))
+      (λ office fits. round_cleared office)
+      (turns_then old mid new _ _ (early mid new inside)
+      (turns old mid _ (λ t h. without_round_spelled t h) m)
+      (turns mid new _ (λ t h. without_withdrawn_spelled t h) n))

@@ -25,10 +25,10 @@ has_alike db these those same h = record {
     people = held_permuted person_columns (db.trees 2) _ _ same.people h.rows.people;
     rounds = held_permuted round_columns (db.trees 6) _ _ same.rounds h.rows.rounds;
     choices = held_permuted choice_columns (db.trees 16) _ _ same.choices h.rows.choices;
-    words = held_permuted word_columns (db.trees 7) _ _ same.words h.rows.words;
-    results = held_permuted result_columns (db.trees 9) _ _ same.results h.rows.results;
-    moves = held_permuted move_columns (db.trees 12) _ _ same.moves h.rows.moves;
-    lists = held_permuted list_columns (db.trees 14) _ _ same.lists h.rows.lists;
+    words = held_permuted word_columns (db.trees 11) _ _ same.words h.rows.words;
+    results = held_permuted result_columns (db.trees 13) _ _ same.results h.rows.results;
+    moves = held_permuted move_columns (db.trees 7) _ _ same.moves h.rows.moves;
+    lists = held_permuted list_columns (db.trees 9) _ _ same.lists h.rows.lists;
   };
 }
 

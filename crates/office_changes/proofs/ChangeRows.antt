@@ -34,9 +34,9 @@ use Rattle.office_rows.proofs.Moving.{rows_more}
 use Rattle.office_changes.specs.Alike.{AreAlike}
 use Rattle.office_changes.specs.Choosing.{with_choices}
 use Rattle.office_tables.specs.Edits.{with_room, with_shut, with_person, without_person, with_home, with_withdrawn}
-use Rattle.office_tables.specs.Edits.{without_withdrawn, with_round, with_choice, without_choices_of, without_choices}
-use Rattle.office_tables.specs.Edits.{with_word, without_word_of, without_words, with_result, without_result_of}
-use Rattle.office_tables.specs.Edits.{without_results, with_move, with_kept, taking_part}
+use Rattle.office_tables.specs.Edits.{without_withdrawn, with_round, with_choice, without_choices_of, without_round}
+use Rattle.office_tables.specs.Edits.{with_word, without_word_of, with_result, without_result_of}
+use Rattle.office_tables.specs.Edits.{with_move, with_kept, taking_part}
 use Rattle.office_changes.proofs.AlikeLemmas.{alike-refl, rooms_alike, people_alike, choices_alike, words_alike}
 use Rattle.office_changes.proofs.AlikeLemmas.{results_alike, moves_alike, lists_alike, alike-trans}
 use Rattle.office_changes.proofs.RowsChanged.{rows_put, rows_gone, row_put, row_gone, row_added}
@@ -255,8 +255,8 @@ unmarked people withdrawn =
 -- lists, withdrawals, words and results go
 pub round_cleared : (office : Office)
     → AreAlike (rows_of (applied office ClearRound))
-    (without_results (without_words (without_withdrawn (without_choices (rows_of office)))))
-unfolding rows_of without_results without_words without_withdrawn without_choices
+    (without_withdrawn (without_round (rows_of office)))
+unfolding rows_of without_withdrawn without_round
 round_cleared office = let still = alike-refl (rows_of office) in record {
   rooms = still.rooms;
   people = IsPermutation-same _ _ (unmarked office.people office.withdrawn);

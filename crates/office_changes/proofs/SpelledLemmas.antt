@@ -25,9 +25,9 @@ use Rattle.office_rows.specs.Tables.{Tables}
 use Rattle.office_rows.specs.declared.records.ChoiceRecord.{ChoiceRecord}
 use Rattle.office_rows.specs.declared.records.PersonRecord.{PersonRecord}
 use Rattle.office_tables.specs.Edits.{with_room, with_shut, with_person, without_person, with_home, with_withdrawn}
-use Rattle.office_tables.specs.Edits.{without_withdrawn, with_round, with_choice, without_choices_of, without_choices}
-use Rattle.office_tables.specs.Edits.{with_word, without_word_of, without_words, with_result, without_result_of}
-use Rattle.office_tables.specs.Edits.{without_results, with_move, with_kept}
+use Rattle.office_tables.specs.Edits.{without_withdrawn, with_round, with_choice, without_choices_of, without_round}
+use Rattle.office_tables.specs.Edits.{with_word, without_word_of, with_result, without_result_of}
+use Rattle.office_tables.specs.Edits.{with_move, with_kept}
 use Rattle.office_changes.specs.Alike.{AreAlike}
 
 module _ {X : Type 0} (columns : X → Row) (IsRow : Row → Type 0) where
@@ -165,10 +165,6 @@ module _ (t : Tables) (h : IsSpelled t) where
       choices_spelled _ (formed_left choice_columns IsChoiceRow
       (λ (r : ChoiceRecord). text_eq r.person person) t.choices h.choices)
 
-  pub without_choices_spelled : IsSpelled (without_choices t)
-  unfolding without_choices
-  without_choices_spelled = choices_spelled [] (All-nil IsChoiceRow)
-
   words_spelled : (xs : List (Text × ℕ)) → All IsWordRow (map word_columns xs) → IsSpelled (record t { words = xs })
   words_spelled xs k = record {
     rooms = h.rooms;
@@ -190,10 +186,6 @@ module _ (t : Tables) (h : IsSpelled t) where
   unfolding without_word_of
   without_word_of_spelled person =
       words_spelled _ (formed_left word_columns IsWordRow (λ r. text_eq r.0 person) t.words h.words)
-
-  pub without_words_spelled : IsSpelled (without_words t)
-  unfolding without_words
-  without_words_spelled = words_spelled [] (All-nil IsWordRow)
 
   pub result_spelled : (person : Text) (room : Option Text) → IsTextOf is_person_id (value.Text person)
       → IsOptionalTextOf is_room_code (text_or_null room) → IsSpelled (with_result person room t)
@@ -222,14 +214,14 @@ module _ (t : Tables) (h : IsSpelled t) where
     lists = h.lists;
   }
 
-  pub without_results_spelled : IsSpelled (without_results t)
-  unfolding without_results
-  without_results_spelled = record {
+  pub without_round_spelled : IsSpelled (without_round t)
+  unfolding without_round
+  without_round_spelled = record {
     rooms = h.rooms;
     people = h.people;
     rounds = h.rounds;
-    choices = h.choices;
-    words = h.words;
+    choices = All-nil IsChoiceRow;
+    words = All-nil IsWordRow;
     results = All-nil IsResultRow;
     moves = h.moves;
     lists = h.lists;

@@ -5,11 +5,9 @@ ghost use Rattle.office_state.specs.declared.change.Change.TheVariants.{PutRound
 ghost use Rattle.office_tables.specs.Steps.{StaysInside};
 ghost use Rattle.office_changes.specs.Carries.{CarriesAlways};
 
-use office_tables::choices::clear_choices;
 use office_tables::people::clear_withdrawn;
-use office_tables::results::clear_results;
+use office_tables::round_tables::clear_round_tables;
 use office_tables::rounds::set_round;
-use office_tables::words::clear_words;
 use room_types::Phase;
 use sqlite::{Alter, Error, Transaction};
 
@@ -36,8 +34,6 @@ pub(crate) fn clear_round<S: Alter>(tx: &mut Transaction<'_, S>) -> Result<(), E
         (ClearRound)) }
     ensures inside { StaysInside (state S.Store tx.old.conn.now) (state S.Store tx.new.conn.now) }
 {
-    clear_choices(tx)?;
-    clear_withdrawn(tx)?;
-    clear_words(tx)?;
-    clear_results(tx)
+    clear_round_tables(tx)?;
+    clear_withdrawn(tx)
 }

@@ -1,108 +1,41 @@
 -- What CREATE TABLE makes of a schema that is written out.
 use Rattle.std.proofs.Common.{◌≡◌, ℕ, List, [], ◌∷◌, Ok, refl, ap, ◌∙◌, subst}
+use Rattle.std.proofs.Common.{◌++◌, ◌+◌, ◌<◌, zero, suc, arith}
+use Rattle.std.specs.List.{AllByRecursion}
 use Rattle.sqlite_trees.specs.Tree.{Trees}
 use Rattle.sqlite_schema.specs.declared.schema.Schema.{Schema}
 use Rattle.sqlite_schema.specs.declared.schema.Table.{Table}
-use Rattle.sqlite_schema.specs.declared.command.Command.TheVariants.{CreateTable}
-use Rattle.sqlite_resolve.specs.Compile.{table_defined_by}
 use Rattle.sqlite_catalog.specs.Change.{created, next_tree, KeepsRows}
 use Rattle.sqlite_tied.specs.Compute.{everything}
 use Rattle.sqlite.specs.Effect.{Database}
 use Rattle.sqlite.specs.Listing.{understood}
 use Rattle.sqlite.specs.State.{State, Executes}
-use Rattle.sqlite.proofs.Callers.{IsPlain, command_of, statement_of}
-use Rattle.office_tables.specs.Schema as it
-use Rattle.office_create.specs.Stages.{AtStage, stage, table_text}
 use Rattle.office_tables.specs.Declaring.{Adds}
-use Rattle.office_tables.proofs.ClearLemmas.{adds, choice_is, choice_plain, choice_added}
-use Rattle.std.specs.List.{AllByRecursion}
-use Rattle.std.proofs.Common.{◌++◌, ◌+◌, ◌<◌, zero, suc, arith}
+use Rattle.office_tables.specs.Schema as it
+use Rattle.office_tables.proofs.ClearLemmas.{IsDeclaredBy, adds, word_declared, result_declared, choice_declared}
+use Rattle.office_create.specs.Stages.{AtStage, table_text}
 
--- ---- the first seven texts, each under the schema of those before it
+-- ---- the first five texts, each under the schema of those before it
 
-room_is : (command_of (understood (stage 0) it.room_text) ≡ CreateTable) × (statement_of it.room_text (understood (stage 0) it.room_text) ≡ it.room_text) × (table_defined_by it.room_text ≡ Ok (it.room 0))
+room_declared : IsDeclaredBy it.room_text 0 (it.room 0)
 unfolding understood everything
-room_is = (refl, refl, refl)
+room_declared = record { is = refl; whole = refl; defined = refl; plain = (refl, refl); added = refl; uncounted = refl; last = refl }
 
-room_plain : IsPlain (understood (stage 0) it.room_text)
+person_declared : IsDeclaredBy it.person_text 1 (it.person 0)
 unfolding understood everything
-room_plain = (refl, refl)
+person_declared = record { is = refl; whole = refl; defined = refl; plain = (refl, refl); added = refl; uncounted = refl; last = refl }
 
-person_is : (command_of (understood (stage 1) it.person_text) ≡ CreateTable) × (statement_of it.person_text (understood (stage 1) it.person_text) ≡ it.person_text) × (table_defined_by it.person_text ≡ Ok (it.person 0))
+round_declared : IsDeclaredBy it.round_text 2 (it.round 0)
 unfolding understood everything
-person_is = (refl, refl, refl)
+round_declared = record { is = refl; whole = refl; defined = refl; plain = (refl, refl); added = refl; uncounted = refl; last = refl }
 
-person_plain : IsPlain (understood (stage 1) it.person_text)
+move_declared : IsDeclaredBy it.move_text 3 (it.move 0)
 unfolding understood everything
-person_plain = (refl, refl)
+move_declared = record { is = refl; whole = refl; defined = refl; plain = (refl, refl); added = refl; uncounted = refl; last = refl }
 
-round_is : (command_of (understood (stage 2) it.round_text) ≡ CreateTable) × (statement_of it.round_text (understood (stage 2) it.round_text) ≡ it.round_text) × (table_defined_by it.round_text ≡ Ok (it.round 0))
+list_declared : IsDeclaredBy it.list_text 4 (it.list 0)
 unfolding understood everything
-round_is = (refl, refl, refl)
-
-round_plain : IsPlain (understood (stage 2) it.round_text)
-unfolding understood everything
-round_plain = (refl, refl)
-
-word_is : (command_of (understood (stage 3) it.word_text) ≡ CreateTable) × (statement_of it.word_text (understood (stage 3) it.word_text) ≡ it.word_text) × (table_defined_by it.word_text ≡ Ok (it.word 0))
-unfolding understood everything
-word_is = (refl, refl, refl)
-
-word_plain : IsPlain (understood (stage 3) it.word_text)
-unfolding understood everything
-word_plain = (refl, refl)
-
-result_is : (command_of (understood (stage 4) it.result_text) ≡ CreateTable) × (statement_of it.result_text (understood (stage 4) it.result_text) ≡ it.result_text) × (table_defined_by it.result_text ≡ Ok (it.result 0))
-unfolding understood everything
-result_is = (refl, refl, refl)
-
-result_plain : IsPlain (understood (stage 4) it.result_text)
-unfolding understood everything
-result_plain = (refl, refl)
-
-move_is : (command_of (understood (stage 5) it.move_text) ≡ CreateTable) × (statement_of it.move_text (understood (stage 5) it.move_text) ≡ it.move_text) × (table_defined_by it.move_text ≡ Ok (it.move 0))
-unfolding understood everything
-move_is = (refl, refl, refl)
-
-move_plain : IsPlain (understood (stage 5) it.move_text)
-unfolding understood everything
-move_plain = (refl, refl)
-
-list_is : (command_of (understood (stage 6) it.list_text) ≡ CreateTable) × (statement_of it.list_text (understood (stage 6) it.list_text) ≡ it.list_text) × (table_defined_by it.list_text ≡ Ok (it.list 0))
-unfolding understood everything
-list_is = (refl, refl, refl)
-
-list_plain : IsPlain (understood (stage 6) it.list_text)
-unfolding understood everything
-list_plain = (refl, refl)
-
-room_added : created (stage 0) (it.room 0) ≡ (stage 1)
-unfolding understood everything
-room_added = refl
-
-person_added : created (stage 1) (it.person 0) ≡ (stage 2)
-unfolding understood everything
-person_added = refl
-
-round_added : created (stage 2) (it.round 0) ≡ (stage 3)
-unfolding understood everything
-round_added = refl
-
-word_added : created (stage 3) (it.word 0) ≡ (stage 4)
-unfolding understood everything
-word_added = refl
-
-result_added : created (stage 4) (it.result 0) ≡ (stage 5)
-unfolding understood everything
-result_added = refl
-
-move_added : created (stage 5) (it.move 0) ≡ (stage 6)
-unfolding understood everything
-move_added = refl
-
-list_added : created (stage 6) (it.list 0) ≡ (stage 7)
-unfolding understood everything
-list_added = refl
+list_declared = record { is = refl; whole = refl; defined = refl; plain = (refl, refl); added = refl; uncounted = refl; last = refl }
 
 abbrev none_in : Trees → List Table → Type 0
 none_in trees = AllByRecursion (λ t. trees t.tree ≡ [])
@@ -115,11 +48,16 @@ kept : (old new : Trees) (tables : List Table) → none_in old tables → KeepsR
 kept old new [] all same = tt
 kept old new (t ∷ tables) all same = (same.0 ∙ all.0, kept old new tables all.1 same.1)
 
-step : (schema next : Schema) (table : Table) (old new : Database) → created schema table ≡ next → old.schema ≡ schema → none_in old.trees schema.tables → Adds table old new → (new.schema ≡ next) × none_in new.trees next.tables
-step schema next table old new is has all a =
-    let same = subst (λ (s : Schema). KeepsRows s.tables old.trees new.trees) has a.others in
-    let empty = subst (λ (s : Schema). new.trees (next_tree s) ≡ []) has a.empty in
-    (a.schema ∙ ap (λ s. created s table) has ∙ is, subst (λ (s : Schema). none_in new.trees s.tables) is (one_more new.trees schema.tables (record table { tree = next_tree schema }) (kept old.trees new.trees schema.tables all same) empty))
+step : (text : List ℕ) (place : ℕ) (table : Table) → IsDeclaredBy text place table → (old new : State) (count : ℕ) → AtStage place old.now → Executes text [] old new (Ok count) → AtStage (place + 1) new.now
+step text place table declared old new count was h =
+    let before = it.first_tables place in
+    let a = adds text place table declared old new count was.0 h in
+    let same = subst (λ (s : Schema). KeepsRows s.tables old.now.trees new.now.trees) was.0 a.others in
+    let empty = subst (λ (s : Schema). new.now.trees (next_tree s) ≡ []) was.0 a.empty in (
+      a.schema ∙ ap (λ s. created s table) was.0 ∙ declared.added,
+      subst (λ (s : Schema). none_in new.now.trees s.tables) declared.added
+          (one_more new.now.trees before.tables (record table { tree = next_tree before }) (kept old.now.trees new.now.trees before.tables was.1 same) empty),
+    )
 
 below_eight : (P : ℕ → Type 0) → P 0 → P 1 → P 2 → P 3 → P 4 → P 5 → P 6 → P 7 → (i : ℕ) → i < 8 → P i
 below_eight P a b c d e f g h zero low = a
@@ -138,11 +76,11 @@ module _ (old new : State) (count : ℕ) where
 
   pub next_stage : (i : ℕ) → i < 8 → AtStage i old.now → Executes (table_text i) [] old new (Ok count) → AtStage (i + 1) new.now
   next_stage = below_eight Advances
-      (λ was h. step (stage 0) (stage 1) (it.room 0) old.now new.now room_added was.0 was.1 (adds it.room_text (it.room 0) (stage 0) room_is room_plain refl old new count was.0 h))
-      (λ was h. step (stage 1) (stage 2) (it.person 0) old.now new.now person_added was.0 was.1 (adds it.person_text (it.person 0) (stage 1) person_is person_plain refl old new count was.0 h))
-      (λ was h. step (stage 2) (stage 3) (it.round 0) old.now new.now round_added was.0 was.1 (adds it.round_text (it.round 0) (stage 2) round_is round_plain refl old new count was.0 h))
-      (λ was h. step (stage 3) (stage 4) (it.word 0) old.now new.now word_added was.0 was.1 (adds it.word_text (it.word 0) (stage 3) word_is word_plain refl old new count was.0 h))
-      (λ was h. step (stage 4) (stage 5) (it.result 0) old.now new.now result_added was.0 was.1 (adds it.result_text (it.result 0) (stage 4) result_is result_plain refl old new count was.0 h))
-      (λ was h. step (stage 5) (stage 6) (it.move 0) old.now new.now move_added was.0 was.1 (adds it.move_text (it.move 0) (stage 5) move_is move_plain refl old new count was.0 h))
-      (λ was h. step (stage 6) (stage 7) (it.list 0) old.now new.now list_added was.0 was.1 (adds it.list_text (it.list 0) (stage 6) list_is list_plain refl old new count was.0 h))
-      (λ was h. step (stage 7) it.office_schema (it.choice 0) old.now new.now choice_added was.0 was.1 (adds it.choice_text (it.choice 0) (stage 7) choice_is choice_plain refl old new count was.0 h))
+      (step it.room_text 0 (it.room 0) room_declared old new count)
+      (step it.person_text 1 (it.person 0) person_declared old new count)
+      (step it.round_text 2 (it.round 0) round_declared old new count)
+      (step it.move_text 3 (it.move 0) move_declared old new count)
+      (step it.list_text 4 (it.list 0) list_declared old new count)
+      (step it.word_text 5 (it.word 0) word_declared old new count)
+      (step it.result_text 6 (it.result 0) result_declared old new count)
+      (step it.choice_text 7 (it.choice 0) choice_declared old new count)

@@ -36,10 +36,10 @@ all_empty db h = record {
     rooms = empty columns.room_columns (db.trees 0) h.1.0;
     people = empty columns.person_columns (db.trees 2) h.1.1.0;
     rounds = empty columns.round_columns (db.trees 6) h.1.1.1.0;
-    words = empty columns.word_columns (db.trees 7) h.1.1.1.1.0;
-    results = empty columns.result_columns (db.trees 9) h.1.1.1.1.1.0;
-    moves = empty columns.move_columns (db.trees 12) h.1.1.1.1.1.1.0;
-    lists = empty columns.list_columns (db.trees 14) h.1.1.1.1.1.1.1.0;
+    words = empty columns.word_columns (db.trees 11) h.1.1.1.1.1.1.0;
+    results = empty columns.result_columns (db.trees 13) h.1.1.1.1.1.1.1.0;
+    moves = empty columns.move_columns (db.trees 7) h.1.1.1.1.0;
+    lists = empty columns.list_columns (db.trees 9) h.1.1.1.1.1.0;
     choices = empty columns.choice_columns (db.trees 16) h.1.1.1.1.1.1.1.1.0;
   };
 }

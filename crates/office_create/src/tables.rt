@@ -5,7 +5,7 @@ ghost use Rattle.office_create.specs.Created.{Declares};
 ghost use Rattle.office_create.specs.Stages.{table_text};
 ghost use Rattle.office_tables.specs.Steps.{StaysInside};
 
-use office_tables::choices::table_text;
+use office_tables::round_tables::{choice_text, result_text, word_text};
 use office_tables::running::run;
 use sqlite::{Alter, Error, Transaction};
 
@@ -22,8 +22,8 @@ pub(crate) fn make_tables<S: Alter>(tx: &mut Transaction<'_, S>) -> Result<(), E
     Ok(())
 }
 
-// What declares the table at this place. A table comes after those that it refers to, and that of choices is the last,
-// since it is dropped and made anew.
+// What declares the table at this place. A table comes after those that it refers to, and those of a round are the last,
+// since they are dropped and made anew.
 fn text_of(place: usize) -> &'static str
     requires { place < 8 }
     ensures { result.now ≡ table_text place }
@@ -36,14 +36,12 @@ fn text_of(place: usize) -> &'static str
   withdrawn INTEGER NOT NULL CHECK(withdrawn IN (0, 1))) STRICT",
         2 => "CREATE TABLE round(one INTEGER PRIMARY KEY CHECK(one = 1),
   version INTEGER NOT NULL, number INTEGER NOT NULL, phase TEXT NOT NULL) STRICT",
-        3 => "CREATE TABLE word(person TEXT PRIMARY KEY NOT NULL REFERENCES person(id),
-  hex TEXT NOT NULL) STRICT",
-        4 => "CREATE TABLE result(person TEXT PRIMARY KEY NOT NULL REFERENCES person(id),
-  room TEXT UNIQUE REFERENCES room(code)) STRICT",
-        5 => "CREATE TABLE move(round INTEGER NOT NULL, person TEXT NOT NULL,
+        3 => "CREATE TABLE move(round INTEGER NOT NULL, person TEXT NOT NULL,
   from_room TEXT, to_room TEXT, wave INTEGER, PRIMARY KEY(round, person)) STRICT",
-        6 => "CREATE TABLE list(label TEXT PRIMARY KEY NOT NULL, kind TEXT NOT NULL,
+        4 => "CREATE TABLE list(label TEXT PRIMARY KEY NOT NULL, kind TEXT NOT NULL,
   body BLOB NOT NULL, added INTEGER NOT NULL) STRICT",
-        _ => table_text(),
+        5 => word_text(),
+        6 => result_text(),
+        _ => choice_text(),
     }
 }

@@ -92,7 +92,7 @@ rounds_rise (e ∷ es) up =
     (round_rows e) (of_round e))
 
 outs_rise : (moves : RoundMap RoundMoves)
-    → Rises (inner 12 end) (col 1 1 ∷ col 1 2 ∷ col 1 3 ∷ col 1 4 ∷ col 1 5 ∷ []) (up (col 1 1) ∷ up (col 1 2) ∷ []) (map out (move_rows moves))
+    → Rises (inner 7 end) (col 1 1 ∷ col 1 2 ∷ col 1 3 ∷ col 1 4 ∷ col 1 5 ∷ []) (up (col 1 1) ∷ up (col 1 2) ∷ []) (map out (move_rows moves))
 outs_rise moves = ascending-map (λ a b. output_cmp moves_query a b ≡ Less) out (move_rows moves) (rounds_rise (maps.entries moves) (entries_rise nat_cmp moves))
 
 -- what is shown of all rows of the table
@@ -126,10 +126,10 @@ unfolding rows_of
 answers db office rows holds lawful h =
     let held = holds.rows.moves in
     let records = move_rows office.moves in
-    let all : IsPermutation (map out records) (map (output moves_query) (matches db.trees [] (inner 12 end) ([] ∷ []))) =
-    subst (IsPermutation (map out records)) (sym (ap (map (output moves_query)) (one_table db.trees 12) ∙ outs_are (db.trees 12) records held))
+    let all : IsPermutation (map out records) (map (output moves_query) (matches db.trees [] (inner 7 end) ([] ∷ []))) =
+    subst (IsPermutation (map out records)) (sym (ap (map (output moves_query)) (one_table db.trees 7) ∙ outs_are (db.trees 7) records held))
     (IsPermutation-map out _ _ held.same) in
-    let is = answer_is (inner 12 end) (col 1 1 ∷ col 1 2 ∷ col 1 3 ∷ col 1 4 ∷ col 1 5 ∷ []) (up (col 1 1) ∷ up (col 1 2) ∷ []) db rows (map out records) h all (outs_rise office.moves) in
+    let is = answer_is (inner 7 end) (col 1 1 ∷ col 1 2 ∷ col 1 3 ∷ col 1 4 ∷ col 1 5 ∷ []) (up (col 1 1) ∷ up (col 1 2) ∷ []) db rows (map out records) h all (outs_rise office.moves) in
     ap (λ l. header_of Moves ∷ l)
     (ap (map move_record) (is ∙ map-map (λ (o : Output). o.1) out records)
     ∙ map-map move_record move_columns records

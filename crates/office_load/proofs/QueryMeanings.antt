@@ -26,20 +26,20 @@ pub choices_listed : ListsTable text.choices_text 16 (col 1 1 ∷ col 1 2 ∷ co
 unfolding understood everything
 choices_listed = record { order = []; is = refl; plain = (refl, refl); unlisted = refl }
 
-pub words_listed : ListsTable text.words_text 7 (col 1 1 ∷ col 1 2 ∷ []) (codes "person" ∷ codes "hex" ∷ [])
+pub words_listed : ListsTable text.words_text 11 (col 1 1 ∷ col 1 2 ∷ []) (codes "person" ∷ codes "hex" ∷ [])
 unfolding understood everything
 words_listed = record { order = []; is = refl; plain = (refl, refl); unlisted = refl }
 
-pub results_listed : ListsTable text.results_text 9 (col 1 1 ∷ col 1 2 ∷ []) (codes "person" ∷ codes "room" ∷ [])
+pub results_listed : ListsTable text.results_text 13 (col 1 1 ∷ col 1 2 ∷ []) (codes "person" ∷ codes "room" ∷ [])
 unfolding understood everything
 results_listed = record { order = []; is = refl; plain = (refl, refl); unlisted = refl }
 
-pub moves_listed : ListsTable text.moves_text 12 (col 1 1 ∷ col 1 2 ∷ col 1 3 ∷ col 1 4 ∷ col 1 5 ∷ [])
+pub moves_listed : ListsTable text.moves_text 7 (col 1 1 ∷ col 1 2 ∷ col 1 3 ∷ col 1 4 ∷ col 1 5 ∷ [])
     (codes "round" ∷ codes "person" ∷ codes "from_room" ∷ codes "to_room" ∷ codes "wave" ∷ [])
 unfolding understood everything
 moves_listed = record { order = []; is = refl; plain = (refl, refl); unlisted = refl }
 
-pub lists_listed : ListsTable text.lists_text 14 (col 1 1 ∷ col 1 2 ∷ col 1 3 ∷ col 1 4 ∷ [])
+pub lists_listed : ListsTable text.lists_text 9 (col 1 1 ∷ col 1 2 ∷ col 1 3 ∷ col 1 4 ∷ [])
     (codes "label" ∷ codes "kind" ∷ codes "body" ∷ codes "added" ∷ [])
 unfolding understood everything
 lists_listed = record { order = []; is = refl; plain = (refl, refl); unlisted = refl }

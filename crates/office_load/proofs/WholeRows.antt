@@ -92,8 +92,8 @@ laid_if_sound db sound has wide =
       rounds = both _ _ (db.trees 6) (all_whole (round 6) (db.trees 6) (λ row p. last_of (there row 3) (there row 4) (and_parts (there row 2) (there row 3 && (there row 4 && true)) p).1) typed.1.1.0 present.1.1.0)
           (all_null (db.trees 6) typed.1.1.0);
       choices = all_whole (choice 16) (db.trees 16) (λ row p. last_of (there row 2) (there row 3) (and_parts (there row 1) (there row 2 && (there row 3 && true)) p).1) typed.1.1.1.1.1.1.1.0 present.1.1.1.1.1.1.1.0;
-      words = all_whole (word 7) (db.trees 7) (λ row p. last_of (there row 1) (there row 2) p) typed.1.1.1.0 present.1.1.1.0;
+      words = all_whole (word 11) (db.trees 11) (λ row p. last_of (there row 1) (there row 2) p) typed.1.1.1.1.1.0 present.1.1.1.1.1.0;
       results = wide.results;
       moves = wide.moves;
-      lists = all_whole (list 14) (db.trees 14) (λ row p. last_of (there row 3) (there row 4) (and_parts (there row 2) (there row 3 && (there row 4 && true)) (and_parts (there row 1) (there row 2 && (there row 3 && (there row 4 && true))) p).1).1) typed.1.1.1.1.1.1.0 present.1.1.1.1.1.1.0;
+      lists = all_whole (list 9) (db.trees 9) (λ row p. last_of (there row 3) (there row 4) (and_parts (there row 2) (there row 3 && (there row 4 && true)) (and_parts (there row 1) (there row 2 && (there row 3 && (there row 4 && true))) p).1).1) typed.1.1.1.1.0 present.1.1.1.1.0;
     }

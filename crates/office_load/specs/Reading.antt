@@ -26,10 +26,10 @@ pub record AreShown (trees : Trees) (tables : Tables) : Type 0 where
       tables.rounds
   pub choices : ShowRecords choice_columns IsChoiceRow (col 1 1 ∷ col 1 2 ∷ col 1 3 ∷ []) (trees 16)
       tables.choices
-  pub words : ShowRecords word_columns IsWordRow (col 1 1 ∷ col 1 2 ∷ []) (trees 7) tables.words
-  pub results : ShowRecords result_columns IsResultRow (col 1 1 ∷ col 1 2 ∷ []) (trees 9)
+  pub words : ShowRecords word_columns IsWordRow (col 1 1 ∷ col 1 2 ∷ []) (trees 11) tables.words
+  pub results : ShowRecords result_columns IsResultRow (col 1 1 ∷ col 1 2 ∷ []) (trees 13)
       tables.results
   pub moves : ShowRecords move_columns IsMoveRow
-      (col 1 1 ∷ col 1 2 ∷ col 1 3 ∷ col 1 4 ∷ col 1 5 ∷ []) (trees 12) tables.moves
+      (col 1 1 ∷ col 1 2 ∷ col 1 3 ∷ col 1 4 ∷ col 1 5 ∷ []) (trees 7) tables.moves
   pub lists : ShowRecords list_columns IsListRow (col 1 1 ∷ col 1 2 ∷ col 1 3 ∷ col 1 4 ∷ [])
-      (trees 14) tables.lists
+      (trees 9) tables.lists

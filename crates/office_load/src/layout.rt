@@ -36,10 +36,10 @@ fn has_tables(tables: &[Table]) -> bool
         && is_kept(tables, 0, b"room", 0)
         && is_kept(tables, 1, b"person", 2)
         && is_kept(tables, 2, b"round", 6)
-        && is_kept(tables, 3, b"word", 7)
-        && is_kept(tables, 4, b"result", 9)
-        && is_kept(tables, 5, b"move", 12)
-        && is_kept(tables, 6, b"list", 14)
+        && is_kept(tables, 3, b"move", 7)
+        && is_kept(tables, 4, b"list", 9)
+        && is_kept(tables, 5, b"word", 11)
+        && is_kept(tables, 6, b"result", 13)
         && is_kept(tables, 7, b"choice", 16)
 }
 
@@ -75,11 +75,11 @@ fn has_first_indexes(indexes: &[Index]) -> bool
 fn has_later_indexes(indexes: &[Index]) -> bool
     ensures { result ≡ are_later_indexes indexes.now }
 {
-    is_index(indexes, 4, b"sqlite_autoindex_word_1", (8, 7), &[1])
-        && is_index(indexes, 5, b"sqlite_autoindex_result_1", (10, 9), &[1])
-        && is_index(indexes, 6, b"sqlite_autoindex_result_2", (11, 9), &[2])
-        && is_index(indexes, 7, b"sqlite_autoindex_move_1", (13, 12), &[1, 2])
-        && is_index(indexes, 8, b"sqlite_autoindex_list_1", (15, 14), &[1])
+    is_index(indexes, 4, b"sqlite_autoindex_move_1", (8, 7), &[1, 2])
+        && is_index(indexes, 5, b"sqlite_autoindex_list_1", (10, 9), &[1])
+        && is_index(indexes, 6, b"sqlite_autoindex_word_1", (12, 11), &[1])
+        && is_index(indexes, 7, b"sqlite_autoindex_result_1", (14, 13), &[1])
+        && is_index(indexes, 8, b"sqlite_autoindex_result_2", (15, 13), &[2])
         && is_index(indexes, 9, b"sqlite_autoindex_choice_1", (17, 16), &[1, 2])
         && is_index(indexes, 10, b"sqlite_autoindex_choice_2", (18, 16), &[1, 3])
 }

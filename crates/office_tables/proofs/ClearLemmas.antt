@@ -1,5 +1,6 @@
--- The table of choices is dropped, and declared again where it was.
-use Rattle.std.proofs.Common.{◌≡◌, ℕ, List, [], Ok, None, false, refl, sym, ap, ◌∙◌, subst, inl, inr, arith}
+-- The tables of a round are dropped, and declared again where they were.
+use Rattle.std.proofs.Common.{◌≡◌, ◌⊎◌, ◌≤◌, ◌+◌, ℕ, zero, suc, List, [], ◌∷◌, drop, take, cond, slice_get, Option, Some, None, Ok, false, codes, refl, sym, ap, ◌∙◌, subst, inl, inr, arith}
+use Rattle.std.specs.List.{AllByRecursion}
 use Rattle.std.proofs.lemmas.Bool.{MatchBool-at_false}
 use Rattle.sqlite_schema.specs.declared.schema.Schema.{Schema}
 use Rattle.sqlite_schema.specs.declared.schema.Table.{Table}
@@ -9,146 +10,253 @@ use Rattle.sqlite_trees.specs.Tree.{Trees}
 use Rattle.sqlite_resolve.specs.Compile.{table_defined_by}
 use Rattle.sqlite_catalog.specs.Change.{created, next_tree, without_table, KeepsRows}
 use Rattle.sqlite_tied.specs.Compute.{everything}
-use Rattle.sqlite.specs.Does.{Tally, Drops, is_acted_on, lacks_sequence}
+use Rattle.sqlite.specs.Does.{AtPlace, Tally, Does, Drops, UncountsIn, is_acted_on, lacks_sequence}
 use Rattle.sqlite.specs.Effect.{Database}
 use Rattle.sqlite.specs.Listing.{understood}
-use Rattle.sqlite.specs.Rows.{Task}
+use Rattle.sqlite.specs.Rows.{Task, sequence}
 use Rattle.sqlite.specs.State.{State, HasCleanDisk, Writes, Executes, mode_of}
 use Rattle.sqlite.proofs.Callers.{IsPlain, command_of, statement_of, runs_as}
 use Rattle.office_cells.specs.Columns as columns
-use Rattle.office_tables.specs.Declaring.{Adds, LosesChoices, MayLackChoices, RegainsChoices}
+use Rattle.office_tables.specs.Declaring.{Adds, MakesTooFew, MayLackTables, Stands}
 use Rattle.office_tables.specs.Edits as edit
 use Rattle.office_tables.specs.Holds.{Holds}
 use Rattle.office_tables.specs.Makes.{Makes}
-use Rattle.office_tables.specs.Schema.{office_schema, all_but_choices, choice, choice_text}
-use Rattle.office_tables.specs.Steps.{Ran, StaysInside, IsUndone}
-use Rattle.office_tables.specs.Texts as text
-use Rattle.office_tables.proofs.CommandLemmas.{drop_table_is}
+use Rattle.office_tables.specs.Schema.{office_schema, first_tables, word, result, choice, word_text, result_text, choice_text}
+use Rattle.office_tables.specs.Steps.{Ran, StaysInside, SeesTheSame, RollsBack, IsHonest, IsUndone}
+use Rattle.office_tables.specs.Texts.{drop_table_text}
 use Rattle.office_tables.proofs.HoldLemmas.{none_held}
 use Rattle.office_tables.proofs.OneTable.{stays}
-use Rattle.office_tables.proofs.StatementLemmas.{went, same_value, ran}
+use Rattle.office_tables.proofs.StatementLemmas.{went, same_value}
 
--- what CREATE TABLE makes of a schema that is written out
-pub adds : (text : List ℕ) (table : Table) (schema : Schema) → (command_of (understood schema text) ≡ CreateTable) × (statement_of text (understood schema text) ≡ text) × (table_defined_by text ≡ Ok table)
-    → IsPlain (understood schema text) → lacks_sequence (created schema table) ≡ false → (old new : State) (count : ℕ) → old.now.schema ≡ schema → Executes text [] old new (Ok count) → Adds table old.now new.now
-adds text table schema is plain counted old new count has h =
-    let w = subst (λ t. Writes old new None CreateTable t [] count) is.1 (runs_as text [] old new schema has CreateTable is.0 plain count h) in
-    let all = went w.changed in
-    let first = went all.1 in
-    let made = first.1 in
-    let both : Ok made.table ≡ Ok table = sym made.defined ∙ is.2 in
-    let same : made.table ≡ table = cc in
-    let schema_is : first.0.schema ≡ created old.now.schema table = made.is ∙ ap (created old.now.schema) same in
-    let uncounted : lacks_sequence first.0.schema ≡ false = ap lacks_sequence (schema_is ∙ ap (λ s. created s table) has) ∙ counted in
-    let now : new.now ≡ first.0 = ap (λ (p : Tally × Database). p.1) (same_value all.2) ∙ same_value (rw uncounted at first.2) in
-    record {
-      schema = ap (λ (d : Database). d.schema) now ∙ schema_is;
-      empty = ap (λ (d : Database). d.trees (next_tree old.now.schema)) now ∙ made.empty;
-      others = subst (λ (d : Database). KeepsRows old.now.schema.tables old.now.trees d.trees) (sym now) made.others;
-    }
+-- ---- one more table
 
--- ---- the table and its text
+-- the text declares the table at this place, after those before it
+pub record IsDeclaredBy (text : List ℕ) (place : ℕ) (table : Table) : Type 0 where
+  pub is : command_of (understood (first_tables place) text) ≡ CreateTable
+  pub whole : statement_of text (understood (first_tables place) text) ≡ text
+  pub defined : table_defined_by text ≡ Ok table
+  pub plain : IsPlain (understood (first_tables place) text)
+  pub added : created (first_tables place) table ≡ first_tables (place + 1)
+  pub uncounted : lacks_sequence (first_tables (place + 1)) ≡ false
+  pub last : drop place (first_tables (place + 1)).tables ≡ record table { tree = next_tree (first_tables place) } ∷ []
 
-pub choice_is : (command_of (understood all_but_choices choice_text) ≡ CreateTable) × (statement_of choice_text (understood all_but_choices choice_text) ≡ choice_text) × (table_defined_by choice_text ≡ Ok (choice 0))
-unfolding understood everything
-choice_is = (refl, refl, refl)
+module _ (text : List ℕ) (place : ℕ) (table : Table) (it : IsDeclaredBy text place table) (old new : State) where
+  -- what CREATE TABLE makes of the first tables
+  pub adds : (count : ℕ) → old.now.schema ≡ first_tables place → Executes text [] old new (Ok count) → Adds table old.now new.now
+  adds count has h =
+      let w = subst (λ t. Writes old new None CreateTable t [] count) it.whole (runs_as text [] old new (first_tables place) has CreateTable it.is it.plain count h) in
+      let all = went w.changed in
+      let first = went all.1 in
+      let made = first.1 in
+      let both : Ok made.table ≡ Ok table = sym made.defined ∙ it.defined in
+      let same : made.table ≡ table = cc in
+      let schema_is : first.0.schema ≡ created old.now.schema table = made.is ∙ ap (created old.now.schema) same in
+      let uncounted : lacks_sequence first.0.schema ≡ false = ap lacks_sequence (schema_is ∙ ap (λ s. created s table) has ∙ it.added) ∙ it.uncounted in
+      let now : new.now ≡ first.0 = ap (λ (p : Tally × Database). p.1) (same_value all.2) ∙ same_value (rw uncounted at first.2) in
+      record {
+        schema = ap (λ (d : Database). d.schema) now ∙ schema_is;
+        empty = ap (λ (d : Database). d.trees (next_tree old.now.schema)) now ∙ made.empty;
+        others = subst (λ (d : Database). KeepsRows old.now.schema.tables old.now.trees d.trees) (sym now) made.others;
+      }
 
-pub choice_plain : IsPlain (understood all_but_choices choice_text)
-unfolding understood everything
-choice_plain = (refl, refl)
+  pub gains : (HasCleanDisk new → Ran text [] old new) → Stands place (place + 1) place old new
+  gains runs = record {
+    shown = λ clean has.
+        let a = adds (runs clean).count has (runs clean).ran in (
+          a.schema ∙ ap (λ s. created s table) has ∙ it.added,
+          subst (λ (s : Schema). KeepsRows s.tables old.now.trees new.now.trees) has a.others,
+          subst (AllByRecursion (λ t. new.now.trees t.tree ≡ [])) (sym it.last) (subst (λ (s : Schema). new.now.trees (next_tree s) ≡ []) has a.empty, tt),
+        );
+    mode = λ clean. (runs clean).mode;
+  }
 
-pub choice_added : created all_but_choices (choice 0) ≡ office_schema
-unfolding understood everything
-choice_added = refl
+-- ---- one table less
 
-choice_left : without_table office_schema 16 ≡ all_but_choices
-unfolding understood everything
-choice_left = refl
+-- the text drops the table at this place, which is the last, and to which no other refers
+pub record IsDroppedBy (text : List ℕ) (place : ℕ) (table : Table) : Type 0 where
+  pub is : command_of (understood (first_tables (place + 1)) text) ≡ DropTable place
+  pub plain : IsPlain (understood (first_tables (place + 1)) text)
+  pub found : slice_get (first_tables (place + 1)).tables place ≡ Some table
+  pub unmoved : is_acted_on (first_tables (place + 1)) Enforced table ≡ false
+  pub uncounted : table.is_counted ≡ false
+  pub left : without_table (first_tables (place + 1)) table.tree ≡ first_tables place
 
--- no foreign key acts on the rows
-unmoved : is_acted_on office_schema Enforced (choice 16) ≡ false
-unfolding understood everything
-unmoved = refl
+none_past : (P : Table → Type 0) (n : ℕ) (tables : List Table) → AllByRecursion P (drop n (take n tables))
+none_past P zero [] = tt
+none_past P zero (t ∷ tables) = tt
+none_past P (suc n) [] = tt
+none_past P (suc n) (t ∷ tables) = none_past P n tables
 
--- ---- the two statements
+module _ (text : List ℕ) (place : ℕ) (table : Table) (it : IsDroppedBy text place table) (old new : State) where
+  abbrev before : Schema
+  before = first_tables (place + 1)
 
-module _ (old new : State) (count : ℕ) where
-  abbrev task : Task
-  task = record { limit = old.step_limit; keys = Enforced; schema = office_schema; table = choice 16; params = [] }
+  abbrev task : Schema → Table → Task
+  task schema t = record { limit = old.step_limit; keys = Enforced; schema = schema; table = t; params = [] }
 
-  lost : old.now.schema ≡ office_schema → Executes text.drop_table_text [] old new (Ok count) → (new.now.schema ≡ all_but_choices) × KeepsRows all_but_choices.tables old.now.trees new.now.trees
-  lost has h =
-      let w = runs_as text.drop_table_text [] old new office_schema has (DropTable 7) drop_table_is.is drop_table_is.plain count h in
-      let drops : Drops task (mode_of old) old.now.trees (Ok (w.tally, new.now)) = ran text.drop_table_text [] old new has (DropTable 7) drop_table_is.is drop_table_is.plain count h w in
-      let emptied = went drops in
+  drops : (tally : Tally) → old.now.schema ≡ before → Does old.step_limit (mode_of old) [] old.now (statement_of text (understood before text)) None (DropTable place) (Ok (tally, new.now))
+      → Drops (task before table) (mode_of old) old.now.trees (Ok (tally, new.now))
+  drops tally has does =
+      subst (λ (o : Option Table). AtPlace (λ t. Drops (task before t) (mode_of old) old.now.trees) o (Ok (tally, new.now))) it.found
+      (subst (λ (s : Schema). AtPlace (λ t. Drops (task s t) (mode_of old) old.now.trees) (slice_get s.tables place) (Ok (tally, new.now))) has does)
+
+  lost : (count : ℕ) → old.now.schema ≡ before → Executes text [] old new (Ok count) → (new.now.schema ≡ first_tables place) × KeepsRows (first_tables place).tables old.now.trees new.now.trees
+  lost count has h =
+      let w = runs_as text [] old new before has (DropTable place) it.is it.plain count h in
+      let emptied = went (drops w.tally has w.changed) in
       let uncounted = went emptied.2 in
       let tested = went uncounted.2 in
       let left = went tested.2 in
-      let first : emptied.0 ≡ old.now.trees = same_value (MatchBool-at_false _ _ unmoved emptied.1) in
-      let second : uncounted.0 ≡ emptied.0 = same_value uncounted.1 in
+      let first : emptied.0 ≡ old.now.trees = same_value (MatchBool-at_false _ _ it.unmoved emptied.1) in
+      let second : uncounted.0 ≡ emptied.0 = same_value (subst (λ b. UncountsIn (task before table) emptied.0 (cond b (sequence before) None) (Ok uncounted.0)) it.uncounted uncounted.1) in
       let now : new.now ≡ left.0 = ap (λ (p : Tally × Database). p.1) (same_value left.2) in
-      let kept = subst (λ (s : Schema). KeepsRows s.tables uncounted.0 left.0.trees) choice_left left.1.1 in (
-        ap (λ (d : Database). d.schema) now ∙ left.1.0 ∙ choice_left,
-        subst (λ (trees : Trees). KeepsRows all_but_choices.tables trees new.now.trees) (second ∙ first)
-            (subst (λ (d : Database). KeepsRows all_but_choices.tables uncounted.0 d.trees) (sym now) kept),
+      let kept = subst (λ (s : Schema). KeepsRows s.tables uncounted.0 left.0.trees) it.left left.1.1 in (
+        ap (λ (d : Database). d.schema) now ∙ left.1.0 ∙ it.left,
+        subst (λ (trees : Trees). KeepsRows (first_tables place).tables trees new.now.trees) (second ∙ first)
+            (subst (λ (d : Database). KeepsRows (first_tables place).tables uncounted.0 d.trees) (sym now) kept),
       )
 
-  regained : old.now.schema ≡ all_but_choices → Executes choice_text [] old new (Ok count)
-      → (new.now.schema ≡ office_schema) × (new.now.trees 16 ≡ []) × KeepsRows all_but_choices.tables old.now.trees new.now.trees
-  regained has h =
-      let a = adds choice_text (choice 0) all_but_choices choice_is choice_plain refl old new count has h in (
-        a.schema ∙ ap (λ s. created s (choice 0)) has ∙ choice_added,
-        subst (λ (s : Schema). new.now.trees (next_tree s) ≡ []) has a.empty,
-        subst (λ (s : Schema). KeepsRows s.tables old.now.trees new.now.trees) has a.others,
-      )
+  pub loses : (HasCleanDisk new → Ran text [] old new) → Stands (place + 1) place place old new
+  loses runs = record {
+    shown = λ clean has.
+        let a = lost (runs clean).count has (runs clean).ran in
+        (a.0, a.1, none_past (λ t. new.now.trees t.tree ≡ []) place office_schema.tables);
+    mode = λ clean. (runs clean).mode;
+  }
 
-pub loses : (old new : State) → (HasCleanDisk new → Ran text.drop_table_text [] old new) → LosesChoices old new
-loses old new runs = record {
-  shown = λ clean has. lost old new (runs clean).count has (runs clean).ran;
-  mode = λ clean. (runs clean).mode;
-}
+-- ---- the tables of a round and their texts
 
-pub regains : (old new : State) → (HasCleanDisk new → Ran choice_text [] old new) → RegainsChoices old new
-regains old new runs = record {
-  shown = λ clean has. regained old new (runs clean).count has (runs clean).ran;
-  mode = λ clean. (runs clean).mode;
-}
+pub word_declared : IsDeclaredBy word_text 5 (word 0)
+unfolding understood everything
+word_declared = record { is = refl; whole = refl; defined = refl; plain = (refl, refl); added = refl; uncounted = refl; last = refl }
 
--- both together leave the table with no rows
-pub clears : (old mid new : State) → (HasCleanDisk new → HasCleanDisk mid) → LosesChoices old mid → RegainsChoices mid new → Makes old new edit.without_choices
-unfolding edit.without_choices
-clears old mid new early loss gain = record {
+pub result_declared : IsDeclaredBy result_text 6 (result 0)
+unfolding understood everything
+result_declared = record { is = refl; whole = refl; defined = refl; plain = (refl, refl); added = refl; uncounted = refl; last = refl }
+
+pub choice_declared : IsDeclaredBy choice_text 7 (choice 0)
+unfolding understood everything
+choice_declared = record { is = refl; whole = refl; defined = refl; plain = (refl, refl); added = refl; uncounted = refl; last = refl }
+
+pub word_dropped : IsDroppedBy (drop_table_text (codes "word")) 5 (word 11)
+unfolding understood everything
+word_dropped = record { is = refl; plain = (refl, refl); found = refl; unmoved = refl; uncounted = refl; left = refl }
+
+pub result_dropped : IsDroppedBy (drop_table_text (codes "result")) 6 (result 13)
+unfolding understood everything
+result_dropped = record { is = refl; plain = (refl, refl); found = refl; unmoved = refl; uncounted = refl; left = refl }
+
+pub choice_dropped : IsDroppedBy (drop_table_text (codes "choice")) 7 (choice 16)
+unfolding understood everything
+choice_dropped = record { is = refl; plain = (refl, refl); found = refl; unmoved = refl; uncounted = refl; left = refl }
+
+-- ---- one statement after another
+
+keeps_then : (tables : List Table) (a b c : Trees) → KeepsRows tables a b → KeepsRows tables b c → KeepsRows tables a c
+keeps_then [] a b c p q = tt
+keeps_then (t ∷ tables) a b c p q = (q.0 ∙ p.0, keeps_then tables a b c p.1 q.1)
+
+keeps_fewer : (few many : ℕ) (tables : List Table) (a b : Trees) → few ≤ many → KeepsRows (take many tables) a b → KeepsRows (take few tables) a b
+keeps_fewer zero many [] a b low p = tt
+keeps_fewer zero many (t ∷ tables) a b low p = tt
+keeps_fewer (suc few) many [] a b low p = tt
+keeps_fewer (suc few) zero (t ∷ tables) a b low p = absurd (omega (arith, low))
+keeps_fewer (suc few) (suc many) (t ∷ tables) a b low p = (p.0, keeps_fewer few many tables a b (omega (arith, low)) p.1)
+
+module _ (old mid new : State) where
+  keeps : (few many : ℕ) → few ≤ many → KeepsRows (take many office_schema.tables) old.now.trees mid.now.trees → KeepsRows (take few office_schema.tables) mid.now.trees new.now.trees
+      → KeepsRows (take few office_schema.tables) old.now.trees new.now.trees
+  keeps few many low p q = keeps_then (take few office_schema.tables) old.now.trees mid.now.trees new.now.trees (keeps_fewer few many office_schema.tables old.now.trees mid.now.trees low p) q
+
+  -- the later statements leave no more rows
+  pub stands_then : (a b c many few : ℕ) → few ≤ many → (HasCleanDisk new → HasCleanDisk mid) → Stands a b many old mid → Stands b c few mid new → Stands a c few old new
+  stands_then a b c many few low early first second = record {
+    shown = λ clean has.
+        let p = first.shown (early clean) has in
+        let q = second.shown clean p.0 in
+        (q.0, keeps few many low p.1 q.1, q.2);
+    mode = λ clean. second.mode clean ∙ first.mode (early clean);
+  }
+
+  -- results are made after words
+  pub two_made : (HasCleanDisk new → HasCleanDisk mid) → Stands 5 6 5 old mid → Stands 6 7 6 mid new → Stands 5 7 5 old new
+  two_made early first second = record {
+    shown = λ clean has.
+        let p = first.shown (early clean) has in
+        let q = second.shown clean p.0 in (
+          q.0,
+          keeps 5 5 (omega arith) p.1 (keeps_fewer 5 6 office_schema.tables mid.now.trees new.now.trees (omega arith) q.1),
+          (q.1.1.1.1.1.1.0 ∙ p.2.0, q.2),
+        );
+    mode = λ clean. second.mode clean ∙ first.mode (early clean);
+  }
+
+  -- and choices after both
+  pub all_made : (HasCleanDisk new → HasCleanDisk mid) → Stands 5 7 5 old mid → Stands 7 8 7 mid new → Stands 5 8 5 old new
+  all_made early first second = record {
+    shown = λ clean has.
+        let p = first.shown (early clean) has in
+        let q = second.shown clean p.0 in (
+          q.0,
+          keeps 5 5 (omega arith) p.1 (keeps_fewer 5 7 office_schema.tables mid.now.trees new.now.trees (omega arith) q.1),
+          (q.1.1.1.1.1.1.0 ∙ p.2.0, (q.1.1.1.1.1.1.1.0 ∙ p.2.1.0, q.2)),
+        );
+    mode = λ clean. second.mode clean ∙ first.mode (early clean);
+  }
+
+  -- a statement was refused, or failed, after others
+  pub cut_short : (a b kept : ℕ) → StaysInside old mid → StaysInside mid new → Stands a b kept old mid → IsUndone mid new → IsHonest new → Stands a b kept old new ⊎ (SeesTheSame old new ⊎ RollsBack old new)
+  cut_short a b kept before later first undone honest =
+      let early : HasCleanDisk new → HasCleanDisk mid = λ clean. omega (arith, clean, later.survives.clean) in
+      elim (undone honest) [
+        | inl same ↦ inl (record {
+          shown = λ clean has.
+              subst (λ (d : Database). (d.schema ≡ first_tables b) × KeepsRows (take kept office_schema.tables) old.now.trees d.trees × AllByRecursion (λ t. d.trees t.tree ≡ []) (drop kept (take b office_schema.tables)))
+              (sym same.0) (first.shown (early clean) has);
+          mode = λ clean. same.1 ∙ first.mode (early clean);
+        })
+        | inr rolled ↦
+            let was_open = (later.kept honest.0).was_open honest.1 in
+            inr (inr (rolled.0 ∙ (before.kept (early honest.0)).committed was_open, rolled.1))
+      ]
+
+-- ---- all of it
+
+-- the tables are there, with no rows
+pub clears : (old new : State) → Stands 8 8 5 old new → Makes old new edit.without_round
+unfolding edit.without_round
+clears old new stands = record {
   shown = λ tables clean was.
-      let a = loss.shown (early clean) was.schema in
-      let b = gain.shown clean a.0 in
-      let before = a.1 in
-      let after = b.2 in
+      let all = stands.shown clean was.schema in
+      let kept = all.1 in
+      let none = all.2 in
       record {
-        schema = b.0;
+        schema = all.0;
         rows = record {
-          rooms = stays columns.room_columns tables.rooms (old.now.trees 0) (new.now.trees 0) (after.0 ∙ before.0) was.rows.rooms;
-          people = stays columns.person_columns tables.people (old.now.trees 2) (new.now.trees 2) (after.1.0 ∙ before.1.0) was.rows.people;
-          rounds = stays columns.round_columns tables.rounds (old.now.trees 6) (new.now.trees 6) (after.1.1.0 ∙ before.1.1.0) was.rows.rounds;
-          words = stays columns.word_columns tables.words (old.now.trees 7) (new.now.trees 7) (after.1.1.1.0 ∙ before.1.1.1.0) was.rows.words;
-          results = stays columns.result_columns tables.results (old.now.trees 9) (new.now.trees 9) (after.1.1.1.1.0 ∙ before.1.1.1.1.0) was.rows.results;
-          moves = stays columns.move_columns tables.moves (old.now.trees 12) (new.now.trees 12) (after.1.1.1.1.1.0 ∙ before.1.1.1.1.1.0) was.rows.moves;
-          lists = stays columns.list_columns tables.lists (old.now.trees 14) (new.now.trees 14) (after.1.1.1.1.1.1.0 ∙ before.1.1.1.1.1.1.0) was.rows.lists;
-          choices = subst (λ l. Holds columns.choice_columns l []) (sym b.1) (none_held columns.choice_columns);
+          rooms = stays columns.room_columns tables.rooms (old.now.trees 0) (new.now.trees 0) kept.0 was.rows.rooms;
+          people = stays columns.person_columns tables.people (old.now.trees 2) (new.now.trees 2) kept.1.0 was.rows.people;
+          rounds = stays columns.round_columns tables.rounds (old.now.trees 6) (new.now.trees 6) kept.1.1.0 was.rows.rounds;
+          moves = stays columns.move_columns tables.moves (old.now.trees 7) (new.now.trees 7) kept.1.1.1.0 was.rows.moves;
+          lists = stays columns.list_columns tables.lists (old.now.trees 9) (new.now.trees 9) kept.1.1.1.1.0 was.rows.lists;
+          words = subst (λ l. Holds columns.word_columns l []) (sym none.0) (none_held columns.word_columns);
+          results = subst (λ l. Holds columns.result_columns l []) (sym none.1.0) (none_held columns.result_columns);
+          choices = subst (λ l. Holds columns.choice_columns l []) (sym none.1.1.0) (none_held columns.choice_columns);
         };
       };
-  mode = λ clean. gain.mode clean ∙ loss.mode (early clean);
+  mode = stands.mode;
 }
 
--- the second was refused, or failed, after the first
-pub half_cleared : (old mid new : State) → StaysInside old mid → StaysInside mid new → LosesChoices old mid → IsUndone mid new → MayLackChoices old new
-half_cleared old mid new before later loss undone honest =
+-- they were dropped, and one of them could not be made anew
+pub made_too_few : (old mid new : State) → StaysInside old mid → StaysInside mid new → Stands 8 5 5 old mid → MakesTooFew mid new → MayLackTables old new
+made_too_few old mid new before later lost few honest =
     let early : HasCleanDisk new → HasCleanDisk mid = λ clean. omega (arith, clean, later.survives.clean) in
-    elim (undone honest) [
-      | inl same ↦ inl (record {
-        shown = λ clean has. subst (λ (d : Database). (d.schema ≡ all_but_choices) × KeepsRows all_but_choices.tables old.now.trees d.trees) (sym same.0) (loss.shown (early clean) has);
-        mode = λ clean. same.1 ∙ loss.mode (early clean);
-      })
-      | inr rolled ↦
-          let was_open = (later.kept honest.0).was_open honest.1 in
-          inr (inr (rolled.0 ∙ (before.kept (early honest.0)).committed was_open, rolled.1))
+    elim (few honest) [
+      | inl some ↦ inl (elim some [
+        | inl one ↦ inr (inr (inr (inl (stands_then old mid new 8 5 6 5 5 (omega arith) early lost one))))
+        | inr two ↦ inr (inr (inr (inr (stands_then old mid new 8 5 7 5 5 (omega arith) early lost two))))
+      ])
+      | inr undone ↦ elim (cut_short old mid new 8 5 5 before later lost (λ _. undone) honest) [
+        | inl none ↦ inl (inr (inr (inl none)))
+        | inr rest ↦ inr rest
+      ]
     ]

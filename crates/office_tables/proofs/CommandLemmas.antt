@@ -7,7 +7,7 @@ use Rattle.sqlite_sql.specs.Term.{lit, col}
 use Rattle.sqlite_value.specs.declared.value.Value.TheVariants.{Null, Int}
 use Rattle.sqlite_schema.specs.declared.command.Source.TheVariants.{Values}
 use Rattle.sqlite_schema.specs.declared.command.Command.{Command}
-use Rattle.sqlite_schema.specs.declared.command.Command.TheVariants.{Insert, Update, Delete, DropTable}
+use Rattle.sqlite_schema.specs.declared.command.Command.TheVariants.{Insert, Update, Delete}
 use Rattle.office_tables.specs.Schema.{office_schema}
 use Rattle.office_tables.specs.Texts as text
 use Rattle.office_tables.specs.Texts.{over, alone, by_parameter}
@@ -61,38 +61,26 @@ pub drop_choices_is : Means text.drop_choices_text (Delete 7 (alone (over 16 (by
 unfolding understood everything
 drop_choices_is = record { is = refl; plain = (refl, refl) }
 
-pub drop_table_is : Means text.drop_table_text (DropTable 7)
-unfolding understood everything
-drop_table_is = record { is = refl; plain = (refl, refl) }
-
-pub add_word_is : Means text.add_word_text (Insert 3 (Values (lit Null ∷ col 0 0 ∷ col 0 1 ∷ []) 3))
+pub add_word_is : Means text.add_word_text (Insert 5 (Values (lit Null ∷ col 0 0 ∷ col 0 1 ∷ []) 3))
 unfolding understood everything
 add_word_is = record { is = refl; plain = (refl, refl) }
 
-pub drop_word_is : Means text.drop_word_text (Delete 3 (alone (over 7 (by_parameter 1 0 ∷ []) (col 1 0 ∷ []) [])))
+pub drop_word_is : Means text.drop_word_text (Delete 5 (alone (over 11 (by_parameter 1 0 ∷ []) (col 1 0 ∷ []) [])))
 unfolding understood everything
 drop_word_is = record { is = refl; plain = (refl, refl) }
 
-pub clear_words_is : Means text.clear_words_text (Delete 3 (alone (over 7 [] (col 1 0 ∷ []) [])))
-unfolding understood everything
-clear_words_is = record { is = refl; plain = (refl, refl) }
-
-pub add_result_is : Means text.add_result_text (Insert 4 (Values (lit Null ∷ col 0 0 ∷ col 0 1 ∷ []) 3))
+pub add_result_is : Means text.add_result_text (Insert 6 (Values (lit Null ∷ col 0 0 ∷ col 0 1 ∷ []) 3))
 unfolding understood everything
 add_result_is = record { is = refl; plain = (refl, refl) }
 
-pub drop_result_is : Means text.drop_result_text (Delete 4 (alone (over 9 (by_parameter 1 0 ∷ []) (col 1 0 ∷ []) [])))
+pub drop_result_is : Means text.drop_result_text (Delete 6 (alone (over 13 (by_parameter 1 0 ∷ []) (col 1 0 ∷ []) [])))
 unfolding understood everything
 drop_result_is = record { is = refl; plain = (refl, refl) }
 
-pub clear_results_is : Means text.clear_results_text (Delete 4 (alone (over 9 [] (col 1 0 ∷ []) [])))
-unfolding understood everything
-clear_results_is = record { is = refl; plain = (refl, refl) }
-
-pub add_move_is : Means text.add_move_text (Insert 5 (Values (lit Null ∷ col 0 0 ∷ col 0 1 ∷ col 0 2 ∷ col 0 3 ∷ col 0 4 ∷ []) 6))
+pub add_move_is : Means text.add_move_text (Insert 3 (Values (lit Null ∷ col 0 0 ∷ col 0 1 ∷ col 0 2 ∷ col 0 3 ∷ col 0 4 ∷ []) 6))
 unfolding understood everything
 add_move_is = record { is = refl; plain = (refl, refl) }
 
-pub add_list_is : Means text.add_list_text (Insert 6 (Values (lit Null ∷ col 0 0 ∷ col 0 1 ∷ col 0 2 ∷ col 0 3 ∷ []) 5))
+pub add_list_is : Means text.add_list_text (Insert 4 (Values (lit Null ∷ col 0 0 ∷ col 0 1 ∷ col 0 2 ∷ col 0 3 ∷ []) 5))
 unfolding understood everything
 add_list_is = record { is = refl; plain = (refl, refl) }

@@ -1,10 +1,9 @@
 -- What each statement makes of the tables, where it runs.
-use Rattle.std.proofs.Common.{◌≡◌, ℕ, pos, Bool, true, false, List, [], ◌∷◌, Option, refl, ap, ap₂, subst}
+use Rattle.std.proofs.Common.{ℕ, pos, Bool, true, false, List, [], ◌∷◌, Option, refl, ap, ap₂}
 use Rattle.sqlite_value.specs.Order.{Row}
 use Rattle.sqlite_value.specs.declared.value.Value.{Value}
 use Rattle.sqlite_value.specs.declared.value.Value.TheVariants.{Null, Int, Text, Blob}
 use Rattle.sqlite_sql.specs.Term.{lit, col}
-use Rattle.sqlite_keyed.specs.Lists.{delete_where}
 use Rattle.sqlite_rules.specs.Edit.{with_rowid}
 use Rattle.sqlite_rules.specs.declared.error.Rowids.TheVariants.{Chosen}
 use Rattle.sqlite.specs.State.{State, HasCleanDisk}
@@ -20,29 +19,16 @@ use Rattle.office_cells.specs.Cells.{flag, text_or_null, wave_value}
 use Rattle.office_tables.specs.Edits as edit
 use Rattle.office_tables.specs.Makes.{Makes}
 use Rattle.office_tables.specs.Steps.{Ran}
-use Rattle.office_tables.specs.Tables.{HasTables}
 use Rattle.office_tables.specs.Texts as text
 use Rattle.office_tables.specs.Texts.{by_parameter}
 use Rattle.office_tables.proofs.CommandLemmas as meaning
 use Rattle.office_tables.proofs.MakeLemmas.{inserted, inserted_anew, deleted, updated}
-use Rattle.office_tables.proofs.OneTable.{OneTable, rooms, people, rounds, choices, words, results, moves, lists}
+use Rattle.office_tables.proofs.OneTable.{rooms, people, rounds, choices, words, results, moves, lists}
 use Rattle.office_tables.proofs.ValueLemmas.{cast-Int, cast-Null, cast-text_or_null, cast-wave_value, same_text}
-
-none_left : {X : Type 0} (xs : List X) → delete_where (λ x. true) xs ≡ []
-none_left [] = refl
-none_left (x ∷ xs) = none_left xs
 
 module _ (old new : State) where
   abbrev Runs : List ℕ → Row → Type 0
   Runs sql params = HasCleanDisk new → Ran sql params old new
-
-  -- every row of the table goes
-  cleared : {X : Type 0} (one : OneTable X) → Makes old new (λ tables. one.with_records (delete_where (λ r. true) (one.of tables)) tables)
-      → Makes old new (λ tables. one.with_records [] tables)
-  cleared one makes = record {
-    shown = λ tables clean was. subst (λ rows. HasTables new.now (one.with_records rows tables)) (none_left (one.of tables)) (makes.shown tables clean was);
-    mode = makes.mode;
-  }
 
   pub makes_room : (room : Bytes) (shut : Bool) → Runs text.add_room_text (Text room ∷ flag shut ∷ []) → Makes old new (edit.with_room room shut)
   unfolding edit.with_room
@@ -113,10 +99,6 @@ module _ (old new : State) where
   unfolding edit.without_word_of
   makes_no_word_of person = deleted words old new text.drop_word_text (Text person ∷ []) (by_parameter 1 0 ∷ []) (col 1 0 ∷ []) (λ r. refl) (λ r. text_eq r.0 person) (λ e. same_text e.1.0 person) meaning.drop_word_is
 
-  pub makes_no_words : Runs text.clear_words_text [] → Makes old new edit.without_words
-  unfolding edit.without_words
-  makes_no_words runs = cleared words (deleted words old new text.clear_words_text [] [] (col 1 0 ∷ []) (λ r. refl) (λ r. true) (λ e. refl) meaning.clear_words_is runs)
-
   pub makes_result : (person : Bytes) (room : Option Bytes) → Runs text.add_result_text (Text person ∷ text_or_null room ∷ []) → Makes old new (edit.with_result person room)
   unfolding edit.with_result
   makes_result person room = inserted_anew results old new text.add_result_text (Text person ∷ text_or_null room ∷ []) (lit Null ∷ col 0 0 ∷ col 0 1 ∷ []) 3 meaning.add_result_is
@@ -125,10 +107,6 @@ module _ (old new : State) where
   pub makes_no_result_of : (person : Bytes) → Runs text.drop_result_text (Text person ∷ []) → Makes old new (edit.without_result_of person)
   unfolding edit.without_result_of
   makes_no_result_of person = deleted results old new text.drop_result_text (Text person ∷ []) (by_parameter 1 0 ∷ []) (col 1 0 ∷ []) (λ r. refl) (λ r. text_eq r.0 person) (λ e. same_text e.1.0 person) meaning.drop_result_is
-
-  pub makes_no_results : Runs text.clear_results_text [] → Makes old new edit.without_results
-  unfolding edit.without_results
-  makes_no_results runs = cleared results (deleted results old new text.clear_results_text [] [] (col 1 0 ∷ []) (λ r. refl) (λ r. true) (λ e. refl) meaning.clear_results_is runs)
 
   pub makes_move : (move : Move) → Runs text.add_move_text (Int (pos move.round) ∷ Text move.person ∷ text_or_null move.from ∷ text_or_null move.to ∷ wave_value move.wave ∷ []) → Makes old new (edit.with_move move)
   unfolding edit.with_move

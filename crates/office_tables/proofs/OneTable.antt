@@ -50,10 +50,10 @@ rooms = record {
     people = stays columns.person_columns tables.people (old.trees 2) (new.trees 2) (t.others.1.0 (λ e. omega arith)) h.people;
     rounds = stays columns.round_columns tables.rounds (old.trees 6) (new.trees 6) (t.others.1.1.0 (λ e. omega arith)) h.rounds;
     choices = stays columns.choice_columns tables.choices (old.trees 16) (new.trees 16) (t.others.1.1.1.1.1.1.1.0 (λ e. omega arith)) h.choices;
-    words = stays columns.word_columns tables.words (old.trees 7) (new.trees 7) (t.others.1.1.1.0 (λ e. omega arith)) h.words;
-    results = stays columns.result_columns tables.results (old.trees 9) (new.trees 9) (t.others.1.1.1.1.0 (λ e. omega arith)) h.results;
-    moves = stays columns.move_columns tables.moves (old.trees 12) (new.trees 12) (t.others.1.1.1.1.1.0 (λ e. omega arith)) h.moves;
-    lists = stays columns.list_columns tables.lists (old.trees 14) (new.trees 14) (t.others.1.1.1.1.1.1.0 (λ e. omega arith)) h.lists;
+    words = stays columns.word_columns tables.words (old.trees 11) (new.trees 11) (t.others.1.1.1.1.1.0 (λ e. omega arith)) h.words;
+    results = stays columns.result_columns tables.results (old.trees 13) (new.trees 13) (t.others.1.1.1.1.1.1.0 (λ e. omega arith)) h.results;
+    moves = stays columns.move_columns tables.moves (old.trees 7) (new.trees 7) (t.others.1.1.1.0 (λ e. omega arith)) h.moves;
+    lists = stays columns.list_columns tables.lists (old.trees 9) (new.trees 9) (t.others.1.1.1.1.0 (λ e. omega arith)) h.lists;
   };
 }
 
@@ -72,10 +72,10 @@ people = record {
     people = put;
     rounds = stays columns.round_columns tables.rounds (old.trees 6) (new.trees 6) (t.others.1.1.0 (λ e. omega arith)) h.rounds;
     choices = stays columns.choice_columns tables.choices (old.trees 16) (new.trees 16) (t.others.1.1.1.1.1.1.1.0 (λ e. omega arith)) h.choices;
-    words = stays columns.word_columns tables.words (old.trees 7) (new.trees 7) (t.others.1.1.1.0 (λ e. omega arith)) h.words;
-    results = stays columns.result_columns tables.results (old.trees 9) (new.trees 9) (t.others.1.1.1.1.0 (λ e. omega arith)) h.results;
-    moves = stays columns.move_columns tables.moves (old.trees 12) (new.trees 12) (t.others.1.1.1.1.1.0 (λ e. omega arith)) h.moves;
-    lists = stays columns.list_columns tables.lists (old.trees 14) (new.trees 14) (t.others.1.1.1.1.1.1.0 (λ e. omega arith)) h.lists;
+    words = stays columns.word_columns tables.words (old.trees 11) (new.trees 11) (t.others.1.1.1.1.1.0 (λ e. omega arith)) h.words;
+    results = stays columns.result_columns tables.results (old.trees 13) (new.trees 13) (t.others.1.1.1.1.1.1.0 (λ e. omega arith)) h.results;
+    moves = stays columns.move_columns tables.moves (old.trees 7) (new.trees 7) (t.others.1.1.1.0 (λ e. omega arith)) h.moves;
+    lists = stays columns.list_columns tables.lists (old.trees 9) (new.trees 9) (t.others.1.1.1.1.0 (λ e. omega arith)) h.lists;
   };
 }
 
@@ -94,10 +94,10 @@ rounds = record {
     people = stays columns.person_columns tables.people (old.trees 2) (new.trees 2) (t.others.1.0 (λ e. omega arith)) h.people;
     rounds = put;
     choices = stays columns.choice_columns tables.choices (old.trees 16) (new.trees 16) (t.others.1.1.1.1.1.1.1.0 (λ e. omega arith)) h.choices;
-    words = stays columns.word_columns tables.words (old.trees 7) (new.trees 7) (t.others.1.1.1.0 (λ e. omega arith)) h.words;
-    results = stays columns.result_columns tables.results (old.trees 9) (new.trees 9) (t.others.1.1.1.1.0 (λ e. omega arith)) h.results;
-    moves = stays columns.move_columns tables.moves (old.trees 12) (new.trees 12) (t.others.1.1.1.1.1.0 (λ e. omega arith)) h.moves;
-    lists = stays columns.list_columns tables.lists (old.trees 14) (new.trees 14) (t.others.1.1.1.1.1.1.0 (λ e. omega arith)) h.lists;
+    words = stays columns.word_columns tables.words (old.trees 11) (new.trees 11) (t.others.1.1.1.1.1.0 (λ e. omega arith)) h.words;
+    results = stays columns.result_columns tables.results (old.trees 13) (new.trees 13) (t.others.1.1.1.1.1.1.0 (λ e. omega arith)) h.results;
+    moves = stays columns.move_columns tables.moves (old.trees 7) (new.trees 7) (t.others.1.1.1.0 (λ e. omega arith)) h.moves;
+    lists = stays columns.list_columns tables.lists (old.trees 9) (new.trees 9) (t.others.1.1.1.1.0 (λ e. omega arith)) h.lists;
   };
 }
 
@@ -116,18 +116,18 @@ choices = record {
     people = stays columns.person_columns tables.people (old.trees 2) (new.trees 2) (t.others.1.0 (λ e. omega arith)) h.people;
     rounds = stays columns.round_columns tables.rounds (old.trees 6) (new.trees 6) (t.others.1.1.0 (λ e. omega arith)) h.rounds;
     choices = put;
-    words = stays columns.word_columns tables.words (old.trees 7) (new.trees 7) (t.others.1.1.1.0 (λ e. omega arith)) h.words;
-    results = stays columns.result_columns tables.results (old.trees 9) (new.trees 9) (t.others.1.1.1.1.0 (λ e. omega arith)) h.results;
-    moves = stays columns.move_columns tables.moves (old.trees 12) (new.trees 12) (t.others.1.1.1.1.1.0 (λ e. omega arith)) h.moves;
-    lists = stays columns.list_columns tables.lists (old.trees 14) (new.trees 14) (t.others.1.1.1.1.1.1.0 (λ e. omega arith)) h.lists;
+    words = stays columns.word_columns tables.words (old.trees 11) (new.trees 11) (t.others.1.1.1.1.1.0 (λ e. omega arith)) h.words;
+    results = stays columns.result_columns tables.results (old.trees 13) (new.trees 13) (t.others.1.1.1.1.1.1.0 (λ e. omega arith)) h.results;
+    moves = stays columns.move_columns tables.moves (old.trees 7) (new.trees 7) (t.others.1.1.1.0 (λ e. omega arith)) h.moves;
+    lists = stays columns.list_columns tables.lists (old.trees 9) (new.trees 9) (t.others.1.1.1.1.0 (λ e. omega arith)) h.lists;
   };
 }
 
 abbrev pub words : OneTable (Text × ℕ)
 words = record {
-  at = 3;
+  at = 5;
   found = refl;
-  table = word 7;
+  table = word 11;
   columns = columns.word_columns;
   of = λ tables. tables.words;
   with_records = λ xs tables. record tables { words = xs };
@@ -139,17 +139,17 @@ words = record {
     rounds = stays columns.round_columns tables.rounds (old.trees 6) (new.trees 6) (t.others.1.1.0 (λ e. omega arith)) h.rounds;
     choices = stays columns.choice_columns tables.choices (old.trees 16) (new.trees 16) (t.others.1.1.1.1.1.1.1.0 (λ e. omega arith)) h.choices;
     words = put;
-    results = stays columns.result_columns tables.results (old.trees 9) (new.trees 9) (t.others.1.1.1.1.0 (λ e. omega arith)) h.results;
-    moves = stays columns.move_columns tables.moves (old.trees 12) (new.trees 12) (t.others.1.1.1.1.1.0 (λ e. omega arith)) h.moves;
-    lists = stays columns.list_columns tables.lists (old.trees 14) (new.trees 14) (t.others.1.1.1.1.1.1.0 (λ e. omega arith)) h.lists;
+    results = stays columns.result_columns tables.results (old.trees 13) (new.trees 13) (t.others.1.1.1.1.1.1.0 (λ e. omega arith)) h.results;
+    moves = stays columns.move_columns tables.moves (old.trees 7) (new.trees 7) (t.others.1.1.1.0 (λ e. omega arith)) h.moves;
+    lists = stays columns.list_columns tables.lists (old.trees 9) (new.trees 9) (t.others.1.1.1.1.0 (λ e. omega arith)) h.lists;
   };
 }
 
 abbrev pub results : OneTable (Text × Assigned)
 results = record {
-  at = 4;
+  at = 6;
   found = refl;
-  table = result 9;
+  table = result 13;
   columns = columns.result_columns;
   of = λ tables. tables.results;
   with_records = λ xs tables. record tables { results = xs };
@@ -160,18 +160,18 @@ results = record {
     people = stays columns.person_columns tables.people (old.trees 2) (new.trees 2) (t.others.1.0 (λ e. omega arith)) h.people;
     rounds = stays columns.round_columns tables.rounds (old.trees 6) (new.trees 6) (t.others.1.1.0 (λ e. omega arith)) h.rounds;
     choices = stays columns.choice_columns tables.choices (old.trees 16) (new.trees 16) (t.others.1.1.1.1.1.1.1.0 (λ e. omega arith)) h.choices;
-    words = stays columns.word_columns tables.words (old.trees 7) (new.trees 7) (t.others.1.1.1.0 (λ e. omega arith)) h.words;
+    words = stays columns.word_columns tables.words (old.trees 11) (new.trees 11) (t.others.1.1.1.1.1.0 (λ e. omega arith)) h.words;
     results = put;
-    moves = stays columns.move_columns tables.moves (old.trees 12) (new.trees 12) (t.others.1.1.1.1.1.0 (λ e. omega arith)) h.moves;
-    lists = stays columns.list_columns tables.lists (old.trees 14) (new.trees 14) (t.others.1.1.1.1.1.1.0 (λ e. omega arith)) h.lists;
+    moves = stays columns.move_columns tables.moves (old.trees 7) (new.trees 7) (t.others.1.1.1.0 (λ e. omega arith)) h.moves;
+    lists = stays columns.list_columns tables.lists (old.trees 9) (new.trees 9) (t.others.1.1.1.1.0 (λ e. omega arith)) h.lists;
   };
 }
 
 abbrev pub moves : OneTable Move
 moves = record {
-  at = 5;
+  at = 3;
   found = refl;
-  table = move 12;
+  table = move 7;
   columns = columns.move_columns;
   of = λ tables. tables.moves;
   with_records = λ xs tables. record tables { moves = xs };
@@ -182,18 +182,18 @@ moves = record {
     people = stays columns.person_columns tables.people (old.trees 2) (new.trees 2) (t.others.1.0 (λ e. omega arith)) h.people;
     rounds = stays columns.round_columns tables.rounds (old.trees 6) (new.trees 6) (t.others.1.1.0 (λ e. omega arith)) h.rounds;
     choices = stays columns.choice_columns tables.choices (old.trees 16) (new.trees 16) (t.others.1.1.1.1.1.1.1.0 (λ e. omega arith)) h.choices;
-    words = stays columns.word_columns tables.words (old.trees 7) (new.trees 7) (t.others.1.1.1.0 (λ e. omega arith)) h.words;
-    results = stays columns.result_columns tables.results (old.trees 9) (new.trees 9) (t.others.1.1.1.1.0 (λ e. omega arith)) h.results;
+    words = stays columns.word_columns tables.words (old.trees 11) (new.trees 11) (t.others.1.1.1.1.1.0 (λ e. omega arith)) h.words;
+    results = stays columns.result_columns tables.results (old.trees 13) (new.trees 13) (t.others.1.1.1.1.1.1.0 (λ e. omega arith)) h.results;
     moves = put;
-    lists = stays columns.list_columns tables.lists (old.trees 14) (new.trees 14) (t.others.1.1.1.1.1.1.0 (λ e. omega arith)) h.lists;
+    lists = stays columns.list_columns tables.lists (old.trees 9) (new.trees 9) (t.others.1.1.1.1.0 (λ e. omega arith)) h.lists;
   };
 }
 
 abbrev pub lists : OneTable (Text × KeptList)
 lists = record {
-  at = 6;
+  at = 4;
   found = refl;
-  table = list 14;
+  table = list 9;
   columns = columns.list_columns;
   of = λ tables. tables.lists;
   with_records = λ xs tables. record tables { lists = xs };
@@ -204,9 +204,9 @@ lists = record {
     people = stays columns.person_columns tables.people (old.trees 2) (new.trees 2) (t.others.1.0 (λ e. omega arith)) h.people;
     rounds = stays columns.round_columns tables.rounds (old.trees 6) (new.trees 6) (t.others.1.1.0 (λ e. omega arith)) h.rounds;
     choices = stays columns.choice_columns tables.choices (old.trees 16) (new.trees 16) (t.others.1.1.1.1.1.1.1.0 (λ e. omega arith)) h.choices;
-    words = stays columns.word_columns tables.words (old.trees 7) (new.trees 7) (t.others.1.1.1.0 (λ e. omega arith)) h.words;
-    results = stays columns.result_columns tables.results (old.trees 9) (new.trees 9) (t.others.1.1.1.1.0 (λ e. omega arith)) h.results;
-    moves = stays columns.move_columns tables.moves (old.trees 12) (new.trees 12) (t.others.1.1.1.1.1.0 (λ e. omega arith)) h.moves;
+    words = stays columns.word_columns tables.words (old.trees 11) (new.trees 11) (t.others.1.1.1.1.1.0 (λ e. omega arith)) h.words;
+    results = stays columns.result_columns tables.results (old.trees 13) (new.trees 13) (t.others.1.1.1.1.1.1.0 (λ e. omega arith)) h.results;
+    moves = stays columns.move_columns tables.moves (old.trees 7) (new.trees 7) (t.others.1.1.1.0 (λ e. omega arith)) h.moves;
     lists = put;
   };
 }

@@ -75,18 +75,12 @@ unfoldable pub without_choices_of : Text → Tables → Tables
 without_choices_of person tables =
     record tables { choices = delete_where (λ r. text_eq r.person person) tables.choices }
 
-unfoldable pub without_choices : Tables → Tables
-without_choices tables = record tables { choices = [] }
-
 unfoldable pub with_word : Text → ℕ → Tables → Tables
 with_word person word tables = record tables { words = (person, word) ∷ tables.words }
 
 unfoldable pub without_word_of : Text → Tables → Tables
 without_word_of person tables =
     record tables { words = delete_where (λ r. text_eq r.0 person) tables.words }
-
-unfoldable pub without_words : Tables → Tables
-without_words tables = record tables { words = [] }
 
 unfoldable pub with_result : Text → Option Text → Tables → Tables
 with_result person room tables =
@@ -96,8 +90,9 @@ unfoldable pub without_result_of : Text → Tables → Tables
 without_result_of person tables =
     record tables { results = delete_where (λ r. text_eq r.0 person) tables.results }
 
-unfoldable pub without_results : Tables → Tables
-without_results tables = record tables { results = [] }
+-- no choices, words and results
+unfoldable pub without_round : Tables → Tables
+without_round tables = record tables { choices = []; words = []; results = [] }
 
 -- ---- moves
 

@@ -1,5 +1,5 @@
 -- The eight tables of an office: the texts that declare them, and the schema that these make.
-use Rattle.std.specs.Prelude.{true, false, ℕ, pos, List, [], ◌∷◌, ◌++◌, map, codes, take}
+use Rattle.std.specs.Prelude.{true, false, ℕ, pos, List, [], ◌∷◌, ◌++◌, map, codes, take, slice_index_or}
 use Rattle.std.specs.Prelude.{Option, Some, None}
 use Rattle.sqlite_value.specs.declared.keys.Collation.TheVariants.{Binary}
 use Rattle.sqlite_value.specs.declared.value.Value.TheVariants.{Null, Int}
@@ -34,16 +34,6 @@ round_text =
     codes "CREATE TABLE round(one INTEGER PRIMARY KEY CHECK(one = 1),\n"
     ++ codes "  version INTEGER NOT NULL, number INTEGER NOT NULL, phase TEXT NOT NULL) STRICT"
 
-abbrev pub word_text : List ℕ
-word_text =
-    codes "CREATE TABLE word(person TEXT PRIMARY KEY NOT NULL REFERENCES person(id),\n"
-    ++ codes "  hex TEXT NOT NULL) STRICT"
-
-abbrev pub result_text : List ℕ
-result_text =
-    codes "CREATE TABLE result(person TEXT PRIMARY KEY NOT NULL REFERENCES person(id),\n"
-    ++ codes "  room TEXT UNIQUE REFERENCES room(code)) STRICT"
-
 abbrev pub move_text : List ℕ
 move_text =
     codes "CREATE TABLE move(round INTEGER NOT NULL, person TEXT NOT NULL,\n"
@@ -53,6 +43,16 @@ abbrev pub list_text : List ℕ
 list_text =
     codes "CREATE TABLE list(label TEXT PRIMARY KEY NOT NULL, kind TEXT NOT NULL,\n"
     ++ codes "  body BLOB NOT NULL, added INTEGER NOT NULL) STRICT"
+
+abbrev pub word_text : List ℕ
+word_text =
+    codes "CREATE TABLE word(person TEXT PRIMARY KEY NOT NULL REFERENCES person(id),\n"
+    ++ codes "  hex TEXT NOT NULL) STRICT"
+
+abbrev pub result_text : List ℕ
+result_text =
+    codes "CREATE TABLE result(person TEXT PRIMARY KEY NOT NULL REFERENCES person(id),\n"
+    ++ codes "  room TEXT UNIQUE REFERENCES room(code)) STRICT"
 
 abbrev pub choice_text : List ℕ
 choice_text =
@@ -142,17 +142,6 @@ round tree =
     ∷ required Integer (codes "number") ∷ required Text (codes "phase") ∷ [])
     (Some 0) (0 ∷ []) [] (equals 0 1 ∷ []) []
 
-abbrev pub word : ℕ → Table
-word tree =
-    table_of (codes "word") tree (required Text (codes "person") ∷ required Text (codes "hex") ∷ [])
-    None first (first ∷ []) [] (refers_to (codes "person") (codes "id") 1 ∷ [])
-
-abbrev pub result : ℕ → Table
-result tree =
-    table_of (codes "result") tree
-    (required Text (codes "person") ∷ optional Text (codes "room") ∷ []) None first (first ∷ (2 ∷ []) ∷ []) []
-    (refers_to (codes "person") (codes "id") 1 ∷ refers_to (codes "room") (codes "code") 2 ∷ [])
-
 abbrev pub move : ℕ → Table
 move tree =
     table_of (codes "move") tree
@@ -167,6 +156,17 @@ list tree =
     (required Text (codes "label") ∷ required Text (codes "kind") ∷ required Blob (codes "body")
     ∷ required Integer (codes "added") ∷ [])
     None first (first ∷ []) [] []
+
+abbrev pub word : ℕ → Table
+word tree =
+    table_of (codes "word") tree (required Text (codes "person") ∷ required Text (codes "hex") ∷ [])
+    None first (first ∷ []) [] (refers_to (codes "person") (codes "id") 1 ∷ [])
+
+abbrev pub result : ℕ → Table
+result tree =
+    table_of (codes "result") tree
+    (required Text (codes "person") ∷ optional Text (codes "room") ∷ []) None first (first ∷ (2 ∷ []) ∷ []) []
+    (refers_to (codes "person") (codes "id") 1 ∷ refers_to (codes "room") (codes "code") 2 ∷ [])
 
 abbrev pub choice : ℕ → Table
 choice tree =
@@ -192,29 +192,30 @@ index_of name tree table columns = record {
 abbrev pub no_schema : Schema
 no_schema = record { tables = []; indexes = []; views = [] }
 
--- The schema that the texts make, one after another. The table of choices is the last, so that it can be taken out and
--- made anew where it was.
+-- The schema that the texts make, one after another. The tables of a round are the last, so that they can be taken out and
+-- made anew where they were.
 abbrev pub office_schema : Schema
 office_schema = record {
-  tables = room 0 ∷ person 2 ∷ round 6 ∷ word 7 ∷ result 9 ∷ move 12 ∷ list 14 ∷ choice 16 ∷ [];
+  tables = room 0 ∷ person 2 ∷ round 6 ∷ move 7 ∷ list 9 ∷ word 11 ∷ result 13 ∷ choice 16 ∷ [];
   indexes =
       index_of (codes "room_1") 1 0 first ∷ index_of (codes "person_1") 3 2 first
       ∷ index_of (codes "person_2") 4 2 (3 ∷ []) ∷ index_of (codes "person_3") 5 2 (4 ∷ [])
-      ∷ index_of (codes "word_1") 8 7 first ∷ index_of (codes "result_1") 10 9 first
-      ∷ index_of (codes "result_2") 11 9 (2 ∷ []) ∷ index_of (codes "move_1") 13 12 (1 ∷ 2 ∷ [])
-      ∷ index_of (codes "list_1") 15 14 first ∷ index_of (codes "choice_1") 17 16 (1 ∷ 2 ∷ [])
+      ∷ index_of (codes "move_1") 8 7 (1 ∷ 2 ∷ []) ∷ index_of (codes "list_1") 10 9 first
+      ∷ index_of (codes "word_1") 12 11 first ∷ index_of (codes "result_1") 14 13 first
+      ∷ index_of (codes "result_2") 15 13 (2 ∷ []) ∷ index_of (codes "choice_1") 17 16 (1 ∷ 2 ∷ [])
       ∷ index_of (codes "choice_2") 18 16 (1 ∷ 3 ∷ []) ∷ [];
   views = [];
 }
 
--- the first tables of an office, and so many indexes with them
-abbrev pub first_tables : ℕ → ℕ → Schema
-first_tables tables indexes = record {
+-- so many indexes keep the constraints of so many tables, from the first on
+abbrev pub indexes_with : ℕ → ℕ
+indexes_with tables =
+    slice_index_or (0 ∷ 1 ∷ 4 ∷ 4 ∷ 5 ∷ 6 ∷ 7 ∷ 9 ∷ 11 ∷ []) tables 11
+
+-- the first tables of an office, with their indexes: all without the tables of a round are five
+abbrev pub first_tables : ℕ → Schema
+first_tables tables = record {
   tables = take tables office_schema.tables;
-  indexes = take indexes office_schema.indexes;
+  indexes = take (indexes_with tables) office_schema.indexes;
   views = [];
 }
-
--- all tables of an office but that of choices
-abbrev pub all_but_choices : Schema
-all_but_choices = first_tables 7 9

@@ -15,10 +15,10 @@ pub record AreHeld (trees : Trees) (tables : Tables) : Type 0 where
   pub people : Holds person_columns (trees 2) tables.people
   pub rounds : Holds round_columns (trees 6) tables.rounds
   pub choices : Holds choice_columns (trees 16) tables.choices
-  pub words : Holds word_columns (trees 7) tables.words
-  pub results : Holds result_columns (trees 9) tables.results
-  pub moves : Holds move_columns (trees 12) tables.moves
-  pub lists : Holds list_columns (trees 14) tables.lists
+  pub words : Holds word_columns (trees 11) tables.words
+  pub results : Holds result_columns (trees 13) tables.results
+  pub moves : Holds move_columns (trees 7) tables.moves
+  pub lists : Holds list_columns (trees 9) tables.lists
 
 -- the database has the tables of an office and no others, with these rows
 pub record HasTables (db : Database) (tables : Tables) : Type 0 where

@@ -1,5 +1,5 @@
 -- The texts of the statements, and what a text is once its names are resolved.
-use Rattle.std.specs.Prelude.{List, [], codes, ℕ, pos, negsuc, None, false}
+use Rattle.std.specs.Prelude.{List, [], ◌++◌, codes, ℕ, pos, negsuc, None, false}
 use Rattle.sqlite_sql.specs.Term.{Term, lit, col, op2}
 use Rattle.sqlite_sql.specs.Query.{Query, inner, end}
 use Rattle.sqlite_sql.specs.declared.ops.BinaryOp.TheVariants.{Compare}
@@ -72,9 +72,6 @@ add_choice_text = codes "INSERT INTO choice(person, place, room) VALUES (?1, ?2,
 abbrev pub drop_choices_text : List ℕ
 drop_choices_text = codes "DELETE FROM choice WHERE person = ?1"
 
-abbrev pub drop_table_text : List ℕ
-drop_table_text = codes "DROP TABLE choice"
-
 -- ---- the table word
 
 abbrev pub add_word_text : List ℕ
@@ -82,9 +79,6 @@ add_word_text = codes "INSERT INTO word(person, hex) VALUES (?1, ?2)"
 
 abbrev pub drop_word_text : List ℕ
 drop_word_text = codes "DELETE FROM word WHERE person = ?1"
-
-abbrev pub clear_words_text : List ℕ
-clear_words_text = codes "DELETE FROM word"
 
 -- ---- the table result
 
@@ -94,8 +88,10 @@ add_result_text = codes "INSERT INTO result(person, room) VALUES (?1, ?2)"
 abbrev pub drop_result_text : List ℕ
 drop_result_text = codes "DELETE FROM result WHERE person = ?1"
 
-abbrev pub clear_results_text : List ℕ
-clear_results_text = codes "DELETE FROM result"
+-- ---- the tables of a round
+
+abbrev pub drop_table_text : List ℕ → List ℕ
+drop_table_text name = codes "DROP TABLE " ++ name
 
 -- ---- the table move
 

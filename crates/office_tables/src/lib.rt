@@ -1,7 +1,7 @@
 //! The tables of an office in a database: one function a statement, inside a transaction. What a statement makes of the
 //! rows is said of typed records. A statement that is refused, or that fails, for memory or the disk, changes no row, or
-//! the whole transaction is rolled back (`undone`), and nothing is committed (`inside`). `clear_choices` is two statements:
-//! where the second fails, the first may stand inside the transaction.
+//! the whole transaction is rolled back (`undone`), and nothing is committed (`inside`). `clear_round_tables` is
+//! six statements: where one of them fails, those before it may stand inside the transaction.
 #![tactic(auto)]
 
 mod cells;
@@ -11,6 +11,7 @@ pub mod moves;
 pub mod people;
 pub mod results;
 pub mod rooms;
+pub mod round_tables;
 pub mod rounds;
 pub mod running;
 pub mod words;

@@ -1,12 +1,13 @@
 //! A new office, and each statement over its tables, with ample memory.
 use office_create::{CreateFault, create};
-use office_tables::choices::{add_choice, clear_choices, drop_choices};
+use office_tables::choices::{add_choice, drop_choices};
 use office_tables::moves::add_move;
 use office_tables::people::{add_person, clear_withdrawn, drop_person, set_home, set_withdrawn};
-use office_tables::results::{add_result, clear_results, drop_result};
+use office_tables::results::{add_result, drop_result};
 use office_tables::rooms::{add_room, set_shut};
+use office_tables::round_tables::clear_round_tables;
 use office_tables::rounds::set_round;
-use office_tables::words::{add_word, clear_words, drop_word};
+use office_tables::words::{add_word, drop_word};
 use room_types::{Key, Move, Name, PersonId, Phase, RoomCode, Wave, Word};
 use sqlite::{Connection, MemStore, Transaction};
 use std::alloc::Global;
@@ -151,9 +152,7 @@ fn clear(
     person: &PersonId,
     room: &RoomCode,
 ) -> Result<(), Fail> {
-    clear_choices(tx)?;
-    clear_words(tx)?;
-    clear_results(tx)?;
+    clear_round_tables(tx)?;
     clear_withdrawn(tx)?;
     set_home(tx, person, &None)?;
     drop_person(tx, person)?;

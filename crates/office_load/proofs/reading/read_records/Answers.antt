@@ -90,8 +90,8 @@ returns-clause-shown g c clean has tables are =
       people = shown_permuted _ _ _ _ _ _ are.people first.1;
       rounds = shown_permuted _ _ _ _ _ _ are.rounds (shown_before _ _ _ start.now one.now 6 _ same_one second.0);
       choices = shown_permuted _ _ _ _ _ _ are.choices (shown_before _ _ _ start.now one.now 16 _ same_one second.1);
-      words = shown_permuted _ _ _ _ _ _ are.words (shown_before _ _ _ start.now two.now 7 _ same_two third.0);
-      results = shown_permuted _ _ _ _ _ _ are.results (shown_before _ _ _ start.now two.now 9 _ same_two third.1);
-      moves = shown_permuted _ _ _ _ _ _ are.moves (shown_before _ _ _ start.now three.now 12 _ same_three fourth.0);
-      lists = shown_permuted _ _ _ _ _ _ are.lists (shown_before _ _ _ start.now three.now 14 _ same_three fourth.1);
+      words = shown_permuted _ _ _ _ _ _ are.words (shown_before _ _ _ start.now two.now 11 _ same_two third.0);
+      results = shown_permuted _ _ _ _ _ _ are.results (shown_before _ _ _ start.now two.now 13 _ same_two third.1);
+      moves = shown_permuted _ _ _ _ _ _ are.moves (shown_before _ _ _ start.now three.now 7 _ same_three fourth.0);
+      lists = shown_permuted _ _ _ _ _ _ are.lists (shown_before _ _ _ start.now three.now 9 _ same_three fourth.1);
     }
