@@ -1,8 +1,8 @@
-"""Runs the gate, and prints what each crate's proof, tests and wrong bodies cost.
+"""Runs the gate, and prints what each crate's proof, tests and wrong bodies cost, and which wrong bodies cost most.
 
 The prover's processes are looked at twice a second: a process names its crate, a check of tests has a flag of its own,
-and a wrong body is checked in a temporary folder. What a process used after the last look at it is not counted. The table so far
-is kept beside the log, once a minute.
+and a wrong body is checked in a temporary folder, which is told by what stands there. What a process used after the last look at
+it is not counted. The table so far is kept beside the log, once a minute.
 """
 
 import os
@@ -18,6 +18,7 @@ INTERVAL = 0.5
 KEPT_EACH = 60.0
 TICKS = os.sysconf("SC_CLK_TCK")
 PARTS = ("proof", "tests", "edits")
+DEAREST = 12
 
 
 @dataclass
@@ -32,6 +33,48 @@ class Cost:
         self.began = self.began or now
         self.ended = now
         self.used[process] = used
+
+
+@dataclass
+class Tried:
+    """A wrong body that was tried, by its name, and what that took."""
+
+    name: str
+    cost: Cost = field(default_factory=Cost)
+
+
+def text_of(path):
+    with open(path, encoding="utf-8", errors="replace") as it:
+        return it.read()
+
+
+def edited(edit, crate):
+    """The files of the crate that the wrong body changes, by their paths, with their texts after it."""
+    path, old, texts = "", "", {}
+    for line in text_of(edit).split("\n"):
+        word, _, rest = line.partition(": ")
+        if word == "file":
+            path = rest.strip()
+        elif word == "old":
+            old = rest
+        elif line.startswith("new:"):
+            texts.setdefault(path, text_of(f"{crate}/{path}"))
+            texts[path] = texts[path].replace(old, rest)
+    return texts
+
+
+def name_of(crate, room):
+    """Which wrong body of the crate stands in the folder: the one that makes its files of the crate's. Where none does, the
+    crate as it is stands there, or what is there is gone already."""
+    bodies = f"crates/{crate}/must-fail"
+    for name in sorted(os.listdir(bodies)):
+        try:
+            texts = edited(f"{bodies}/{name}", f"crates/{crate}")
+            if all(text_of(f"{room}/{path}") == text for path, text in texts.items()):
+                return f"{crate}/{name.removesuffix('.edit')}"
+        except OSError:
+            continue
+    return f"{crate}, as it is"
 
 
 def processes():
@@ -60,20 +103,40 @@ def part_of(words, folder):
     return crate, "tests" if "--test" in words else "proof"
 
 
-def look(gate, costs, now):
-    """Adds what the gate's processes have used to the costs: a child's to those of the check that started it."""
+def look(gate, costs, tried, now):
+    """Adds what the gate's processes have used to the costs: a child's to those of the check that started it. What is used in a
+    folder of a wrong body is told apart, in `tried`."""
     seen = {number: rest for number, *rest in processes()}
     for number, (_, used, start, _, _) in seen.items():
-        above, part = number, None
+        above, part, room = number, None, None
         while above in seen and above != gate:
             parent, _, _, words, folder = seen[above]
-            part, above = part or part_of(words, folder), parent
+            if not part:
+                part, room = part_of(words, folder), folder
+            above = parent
         if part and above == gate:
             costs[part].note(now, (number, start), used)
+            if part[1] == "edits":
+                body = tried.setdefault(room, Tried(name_of(part[0], room)))
+                body.cost.note(now, (number, start), used)
 
 
 def minutes(seconds):
     return f"{seconds / 60:.1f}"
+
+
+def dearest(tried):
+    """The wrong bodies that took most of a processor. The first of a crate pays for the proof of the crate itself."""
+    firsts = {}
+    for body in tried.values():
+        crate = re.split(r"[/,]", body.name)[0]
+        firsts.setdefault(crate, body)
+    rest = [body for body in tried.values() if body not in firsts.values()]
+    used = lambda body: sum(body.cost.used.values())
+    yield ""
+    yield f"{len(tried)} checks of wrong bodies; but for the first of each crate, those that took most of a processor:"
+    for body in sorted(rest, key=used, reverse=True)[:DEAREST]:
+        yield f"{minutes(used(body)):>6}  {body.name}"
 
 
 def table(costs, elapsed):
@@ -92,30 +155,33 @@ def table(costs, elapsed):
     yield f"| all | | | | {minutes(whole)}, in {minutes(elapsed)} by the clock |"
 
 
-def keep(path, costs, elapsed):
+def told(costs, tried, elapsed):
+    return "\n".join([*table(costs, elapsed), *dearest(tried)])
+
+
+def keep(path, text):
     """Writes the table so far, so that a run which is stopped tells what it had cost."""
     with open(path, "w", encoding="utf-8") as out:
-        print("\n".join(table(costs, elapsed)), file=out)
+        print(text, file=out)
 
 
 def main(log, command):
-    costs, began, kept = defaultdict(Cost), time.monotonic(), 0.0
+    costs, tried, began, kept = defaultdict(Cost), {}, time.monotonic(), 0.0
     with open(log, "w", encoding="utf-8") as out:
         gate = subprocess.Popen(command, stdout=out, stderr=subprocess.STDOUT, stdin=subprocess.DEVNULL)
         try:
             while gate.poll() is None:
                 now = time.monotonic()
-                look(gate.pid, costs, now)
+                look(gate.pid, costs, tried, now)
                 if now - kept > KEPT_EACH:
-                    keep(f"{log}.table", costs, now - began)
+                    keep(f"{log}.table", told(costs, tried, now - began))
                     kept = now
                 time.sleep(INTERVAL)
         finally:
             # an interrupted measurement ends the gate too, and what that has started ends with it
             gate.terminate()
-    print("\n".join(table(costs, time.monotonic() - began)))
-    with open(log, encoding="utf-8", errors="replace") as it:
-        print(([line for line in it.read().splitlines() if re.search(r"\S", line)] or ["no output"])[-1])
+    print(told(costs, tried, time.monotonic() - began))
+    print(([line for line in text_of(log).splitlines() if re.search(r"\S", line)] or ["no output"])[-1])
     return gate.returncode
 
 
