@@ -1,141 +1,141 @@
 //! The changes of two commands, stored in a database in memory, with ample memory.
+use crate::asserting::assert_same;
+use crate::building::{choices, text};
 use office_changes::store_all;
-use office_create::create;
 use office_state::{Change, Office, apply};
-use room_types::{Choices, Key, Move, Name, PersonId, Phase, RoomCode, Wave, Word};
+use office_create::create;
+use room_types::{Move, Phase, Wave, Word};
 use sqlite::{Connection, MemStore};
 use std::alloc::Global;
-use std::test::Fail;
+use std::process::Abort;
+
+// What the tables answer after the changes.
+const STORED: [(&str, i64); 8] = [
+    (
+        "SELECT count(*) FROM room WHERE code = 'H1' AND shut = 1",
+        1,
+    ),
+    (
+        "SELECT count(*) FROM person WHERE id = 'T1' AND home = 'H1' AND withdrawn = 0",
+        1,
+    ),
+    ("SELECT count(*) FROM person", 1),
+    ("SELECT count(*) FROM choice", 0),
+    ("SELECT count(*) FROM word", 0),
+    ("SELECT count(*) FROM result", 0),
+    (
+        "SELECT count(*) FROM move WHERE person = 'T1' AND to_room = 'H1' AND wave = 1",
+        1,
+    ),
+    (
+        "SELECT count(*) FROM round WHERE version = 1 AND number = 1 AND phase = 'idle'",
+        1,
+    ),
+];
 
 #[test]
-fn stores_each_change(rt: HostRuntime) -> Result<(), Fail> {
-    let mut conn = Connection::open_in_memory(rt.alloc())?;
-    assert_eq!(rt; create(&mut conn), Ok(()));
-    let mut office = Office::empty(rt.alloc());
-    let first = round_under_way(rt.alloc())?;
-    store_all(rt.alloc(), &mut conn, &office, first.as_slice())?;
+fn stores_each_change(rt: HostRuntime) {
+    let alloc = rt.alloc();
+    let mut conn = Connection::open_in_memory(alloc).expect(&rt, "memory");
+    assert!(rt; create(&mut conn) == Ok(()));
+    let mut office = Office::empty(alloc);
+    let first = round_under_way(&rt, alloc);
+    store(&rt, alloc, &mut conn, &office, &first);
     for change in &first {
-        apply(&mut office, change)?;
+        apply(&mut office, change).expect(&rt, "memory");
     }
-    let last = round_over(rt.alloc())?;
-    store_all(rt.alloc(), &mut conn, &office, last.as_slice())?;
-    let stored = has_rows(
-        &mut conn,
-        &[
-            (
-                "SELECT count(*) FROM room WHERE code = 'H1' AND shut = 1",
-                1,
-            ),
-            (
-                "SELECT count(*) FROM person WHERE id = 'T1' AND home = 'H1' AND withdrawn = 0",
-                1,
-            ),
-            ("SELECT count(*) FROM person", 1),
-            ("SELECT count(*) FROM choice", 0),
-            ("SELECT count(*) FROM word", 0),
-            ("SELECT count(*) FROM result", 0),
-            (
-                "SELECT count(*) FROM move WHERE person = 'T1' AND to_room = 'H1' AND wave = 1",
-                1,
-            ),
-            (
-                "SELECT count(*) FROM round WHERE version = 1 AND number = 1 AND phase = 'idle'",
-                1,
-            ),
-        ],
-    )?;
-    assert!(rt; stored);
-    Ok(())
+    let last = round_over(&rt, alloc);
+    store(&rt, alloc, &mut conn, &office, &last);
+    for (query, wanted) in STORED {
+        assert_same!(rt; count(&rt, &mut conn, query), wanted, query);
+    }
 }
 
-fn code(alloc: Global) -> Result<RoomCode, Fail> {
-    Ok(RoomCode::read(alloc, "H1")?)
+// Stores the changes in the tables of the office.
+fn store(
+    rt: &impl Abort,
+    alloc: Global,
+    conn: &mut Connection<MemStore>,
+    office: &Office,
+    changes: &[Change],
+) {
+    let outside = conn.is_autocommit();
+    assert!(rt; outside);
+    store_all(alloc, conn, office, changes).expect(rt, "changes are stored");
 }
 
-fn person(alloc: Global) -> Result<PersonId, Fail> {
-    Ok(PersonId::read(alloc, "T1")?)
+// The number that the query counts.
+fn count(rt: &impl Abort, conn: &mut Connection<MemStore>, query: &str) -> i64 {
+    let row = conn.query_row(query, &[]).expect(rt, query);
+    row.get(0).expect(rt, query)
 }
 
-fn newcomer(alloc: Global, id: &str, key: &str) -> Result<Change, Fail> {
-    Ok(Change::PutPerson {
-        person: PersonId::read(alloc, id)?,
-        name: Name::read(alloc, "Tim Tan")?,
-        key: Key::read(alloc, key)?,
+// A person without a home.
+fn newcomer(rt: &impl Abort, alloc: Global, id: &str, key: &str) -> Change {
+    Change::PutPerson {
+        person: text(rt, alloc, id),
+        name: text(rt, alloc, "Tim Tan"),
+        key: text(rt, alloc, key),
         home: None,
-    })
-}
-
-fn list(alloc: Global) -> Result<Change, Fail> {
-    let mut codes = Vec::new(alloc);
-    codes.push(code(alloc)?)?;
-    Ok(Change::PutChoices {
-        person: person(alloc)?,
-        choices: Choices::read(codes)?,
-    })
-}
-
-fn round_under_way(alloc: Global) -> Result<Vec<Change>, Fail> {
-    let mut changes = Vec::new(alloc);
-    changes.push(Change::PutRoom {
-        room: code(alloc)?,
-        shut: false,
-    })?;
-    changes.push(newcomer(alloc, "T1", "key00000000000t1")?)?;
-    changes.push(newcomer(alloc, "T2", "key00000000000t2")?)?;
-    changes.push(Change::PutRound {
-        number: 1,
-        phase: Phase::Opened,
-    })?;
-    changes.push(list(alloc)?)?;
-    changes.push(Change::PutWithdrawn {
-        person: person(alloc)?,
-    })?;
-    changes.push(Change::PutWord {
-        person: person(alloc)?,
-        word: Word::new(255),
-    })?;
-    changes.push(Change::PutResult {
-        person: person(alloc)?,
-        room: Some(code(alloc)?),
-    })?;
-    Ok(changes)
-}
-
-fn round_over(alloc: Global) -> Result<Vec<Change>, Fail> {
-    let mut changes = Vec::new(alloc);
-    changes.push(Change::PutHome {
-        person: person(alloc)?,
-        home: Some(code(alloc)?),
-    })?;
-    changes.push(Change::AddMove(Move {
-        round: 1,
-        person: person(alloc)?,
-        from: None,
-        to: Some(code(alloc)?),
-        wave: Wave::Nth(1),
-    }))?;
-    changes.push(Change::ClearRound)?;
-    changes.push(Change::PutRound {
-        number: 1,
-        phase: Phase::Idle,
-    })?;
-    changes.push(Change::DropPerson {
-        person: PersonId::read(alloc, "T2")?,
-    })?;
-    changes.push(Change::PutRoom {
-        room: code(alloc)?,
-        shut: true,
-    })?;
-    Ok(changes)
-}
-
-// Whether each query counts so many rows.
-fn has_rows(conn: &mut Connection<MemStore>, counts: &[(&str, i64)]) -> Result<bool, Fail> {
-    for (query, want) in counts {
-        let count: i64 = conn.query_row(query, &[])?.get(0)?;
-        if count != *want {
-            return Ok(false);
-        }
     }
-    Ok(true)
+}
+
+fn round_under_way(rt: &impl Abort, alloc: Global) -> Vec<Change> {
+    vec![in alloc;
+        Change::PutRoom {
+            room: text(rt, alloc, "H1"),
+            shut: false,
+        },
+        newcomer(rt, alloc, "T1", "key00000000000t1"),
+        newcomer(rt, alloc, "T2", "key00000000000t2"),
+        Change::PutRound {
+            number: 1,
+            phase: Phase::Opened,
+        },
+        Change::PutChoices {
+            person: text(rt, alloc, "T1"),
+            choices: choices(rt, alloc, &["H1"]),
+        },
+        Change::PutWithdrawn {
+            person: text(rt, alloc, "T1"),
+        },
+        Change::PutWord {
+            person: text(rt, alloc, "T1"),
+            word: Word::new(255),
+        },
+        Change::PutResult {
+            person: text(rt, alloc, "T1"),
+            room: Some(text(rt, alloc, "H1")),
+        },
+    ]
+    .expect(rt, "memory")
+}
+
+fn round_over(rt: &impl Abort, alloc: Global) -> Vec<Change> {
+    vec![in alloc;
+        Change::PutHome {
+            person: text(rt, alloc, "T1"),
+            home: Some(text(rt, alloc, "H1")),
+        },
+        Change::AddMove(Move {
+            round: 1,
+            person: text(rt, alloc, "T1"),
+            from: None,
+            to: Some(text(rt, alloc, "H1")),
+            wave: Wave::Nth(1),
+        }),
+        Change::ClearRound,
+        Change::PutRound {
+            number: 1,
+            phase: Phase::Idle,
+        },
+        Change::DropPerson {
+            person: text(rt, alloc, "T2"),
+        },
+        Change::PutRoom {
+            room: text(rt, alloc, "H1"),
+            shut: true,
+        },
+    ]
+    .expect(rt, "memory")
 }

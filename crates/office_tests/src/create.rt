@@ -1,4 +1,6 @@
 //! A new office, and each statement over its tables, with ample memory.
+use crate::asserting::assert_same;
+use crate::building::text;
 use office_create::{CreateFault, create};
 use office_tables::choices::{add_choice, drop_choices};
 use office_tables::moves::add_move;
@@ -8,38 +10,40 @@ use office_tables::rooms::{add_room, set_shut};
 use office_tables::round_tables::clear_round_tables;
 use office_tables::rounds::set_round;
 use office_tables::words::{add_word, drop_word};
-use room_types::{Key, Move, Name, PersonId, Phase, RoomCode, Wave, Word};
-use sqlite::{Connection, MemStore, Transaction};
+use room_types::{Move, PersonId, Phase, RoomCode, Wave, Word};
+use sqlite::{Connection, Error, MemStore, Transaction};
 use std::alloc::Global;
-use std::test::Fail;
+use std::process::Abort;
 
 #[test]
-fn makes_the_tables_once(rt: HostRuntime) -> Result<(), Fail> {
-    let mut conn = Connection::open_in_memory(rt.alloc())?;
-    assert_eq!(rt; create(&mut conn), Ok(()));
-    assert_eq!(rt; create(&mut conn), Err(CreateFault::AlreadyThere));
-    Ok(())
+fn makes_the_tables_once(rt: HostRuntime) {
+    let mut conn = Connection::open_in_memory(rt.alloc()).expect(&rt, "memory");
+    assert!(rt; create(&mut conn) == Ok(()));
+    assert!(rt; create(&mut conn) == Err(CreateFault::AlreadyThere));
 }
 
 #[test]
-fn leaves_what_others_declared(rt: HostRuntime) -> Result<(), Fail> {
-    let mut conn = Connection::open_in_memory(rt.alloc())?;
-    conn.execute_batch("CREATE TABLE note(text TEXT); INSERT INTO note VALUES ('Dear Tim')")?;
+fn leaves_what_others_declared(rt: HostRuntime) {
+    let mut conn = Connection::open_in_memory(rt.alloc()).expect(&rt, "memory");
+    let declared = "CREATE TABLE note(text TEXT); INSERT INTO note VALUES ('Dear Tim')";
+    conn.execute_batch(declared).expect(&rt, declared);
+    assert!(rt; is_refused(&mut conn));
+    let notes = "SELECT count(*) FROM note WHERE text = 'Dear Tim'";
+    assert!(rt; count(&rt, &mut conn, notes) == 1);
+    let others = "SELECT count(*) FROM sqlite_schema WHERE name <> 'note'";
+    assert!(rt; count(&rt, &mut conn, others) == 0);
+}
+
+// Whether no office can be made there.
+fn is_refused(conn: &mut Connection<MemStore>) -> bool {
     let outside = conn.is_autocommit();
-    assert!(rt; outside);
-    assert_eq!(rt; create(&mut conn), Err(CreateFault::Unavailable));
-    let notes: i64 = conn
-        .query_row("SELECT count(*) FROM note WHERE text = 'Dear Tim'", &[])?
-        .get(0)?;
-    assert_eq!(rt; notes, 1);
-    let others: i64 = conn
-        .query_row(
-            "SELECT count(*) FROM sqlite_schema WHERE name <> 'note'",
-            &[],
-        )?
-        .get(0)?;
-    assert_eq!(rt; others, 0);
-    Ok(())
+    outside && create(conn) == Err(CreateFault::Unavailable)
+}
+
+// The number that the query counts.
+fn count(rt: &impl Abort, conn: &mut Connection<MemStore>, query: &str) -> i64 {
+    let row = conn.query_row(query, &[]).expect(rt, query);
+    row.get(0).expect(rt, query)
 }
 
 // What one row in each table answers.
@@ -84,36 +88,39 @@ const CLEARED: [(&str, i64); 5] = [
 ];
 
 #[test]
-fn writes_rows(rt: HostRuntime) -> Result<(), Fail> {
-    let mut conn = Connection::open_in_memory(rt.alloc())?;
-    assert_eq!(rt; create(&mut conn), Ok(()));
+fn writes_rows(rt: HostRuntime) {
+    let alloc = rt.alloc();
+    let mut conn = Connection::open_in_memory(alloc).expect(&rt, "memory");
+    assert!(rt; create(&mut conn) == Ok(()));
     let outside = conn.is_autocommit();
     assert!(rt; outside);
     let mut tx = conn.transaction();
-    let room = RoomCode::read(rt.alloc(), "H1")?;
-    let person = PersonId::read(rt.alloc(), "T1")?;
-    add(rt.alloc(), &mut tx, &person, &room)?;
-    let added = has_rows(&mut tx, &ADDED)?;
-    assert!(rt; added);
-    replace(rt.alloc(), &mut tx, &person, &room)?;
-    clear(&mut tx, &person, &room)?;
-    let cleared = has_rows(&mut tx, &CLEARED)?;
-    assert!(rt; cleared);
-    tx.commit()?;
-    Ok(())
+    let room = text(&rt, alloc, "H1");
+    let person = text(&rt, alloc, "T1");
+    add(&rt, alloc, &mut tx, &person, &room).expect(&rt, "rows are added");
+    has_rows(&rt, &mut tx, &ADDED);
+    replace(&rt, alloc, &mut tx, &person, &room).expect(&rt, "rows are replaced");
+    clear(&mut tx, &person, &room).expect(&rt, "rows are cleared");
+    has_rows(&rt, &mut tx, &CLEARED);
+    tx.commit().expect(&rt, "a commit");
 }
 
 fn add(
+    rt: &impl Abort,
     alloc: Global,
     tx: &mut Transaction<'_, MemStore>,
     person: &PersonId,
     room: &RoomCode,
-) -> Result<(), Fail> {
-    let name = Name::read(alloc, "Tim Tan")?;
-    let key = Key::read(alloc, "key00000000000t1")?;
+) -> Result<(), Error> {
     add_room(tx, room, false)?;
-    add_person(tx, person, &name, &key, &None)?;
-    set_home(tx, person, &Some(room.copy()?))?;
+    add_person(
+        tx,
+        person,
+        &text(rt, alloc, "Tim Tan"),
+        &text(rt, alloc, "key00000000000t1"),
+        &None,
+    )?;
+    set_home(tx, person, &Some(text(rt, alloc, "H1")))?;
     set_withdrawn(tx, person)?;
     add_choice(tx, person, 0, room)?;
     add_word(alloc, tx, person, Word::new(255))?;
@@ -123,9 +130,9 @@ fn add(
         tx,
         &Move {
             round: 1,
-            person: person.copy()?,
+            person: text(rt, alloc, "T1"),
             from: None,
-            to: Some(room.copy()?),
+            to: Some(text(rt, alloc, "H1")),
             wave: Wave::Nth(2),
         },
     )?;
@@ -133,17 +140,18 @@ fn add(
 }
 
 fn replace(
+    rt: &impl Abort,
     alloc: Global,
     tx: &mut Transaction<'_, MemStore>,
     person: &PersonId,
     room: &RoomCode,
-) -> Result<(), Fail> {
+) -> Result<(), Error> {
     drop_choices(tx, person)?;
     add_choice(tx, person, 0, room)?;
     drop_word(tx, person)?;
     add_word(alloc, tx, person, Word::new(7))?;
     drop_result(tx, person)?;
-    add_result(tx, person, &Some(room.copy()?))?;
+    add_result(tx, person, &Some(text(rt, alloc, "H1")))?;
     Ok(())
 }
 
@@ -151,7 +159,7 @@ fn clear(
     tx: &mut Transaction<'_, MemStore>,
     person: &PersonId,
     room: &RoomCode,
-) -> Result<(), Fail> {
+) -> Result<(), Error> {
     clear_round_tables(tx)?;
     clear_withdrawn(tx)?;
     set_home(tx, person, &None)?;
@@ -160,13 +168,11 @@ fn clear(
     Ok(())
 }
 
-// Whether each query counts so many rows.
-fn has_rows(tx: &mut Transaction<'_, MemStore>, counts: &[(&str, i64)]) -> Result<bool, Fail> {
-    for (query, want) in counts {
-        let count: i64 = tx.query_row(query, &[])?.get(0)?;
-        if count != *want {
-            return Ok(false);
-        }
+// That each query counts so many rows.
+fn has_rows(rt: &impl Abort, tx: &mut Transaction<'_, MemStore>, counts: &[(&str, i64)]) {
+    for (query, wanted) in counts {
+        let row = tx.query_row(query, &[]).expect(rt, query);
+        let count: i64 = row.get(0).expect(rt, query);
+        assert_same!(rt; count, *wanted, query);
     }
-    Ok(true)
 }

@@ -1,11 +1,12 @@
 //! Offices in files. A desk is let go by one call, since each place where a file may be closed is proved by itself.
-use office_core::{Command, Reply};
+use crate::asserting::assert_same;
+use crate::building::add_room;
+use office_core::Reply;
 use office_file::{FileDesk, create_file, let_go, on_file};
-use office_store::{Answer, DeskFault, Request};
-use room_types::RoomCode;
+use office_store::{Answer, DeskFault};
 use sqlite::Wary;
 use std::alloc::Global;
-use std::test::Fail;
+use std::process::Abort;
 use std::{fs, io};
 
 type Opened = Result<FileDesk<Wary>, DeskFault>;
@@ -26,31 +27,40 @@ fn fault(opened: Opened) -> Option<DeskFault> {
 }
 
 // How many rooms the office has before and after the room H1 is added, if there is a desk.
-fn room_added(alloc: Global, mut opened: Opened) -> Result<Option<(usize, usize)>, Fail> {
+fn room_added(rt: &impl Abort, alloc: Global, mut opened: Opened) -> Option<(usize, usize)> {
     let counts = match &mut opened {
-        Ok(desk) => counts(alloc, desk).map(Some),
-        Err(_) => Ok(None),
+        Ok(desk) => Some(counts(rt, alloc, desk)),
+        Err(_) => None,
     };
     let_go(opened);
     counts
 }
 
-fn counts(alloc: Global, desk: &mut FileDesk<Wary>) -> Result<(usize, usize), Fail> {
-    let before = desk.load(alloc)?.rooms.len();
-    let room = RoomCode::read(alloc, "H1")?;
-    let requests = vec![in alloc; Request::Office(Command::AddRoom { room })]?;
-    let answers = desk.handle_all(alloc, &requests)?;
-    let done = matches!(answers.as_slice(), [Answer::Reply(Reply::Done)]);
-    let after = desk.load(alloc)?.rooms.len();
-    Ok((before, if done { after } else { before }))
+fn counts(rt: &impl Abort, alloc: Global, desk: &mut FileDesk<Wary>) -> (usize, usize) {
+    let before = room_count(rt, alloc, desk);
+    let done = adds_room(rt, alloc, desk);
+    let after = room_count(rt, alloc, desk);
+    (before, if done { after } else { before })
+}
+
+// Whether the room is added.
+fn adds_room(rt: &impl Abort, alloc: Global, desk: &mut FileDesk<Wary>) -> bool {
+    let requests = [add_room(rt, alloc, "H1")];
+    let answers = desk.handle_all(alloc, &requests).expect(rt, "memory");
+    matches!(answers.as_slice(), [Answer::Reply(Reply::Done)])
+}
+
+fn room_count(rt: &impl Abort, alloc: Global, desk: &mut FileDesk<Wary>) -> usize {
+    let office = desk.load(alloc).expect(rt, "an office in the file");
+    office.rooms.len()
 }
 
 #[test]
-fn makes_an_office_once(rt: HostRuntime) -> Result<(), Fail> {
+fn makes_an_office_once(rt: HostRuntime) -> io::Result<()> {
     make_folder(&rt, "office_file_once")?;
     let path = "office_file_once/office.db";
-    assert_eq!(rt; fault(create_file(&rt, path, Wary)), None);
-    assert_eq!(rt;
+    assert_same!(rt; fault(create_file(&rt, path, Wary)), None);
+    assert_same!(rt;
         fault(create_file(&rt, path, Wary)),
         Some(DeskFault::AlreadyThere)
     );
@@ -59,7 +69,7 @@ fn makes_an_office_once(rt: HostRuntime) -> Result<(), Fail> {
 }
 
 #[test]
-fn makes_no_office_of_other_files(rt: HostRuntime) -> Result<(), Fail> {
+fn makes_no_office_of_other_files(rt: HostRuntime) -> io::Result<()> {
     make_folder(&rt, "office_file_other")?;
     fs::write(&rt, "office_file_other/letter", b"Dear Tim,\n".as_slice())?;
     for path in [
@@ -68,29 +78,29 @@ fn makes_no_office_of_other_files(rt: HostRuntime) -> Result<(), Fail> {
         "office_file_other/letter",
     ] {
         let fault = fault(create_file(&rt, path, Wary));
-        assert_eq!(rt; fault, Some(DeskFault::Unavailable), "{path}");
+        assert_same!(rt; fault, Some(DeskFault::Unavailable), path);
     }
     let letter = fs::read_to_string(&rt, "office_file_other/letter")?;
-    assert_eq!(rt; letter.as_str(), "Dear Tim,\n");
+    assert_same!(rt; letter.as_str(), "Dear Tim,\n");
     fs::remove_dir_all(&rt, "office_file_other")?;
     Ok(())
 }
 
 #[test]
-fn finds_the_office_again(rt: HostRuntime) -> Result<(), Fail> {
+fn finds_the_office_again(rt: HostRuntime) -> io::Result<()> {
     make_folder(&rt, "office_file_again")?;
     let path = "office_file_again/office.db";
-    assert_eq!(rt; fault(create_file(&rt, path, Wary)), None);
-    assert_eq!(rt;
-        room_added(rt.alloc(), on_file(&rt, path, Wary))?,
+    assert_same!(rt; fault(create_file(&rt, path, Wary)), None);
+    assert_same!(rt;
+        room_added(&rt, rt.alloc(), on_file(&rt, path, Wary)),
         Some((0, 1))
     );
-    assert_eq!(rt;
+    assert_same!(rt;
         fault(create_file(&rt, path, Wary)),
         Some(DeskFault::AlreadyThere)
     );
-    assert_eq!(rt;
-        room_added(rt.alloc(), on_file(&rt, path, Wary))?,
+    assert_same!(rt;
+        room_added(&rt, rt.alloc(), on_file(&rt, path, Wary)),
         Some((1, 1))
     );
     fs::remove_dir_all(&rt, "office_file_again")?;
@@ -98,14 +108,14 @@ fn finds_the_office_again(rt: HostRuntime) -> Result<(), Fail> {
 }
 
 #[test]
-fn finds_no_office_elsewhere(rt: HostRuntime) -> Result<(), Fail> {
+fn finds_no_office_elsewhere(rt: HostRuntime) -> io::Result<()> {
     make_folder(&rt, "office_file_elsewhere")?;
     let missing = fault(on_file(&rt, "office_file_elsewhere/office.db", Wary));
-    assert_eq!(rt; missing, Some(DeskFault::Unavailable));
+    assert_same!(rt; missing, Some(DeskFault::Unavailable));
     assert!(rt; !fs::exists(&rt, "office_file_elsewhere/office.db")?);
     fs::write(&rt, "office_file_elsewhere/empty", b"".as_slice())?;
     let empty = fault(on_file(&rt, "office_file_elsewhere/empty", Wary));
-    assert_eq!(rt; empty, Some(DeskFault::NotAnOffice));
+    assert_same!(rt; empty, Some(DeskFault::NotAnOffice));
     fs::remove_dir_all(&rt, "office_file_elsewhere")?;
     Ok(())
 }

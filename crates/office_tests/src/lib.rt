@@ -2,6 +2,10 @@
 #![tactic(auto)]
 
 #[cfg(test)]
+mod asserting;
+#[cfg(test)]
+mod building;
+#[cfg(test)]
 mod changes;
 #[cfg(test)]
 mod create;

@@ -1,9 +1,10 @@
 //! Loading what the documented statements wrote, and what is no office.
+use office_state::Office;
 use office_load::held;
 use room_types::Phase;
 use sqlite::{Connection, MemStore};
 use std::alloc::Global;
-use std::test::Fail;
+use std::process::Abort;
 
 // An office after its second round is published: T1 moves from H1 to R1, and N1 has withdrawn. In the first round T1 got H1,
 // and somebody who is gone took part in a swap. The people do not stand in the order of their identifiers.
@@ -52,33 +53,41 @@ const BREAKS: [(&str, &str); 3] = [
 ];
 
 // Whether the tables are those of the office above.
-fn is_office(alloc: Global, conn: &mut Connection<MemStore>) -> Result<bool, Fail> {
+fn is_office(rt: &impl Abort, alloc: Global, conn: &mut Connection<MemStore>) -> bool {
     let outside = conn.is_autocommit();
     if !outside {
-        return Ok(false);
+        return false;
     }
-    let found = held(alloc, conn)?;
-    Ok(matches!(&found, Some(office) if office.rooms.len() == 3
-        && office.people.len() == 2
-        && office.withdrawn.len() == 1
-        && office.results.len() == 1
-        && office.number == 2
-        && office.phase == Phase::Published))
+    match held(alloc, conn).expect(rt, "the tables are read") {
+        Some(office) => is_published(&office),
+        None => false,
+    }
+}
+
+fn is_published(office: &Office) -> bool {
+    let people = office.people.len() == 2 && office.withdrawn.len() == 1;
+    let round = office.number == 2 && office.phase == Phase::Published;
+    people && round && office.rooms.len() == 3 && office.results.len() == 1
+}
+
+// Whether they are, after these statements.
+fn is_office_after(
+    rt: &impl Abort,
+    alloc: Global,
+    conn: &mut Connection<MemStore>,
+    statements: &str,
+) -> bool {
+    conn.execute_batch(statements).expect(rt, statements);
+    is_office(rt, alloc, conn)
 }
 
 #[test]
-fn loads_what_the_documented_statements_wrote(rt: HostRuntime) -> Result<(), Fail> {
-    let mut conn = Connection::open_in_memory(rt.alloc())?;
-    conn.execute_batch(STATEMENTS)?;
-    let whole = is_office(rt.alloc(), &mut conn)?;
-    assert!(rt; whole);
+fn loads_what_the_documented_statements_wrote(rt: HostRuntime) {
+    let alloc = rt.alloc();
+    let mut conn = Connection::open_in_memory(alloc).expect(&rt, "memory");
+    assert!(rt; is_office_after(&rt, alloc, &mut conn, STATEMENTS));
     for (breaks, mends) in BREAKS {
-        conn.execute_batch(breaks)?;
-        let still = is_office(rt.alloc(), &mut conn)?;
-        assert!(rt; !still);
-        conn.execute_batch(mends)?;
-        let again = is_office(rt.alloc(), &mut conn)?;
-        assert!(rt; again);
+        assert!(rt; !is_office_after(&rt, alloc, &mut conn, breaks));
+        assert!(rt; is_office_after(&rt, alloc, &mut conn, mends));
     }
-    Ok(())
 }

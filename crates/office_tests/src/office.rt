@@ -4,12 +4,12 @@ ghost use Rattle.std.specs.Prelude.{◌≡◌, IfOk};
 ghost use Rattle.office_state.specs.Change.{applied_all};
 ghost use Rattle.office_state.specs.Office.Invariants.{IsLawful};
 
+use crate::building::{choices, text};
 use office_core::{Command, Query, Refusal, Reply, answer, decide};
 use office_state::{Change, Office, apply, sound};
-use room_types::{Choices, Key, Listing, Name, OutOfMemory, PersonId, RoomCode, Word};
-use std::alloc::Global;
+use room_types::{Listing, OutOfMemory, Word};
+use std::alloc::{AllocError, Global};
 use std::process::Abort;
-use std::test::Fail;
 
 // Carries a command out on a copy, which takes the office's place.
 fn carry_out(alloc: Global, office: &mut Office, command: &Command) -> Result<(), Refusal>
@@ -33,123 +33,91 @@ fn changed(office: &Office, changes: &[Change]) -> Result<Office, OutOfMemory>
 }
 
 // Carries the commands out in turn, each of which must be accepted.
-fn carry_out_all(alloc: Global, office: &mut Office, commands: &[Command]) -> Result<(), Refusal>
+fn carry_out_all(rt: &impl Abort, alloc: Global, office: &mut Office, commands: &[Command])
     requires { IsLawful office.old }
     ensures { IsLawful office.new }
 {
     for command in commands {
-        carry_out(alloc, office, command)?;
+        carry_out(alloc, office, command).expect(rt, "a command that is accepted");
     }
-    Ok(())
-}
-
-fn add_room(alloc: Global, office: &mut Office, code: &str) -> Result<(), Fail>
-    requires { IsLawful office.old }
-    ensures { IsLawful office.new }
-{
-    let room = RoomCode::read(alloc, code)?;
-    carry_out(alloc, office, &Command::AddRoom { room })?;
-    Ok(())
-}
-
-fn shut(alloc: Global, office: &mut Office, code: &str) -> Result<(), Fail>
-    requires { IsLawful office.old }
-    ensures { IsLawful office.new }
-{
-    let room = RoomCode::read(alloc, code)?;
-    carry_out(alloc, office, &Command::Shut { room })?;
-    Ok(())
 }
 
 // A person with a home from the start.
-fn tenant(alloc: Global, id: &str, key: &str, home: &str) -> Result<Command, Fail> {
-    Ok(Command::AddPerson {
-        person: PersonId::read(alloc, id)?,
-        name: Name::read(alloc, "Tim Tan")?,
-        key: Key::read(alloc, key)?,
-        home: Some(RoomCode::read(alloc, home)?),
-    })
-}
-
-// Two rooms, and a tenant in the first.
-fn furnish(alloc: Global, office: &mut Office) -> Result<(), Fail>
-    requires { IsLawful office.old }
-    ensures { IsLawful office.new }
-{
-    add_room(alloc, office, "H")?;
-    add_room(alloc, office, "V")?;
-    let tenant = tenant(alloc, "T", "key000000000000t", "H")?;
-    carry_out(alloc, office, &tenant)?;
-    Ok(())
-}
-
-// The number of the refusal of a newcomer with this home, or 0 for none.
-fn refused_home(alloc: Global, office: &Office, home: &str) -> Result<u8, Fail>
-    requires { IsLawful office.now }
-{
-    let newcomer = tenant(alloc, "P", "key000000000000p", home)?;
-    match decide(alloc, office, &newcomer) {
-        Ok(_) => Ok(0),
-        Err(refusal) => Ok(refusal.number()),
+fn tenant(rt: &impl Abort, alloc: Global, id: &str, key: &str, home: &str) -> Command {
+    Command::AddPerson {
+        person: text(rt, alloc, id),
+        name: text(rt, alloc, "Tim Tan"),
+        key: text(rt, alloc, key),
+        home: Some(text(rt, alloc, home)),
     }
 }
 
-// The refusals of a home that is not known, one that is shut and one where somebody lives.
-fn refused_homes(alloc: Global, office: &Office) -> Result<(u8, u8, u8), Fail>
+// Two rooms, and a tenant in the first.
+fn furnish(rt: &impl Abort, alloc: Global, office: &mut Office)
+    requires { IsLawful office.old }
+    ensures { IsLawful office.new }
+{
+    let commands = [
+        Command::AddRoom {
+            room: text(rt, alloc, "H"),
+        },
+        Command::AddRoom {
+            room: text(rt, alloc, "V"),
+        },
+        tenant(rt, alloc, "T", "key000000000000t", "H"),
+    ];
+    carry_out_all(rt, alloc, office, &commands);
+}
+
+// The number of the refusal of the command, or 0 for none.
+fn refused(alloc: Global, office: &Office, command: &Command) -> u8
     requires { IsLawful office.now }
 {
-    let unknown = refused_home(alloc, office, "X")?;
-    let shut = refused_home(alloc, office, "V")?;
-    let taken = refused_home(alloc, office, "H")?;
-    Ok((unknown, shut, taken))
+    match decide(alloc, office, command) {
+        Ok(_) => 0,
+        Err(refusal) => refusal.number(),
+    }
 }
 
+// The same of a newcomer with this home.
+fn refused_home(rt: &impl Abort, alloc: Global, office: &Office, home: &str) -> u8
+    requires { IsLawful office.now }
+{
+    let newcomer = tenant(rt, alloc, "P", "key000000000000p", home);
+    refused(alloc, office, &newcomer)
+}
+
+// A home that is not known, one that is shut and one where somebody lives.
 #[test]
-fn refuses_a_home_from_the_start(rt: HostRuntime) -> Result<(), Fail> {
-    let mut office = Office::empty(rt.alloc());
-    furnish(rt.alloc(), &mut office)?;
-    shut(rt.alloc(), &mut office, "V")?;
-    assert!(rt; refused_homes(rt.alloc(), &office)? == (3, 7, 8));
-    Ok(())
+fn refuses_a_home_from_the_start(rt: HostRuntime) {
+    let alloc = rt.alloc();
+    let mut office = Office::empty(alloc);
+    furnish(&rt, alloc, &mut office);
+    let room = text(&rt, alloc, "V");
+    carry_out_all(&rt, alloc, &mut office, &[Command::Shut { room }]);
+    assert!(rt; refused_home(&rt, alloc, &office, "X") == 3);
+    assert!(rt; refused_home(&rt, alloc, &office, "V") == 7);
+    assert!(rt; refused_home(&rt, alloc, &office, "H") == 8);
 }
 
-// The tenant asks for the vacant room.
-fn choose(alloc: Global, office: &mut Office) -> Result<(), Fail>
+// A round of the tenant alone, who asks for the vacant room.
+fn hold_round(rt: &impl Abort, alloc: Global, office: &mut Office)
     requires { IsLawful office.old }
     ensures { IsLawful office.new }
 {
-    let rooms = vec![in alloc; RoomCode::read(alloc, "V")?]?;
-    let choices = Choices::read(rooms)?;
-    let person = PersonId::read(alloc, "T")?;
-    carry_out(alloc, office, &Command::SetChoices { person, choices })?;
-    Ok(())
-}
-
-// A word for the one participant.
-fn draw(alloc: Global, office: &mut Office) -> Result<(), Fail>
-    requires { IsLawful office.old }
-    ensures { IsLawful office.new }
-{
-    let words = Listing::new(vec![in alloc; Word::new(7)]?);
-    carry_out(alloc, office, &Command::Draw { words })?;
-    Ok(())
-}
-
-// A round of the tenant alone.
-fn hold_round(alloc: Global, office: &mut Office) -> Result<(), Fail>
-    requires { IsLawful office.old }
-    ensures { IsLawful office.new }
-{
-    carry_out(alloc, office, &Command::OpenRound)?;
-    choose(alloc, office)?;
-    carry_out(alloc, office, &Command::CloseRound)?;
-    draw(alloc, office)?;
-    carry_out_all(
-        alloc,
-        office,
-        &[Command::Run, Command::Publish, Command::Settle],
-    )?;
-    Ok(())
+    let person = text(rt, alloc, "T");
+    let choices = choices(rt, alloc, &["V"]);
+    let words = Listing::new(vec![in alloc; Word::new(7)].expect(rt, "memory"));
+    let commands = [
+        Command::OpenRound,
+        Command::SetChoices { person, choices },
+        Command::CloseRound,
+        Command::Draw { words },
+        Command::Run,
+        Command::Publish,
+        Command::Settle,
+    ];
+    carry_out_all(rt, alloc, office, &commands);
 }
 
 // How many moves the round had.
@@ -163,57 +131,54 @@ fn move_count(alloc: Global, office: &Office) -> Result<usize, Refusal>
 }
 
 #[test]
-fn moves_into_a_vacant_room(rt: HostRuntime) -> Result<(), Fail> {
-    let mut office = Office::empty(rt.alloc());
-    furnish(rt.alloc(), &mut office)?;
-    hold_round(rt.alloc(), &mut office)?;
-    assert!(rt; move_count(rt.alloc(), &office)? == 1);
-    Ok(())
+fn moves_into_a_vacant_room(rt: HostRuntime) {
+    let alloc = rt.alloc();
+    let mut office = Office::empty(alloc);
+    furnish(&rt, alloc, &mut office);
+    hold_round(&rt, alloc, &mut office);
+    assert!(rt; matches!(move_count(alloc, &office), Ok(1)));
 }
 
-// A change that puts a person without a home, whose identifier and key end in this number.
-fn numbered(alloc: Global, number: u32) -> Result<Change, Fail> {
+// Puts a person without a home, whose identifier and key end in this number.
+fn put_person(
+    rt: &impl Abort,
+    alloc: Global,
+    office: &mut Office,
+    number: u32,
+) -> Result<(), AllocError> {
     let id = format!(in alloc; "P{number}")?;
     let key = format!(in alloc; "key000000000{number:04}")?;
-    Ok(Change::PutPerson {
-        person: PersonId::read(alloc, &id)?,
-        name: Name::read(alloc, "Pat")?,
-        key: Key::read(alloc, &key)?,
+    let newcomer = Change::PutPerson {
+        person: text(rt, alloc, &id),
+        name: text(rt, alloc, "Pat"),
+        key: text(rt, alloc, &key),
         home: None,
-    })
-}
-
-fn put_people(alloc: Global, office: &mut Office, count: u32) -> Result<(), Fail> {
-    for number in 0..count {
-        apply(office, &numbered(alloc, number)?)?;
-    }
+    };
+    apply(office, &newcomer).expect(rt, "memory");
     Ok(())
 }
 
 // The number of the refusal of one person more, or 0 for none or where the office is not lawful.
-fn refused_person(alloc: Global, office: &Office) -> Result<u8, Fail> {
-    let person = PersonId::read(alloc, "Q")?;
-    let name = Name::read(alloc, "Pat")?;
-    let key = Key::read(alloc, "key000000000000q")?;
+fn refused_person(rt: &impl Abort, alloc: Global, office: &Office) -> u8 {
     let newcomer = Command::AddPerson {
-        person,
-        name,
-        key,
+        person: text(rt, alloc, "Q"),
+        name: text(rt, alloc, "Pat"),
+        key: text(rt, alloc, "key000000000000q"),
         home: None,
     };
-    if !sound(alloc, office)? {
-        return Ok(0);
-    }
-    match decide(alloc, office, &newcomer) {
-        Ok(_) => Ok(0),
-        Err(refusal) => Ok(refusal.number()),
+    if sound(alloc, office).expect(rt, "memory") {
+        refused(alloc, office, &newcomer)
+    } else {
+        0
     }
 }
 
 #[test]
-fn refuses_one_person_too_many(rt: HostRuntime) -> Result<(), Fail> {
-    let mut office = Office::empty(rt.alloc());
-    put_people(rt.alloc(), &mut office, 2000)?;
-    assert!(rt; refused_person(rt.alloc(), &office)? == 13);
-    Ok(())
+fn refuses_one_person_too_many(rt: HostRuntime) {
+    let alloc = rt.alloc();
+    let mut office = Office::empty(alloc);
+    for number in 0..2000 {
+        put_person(&rt, alloc, &mut office, number).expect(&rt, "memory");
+    }
+    assert!(rt; refused_person(&rt, alloc, &office) == 13);
 }

@@ -1,6 +1,7 @@
 ghost use Rattle.std.specs.Prelude.{ℕ, ◌+◌, ◌%◌, ◌^◌};
 ghost use Rattle.rand_core.specs.Steps.{stream_of, steps_u32};
 
+use crate::asserting::assert_same;
 use draw_order::{order, words_from};
 use rand_core::Rng;
 use rand_core::utils::{self, NextWord};
@@ -51,10 +52,11 @@ impl Rng for Counting {
 fn the_first_half_of_a_word_is_the_low_one(rt: HostRuntime) -> Result<(), Fail> {
     let mut generator = Counting { last: 0 };
     let words = words_from(rt.alloc(), &mut generator, 2)?;
-    assert_eq!(rt; words.len(), 2);
-    assert_eq!(rt; words[0].value(), 0x0000_0002_0000_0001);
-    assert_eq!(rt; words[1].value(), 0x0000_0004_0000_0003);
-    assert_eq!(rt; generator.next_u32(), 5);
+    assert!(rt;
+        matches!(words.as_slice(), [first, second]
+            if first.value() == 0x0000_0002_0000_0001 && second.value() == 0x0000_0004_0000_0003)
+    );
+    assert_same!(rt; generator.next_u32(), 5);
     Ok(())
 }
 
@@ -63,7 +65,7 @@ fn no_words_are_drawn_for_nobody(rt: HostRuntime) -> Result<(), Fail> {
     let mut generator = Counting { last: 0 };
     let words = words_from(rt.alloc(), &mut generator, 0)?;
     assert!(rt; words.is_empty());
-    assert_eq!(rt; generator.next_u32(), 1);
+    assert_same!(rt; generator.next_u32(), 1);
     Ok(())
 }
 
@@ -76,10 +78,10 @@ fn equal_words_by_identifier(rt: HostRuntime) -> Result<(), Fail> {
         (person(&rt, alloc, "E3"), Word::new(0)),
     ]?;
     let people = order(alloc, &lots)?;
-    assert_eq!(rt; people.len(), 3);
-    assert_eq!(rt; people[0].as_str(), "E3");
-    assert_eq!(rt; people[1].as_str(), "E1");
-    assert_eq!(rt; people[2].as_str(), "E2");
+    assert!(rt;
+        matches!(people.as_slice(), [first, second, third]
+            if first.as_str() == "E3" && second.as_str() == "E1" && third.as_str() == "E2")
+    );
     Ok(())
 }
 

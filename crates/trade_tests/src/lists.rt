@@ -1,5 +1,6 @@
 ghost use Rattle.std.specs.Prelude.{◌≡◌, Some};
 
+use crate::asserting::assert_same;
 use office_lists::{Mover, move_day_text, people_text, results_text, rooms_text, waves};
 use room_types::{Grammar, Move, PersonRow, ResultRow, RoomRow, State, Text, Wave};
 use std::alloc::Global;
@@ -24,7 +25,7 @@ fn a_table_of_rooms(rt: HostRuntime) -> Result<(), Fail> {
         room_row(&rt, alloc, "V-2", State::Shut, None),
     ]?;
     let table = rooms_text(alloc, &rows)?;
-    assert_eq!(rt;
+    assert_same!(rt;
         table.as_str(),
         "room      state     tenant\nABCDEFGH  occupied  ABCDEFGH1234\nH1        free      none\nV-2       shut      none\n"
     );
@@ -39,7 +40,7 @@ fn a_table_of_people(rt: HostRuntime) -> Result<(), Fail> {
         person_row(&rt, alloc, "T2", None, "Tom Tao"),
     ]?;
     let table = people_text(alloc, &rows)?;
-    assert_eq!(rt;
+    assert_same!(rt;
         table.as_str(),
         "person        home      name\nT1            H1        Tim Tan\nT2            none      Tom Tao\n"
     );
@@ -55,7 +56,7 @@ fn a_table_of_results(rt: HostRuntime) -> Result<(), Fail> {
         result_row(&rt, alloc, "T2", None),
     ]?;
     let table = results_text(alloc, &rows)?;
-    assert_eq!(rt;
+    assert_same!(rt;
         table.as_str(),
         "person        room\nN             V\nT1            W\nT2            none\n"
     );
@@ -66,9 +67,9 @@ fn a_table_of_results(rt: HostRuntime) -> Result<(), Fail> {
 fn tables_of_nobody(rt: HostRuntime) -> Result<(), Fail> {
     let alloc = rt.alloc();
     let rooms = rooms_text(alloc, &[])?;
-    assert_eq!(rt; rooms.as_str(), "room      state     tenant\n");
+    assert_same!(rt; rooms.as_str(), "room      state     tenant\n");
     let results = results_text(alloc, &[])?;
-    assert_eq!(rt; results.as_str(), "person        room\n");
+    assert_same!(rt; results.as_str(), "person        room\n");
     Ok(())
 }
 
@@ -81,7 +82,7 @@ fn move_day_of_a_swap_with_a_newcomer_behind(rt: HostRuntime) -> Result<(), Fail
         moved(&rt, alloc, 1, "N", None, "V", Wave::Nth(1)),
     ]?;
     let table = move_day_text(alloc, &moves)?;
-    assert_eq!(rt;
+    assert_same!(rt;
         table.as_str(),
         "wave  person        from      to\n1     N             none      V\nswap  T1            H1        H2\nswap  T2            H2        H1\n"
     );
@@ -91,7 +92,7 @@ fn move_day_of_a_swap_with_a_newcomer_behind(rt: HostRuntime) -> Result<(), Fail
 #[test]
 fn move_day_of_a_chain(rt: HostRuntime) -> Result<(), Fail> {
     let alloc = rt.alloc();
-    assert_eq!(rt;
+    assert_same!(rt;
         move_day_text(alloc, &[])?.as_str(),
         "wave  person        from      to\n"
     );
@@ -100,7 +101,7 @@ fn move_day_of_a_chain(rt: HostRuntime) -> Result<(), Fail> {
         moved(&rt, alloc, 1, "T2", Some("H2"), "V", Wave::Nth(1)),
     ]?;
     let table = move_day_text(alloc, &moves)?;
-    assert_eq!(rt;
+    assert_same!(rt;
         table.as_str(),
         "wave  person        from      to\n1     T2            H2        V\n2     T1            H1        H2\n"
     );
@@ -116,7 +117,7 @@ fn waves_of_a_swap_with_a_newcomer_behind(rt: HostRuntime) -> Result<(), Fail> {
         entry(&rt, alloc, "T2", Some("H2"), "H1"),
     ]?;
     let waves = waves(alloc, &entries)?;
-    assert_eq!(rt;
+    assert_same!(rt;
         waves.as_slice(),
         [Wave::Nth(1), Wave::Swap, Wave::Swap].as_slice()
     );
@@ -133,7 +134,7 @@ fn waves_of_a_chain(rt: HostRuntime) -> Result<(), Fail> {
         entry(&rt, alloc, "T2", Some("H2"), "V"),
     ]?;
     let waves = waves(alloc, &entries)?;
-    assert_eq!(rt; waves.as_slice(), [Wave::Nth(2), Wave::Nth(1)].as_slice());
+    assert_same!(rt; waves.as_slice(), [Wave::Nth(2), Wave::Nth(1)].as_slice());
     Ok(())
 }
 

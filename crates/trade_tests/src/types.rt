@@ -1,7 +1,8 @@
 //! Each call once with ample memory, and worked values.
+use crate::asserting::assert_same;
 use room_types::grammars::RoomCodes;
 use room_types::{Listing, Move, PersonId, RoomCode, Table, TypeFault, Watched, Wave, Word};
-use std::alloc::Global;
+use std::alloc::{AllocError, Global};
 use std::io;
 use std::io::{Error, ErrorKind, Read, Write};
 use std::process::Abort;
@@ -50,36 +51,45 @@ fn copies_moves(rt: HostRuntime) -> Result<(), TypeFault> {
 #[test]
 fn keeps_tables(rt: HostRuntime) -> Result<(), TypeFault> {
     let alloc = rt.alloc();
-    let mut table: Table<RoomCodes, bool> = Table::new(alloc);
-    for code in codes(alloc, 12)? {
-        table.insert(code, false)?;
-    }
     let code = RoomCode::read(alloc, "R2")?;
-    table.insert(code.copy()?, true)?;
-    assert_eq!(rt; table.len(), 12);
-    assert_eq!(rt; table.get(&code), Some(&true));
+    let mut table = twelve_codes(alloc, &code)?;
+    assert!(rt; table.len() == 12 && table.get(&code) == Some(&true));
     let mut copy = table.copy()?;
     table.remove(&code);
     assert!(rt; !table.contains_key(&code) && copy.contains_key(&code));
-    let mut ascending = String::new(alloc);
-    for (room, _) in table.iter() {
-        ascending.push_str(room.as_str())?;
-    }
-    assert_eq!(rt; ascending.as_str(), "R1R10R11R12R3R4R5R6R7R8R9");
-    assert_eq!(rt; copy.take(&code), Some(true));
-    assert_eq!(rt; copy.take(&code), None);
+    assert_same!(rt; ascending(alloc, &table)?.as_str(), "R1R10R11R12R3R4R5R6R7R8R9");
+    assert!(rt; copy.take(&code) == Some(true) && copy.take(&code).is_none());
     copy.clear();
-    assert_eq!(rt; copy.len(), 0);
+    assert_same!(rt; copy.len(), 0);
     Ok(())
+}
+
+// Twelve codes, of which this one alone has the value true.
+fn twelve_codes(alloc: Global, code: &RoomCode) -> Result<Table<RoomCodes, bool>, TypeFault> {
+    let mut table = Table::new(alloc);
+    for other in codes(alloc, 12)? {
+        table.insert(other, false)?;
+    }
+    table.insert(code.copy()?, true)?;
+    Ok(table)
+}
+
+// The keys in the order of the table.
+fn ascending(alloc: Global, table: &Table<RoomCodes, bool>) -> Result<String, AllocError> {
+    let mut keys = String::new(alloc);
+    for (room, _) in table.iter() {
+        keys.push_str(room.as_str())?;
+    }
+    Ok(keys)
 }
 
 #[test]
 fn keeps_listings(rt: HostRuntime) -> Result<(), TypeFault> {
     let alloc = rt.alloc();
-    assert_eq!(rt; Listing::new(codes(alloc, 3)?).as_slice().len(), 3);
+    assert_same!(rt; Listing::new(codes(alloc, 3)?).as_slice().len(), 3);
     let mut listing = Listing::empty(alloc);
     listing.push(RoomCode::read(alloc, "R1")?)?;
-    assert_eq!(rt; listing.len(), 1);
+    assert_same!(rt; listing.len(), 1);
     Ok(())
 }
 
@@ -149,9 +159,9 @@ fn passes_calls_on(rt: HostRuntime) {
     let mut flushed = watched_faulty();
     for call in 1..=10 {
         let wanted = wanted_at(call);
-        assert_eq!(rt; kind(input.read(&mut [0u8; 3])), wanted);
-        assert_eq!(rt; kind(output.write(b"ab")), wanted);
-        assert_eq!(rt; kind(flushed.flush()), wanted);
+        assert_same!(rt; kind(input.read(&mut [0u8; 3])), wanted);
+        assert_same!(rt; kind(output.write(b"ab")), wanted);
+        assert_same!(rt; kind(flushed.flush()), wanted);
     }
     assert!(rt; input.failed() && input.late() && input.reads() == 10);
     assert!(rt; output.failed() && output.late() && output.taken() == 18);
@@ -162,7 +172,7 @@ fn passes_calls_on(rt: HostRuntime) {
         flushed.into_inner(),
     );
     assert!(rt; (input.calls, input.lent) == (10, 30) && (output.calls, output.lent) == (10, 20));
-    assert_eq!(rt; flushed.calls, 10);
+    assert_same!(rt; flushed.calls, 10);
 }
 
 #[test]
@@ -170,19 +180,24 @@ fn watches_streams(rt: HostRuntime) -> io::Result<()> {
     let mut input = Watched::new("ab".as_bytes());
     let mut byte = [0u8; 1];
     for taken in [1, 1, 0] {
-        assert_eq!(rt; input.read(&mut byte)?, taken);
+        assert_same!(rt; input.read(&mut byte)?, taken);
     }
     assert!(rt; input.reads() == 3 && !input.failed() && input.taken() == 0);
     assert!(rt; input.ended() && !input.late());
+    Ok(())
+}
+
+#[test]
+fn watches_full_streams(rt: HostRuntime) -> io::Result<()> {
     let mut space = [0u8; 3];
     let mut output = Watched::new(&mut space[..]);
-    assert_eq!(rt; output.write(b"abcd")?, 3);
+    assert_same!(rt; output.write(b"abcd")?, 3);
     assert!(rt; !output.failed() && output.taken() == 3 && output.pending());
     output.flush()?;
     assert!(rt; output.flushes() == 1 && !output.pending());
-    assert_eq!(rt; output.write(b"")?, 0);
+    assert_same!(rt; output.write(b"")?, 0);
     assert!(rt; !output.failed());
-    assert_eq!(rt; output.write(b"d")?, 0);
+    assert_same!(rt; output.write(b"d")?, 0);
     assert!(rt; output.failed() && output.taken() == 3);
     Ok(())
 }

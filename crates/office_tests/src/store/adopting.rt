@@ -1,10 +1,13 @@
 //! Desks over databases that are handed in, with ample memory.
+use crate::asserting::assert_same;
+use crate::building::{add_person, add_room, answers, choices, new_desk, text};
 use office_core::{Command, Query, Reply};
+use office_state::Office;
 use office_store::{Answer, Back, Desk, DeskFault, Handler, Request};
-use room_types::{Choices, Key, Listing, Name, PersonId, Phase, ResultRow, RoomCode, Word};
+use room_types::{Listing, Phase, ResultRow, Word};
 use sqlite::{Connection, MemStore};
 use std::alloc::Global;
-use std::test::Fail;
+use std::process::Abort;
 
 // Statements that leave no office's rows after the round below has run, each with one that mends it.
 const BREAKS: [(&str, &str); 10] = [
@@ -47,74 +50,80 @@ const BREAKS: [(&str, &str); 10] = [
     ),
 ];
 
-#[test]
-fn finds_no_office_in_an_empty_database(rt: HostRuntime) -> Result<(), Fail> {
-    let conn = Connection::open_in_memory(rt.alloc())?;
-    let (fault, _) = tried(rt.alloc(), conn);
-    assert_eq!(rt; fault, Some(DeskFault::NotAnOffice));
-    Ok(())
-}
+// Statements over the tables of a desk in turn, each with the fault of the database that it leaves.
+const DECLARED: [(&str, Option<DeskFault>); 6] = [
+    (
+        "UPDATE round SET version = 9",
+        Some(DeskFault::OtherVersion(9)),
+    ),
+    ("UPDATE round SET version = 1", None),
+    ("DELETE FROM round", Some(DeskFault::NotAnOffice)),
+    ("CREATE TABLE note(text TEXT)", Some(DeskFault::Unavailable)),
+    (
+        "DROP TABLE note; DROP TABLE round",
+        Some(DeskFault::NotAnOffice),
+    ),
+    (
+        "CREATE VIEW Round AS SELECT 1 AS one",
+        Some(DeskFault::Unavailable),
+    ),
+];
 
 #[test]
-fn takes_tables_of_its_own_version(rt: HostRuntime) -> Result<(), Fail> {
+fn finds_no_office_in_an_empty_database(rt: HostRuntime) {
     let alloc = rt.alloc();
-    let mut conn = Desk::in_memory(alloc)?.release();
-    conn.execute_batch("UPDATE round SET version = 9")?;
-    let (fault, mut conn) = tried(alloc, conn);
-    assert_eq!(rt; fault, Some(DeskFault::OtherVersion(9)));
-    conn.execute_batch("UPDATE round SET version = 1")?;
-    let (fault, mut conn) = tried(alloc, conn);
-    assert_eq!(rt; fault, None);
-    conn.execute_batch("DELETE FROM round")?;
-    let (fault, mut conn) = tried(alloc, conn);
-    assert_eq!(rt; fault, Some(DeskFault::NotAnOffice));
-    conn.execute_batch("CREATE TABLE note(text TEXT)")?;
-    let (fault, mut conn) = tried(alloc, conn);
-    assert_eq!(rt; fault, Some(DeskFault::Unavailable));
-    conn.execute_batch("DROP TABLE note; DROP TABLE round")?;
-    let (fault, mut conn) = tried(alloc, conn);
-    assert_eq!(rt; fault, Some(DeskFault::NotAnOffice));
-    conn.execute_batch("CREATE VIEW Round AS SELECT 1 AS one")?;
+    let conn = Connection::open_in_memory(alloc).expect(&rt, "memory");
     let (fault, _) = tried(alloc, conn);
-    assert_eq!(rt; fault, Some(DeskFault::Unavailable));
-    Ok(())
+    assert_same!(rt; fault, Some(DeskFault::NotAnOffice));
 }
 
 #[test]
-fn shows_the_office_that_a_desk_left(rt: HostRuntime) -> Result<(), Fail> {
+fn takes_tables_of_its_own_version(rt: HostRuntime) {
     let alloc = rt.alloc();
-    let Ok(mut desk) = Desk::adopt(alloc, desk_after_run(alloc)?.release()) else {
-        assert!(rt; false);
-        return Ok(());
-    };
-    let office = desk.load(alloc)?;
-    assert_eq!(rt; office.number, 1);
-    assert_eq!(rt; office.phase, Phase::Ran);
-    assert_eq!(rt; (office.rooms.len(), office.people.len()), (3, 3));
-    let answer = desk.handle(alloc, &Request::Ask(Query::Results));
-    let shown = match &answer {
-        Answer::Reply(Reply::Results(rows)) => matches!(rows.as_slice(), [n, t1, t2]
-            if is_row(n, "N", "V") && is_row(t1, "T1", "H2") && is_row(t2, "T2", "H1")),
-        _ => false,
-    };
-    assert!(rt; shown);
-    Ok(())
-}
-
-#[test]
-fn takes_the_rows_of_an_office_alone(rt: HostRuntime) -> Result<(), Fail> {
-    let alloc = rt.alloc();
-    let mut conn = desk_after_run(alloc)?.release();
-    for (breaks, mends) in BREAKS {
-        conn.execute_batch(breaks)?;
-        let (fault, mut back) = tried(alloc, conn);
-        assert_eq!(rt; fault, Some(DeskFault::NotAnOffice));
-        back.execute_batch(mends)?;
-        let (fault, mended) = tried(alloc, back);
-        assert_eq!(rt; fault, None);
-        conn = mended;
+    let mut conn = new_desk(&rt, alloc).release();
+    for (statements, wanted) in DECLARED {
+        conn = tried_after(&rt, alloc, conn, statements, wanted);
     }
-    Ok(())
+}
+
+#[test]
+fn shows_the_office_that_a_desk_left(rt: HostRuntime) {
+    let alloc = rt.alloc();
+    let mut desk = adopted(&rt, alloc, desk_after_run(&rt, alloc));
+    assert!(rt; has_run(&desk.load(alloc).expect(&rt, "an office in the tables")));
+    assert!(rt; are_results(&desk.handle(alloc, &Request::Ask(Query::Results))));
+}
+
+#[test]
+fn takes_the_rows_of_an_office_alone(rt: HostRuntime) {
+    let alloc = rt.alloc();
+    let mut conn = desk_after_run(&rt, alloc).release();
+    for (breaks, mends) in BREAKS {
+        conn = tried_after(&rt, alloc, conn, breaks, Some(DeskFault::NotAnOffice));
+        conn = tried_after(&rt, alloc, conn, mends, None);
+    }
+}
+
+// The desk over the database that another desk left.
+pub(super) fn adopted(rt: &impl Abort, alloc: Global, desk: Desk<MemStore>) -> Desk<MemStore> {
+    match Desk::adopt(alloc, desk.release()) {
+        Ok(desk) => desk,
+        Err(_) => panic!(rt; "no desk takes the database"),
+    }
+}
+
+// The connection, on which the statements have run, after which it was tried with this end.
+fn tried_after(
+    rt: &impl Abort,
+    alloc: Global,
+    mut conn: Connection<MemStore>,
+    statements: &str,
+    wanted: Option<DeskFault>,
+) -> Connection<MemStore> {
+    conn.execute_batch(statements).expect(rt, statements);
+    let (fault, conn) = tried(alloc, conn);
+    assert_same!(rt; fault, wanted, statements);
+    conn
 }
 
 // Why no desk adopts the database, or none if one does, and the connection.
@@ -129,6 +138,19 @@ fn tried(alloc: Global, conn: Connection<MemStore>) -> (Option<DeskFault>, Conne
     }
 }
 
+fn has_run(office: &Office) -> bool {
+    let of_first_run = office.number == 1 && office.phase == Phase::Ran;
+    of_first_run && office.rooms.len() == 3 && office.people.len() == 3
+}
+
+fn are_results(answer: &Answer) -> bool {
+    match answer {
+        Answer::Reply(Reply::Results(rows)) => matches!(rows.as_slice(), [n, t1, t2]
+            if is_row(n, "N", "V") && is_row(t1, "T1", "H2") && is_row(t2, "T2", "H1")),
+        _ => false,
+    }
+}
+
 fn is_row(row: &ResultRow, person: &str, room: &str) -> bool {
     match &row.room {
         Some(code) => row.person.as_str() == person && code.as_str() == room,
@@ -137,61 +159,45 @@ fn is_row(row: &ResultRow, person: &str, room: &str) -> bool {
 }
 
 // T1 and T2 live in H1 and H2, and ask for each other's room; N comes last and asks for H1 and V.
-fn desk_after_run(alloc: Global) -> Result<Desk<MemStore>, Fail> {
-    let mut desk = Desk::in_memory(alloc)?;
-    let requests = vec![in alloc;
-        room(alloc, "H1")?,
-        room(alloc, "H2")?,
-        room(alloc, "V")?,
-        person(
-            alloc,
-            "T1",
-            "key00000000000t1",
-            Some(RoomCode::read(alloc, "H1")?)
-        )?,
-        person(
-            alloc,
-            "T2",
-            "key00000000000t2",
-            Some(RoomCode::read(alloc, "H2")?)
-        )?,
-        person(alloc, "N", "key000000000000n", None)?,
+fn desk_after_run(rt: &impl Abort, alloc: Global) -> Desk<MemStore> {
+    let mut desk = new_desk(rt, alloc);
+    for requests in [entered(rt, alloc), held(rt, alloc)] {
+        let _answers = answers(rt, alloc, &mut desk, &requests);
+    }
+    desk
+}
+
+fn entered(rt: &impl Abort, alloc: Global) -> Vec<Request> {
+    vec![in alloc;
+        add_room(rt, alloc, "H1"),
+        add_room(rt, alloc, "H2"),
+        add_room(rt, alloc, "V"),
+        add_person(rt, alloc, "T1", "Tim Tan", "key00000000000t1", Some("H1")),
+        add_person(rt, alloc, "T2", "Tim Tan", "key00000000000t2", Some("H2")),
+        add_person(rt, alloc, "N", "Tim Tan", "key000000000000n", None),
+    ]
+    .expect(rt, "memory")
+}
+
+fn held(rt: &impl Abort, alloc: Global) -> Vec<Request> {
+    let words = vec![in alloc; Word::new(3), Word::new(1), Word::new(2)].expect(rt, "memory");
+    vec![in alloc;
         Request::Office(Command::OpenRound),
-        choose(alloc, "T1", vec![in alloc; RoomCode::read(alloc, "H2")?]?)?,
-        choose(alloc, "T2", vec![in alloc; RoomCode::read(alloc, "H1")?]?)?,
-        choose(
-            alloc,
-            "N",
-            vec![in alloc; RoomCode::read(alloc, "H1")?, RoomCode::read(alloc, "V")?]?,
-        )?,
+        choose(rt, alloc, "T1", &["H2"]),
+        choose(rt, alloc, "T2", &["H1"]),
+        choose(rt, alloc, "N", &["H1", "V"]),
         Request::Office(Command::CloseRound),
         Request::Office(Command::Draw {
-            words: Listing::new(vec![in alloc; Word::new(3), Word::new(1), Word::new(2)]?),
+            words: Listing::new(words),
         }),
         Request::Office(Command::Run),
-    ]?;
-    let _answers = desk.handle_all(alloc, &requests)?;
-    Ok(desk)
+    ]
+    .expect(rt, "memory")
 }
 
-fn room(alloc: Global, code: &str) -> Result<Request, Fail> {
-    Ok(Request::Office(Command::AddRoom {
-        room: RoomCode::read(alloc, code)?,
-    }))
-}
-
-fn person(alloc: Global, id: &str, key: &str, home: Option<RoomCode>) -> Result<Request, Fail> {
-    Ok(Request::Office(Command::AddPerson {
-        person: PersonId::read(alloc, id)?,
-        name: Name::read(alloc, "Tim Tan")?,
-        key: Key::read(alloc, key)?,
-        home,
-    }))
-}
-
-fn choose(alloc: Global, id: &str, rooms: Vec<RoomCode>) -> Result<Request, Fail> {
-    Ok(Request::Office(Command::SetChoices {
-        person: PersonId::read(alloc, id)?,
-        choices: Choices::read(rooms)?,
-    }))
+fn choose(rt: &impl Abort, alloc: Global, id: &str, codes: &[&str]) -> Request {
+    Request::Office(Command::SetChoices {
+        person: text(rt, alloc, id),
+        choices: choices(rt, alloc, codes),
+    })
 }

@@ -1,12 +1,14 @@
 //! Exports of desks in memory.
-use office_core::Command;
+use crate::asserting::assert_same;
+use crate::building::{add_person, add_room, answers, new_desk};
 use office_lists::ExportKind;
 use office_store::{Answer, Desk, ExportEnd, Request};
-use room_types::{Key, Name, PersonId, RoomCode, Watched};
+use room_types::Watched;
+use sqlite::MemStore;
 use std::alloc::Global;
 use std::io;
 use std::io::{Error, ErrorKind, Write};
-use std::test::Fail;
+use std::process::Abort;
 
 // A writer that takes so many bytes and then fails.
 #[derive(Drop)]
@@ -32,37 +34,44 @@ impl Write for Narrow {
 }
 
 // H1, in which E1 lives, and H2. E2 has a name that needs quotes.
-fn requests(alloc: Global) -> Result<Vec<Request>, Fail> {
-    Ok(vec![in alloc;
-        Request::Office(Command::AddRoom {
-            room: RoomCode::read(alloc, "H2")?
-        }),
-        Request::Office(Command::AddRoom {
-            room: RoomCode::read(alloc, "H1")?
-        }),
-        Request::Office(Command::AddPerson {
-            person: PersonId::read(alloc, "E2")?,
-            name: Name::read(alloc, "Bo, B.")?,
-            key: Key::read(alloc, "key00000000000e2")?,
-            home: None,
-        }),
-        Request::Office(Command::AddPerson {
-            person: PersonId::read(alloc, "E1")?,
-            name: Name::read(alloc, "Ann Ash")?,
-            key: Key::read(alloc, "key00000000000e1")?,
-            home: Some(RoomCode::read(alloc, "H1")?),
-        }),
-    ]?)
+fn requests(rt: &impl Abort, alloc: Global) -> Vec<Request> {
+    vec![in alloc;
+        add_room(rt, alloc, "H2"),
+        add_room(rt, alloc, "H1"),
+        add_person(rt, alloc, "E2", "Bo, B.", "key00000000000e2", None),
+        add_person(rt, alloc, "E1", "Ann Ash", "key00000000000e1", Some("H1")),
+    ]
+    .expect(rt, "memory")
+}
+
+// A desk that has accepted these requests.
+fn furnished(rt: &impl Abort, alloc: Global) -> Desk<MemStore> {
+    let requests = requests(rt, alloc);
+    let mut desk = new_desk(rt, alloc);
+    for answer in &answers(rt, alloc, &mut desk, &requests) {
+        assert!(rt; matches!(answer, Answer::Reply(_)));
+    }
+    desk
+}
+
+// That the desk exports these bytes, and flushes nothing.
+pub(super) fn exports(
+    rt: &impl Abort,
+    alloc: Global,
+    desk: &mut Desk<MemStore>,
+    kind: ExportKind,
+    bytes: &[u8],
+) {
+    let mut output = Watched::new(Vec::new(alloc));
+    assert!(rt; desk.export(alloc, kind, &mut output).is_ok());
+    assert_same!(rt; output.flushes(), 0);
+    assert_same!(rt; output.into_inner().as_slice(), bytes);
 }
 
 #[test]
-fn exports_rooms_and_people(rt: HostRuntime) -> Result<(), Fail> {
+fn exports_rooms_and_people(rt: HostRuntime) {
     let alloc = rt.alloc();
-    let mut desk = Desk::in_memory(alloc)?;
-    let requests = requests(alloc)?;
-    for answer in &desk.handle_all(alloc, &requests)? {
-        assert!(rt; matches!(answer, Answer::Reply(_)));
-    }
+    let mut desk = furnished(&rt, alloc);
     for (kind, bytes) in [
         (
             ExportKind::Rooms,
@@ -74,33 +83,30 @@ fn exports_rooms_and_people(rt: HostRuntime) -> Result<(), Fail> {
         ),
         (ExportKind::Moves, b"round,wave,person,from,to\n".as_slice()),
     ] {
-        let mut output = Watched::new(Vec::new(alloc));
-        assert_eq!(rt; desk.export(alloc, kind, &mut output), Ok(()));
-        assert_eq!(rt; output.flushes(), 0);
-        assert_eq!(rt; output.into_inner().as_slice(), bytes);
+        exports(&rt, alloc, &mut desk, kind, bytes);
     }
-    Ok(())
 }
 
-// After 20 bytes the writer fails, and the desk goes on.
-#[test]
-fn tells_how_much_was_sent(rt: HostRuntime) -> Result<(), Fail> {
-    let alloc = rt.alloc();
-    let mut desk = Desk::in_memory(alloc)?;
-    let requests = requests(alloc)?;
-    let _answers = desk.handle_all(alloc, &requests)?;
+// The rooms are exported to a writer that takes 20 bytes.
+fn fills_a_writer(rt: &impl Abort, alloc: Global, desk: &mut Desk<MemStore>) {
     let mut output = Watched::new(Narrow {
         written: Vec::new(alloc),
         room: 20,
     });
     let end = desk.export(alloc, ExportKind::Rooms, &mut output);
-    assert_eq!(rt; end, Err(ExportEnd::Fault { sent: 20 }));
-    assert!(rt; output.failed());
-    assert_eq!(rt;
+    assert!(rt; end == Err(ExportEnd::Fault { sent: 20 }) && output.failed());
+    assert_same!(rt;
         output.into_inner().written.as_slice(),
         b"room,state,tenant\nH1".as_slice()
     );
-    let mut output = Watched::new(Vec::new(alloc));
-    assert_eq!(rt; desk.export(alloc, ExportKind::Rooms, &mut output), Ok(()));
-    Ok(())
+}
+
+// After 20 bytes the writer fails, and the desk goes on.
+#[test]
+fn tells_how_much_was_sent(rt: HostRuntime) {
+    let alloc = rt.alloc();
+    let mut desk = furnished(&rt, alloc);
+    fills_a_writer(&rt, alloc, &mut desk);
+    let rooms = b"room,state,tenant\nH1,occupied,E1\nH2,free,\n";
+    exports(&rt, alloc, &mut desk, ExportKind::Rooms, rooms);
 }

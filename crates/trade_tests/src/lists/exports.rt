@@ -4,6 +4,7 @@ ghost use Rattle.office_lists.specs.Exports.{AscendByRound};
 ghost use Rattle.room_types.specs.Ascending.{AscendsBy};
 
 use super::{moved, person_row, room_row};
+use crate::asserting::assert_same;
 use office_lists::{
     ExportKind, WriteEnd, head_bytes, move_row_bytes, person_row_bytes, room_row_bytes,
     write_moves, write_people, write_rooms,
@@ -29,14 +30,14 @@ fn rooms_with_and_without_a_tenant(rt: HostRuntime) -> Result<(), Fail> {
     let alloc = rt.alloc();
     let rows = rooms(&rt, alloc)?;
     let mut output = Watched::new(Vec::new(alloc));
-    assert_eq!(rt; write_rooms(alloc, &rows, &mut output), Ok(()));
-    assert_eq!(rt; output.flushes(), 0);
-    assert_eq!(rt; output.into_inner().as_slice(), ROOMS);
+    assert_same!(rt; write_rooms(alloc, &rows, &mut output), Ok(()));
+    assert_same!(rt; output.flushes(), 0);
+    assert_same!(rt; output.into_inner().as_slice(), ROOMS);
     let mut text = head_bytes(alloc, ExportKind::Rooms)?;
     for row in &rows {
         text.extend_from_slice(&room_row_bytes(alloc, row)?)?;
     }
-    assert_eq!(rt; text.as_slice(), ROOMS);
+    assert_same!(rt; text.as_slice(), ROOMS);
     Ok(())
 }
 
@@ -45,13 +46,13 @@ fn people_whose_names_need_quotes(rt: HostRuntime) -> Result<(), Fail> {
     let alloc = rt.alloc();
     let rows = people(&rt, alloc)?;
     let mut output = Watched::new(Vec::new(alloc));
-    assert_eq!(rt; write_people(alloc, &rows, &mut output), Ok(()));
-    assert_eq!(rt; output.into_inner().as_slice(), PEOPLE);
+    assert_same!(rt; write_people(alloc, &rows, &mut output), Ok(()));
+    assert_same!(rt; output.into_inner().as_slice(), PEOPLE);
     let mut text = head_bytes(alloc, ExportKind::People)?;
     for row in &rows {
         text.extend_from_slice(&person_row_bytes(alloc, row)?)?;
     }
-    assert_eq!(rt; text.as_slice(), PEOPLE);
+    assert_same!(rt; text.as_slice(), PEOPLE);
     Ok(())
 }
 
@@ -60,13 +61,13 @@ fn moves_of_two_rounds(rt: HostRuntime) -> Result<(), Fail> {
     let alloc = rt.alloc();
     let rows = moves(&rt, alloc)?;
     let mut output = Watched::new(Vec::new(alloc));
-    assert_eq!(rt; write_moves(alloc, &rows, &mut output), Ok(()));
-    assert_eq!(rt; output.into_inner().as_slice(), MOVES);
+    assert_same!(rt; write_moves(alloc, &rows, &mut output), Ok(()));
+    assert_same!(rt; output.into_inner().as_slice(), MOVES);
     let mut text = head_bytes(alloc, ExportKind::Moves)?;
     for row in &rows {
         text.extend_from_slice(&move_row_bytes(alloc, row)?)?;
     }
-    assert_eq!(rt; text.as_slice(), MOVES);
+    assert_same!(rt; text.as_slice(), MOVES);
     Ok(())
 }
 
@@ -78,13 +79,13 @@ fn exports_without_rows(rt: HostRuntime) -> Result<(), Fail> {
         (ExportKind::People, b"person,name,home\n".as_slice()),
         (ExportKind::Moves, b"round,wave,person,from,to\n".as_slice()),
     ] {
-        assert_eq!(rt; head_bytes(alloc, kind)?.as_slice(), header);
+        assert_same!(rt; head_bytes(alloc, kind)?.as_slice(), header);
     }
     let mut output = Watched::new(Vec::new(alloc));
     assert!(rt; write_moves(alloc, &[], &mut output).is_ok());
     assert!(rt; write_people(alloc, &[], &mut output).is_ok());
     assert!(rt; write_rooms(alloc, &[], &mut output).is_ok());
-    assert_eq!(rt;
+    assert_same!(rt;
         output.into_inner().as_slice(),
         b"round,wave,person,from,to\nperson,name,home\nroom,state,tenant\n".as_slice()
     );
@@ -103,7 +104,7 @@ fn names_with_and_without_quotes(rt: HostRuntime) -> Result<(), Fail> {
         ("=x;\\'-", b"T1,=x;\\'-,\n".as_slice()),
     ] {
         let row = person_row(&rt, alloc, "T1", None, name);
-        assert_eq!(rt; person_row_bytes(alloc, &row)?.as_slice(), record);
+        assert_same!(rt; person_row_bytes(alloc, &row)?.as_slice(), record);
     }
     Ok(())
 }
@@ -113,22 +114,22 @@ fn a_device_that_is_full(rt: HostRuntime) -> Result<(), Fail> {
     let alloc = rt.alloc();
     let rows = rooms(&rt, alloc)?;
     let mut output = Watched::new(new_device(alloc, usize::MAX, 20));
-    assert_eq!(rt;
+    assert_same!(rt;
         write_rooms(alloc, &rows, &mut output),
         Err(WriteEnd::Fault { sent: 20 })
     );
     assert!(rt; output.failed() && !output.late());
-    assert_eq!(rt;
+    assert_same!(rt;
         output.into_inner().written.as_slice(),
         b"room,state,tenant\nH1".as_slice()
     );
     for room in 0..ROOMS.len() {
         let mut output = Watched::new(new_device(alloc, usize::MAX, room));
-        assert_eq!(rt;
+        assert_same!(rt;
             write_rooms(alloc, &rows, &mut output),
             Err(WriteEnd::Fault { sent: room as u128 })
         );
-        assert_eq!(rt; output.into_inner().written.as_slice(), &ROOMS[..room]);
+        assert_same!(rt; output.into_inner().written.as_slice(), &ROOMS[..room]);
     }
     println!(rt; "an export whose writer is full: {} faults", ROOMS.len())?;
     Ok(())
@@ -142,11 +143,11 @@ fn each_write_failing_in_turn(rt: HostRuntime) -> Result<(), Fail> {
     for writes in 0..MOVES.len() {
         let mut output = Watched::new(new_device(alloc, writes, usize::MAX));
         let sent = writes as u128;
-        assert_eq!(rt;
+        assert_same!(rt;
             write_moves(alloc, &rows, &mut output),
             Err(WriteEnd::Fault { sent })
         );
-        assert_eq!(rt; output.into_inner().written.as_slice(), &MOVES[..writes]);
+        assert_same!(rt; output.into_inner().written.as_slice(), &MOVES[..writes]);
     }
     println!(rt; "an export whose writes fail: {} faults", MOVES.len())?;
     Ok(())

@@ -2,6 +2,7 @@
 ghost use Rattle.std.specs.Prelude.{◌<◌};
 
 use super::{outcome_over, problem_of, rooms_of};
+use crate::asserting::assert_same;
 use std::alloc::Global;
 use std::test::Fail;
 use trade_line::fault::TradeFault;
@@ -96,7 +97,7 @@ fn on_every_problem_of_three_people_and_three_rooms(rt: HostRuntime) -> Result<(
             }
         }
     }
-    assert_eq!(rt; problems, SMALL_PROBLEMS);
+    assert_same!(rt; problems, SMALL_PROBLEMS);
     Ok(())
 }
 

@@ -1,11 +1,23 @@
 //! The faults of problems and lists.
 use super::{outcome_over, problem_of, rooms_of};
+use crate::asserting::assert_same;
 use std::alloc::Global;
 use std::test::Fail;
 use trade_line::fault::TradeFault;
 use trade_line::line::VecLine;
 use trade_line::out_of_memory::OutOfMemory;
 use trade_line::what_if::run_with_list;
+
+// Homes and lists of two rooms, and the fault that is found first.
+const BAD: [(&[Option<usize>], &[&[usize]], TradeFault); 7] = [
+    (&[None, None], &[&[2], &[]], TradeFault::BadIndex),
+    (&[Some(2), None], &[&[], &[]], TradeFault::BadIndex),
+    (&[None, None], &[&[]], TradeFault::BadIndex),
+    (&[Some(0), Some(0)], &[&[1, 1], &[]], TradeFault::HomeShared),
+    (&[Some(1), None], &[&[1], &[0, 0]], TradeFault::ListRepeats),
+    (&[None, None], &[&[1, 1], &[]], TradeFault::ListRepeats),
+    (&[Some(0), None], &[&[0], &[]], TradeFault::OwnRoomListed),
+];
 
 fn fault_of(
     alloc: Global,
@@ -19,37 +31,12 @@ fn fault_of(
 #[test]
 fn first_fault_of_a_problem_is_answered(rt: HostRuntime) -> Result<(), Fail> {
     let alloc = rt.alloc();
-    assert_eq!(rt;
-        fault_of(alloc, 2, &[None, None], &[&[2], &[]]),
-        Some(TradeFault::BadIndex)
-    );
-    assert_eq!(rt;
-        fault_of(alloc, 2, &[Some(2), None], &[&[], &[]]),
-        Some(TradeFault::BadIndex)
-    );
-    assert_eq!(rt;
-        fault_of(alloc, 2, &[None, None], &[&[]]),
-        Some(TradeFault::BadIndex)
-    );
-    assert_eq!(rt;
-        fault_of(alloc, 2, &[Some(0), Some(0)], &[&[1, 1], &[]]),
-        Some(TradeFault::HomeShared)
-    );
-    assert_eq!(rt;
-        fault_of(alloc, 2, &[Some(1), None], &[&[1], &[0, 0]]),
-        Some(TradeFault::ListRepeats)
-    );
-    assert_eq!(rt;
-        fault_of(alloc, 2, &[None, None], &[&[1, 1], &[]]),
-        Some(TradeFault::ListRepeats)
-    );
-    assert_eq!(rt;
-        fault_of(alloc, 2, &[Some(0), None], &[&[0], &[]]),
-        Some(TradeFault::OwnRoomListed)
-    );
+    for (homes, lists, fault) in BAD {
+        assert_same!(rt; fault_of(alloc, 2, homes, lists), Some(fault));
+    }
     let swap = problem_of(alloc, 2, &[Some(0), Some(1)], &[&[1], &[0]])?;
     let outcome = outcome_over::<VecLine>(alloc, &swap)?;
-    assert_eq!(rt;
+    assert_same!(rt;
         rooms_of(alloc, &swap, &outcome)?.as_slice(),
         [Some(1), Some(0)].as_slice()
     );
@@ -67,7 +54,7 @@ fn first_fault_of_a_list_is_answered(rt: HostRuntime) -> Result<(), Fail> {
         (0, &[1, 0], TradeFault::OwnRoomListed),
     ];
     for (person, list, fault) in faults {
-        assert_eq!(rt;
+        assert_same!(rt;
             run_with_list(alloc, &problem, person, Vec::from_slice(alloc, list)?),
             Err(fault)
         );
@@ -89,9 +76,9 @@ fn faults_are_told_in_words(rt: HostRuntime) -> Result<(), Fail> {
         (TradeFault::OutOfMemory, "memory was refused"),
     ];
     for (fault, words) in faults {
-        assert_eq!(rt; format!(in alloc; "{fault}")?.as_str(), words);
+        assert_same!(rt; format!(in alloc; "{fault}")?.as_str(), words);
     }
-    assert_eq!(rt;
+    assert_same!(rt;
         format!(in alloc; "{}", OutOfMemory)?.as_str(),
         "memory was refused"
     );

@@ -1,7 +1,9 @@
 //! What the laws on other lists and on the strict core leave open, at small markets.
 use super::problem_of;
+use crate::asserting::assert_same;
 use std::alloc::Global;
-use std::test::Fail;
+use std::process::Abort;
+use trade_line::fault::TradeFault;
 use trade_line::plain::top_trading_cycles;
 
 struct Twice {
@@ -47,17 +49,25 @@ const TWICE: [Twice; 3] = [
     },
 ];
 
+fn rooms_are(
+    rt: &impl Abort,
+    alloc: Global,
+    twice: &Twice,
+    lists: &[&[usize]],
+    gets: &[Option<usize>],
+) -> Result<(), TradeFault> {
+    let problem = problem_of(alloc, twice.rooms, twice.homes, lists)?;
+    let plain = top_trading_cycles(alloc, &problem)?;
+    assert_same!(rt; plain.as_slice(), gets, twice.story);
+    Ok(())
+}
+
 #[test]
-fn other_lists_give_other_rooms(rt: HostRuntime) -> Result<(), Fail> {
+fn other_lists_give_other_rooms(rt: HostRuntime) -> Result<(), TradeFault> {
     let alloc = rt.alloc();
     for twice in &TWICE {
-        let story = twice.story;
-        let recorded = problem_of(alloc, twice.rooms, twice.homes, twice.lists)?;
-        let plain = top_trading_cycles(alloc, &recorded)?;
-        assert_eq!(rt; plain.as_slice(), twice.gets, "{story}");
-        let other = problem_of(alloc, twice.rooms, twice.homes, twice.other_lists)?;
-        let plain = top_trading_cycles(alloc, &other)?;
-        assert_eq!(rt; plain.as_slice(), twice.other_gets, "{story}");
+        rooms_are(&rt, alloc, twice, twice.lists, twice.gets)?;
+        rooms_are(&rt, alloc, twice, twice.other_lists, twice.other_gets)?;
     }
     Ok(())
 }

@@ -1,5 +1,6 @@
 //! Large runs: how many asks and looks they take.
 use super::outcome_over;
+use crate::asserting::assert_same;
 use std::alloc::Global;
 use std::process::Abort;
 use std::test::Fail;
@@ -25,10 +26,10 @@ fn moves_one_room_on<L: Line>(rt: &impl Abort, alloc: Global) -> Result<(), Fail
     let problem = one_room_on(alloc)?;
     let outcome = outcome_over::<L>(alloc, &problem)?;
     for person in 0..TENANTS {
-        assert_eq!(rt; outcome.room_of(person), Some(person + 1));
+        assert_same!(rt; outcome.room_of(person), Some(person + 1));
     }
-    assert_eq!(rt; outcome.asks(), 3999);
-    assert_eq!(rt; outcome.looks(), 3999);
+    assert_same!(rt; outcome.asks(), 3999);
+    assert_same!(rt; outcome.looks(), 3999);
     Ok(())
 }
 
@@ -59,11 +60,11 @@ fn goes_by_priority<L: Line>(rt: &impl Abort, alloc: Global) -> Result<(), Fail>
     let problem = same_lists(alloc)?;
     let outcome = outcome_over::<L>(alloc, &problem)?;
     for person in 0..VACANT {
-        assert_eq!(rt; outcome.room_of(person), Some(person));
+        assert_same!(rt; outcome.room_of(person), Some(person));
     }
-    assert_eq!(rt; outcome.room_of(VACANT), None);
-    assert_eq!(rt; outcome.asks(), 41);
-    assert_eq!(rt; outcome.looks(), 860);
+    assert_same!(rt; outcome.room_of(VACANT), None);
+    assert_same!(rt; outcome.asks(), 41);
+    assert_same!(rt; outcome.looks(), 860);
     Ok(())
 }
 

@@ -1,7 +1,7 @@
 //! The calls of a line, through the bound.
+use crate::asserting::assert_same;
 use std::alloc::Global;
 use std::process::Abort;
-use std::test::Fail;
 use trade_line::line::{Line, VecLine};
 use trade_line::linked_line::LinkedLine;
 use trade_line::out_of_memory::OutOfMemory;
@@ -32,29 +32,35 @@ fn moved<L: Line>(alloc: Global, front: usize, gone: usize) -> Result<L, OutOfMe
     Ok(line)
 }
 
-fn is_a_list_without_repeats<L: Line>(rt: &impl Abort, alloc: Global) -> Result<(), Fail> {
+// That 3 is at the front, 4 is there and 1 is not.
+fn is_moved<L: Line>(line: &L) -> bool {
+    let holds = line.holds(4) && !line.holds(1) && !line.holds(usize::MAX);
+    holds && line.front() == Some(3) && !line.is_empty()
+}
+
+// Who is brought to the front, who is dropped, and who is left.
+const MOVED: [(usize, usize, &[usize]); 4] = [
+    (3, 1, &[3, 0, 2, 4]),
+    (4, 0, &[4, 1, 2, 3]),
+    (0, 4, &[0, 1, 2, 3]),
+    (PEOPLE, PEOPLE, &[0, 1, 2, 3, 4]),
+];
+
+fn is_a_list_without_repeats<L: Line>(rt: &impl Abort, alloc: Global) -> Result<(), OutOfMemory> {
     let line: L = moved(alloc, 3, 1)?;
-    assert_eq!(rt; line.front(), Some(3));
-    assert!(rt; line.holds(4));
-    assert!(rt; !line.holds(1));
-    assert!(rt; !line.holds(usize::MAX));
-    assert!(rt; !line.is_empty());
-    assert_eq!(rt; left(alloc, line)?.as_slice(), [3, 0, 2, 4].as_slice());
-    let last: L = moved(alloc, 4, 0)?;
-    assert_eq!(rt; left(alloc, last)?.as_slice(), [4, 1, 2, 3].as_slice());
-    let first: L = moved(alloc, 0, 4)?;
-    assert_eq!(rt; left(alloc, first)?.as_slice(), [0, 1, 2, 3].as_slice());
-    let whole: L = moved(alloc, PEOPLE, PEOPLE)?;
-    assert_eq!(rt; left(alloc, whole)?.as_slice(), [0, 1, 2, 3, 4].as_slice());
+    assert!(rt; is_moved(&line));
+    for (front, gone, wanted) in MOVED {
+        let line: L = moved(alloc, front, gone)?;
+        assert_same!(rt; left(alloc, line)?.as_slice(), wanted);
+    }
     let nobody = L::whole(alloc, 0)?;
-    assert!(rt; nobody.is_empty());
-    assert_eq!(rt; nobody.front(), None);
+    assert!(rt; nobody.is_empty() && nobody.front().is_none());
     assert!(rt; L::whole(alloc, usize::MAX).is_err());
     Ok(())
 }
 
 #[test]
-fn a_line_is_a_list_without_repeats(rt: HostRuntime) -> Result<(), Fail> {
+fn a_line_is_a_list_without_repeats(rt: HostRuntime) -> Result<(), OutOfMemory> {
     is_a_list_without_repeats::<VecLine>(&rt, rt.alloc())?;
     is_a_list_without_repeats::<LinkedLine>(&rt, rt.alloc())
 }

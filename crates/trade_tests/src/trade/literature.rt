@@ -1,5 +1,6 @@
 //! Runs in the manner of the literature's worked examples, each solved by hand: rooms, asks and looks.
 use super::{outcome_over, problem_of, rooms_of};
+use crate::asserting::assert_same;
 use std::alloc::Global;
 use std::process::Abort;
 use std::test::Fail;
@@ -23,12 +24,12 @@ fn is_found_by<L: Line>(
     solution: &Solution,
 ) -> Result<(), Fail> {
     let outcome = outcome_over::<L>(alloc, problem)?;
-    assert_eq!(rt;
+    assert_same!(rt;
         rooms_of(alloc, problem, &outcome)?.as_slice(),
         solution.gets
     );
-    assert_eq!(rt; outcome.asks(), solution.asks);
-    assert_eq!(rt; outcome.looks(), solution.looks);
+    assert_same!(rt; outcome.asks(), solution.asks);
+    assert_same!(rt; outcome.looks(), solution.looks);
     Ok(())
 }
 
@@ -41,7 +42,7 @@ fn is_found(
     is_found_by::<VecLine>(rt, alloc, problem, solution)?;
     is_found_by::<LinkedLine>(rt, alloc, problem, solution)?;
     let plain = top_trading_cycles(alloc, problem)?;
-    assert_eq!(rt; plain.as_slice(), solution.gets);
+    assert_same!(rt; plain.as_slice(), solution.gets);
     Ok(())
 }
 

@@ -1,5 +1,6 @@
 //! Worked runs: the rooms, asks and looks of the line, and the rooms of the plain program.
 use super::{outcome_over, problem_of, rooms_of};
+use crate::asserting::assert_same;
 use std::alloc::Global;
 use std::process::Abort;
 use std::test::Fail;
@@ -19,6 +20,51 @@ struct Worked<'a> {
     asks: u128,
     looks: u128,
 }
+
+// What a person gets by another list than the one that is recorded.
+struct OtherList<'a> {
+    rooms: usize,
+    homes: &'a [Option<usize>],
+    lists: &'a [&'a [usize]],
+    person: usize,
+    list: &'a [usize],
+    gets: Option<usize>,
+}
+
+const OTHER_LISTS: [OtherList<'static>; 4] = [
+    OtherList {
+        rooms: 3,
+        homes: &[None, Some(0), Some(1)],
+        lists: &[&[0, 2], &[1], &[0]],
+        person: 0,
+        list: &[2],
+        gets: Some(2),
+    },
+    OtherList {
+        rooms: 3,
+        homes: &[None, Some(0), Some(1)],
+        lists: &[&[0, 2], &[1], &[0]],
+        person: 1,
+        list: &[2, 1],
+        gets: Some(2),
+    },
+    OtherList {
+        rooms: 2,
+        homes: &[Some(0), None, None],
+        lists: &[&[1], &[0], &[0]],
+        person: 2,
+        list: &[1, 0],
+        gets: None,
+    },
+    OtherList {
+        rooms: 3,
+        homes: &[Some(0), Some(1)],
+        lists: &[&[1], &[2]],
+        person: 0,
+        list: &[],
+        gets: Some(0),
+    },
+];
 
 const WORKED: [Worked<'static>; 12] = [
     Worked {
@@ -135,16 +181,15 @@ fn gives_the_rooms<L: Line>(rt: &impl Abort, alloc: Global, worked: &Worked) -> 
     let problem = problem_of(alloc, worked.rooms, worked.homes, worked.lists)?;
     let outcome = outcome_over::<L>(alloc, &problem)?;
     let story = worked.story;
-    assert_eq!(rt;
+    assert_same!(rt;
         rooms_of(alloc, &problem, &outcome)?.as_slice(),
         worked.gets,
-        "{story}"
-    );
-    assert_eq!(rt; outcome.asks(), worked.asks, "{story}");
-    assert_eq!(rt; outcome.looks(), worked.looks, "{story}");
-    assert_eq!(rt; outcome.room_of(problem.people()), None, "{story}");
+        story);
+    assert_same!(rt; outcome.asks(), worked.asks, story);
+    assert_same!(rt; outcome.looks(), worked.looks, story);
+    assert_same!(rt; outcome.room_of(problem.people()), None, story);
     let plain = top_trading_cycles(alloc, &problem)?;
-    assert_eq!(rt; plain.as_slice(), worked.gets, "{story}");
+    assert_same!(rt; plain.as_slice(), worked.gets, story);
     Ok(())
 }
 
@@ -161,24 +206,17 @@ fn line_and_plain_program_give_the_worked_rooms(rt: HostRuntime) -> Result<(), F
     gives_the_worked_rooms::<LinkedLine>(&rt, rt.alloc())
 }
 
-fn would_get(
-    alloc: Global,
-    problem: &Problem,
-    person: usize,
-    list: &[usize],
-) -> Result<Option<usize>, TradeFault> {
-    run_with_list(alloc, problem, person, Vec::from_slice(alloc, list)?)
+fn would_get(alloc: Global, other: &OtherList) -> Result<Option<usize>, TradeFault> {
+    let problem = problem_of(alloc, other.rooms, other.homes, other.lists)?;
+    let list = Vec::from_slice(alloc, other.list)?;
+    run_with_list(alloc, &problem, other.person, list)
 }
 
 #[test]
-fn another_list_gives_the_worked_rooms(rt: HostRuntime) -> Result<(), Fail> {
+fn another_list_gives_the_worked_rooms(rt: HostRuntime) -> Result<(), TradeFault> {
     let alloc = rt.alloc();
-    let first = problem_of(alloc, 3, &[None, Some(0), Some(1)], &[&[0, 2], &[1], &[0]])?;
-    assert_eq!(rt; would_get(alloc, &first, 0, &[2]), Ok(Some(2)));
-    assert_eq!(rt; would_get(alloc, &first, 1, &[2, 1]), Ok(Some(2)));
-    let vacated = problem_of(alloc, 2, &[Some(0), None, None], &[&[1], &[0], &[0]])?;
-    assert_eq!(rt; would_get(alloc, &vacated, 2, &[1, 0]), Ok(None));
-    let chain = problem_of(alloc, 3, &[Some(0), Some(1)], &[&[1], &[2]])?;
-    assert_eq!(rt; would_get(alloc, &chain, 0, &[]), Ok(Some(0)));
+    for other in &OTHER_LISTS {
+        assert_same!(rt; would_get(alloc, other)?, other.gets);
+    }
     Ok(())
 }

@@ -1,5 +1,6 @@
 //! A reader and a writer as one stream.
 use super::{Faulty, kind, new_device, wanted_at};
+use crate::asserting::assert_same;
 use room_types::send::send;
 use room_types::stream::Pair;
 use room_types::{Stream, Watched};
@@ -13,31 +14,31 @@ fn passes_on_what_a_stream_gives(rt: HostRuntime) -> io::Result<()> {
         writer: Vec::new(rt.alloc()),
     });
     let mut byte = [0u8; 1];
-    assert_eq!(rt; stream.read_some(&mut byte)?, 1);
-    assert_eq!(rt; byte[0], b'a');
-    assert_eq!(rt; stream.write_some(b"xy")?, 2);
+    assert_same!(rt; stream.read_some(&mut byte)?, 1);
+    assert_same!(rt; byte[0], b'a');
+    assert_same!(rt; stream.write_some(b"xy")?, 2);
     assert!(rt; stream.pending() && !stream.failed());
     stream.flush_all()?;
     assert!(rt; !stream.pending());
-    assert_eq!(rt;
+    assert_same!(rt;
         (stream.reads(), stream.taken(), stream.flushes()),
         (1, 2, 1)
     );
-    assert_eq!(rt; stream.into_inner().writer.as_slice(), b"xy".as_slice());
+    assert_same!(rt; stream.into_inner().writer.as_slice(), b"xy".as_slice());
     Ok(())
 }
 
 #[test]
 fn sends_texts(rt: HostRuntime) -> io::Result<()> {
     let mut output = Watched::new(Vec::new(rt.alloc()));
-    assert_eq!(rt; send(&mut output, b"room H1"), Ok(()));
+    assert_same!(rt; send(&mut output, b"room H1"), Ok(()));
     assert!(rt; output.pending());
     output.flush()?;
     assert!(rt; !output.pending());
     let mut space = [0u8; 3];
     let mut full = Watched::new(&mut space[..]);
-    assert_eq!(rt; send(&mut full, b"room"), Err(3));
-    assert_eq!(rt; output.into_inner().as_slice(), b"room H1".as_slice());
+    assert_same!(rt; send(&mut full, b"room"), Err(3));
+    assert_same!(rt; output.into_inner().as_slice(), b"room H1".as_slice());
     Ok(())
 }
 
@@ -68,9 +69,9 @@ fn pairs_pass_calls_on(rt: HostRuntime) {
     let mut flushed = faulty_pair();
     for call in 1..=10 {
         let wanted = wanted_at(call);
-        assert_eq!(rt; kind(input.read(&mut [0u8; 3])), wanted);
-        assert_eq!(rt; kind(output.write(b"ab")), wanted);
-        assert_eq!(rt; kind(flushed.flush()), wanted);
+        assert_same!(rt; kind(input.read(&mut [0u8; 3])), wanted);
+        assert_same!(rt; kind(output.write(b"ab")), wanted);
+        assert_same!(rt; kind(flushed.flush()), wanted);
     }
     assert!(rt; are_all_passed_on(input, output, flushed));
 }
@@ -83,9 +84,9 @@ fn watched_pairs_pass_calls_on(rt: HostRuntime) {
     let mut flushed = Watched::new(faulty_pair());
     for call in 1..=10 {
         let wanted = wanted_at(call);
-        assert_eq!(rt; kind(input.read_some(&mut [0u8; 3])), wanted);
-        assert_eq!(rt; kind(output.write_some(b"ab")), wanted);
-        assert_eq!(rt; kind(flushed.flush_all()), wanted);
+        assert_same!(rt; kind(input.read_some(&mut [0u8; 3])), wanted);
+        assert_same!(rt; kind(output.write_some(b"ab")), wanted);
+        assert_same!(rt; kind(flushed.flush_all()), wanted);
     }
     assert!(rt; input.failed() && input.reads() == 10);
     assert!(rt; output.failed() && output.taken() == 18);

@@ -1,4 +1,5 @@
 //! Worked values: how a type reads a text, what the value is printed as, or why there is none.
+use crate::asserting::assert_same;
 use room_types::grammars::{Keys, Labels, Names, PersonIds, RoomCodes};
 use room_types::{
     Choices, Grammar, ListKind, OutOfMemory, Phase, RoomCode, State, Text, TypeFault, Word,
@@ -118,7 +119,7 @@ const OTHER_COPY: &str = "!OtherCopy";
 
 #[test]
 fn worked_values(rt: HostRuntime) -> Result<(), AllocError> {
-    assert_eq!(rt; WORKED.lines().count(), 103);
+    assert_same!(rt; WORKED.lines().count(), 103);
     for row in WORKED.lines() {
         let mut cells = row.split('|');
         let (Some(kind), Some(text), Some(wanted)) = (cells.next(), cells.next(), cells.next())
@@ -126,7 +127,7 @@ fn worked_values(rt: HostRuntime) -> Result<(), AllocError> {
             panic!(rt; "{row} is no row");
         };
         let told = told(rt.alloc(), kind, text)?;
-        assert_eq!(rt; told.as_str(), wanted, "{kind} {text}");
+        assert_same!(rt; told.as_str(), wanted, row);
     }
     Ok(())
 }
@@ -140,14 +141,14 @@ fn words_for_values(rt: HostRuntime) -> Result<(), AllocError> {
         ListKind::People,
         ListKind::Choices
     )?;
-    assert_eq!(rt; kinds.as_str(), "rooms people choices");
+    assert_same!(rt; kinds.as_str(), "rooms people choices");
     let states = format!(in alloc; "{} {} {}", State::Free, State::Occupied, State::Shut)?;
-    assert_eq!(rt; states.as_str(), "free occupied shut");
+    assert_same!(rt; states.as_str(), "free occupied shut");
     let first = format!(in alloc; "{} {} {}", Phase::Idle, Phase::Opened, Phase::Closed)?;
-    assert_eq!(rt; first.as_str(), "idle open closed");
+    assert_same!(rt; first.as_str(), "idle open closed");
     let last = format!(in alloc; "{} {} {}", Phase::Drawn, Phase::Ran, Phase::Published)?;
-    assert_eq!(rt; last.as_str(), "drawn ran published");
-    assert_eq!(rt;
+    assert_same!(rt; last.as_str(), "drawn ran published");
+    assert_same!(rt;
         format!(in alloc; "{}", OutOfMemory {})?.as_str(),
         "memory was refused"
     );

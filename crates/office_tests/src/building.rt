@@ -1,0 +1,70 @@
+//! Values and requests as tests write them. Whoever writes a text that spells no value has the test end.
+use office_core::Command;
+use office_store::{Answer, Desk, Request};
+use room_types::{Choices, Grammar, RoomCode, Text};
+use sqlite::MemStore;
+use std::alloc::Global;
+use std::process::Abort;
+
+/// The value that the text spells.
+pub fn text<G: Grammar>(rt: &impl Abort, alloc: Global, text: &str) -> Text<G> {
+    Text::read(alloc, text).expect(rt, text)
+}
+
+/// The same of a text that may be absent.
+pub fn optional<G: Grammar>(
+    rt: &impl Abort,
+    alloc: Global,
+    value: Option<&str>,
+) -> Option<Text<G>> {
+    match value {
+        Some(value) => Some(text(rt, alloc, value)),
+        None => None,
+    }
+}
+
+/// A list of these rooms.
+pub fn choices(rt: &impl Abort, alloc: Global, codes: &[&str]) -> Choices {
+    let mut rooms: Vec<RoomCode> = Vec::new(alloc);
+    for code in codes {
+        rooms.push(text(rt, alloc, code)).expect(rt, "memory");
+    }
+    Choices::read(rooms).expect(rt, "a list of rooms")
+}
+
+pub fn add_room(rt: &impl Abort, alloc: Global, code: &str) -> Request {
+    Request::Office(Command::AddRoom {
+        room: text(rt, alloc, code),
+    })
+}
+
+pub fn add_person(
+    rt: &impl Abort,
+    alloc: Global,
+    id: &str,
+    name: &str,
+    key: &str,
+    home: Option<&str>,
+) -> Request {
+    Request::Office(Command::AddPerson {
+        person: text(rt, alloc, id),
+        name: text(rt, alloc, name),
+        key: text(rt, alloc, key),
+        home: optional(rt, alloc, home),
+    })
+}
+
+/// A desk in memory, with an empty office.
+pub fn new_desk(rt: &impl Abort, alloc: Global) -> Desk<MemStore> {
+    Desk::in_memory(alloc).expect(rt, "a desk in memory")
+}
+
+/// What the desk answers to these requests.
+pub fn answers(
+    rt: &impl Abort,
+    alloc: Global,
+    desk: &mut Desk<MemStore>,
+    requests: &[Request],
+) -> Vec<Answer> {
+    desk.handle_all(alloc, requests).expect(rt, "memory")
+}
