@@ -1,10 +1,10 @@
 //! Each reader once with ample memory, on rows out of order.
 use crate::building::{optional, text};
-use office_state::{KeptList, Person};
 use office_rows::{
     ChoiceRecord, OfficeRecords, PersonRecord, RoundRecord, read_choices, read_moves, read_office,
     read_people, read_round, read_table,
 };
+use office_state::{KeptList, Person};
 use room_types::{Label, ListKind, Listing, Move, Phase, RoomCode, Wave};
 use std::alloc::Global;
 use std::process::Abort;
