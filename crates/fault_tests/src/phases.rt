@@ -6,7 +6,6 @@ use office_store::{Answer, Desk, Handler, Request};
 use room_types::{ListKind, OutOfMemory, Phase};
 use sqlite::MemStore;
 use std::alloc::{AllocError, Global};
-use std::test::Fail;
 
 // How many people there are, and how many rooms.
 const MANY: u16 = 100;
@@ -51,33 +50,50 @@ const ASKED: [(&str, &str); 23] = [
 ];
 
 #[test]
-fn each_request_is_answered_in_its_phases(rt: HostRuntime) -> Result<(), Fail> {
-    let alloc = rt.alloc();
-    let steps = steps(alloc)?;
-    let registers = registers(alloc)?;
-    let choices = choices(alloc)?;
-    let draw = lines_asked(alloc, &[draw_line(alloc)?.as_str()])?;
-    for (phase, made) in PHASES {
-        let reached = Reached {
-            steps: &steps,
-            made,
-            phase,
-        };
-        assert!(rt; lines_fit(alloc, &reached)?, "a line, {phase}");
-        assert!(rt;
-            all_fit(alloc, &reached, &registers, "idle open"),
-            "a list, {phase}"
-        );
-        assert!(rt;
-            all_fit(alloc, &reached, &choices, "open"),
-            "choices, {phase}"
-        );
-        assert!(rt;
-            all_fit(alloc, &reached, &draw, "closed"),
-            "a draw, {phase}"
-        );
+fn each_request_is_answered_in_its_phases(rt: HostRuntime) {
+    let asked = all_asked(rt.alloc()).expect(&rt, "memory");
+    for (phase, made) in &PHASES {
+        let misfit = misfit(rt.alloc(), &asked, *phase, *made);
+        assert!(rt; misfit.is_empty(), "{misfit}, {phase}");
     }
-    Ok(())
+}
+
+// What is asked at each desk that is no line, and the steps that lead through the phases.
+#[derive(Drop)]
+struct Asked {
+    steps: Vec<Request>,
+    registers: Vec<Request>,
+    choices: Vec<Request>,
+    draw: Vec<Request>,
+}
+
+fn all_asked(alloc: Global) -> Result<Asked, OutOfMemory> {
+    Ok(Asked {
+        steps: steps(alloc)?,
+        registers: registers(alloc)?,
+        choices: choices(alloc)?,
+        draw: lines_asked(alloc, &[draw_line(alloc)?.as_str()])?,
+    })
+}
+
+// Which kind of request is not answered as this phase has it, or nothing where all are.
+fn misfit(alloc: Global, asked: &Asked, phase: Phase, made: usize) -> &'static str {
+    let reached = Reached {
+        steps: &asked.steps,
+        made,
+        phase,
+    };
+    if !lines_fit(alloc, &reached) {
+        "a line"
+    } else if !all_fit(alloc, &reached, &asked.registers, "idle open") {
+        "a list"
+    } else if !all_fit(alloc, &reached, &asked.choices, "open") {
+        "choices"
+    } else if !all_fit(alloc, &reached, &asked.draw, "closed") {
+        "a draw"
+    } else {
+        ""
+    }
 }
 
 // So many steps are made, and lead to this phase.
@@ -162,14 +178,20 @@ fn choices(alloc: Global) -> Result<Vec<Request>, OutOfMemory> {
 }
 
 // Whether each line is answered as its phases have it.
-fn lines_fit(alloc: Global, reached: &Reached<'_>) -> Result<bool, OutOfMemory> {
-    for (line, phases) in ASKED {
-        let requests = lines_asked(alloc, &[line])?;
-        if requests.len() != 1 || !all_fit(alloc, reached, &requests, phases) {
-            return Ok(false);
+fn lines_fit(alloc: Global, reached: &Reached<'_>) -> bool {
+    for (line, phases) in &ASKED {
+        if !line_fits(alloc, reached, line, phases) {
+            return false;
         }
     }
-    Ok(true)
+    true
+}
+
+fn line_fits(alloc: Global, reached: &Reached<'_>, line: &str, phases: &str) -> bool {
+    match lines_asked(alloc, &[line]) {
+        Ok(requests) => requests.len() == 1 && all_fit(alloc, reached, &requests, phases),
+        Err(_) => false,
+    }
 }
 
 // Whether each of the requests, at a desk of its own, is answered as these phases have it.
@@ -177,8 +199,7 @@ fn all_fit(alloc: Global, reached: &Reached<'_>, requests: &[Request], phases: &
     let phase = reached.phase;
     let belongs = phases.split(' ').any(|word| word == phase.as_str());
     for request in requests {
-        let answer = answer_after(alloc, reached, request);
-        if !fits(&answer, phase, belongs) {
+        if !fits(&answer_after(alloc, reached, request), phase, belongs) {
             return false;
         }
     }

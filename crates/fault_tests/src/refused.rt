@@ -196,13 +196,17 @@ fn queries_are_told(alloc: Global) -> Result<bool, OutOfMemory> {
 }
 
 fn other_lists_are_told(alloc: Global) -> Result<bool, OutOfMemory> {
-    for (register, round) in [(REGISTER, NEWCOMER_FIRST), ("", VACATED), (REGISTER, CHAIN)] {
-        let requests = lines_asked(alloc, &[register, round])?;
-        if !are_as_accepted(alloc, &requests, 0)? {
+    for texts in &[[REGISTER, NEWCOMER_FIRST], ["", VACATED], [REGISTER, CHAIN]] {
+        if !other_list_is_told(alloc, texts)? {
             return Ok(false);
         }
     }
     Ok(true)
+}
+
+fn other_list_is_told(alloc: Global, texts: &[&str]) -> Result<bool, OutOfMemory> {
+    let requests = lines_asked(alloc, texts)?;
+    are_as_accepted(alloc, &requests, 0)
 }
 
 // Lists come in, and a round goes by; then a list comes again, as it was and not as it was, and others that are bad, or empty.
@@ -213,7 +217,7 @@ fn lists_are_told(alloc: Global) -> Result<bool, OutOfMemory> {
     ask_lines(alloc, &mut requests, "open\n")?;
     ask_list(alloc, &mut requests, ListKind::Choices, "c-1", CHOICES)?;
     ask_lines(alloc, &mut requests, ROUND_OF_THREE)?;
-    for (label, list) in [
+    for (label, list) in &[
         ("p-1", PEOPLE),
         ("p-1", PEOPLE_AND_A_LINE),
         ("p-2", KNOWN_THIRD),

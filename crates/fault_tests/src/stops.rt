@@ -2,15 +2,14 @@
 //! again: it is the office before the command that was stopped or the one after it, and the latter where the command was answered.
 mod files;
 mod stories;
+mod visits;
 
-use crate::asking::is_replied;
 use crate::same::is_same_office;
-use crate::stops::files::{
-    Calls, FileDesk, StoppingFile, contents_left, desk_over, files_of, files_under, is_working,
-};
+use crate::stops::files::{Calls, StoppingFile, contents_left, files_of, is_working};
 use crate::stops::stories::{Story, coming_lists, making, small_year};
+use crate::stops::visits::{Visit, Visited, visit_files};
 use office_state::Office;
-use office_store::{DeskFault, Request};
+use office_store::DeskFault;
 use sqlite::Files;
 use std::alloc::Global;
 use std::io;
@@ -22,11 +21,17 @@ const MOST_CALLS: u64 = 5_000;
 // How far a story came, and its files.
 #[derive(Drop)]
 struct Ran {
+    told: Told,
+    files: Files<StoppingFile>,
+}
+
+// How far a story came.
+#[derive(Clone, Copy, Drop)]
+struct Told {
     // Whether there was a desk.
     is_open: bool,
     // How many requests were answered by a reply.
     answered: usize,
-    files: Files<StoppingFile>,
 }
 
 // How often a file was stopped, how many offices were found afterwards, and how many of them were those after a command that was not
@@ -48,8 +53,8 @@ const NONE: Count = Count {
 
 #[test]
 fn a_new_office_is_there_or_not(rt: HostRuntime) -> Result<(), Fail> {
-    let story = making(rt.alloc()).ok_or("no office is made")?;
-    let count = both_stopped(rt.alloc(), &story)?;
+    let story = making(rt.alloc()).expect(&rt, "no office is made");
+    let count = both_stopped(rt.alloc(), &story).expect(&rt, "a new office");
     assert!(rt; count.stops > 0 && count.found > count.stops);
     tell(&rt, "a new office", count)?;
     Ok(())
@@ -57,22 +62,25 @@ fn a_new_office_is_there_or_not(rt: HostRuntime) -> Result<(), Fail> {
 
 #[test]
 fn commands_are_stored_whole(rt: HostRuntime) -> Result<(), Fail> {
-    let story = small_year(rt.alloc()).ok_or("no year is told")?;
-    let count = both_stopped(rt.alloc(), &story)?;
-    assert!(rt; count.stops > 0 && count.found > count.stops);
-    assert!(rt; count.after > 0 && count.before > 0);
+    let story = small_year(rt.alloc()).expect(&rt, "no year is told");
+    let count = both_stopped(rt.alloc(), &story).expect(&rt, "a small year");
+    assert!(rt; is_on_both_sides(count));
     tell(&rt, "a small year", count)?;
     Ok(())
 }
 
 #[test]
 fn lists_are_stored_whole(rt: HostRuntime) -> Result<(), Fail> {
-    let story = coming_lists(rt.alloc()).ok_or("no lists come in")?;
-    let count = both_stopped(rt.alloc(), &story)?;
-    assert!(rt; count.stops > 0 && count.found > count.stops);
-    assert!(rt; count.after > 0 && count.before > 0);
+    let story = coming_lists(rt.alloc()).expect(&rt, "no lists come in");
+    let count = both_stopped(rt.alloc(), &story).expect(&rt, "lists");
+    assert!(rt; is_on_both_sides(count));
     tell(&rt, "lists", count)?;
     Ok(())
+}
+
+// Whether offices were found before commands that were not answered, and after some.
+fn is_on_both_sides(count: Count) -> bool {
+    count.stops > 0 && count.found > count.stops && count.after > 0 && count.before > 0
 }
 
 // Counts are printed, since bench/stops.sh tells them.
@@ -125,8 +133,8 @@ fn calls_of(is_log: bool, passed: u64) -> Calls {
 
 // Whether nothing was stopped.
 fn is_whole(story: &Story, ran: &mut Ran) -> bool {
-    ran.is_open
-        && ran.answered == story.requests.len()
+    ran.told.is_open
+        && ran.told.answered == story.requests.len()
         && is_working(&mut ran.files.log)
         && is_working(&mut ran.files.db)
 }
@@ -134,35 +142,17 @@ fn is_whole(story: &Story, ran: &mut Ran) -> bool {
 fn run(alloc: Global, story: &Story, calls: Calls) -> Option<Ran> {
     let held = &story.held;
     let files = files_of(alloc, held.log.as_slice(), held.database.as_slice(), calls)?;
-    match desk_over(alloc, files, story.is_new) {
-        Ok(desk) => Some(ran_at(alloc, desk, &story.requests)),
-        Err((_, files)) => Some(Ran {
-            is_open: false,
-            answered: 0,
-            files,
-        }),
-    }
-}
-
-// How far these requests come, until one is not answered by a reply.
-fn ran_at(alloc: Global, mut desk: FileDesk, requests: &[Request]) -> Ran {
-    let answered = answered_at(alloc, &mut desk, requests);
-    Ran {
-        is_open: true,
-        answered,
-        files: files_under(desk),
-    }
-}
-
-fn answered_at(alloc: Global, desk: &mut FileDesk, requests: &[Request]) -> usize {
-    let mut answered = 0usize;
-    for request in requests {
-        if !is_replied(alloc, desk, request) {
-            return answered;
-        }
-        answered = answered.saturating_add(1);
-    }
-    answered
+    let asking = Visit {
+        is_new: story.is_new,
+        requests: &story.requests,
+        is_read: false,
+    };
+    let (visited, files) = visit_files(alloc, files, asking);
+    let told = Told {
+        is_open: visited.fault.is_none(),
+        answered: visited.answered,
+    };
+    Some(Ran { told, files })
 }
 
 // Opens all that may be left of the files.
@@ -173,24 +163,15 @@ fn looked_at(
     mut count: Count,
 ) -> Result<Count, &'static str> {
     let Ran {
-        is_open,
-        answered,
+        told,
         files: Files { log, db },
     } = ran;
     let logs = contents_left(alloc, log).ok_or("memory is wanting")?;
     let databases = contents_left(alloc, db).ok_or("memory is wanting")?;
-    let told = Told { is_open, answered };
     for log in &logs {
         count = looked_at_with(alloc, story, told, log.as_slice(), &databases, count)?;
     }
     Ok(count)
-}
-
-// How far a story came.
-#[derive(Clone, Copy, Drop)]
-struct Told {
-    is_open: bool,
-    answered: usize,
 }
 
 // Opens this log beside each of the database files.
@@ -224,18 +205,20 @@ fn found_judged(
 // The office that these bytes hold, or why there is none.
 fn office_in(alloc: Global, log: &[u8], database: &[u8]) -> Option<Result<Office, DeskFault>> {
     let files = files_of(alloc, log, database, Calls::ALL)?;
-    match desk_over(alloc, files, false) {
-        Ok(desk) => Some(office_of(alloc, desk)),
-        Err((fault, _files)) => Some(Err(fault)),
-    }
+    let reading = Visit {
+        is_new: false,
+        requests: &[],
+        is_read: true,
+    };
+    let (visited, _files) = visit_files(alloc, files, reading);
+    Some(office_read(visited))
 }
 
-fn office_of(alloc: Global, mut desk: FileDesk) -> Result<Office, DeskFault> {
-    let office = desk.load(alloc);
-    let _files = files_under(desk);
-    match office {
-        Ok(office) => Ok(office),
-        Err(_) => Err(DeskFault::Unavailable),
+fn office_read(visited: Visited) -> Result<Office, DeskFault> {
+    match (visited.office, visited.fault) {
+        (Some(office), _) => Ok(office),
+        (None, Some(fault)) => Err(fault),
+        (None, None) => Err(DeskFault::Unavailable),
     }
 }
 

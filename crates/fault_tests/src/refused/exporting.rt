@@ -49,8 +49,8 @@ fn told_at(
 ) -> Result<bool, OutOfMemory> {
     furnish(alloc, desk, requests)?;
     let mut wanting = 0usize;
-    for (kind, wanted) in EXPORTS {
-        match is_exported(alloc, desk, kind, wanted.as_bytes()) {
+    for (kind, wanted) in &EXPORTS {
+        match is_exported(alloc, desk, *kind, wanted.as_bytes()) {
             Ok(true) => {}
             Ok(false) => return Ok(false),
             Err(_) => wanting = wanting.saturating_add(1),

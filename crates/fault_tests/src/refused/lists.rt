@@ -39,10 +39,10 @@ const LISTS: [(ListKind, &str, &str); 6] = [
 /// Whether each list is read, or refused for its first bad record.
 pub fn lists_are_read(alloc: Global) -> Result<bool, OutOfMemory> {
     let mut wanting = 0usize;
-    for (kind, list, wanted) in LISTS {
-        match read_as(alloc, kind, list.as_bytes()) {
+    for (kind, list, wanted) in &LISTS {
+        match read_as(alloc, *kind, list.as_bytes()) {
             Ok(text) => {
-                if text.as_str() != wanted {
+                if text.as_str() != *wanted {
                     return Ok(false);
                 }
             }

@@ -1,24 +1,10 @@
-//! Two files in memory, of which one may stop working, and desks over them.
-ghost use Rattle.std.specs.Prelude.{◌≡◌, false};
-
-use office_store::{Back, Desk, DeskFault};
-use sqlite::{Connection, FileStore, Files, Options};
+//! Two files in memory, of which one may stop working.
+use sqlite::Files;
 use sqlite_disk::{Crash, Disk, Fuse, Memory};
 use std::alloc::Global;
 
 /// A file that stops working after so many calls.
 pub type StoppingFile = Fuse<Memory>;
-
-/// A desk over two such files.
-pub type FileDesk = Desk<FileStore<StoppingFile>>;
-
-// The log is copied into the database file after a few commands, so that this is stopped too.
-const OPTIONS: Options = Options {
-    cache_pages: 100,
-    spill_pages: 100,
-    checkpoint_frames: 30,
-    seed: 7,
-};
 
 // How many bytes of a write a device finishes together.
 const SECTOR: usize = 512;
@@ -62,51 +48,6 @@ fn file_of(alloc: Global, bytes: &[u8], calls: u64) -> Option<StoppingFile> {
     memory.write_at(0, bytes).ok()?;
     memory.sync().ok()?;
     Some(Fuse::new(memory, calls))
-}
-
-/// A desk over these files, over an office that is made there or over the one that they hold. Where there is none the files
-/// come back.
-pub fn desk_over(
-    alloc: Global,
-    files: Files<StoppingFile>,
-    is_new: bool,
-) -> Result<FileDesk, (DeskFault, Files<StoppingFile>)> {
-    if !files.may_be_used() {
-        return Err((DeskFault::Unavailable, files));
-    }
-    match Connection::open_files(alloc, files, OPTIONS) {
-        Ok(connection) => desk_on(alloc, connection, is_new),
-        Err((_, left)) => Err((DeskFault::Unavailable, left.into_files())),
-    }
-}
-
-fn desk_on(
-    alloc: Global,
-    connection: Connection<FileStore<StoppingFile>>,
-    is_new: bool,
-) -> Result<FileDesk, (DeskFault, Files<StoppingFile>)>
-    requires { connection.in_transaction ≡ false }
-{
-    if is_new {
-        parted(Desk::create(alloc, connection))
-    } else {
-        parted(Desk::adopt(alloc, connection))
-    }
-}
-
-// The desk, or why there is none and the files.
-fn parted(
-    made: Result<FileDesk, Back<FileStore<StoppingFile>>>,
-) -> Result<FileDesk, (DeskFault, Files<StoppingFile>)> {
-    match made {
-        Ok(desk) => Ok(desk),
-        Err(Back { fault, connection }) => Err((fault, connection.into_store().close())),
-    }
-}
-
-/// The files of a desk. What is not committed is lost.
-pub fn files_under(desk: FileDesk) -> Files<StoppingFile> {
-    desk.release().into_store().close()
 }
 
 /// Whether the file still works.

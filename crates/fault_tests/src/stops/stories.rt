@@ -1,6 +1,7 @@
 //! What an office is asked while one of its files stops.
 use crate::asking::{ask_lines, ask_list, lines_asked, office_after};
-use crate::stops::files::{Calls, Held, desk_over, files_of, files_under};
+use crate::stops::files::{Calls, Held, files_of};
+use crate::stops::visits::{Visit, visit_files};
 use crate::texts::{CHOICES, PEOPLE, REGISTER, ROOMS, ROUND};
 use office_state::Office;
 use office_store::Request;
@@ -83,10 +84,15 @@ fn nothing_held(alloc: Global) -> Held {
 // What the files of an empty office hold.
 fn empty_office_held(alloc: Global) -> Option<Held> {
     let files = files_of(alloc, b"", b"", Calls::ALL)?;
-    let files = match desk_over(alloc, files, true) {
-        Ok(desk) => files_under(desk),
-        Err(_) => return None,
+    let making = Visit {
+        is_new: true,
+        requests: &[],
+        is_read: false,
     };
+    let (made, files) = visit_files(alloc, files, making);
+    if made.fault.is_some() {
+        return None;
+    }
     Some(Held {
         log: Vec::from_slice(alloc, files.log.inner().bytes()).ok()?,
         database: Vec::from_slice(alloc, files.db.inner().bytes()).ok()?,

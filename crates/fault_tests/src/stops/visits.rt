@@ -1,0 +1,122 @@
+//! Desks over two files. What is done there is done at a desk of any store, so that no more than one function has to know that this
+//! one lies in files.
+ghost use Rattle.std.specs.Prelude.{◌≡◌, false};
+
+use crate::asking::is_replied;
+use crate::stops::files::StoppingFile;
+use office_state::Office;
+use office_store::{Back, Desk, DeskFault, Request};
+use sqlite::{Alter, Connection, Files, Options};
+use std::alloc::Global;
+
+// The log is copied into the database file after a few commands, so that this is stopped too.
+const OPTIONS: Options = Options {
+    cache_pages: 100,
+    spill_pages: 100,
+    checkpoint_frames: 30,
+    seed: 7,
+};
+
+/// What is done at a desk over two files.
+#[derive(Clone, Copy, Drop)]
+pub struct Visit<'a> {
+    /// Whether the office is made there, or is the one that they hold.
+    pub is_new: bool,
+    /// What is asked, until a request is not answered by a reply.
+    pub requests: &'a [Request],
+    /// Whether the office is read at the end.
+    pub is_read: bool,
+}
+
+/// What came of it.
+#[derive(Drop)]
+pub struct Visited {
+    /// Why there was no desk.
+    pub fault: Option<DeskFault>,
+    /// How many requests were answered by a reply.
+    pub answered: usize,
+    /// The office, if it was to be read and could be.
+    pub office: Option<Office>,
+}
+
+fn no_desk(fault: DeskFault) -> Visited {
+    Visited {
+        fault: Some(fault),
+        answered: 0,
+        office: None,
+    }
+}
+
+/// Does this at a desk over these files, and gives them back. What is not committed is lost.
+pub fn visit_files(
+    alloc: Global,
+    files: Files<StoppingFile>,
+    visit: Visit<'_>,
+) -> (Visited, Files<StoppingFile>) {
+    if !files.may_be_used() {
+        return (no_desk(DeskFault::Unavailable), files);
+    }
+    match Connection::open_files(alloc, files, OPTIONS) {
+        Ok(connection) => {
+            let (visited, store) = visit_over(alloc, connection, visit);
+            (visited, store.close())
+        }
+        Err((_, left)) => (no_desk(DeskFault::Unavailable), left.into_files()),
+    }
+}
+
+fn visit_over<S: Alter + Drop>(
+    alloc: Global,
+    connection: Connection<S>,
+    visit: Visit<'_>,
+) -> (Visited, S)
+    requires { connection.in_transaction ≡ false }
+{
+    match desk_over(alloc, connection, visit.is_new) {
+        Ok(mut desk) => {
+            let visited = visit_desk(alloc, &mut desk, visit);
+            (visited, desk.release().into_store())
+        }
+        Err(Back { fault, connection }) => (no_desk(fault), connection.into_store()),
+    }
+}
+
+fn desk_over<S: Alter + Drop>(
+    alloc: Global,
+    connection: Connection<S>,
+    is_new: bool,
+) -> Result<Desk<S>, Back<S>>
+    requires { connection.in_transaction ≡ false }
+{
+    if is_new {
+        Desk::create(alloc, connection)
+    } else {
+        Desk::adopt(alloc, connection)
+    }
+}
+
+fn visit_desk<S: Alter + Drop>(alloc: Global, desk: &mut Desk<S>, visit: Visit<'_>) -> Visited {
+    let answered = answered_at(alloc, desk, visit.requests);
+    let office = if visit.is_read {
+        desk.load(alloc).ok()
+    } else {
+        None
+    };
+    Visited {
+        fault: None,
+        answered,
+        office,
+    }
+}
+
+// How many of these requests are answered by a reply, until one is not.
+fn answered_at<S: Alter + Drop>(alloc: Global, desk: &mut Desk<S>, requests: &[Request]) -> usize {
+    let mut answered = 0usize;
+    for request in requests {
+        if !is_replied(alloc, desk, request) {
+            return answered;
+        }
+        answered = answered.saturating_add(1);
+    }
+    answered
+}
