@@ -7,10 +7,8 @@ use Rattle.sqlite_schema.specs.declared.schema.Schema.{Schema}
 use Rattle.sqlite_schema.specs.declared.schema.Table.{Table}
 use Rattle.sqlite_catalog.specs.Change.{created, next_tree, KeepsRows}
 use Rattle.sqlite_tied.specs.Compute.{everything}
-use Rattle.sqlite.specs.Effect.{Database}
 use Rattle.sqlite.specs.Listing.{understood}
 use Rattle.sqlite.specs.State.{State, Executes}
-use Rattle.office_tables.specs.Declaring.{Adds}
 use Rattle.office_tables.specs.Schema as it
 use Rattle.office_tables.proofs.ClearLemmas.{IsDeclaredBy, adds, word_declared, result_declared, choice_declared}
 use Rattle.office_create.specs.Stages.{AtStage, table_text}
