@@ -126,6 +126,3 @@ module _ (t : Tables) where
     moves = still.moves;
     lists = same;
   }
-
-pub alike-same : (a b : Tables) → a ≡ b → AreAlike a b
-alike-same a b e = subst (AreAlike a) e (alike-refl a)

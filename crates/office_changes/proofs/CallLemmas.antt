@@ -18,7 +18,7 @@ use Rattle.office_cells.specs.Cells.{IsTextOf, IsOptionalTextOf, text_or_null}
 use Rattle.office_cells.specs.Columns.{move_columns}
 use Rattle.office_cells.specs.Forms.{IsMoveRow}
 use Rattle.office_tables.specs.Edits.{with_room, with_shut, with_person, without_person, with_home, with_withdrawn}
-use Rattle.office_tables.specs.Edits.{without_withdrawn, with_round, without_choices_of, without_round}
+use Rattle.office_tables.specs.Edits.{without_withdrawn, with_round, without_choices_of, without_round_tables}
 use Rattle.office_tables.specs.Edits.{with_word, without_word_of, with_result, without_result_of}
 use Rattle.office_tables.specs.Edits.{with_move, with_kept}
 use Rattle.office_tables.specs.Makes.{Makes}
@@ -31,7 +31,7 @@ use Rattle.office_changes.proofs.ChangeRows.{choices_put, word_put, result_put, 
 use Rattle.office_changes.proofs.ChangeRows.{round_cleared}
 use Rattle.office_changes.proofs.SpelledLemmas.{room_spelled, shut_spelled, person_spelled, without_person_spelled}
 use Rattle.office_changes.proofs.SpelledLemmas.{home_spelled, withdrawn_spelled, without_withdrawn_spelled}
-use Rattle.office_changes.proofs.SpelledLemmas.{without_choices_of_spelled, without_round_spelled, word_spelled}
+use Rattle.office_changes.proofs.SpelledLemmas.{without_choices_of_spelled, without_round_tables_spelled, word_spelled}
 use Rattle.office_changes.proofs.SpelledLemmas.{without_word_of_spelled, result_spelled}
 use Rattle.office_changes.proofs.SpelledLemmas.{without_result_of_spelled}
 use Rattle.office_changes.proofs.SpelledLemmas.{move_spelled, kept_spelled, round_spelled}
@@ -138,10 +138,10 @@ module _ (old mid new : State) (inside : StaysInside mid new) where
       (turns mid new _ (λ t h. result_spelled t h person room is_id code) n))
 
   -- the end of a round
-  pub carries_cleared : Makes old mid without_round → Makes mid new without_withdrawn → CarriesAlways old new ClearRound
+  pub carries_cleared : Makes old mid without_round_tables → Makes mid new without_withdrawn → CarriesAlways old new ClearRound
   carries_cleared m n first =
-      carries first old new ClearRound (λ t. without_withdrawn (without_round t))
+      carries first old new ClearRound (λ t. without_withdrawn (without_round_tables t))
       (λ office fits. round_cleared office)
       (turns_then old mid new _ _ (early mid new inside)
-      (turns old mid _ (λ t h. without_round_spelled t h) m)
+      (turns old mid _ (λ t h. without_round_tables_spelled t h) m)
       (turns mid new _ (λ t h. without_withdrawn_spelled t h) n))

@@ -34,7 +34,7 @@ use Rattle.office_rows.proofs.Moving.{rows_more}
 use Rattle.office_changes.specs.Alike.{AreAlike}
 use Rattle.office_changes.specs.Choosing.{with_choices}
 use Rattle.office_tables.specs.Edits.{with_room, with_shut, with_person, without_person, with_home, with_withdrawn}
-use Rattle.office_tables.specs.Edits.{without_withdrawn, with_round, with_choice, without_choices_of, without_round}
+use Rattle.office_tables.specs.Edits.{without_withdrawn, with_round, with_choice, without_choices_of, without_round_tables}
 use Rattle.office_tables.specs.Edits.{with_word, without_word_of, with_result, without_result_of}
 use Rattle.office_tables.specs.Edits.{with_move, with_kept, taking_part}
 use Rattle.office_changes.proofs.AlikeLemmas.{alike-refl, rooms_alike, people_alike, choices_alike, words_alike}
@@ -255,8 +255,8 @@ unmarked people withdrawn =
 -- lists, withdrawals, words and results go
 pub round_cleared : (office : Office)
     → AreAlike (rows_of (applied office ClearRound))
-    (without_withdrawn (without_round (rows_of office)))
-unfolding rows_of without_withdrawn without_round
+    (without_withdrawn (without_round_tables (rows_of office)))
+unfolding rows_of without_withdrawn without_round_tables
 round_cleared office = let still = alike-refl (rows_of office) in record {
   rooms = still.rooms;
   people = IsPermutation-same _ _ (unmarked office.people office.withdrawn);

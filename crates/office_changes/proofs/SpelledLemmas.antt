@@ -25,7 +25,7 @@ use Rattle.office_rows.specs.Tables.{Tables}
 use Rattle.office_rows.specs.declared.records.ChoiceRecord.{ChoiceRecord}
 use Rattle.office_rows.specs.declared.records.PersonRecord.{PersonRecord}
 use Rattle.office_tables.specs.Edits.{with_room, with_shut, with_person, without_person, with_home, with_withdrawn}
-use Rattle.office_tables.specs.Edits.{without_withdrawn, with_round, with_choice, without_choices_of, without_round}
+use Rattle.office_tables.specs.Edits.{without_withdrawn, with_round, with_choice, without_choices_of, without_round_tables}
 use Rattle.office_tables.specs.Edits.{with_word, without_word_of, with_result, without_result_of}
 use Rattle.office_tables.specs.Edits.{with_move, with_kept}
 use Rattle.office_changes.specs.Alike.{AreAlike}
@@ -214,9 +214,9 @@ module _ (t : Tables) (h : IsSpelled t) where
     lists = h.lists;
   }
 
-  pub without_round_spelled : IsSpelled (without_round t)
-  unfolding without_round
-  without_round_spelled = record {
+  pub without_round_tables_spelled : IsSpelled (without_round_tables t)
+  unfolding without_round_tables
+  without_round_tables_spelled = record {
     rooms = h.rooms;
     people = h.people;
     rounds = h.rounds;

@@ -1,4 +1,4 @@
-//! The state of the office of a college's room exchange: what it keeps, the changes that it is changed by, the round's
+//! The state of the office of a college's room exchange: what it keeps, the changes that are made to it, the round's
 //! problem and its results, and whether what was read is a lawful office.
 #![tactic(auto)]
 

@@ -223,8 +223,8 @@ module _ (old mid new : State) where
 -- ---- all of it
 
 -- the tables are there, with no rows
-pub clears : (old new : State) → Stands 8 8 5 old new → Makes old new edit.without_round
-unfolding edit.without_round
+pub clears : (old new : State) → Stands 8 8 5 old new → Makes old new edit.without_round_tables
+unfolding edit.without_round_tables
 clears old new stands = record {
   shown = λ tables clean was.
       let all = stands.shown clean was.schema in

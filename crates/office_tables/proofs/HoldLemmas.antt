@@ -100,15 +100,3 @@ module _ {X : Type 0} (columns : X → Row) where
           ∙ ap₂ ◌++◌ (map-map (λ (e : ℤ × X). e.1) moved (filter (λ e. q e.1) h.entries) ∙ sym (map-map f (λ (e : ℤ × X). e.1) (filter (λ e. q e.1) h.entries)) ∙ ap (map f) (sym (filter-map q (λ (e : ℤ × X). e.1) h.entries)))
           (sym (filter-map (λ x. not (q x)) (λ (e : ℤ × X). e.1) h.entries)) in
           held_permuted _ _ _ (subst (IsPermutation (update_where q f xs)) (sym records) (IsPermutation-trans _ _ _ (IsPermutation-map _ _ _ h.same) (apart (map (λ (e : ℤ × X). e.1) h.entries)))) all
-
--- what a reader of whole rows knows, where the rowids that it read differ
-pub held_found : {X : Type 0} (columns : X → Row) (rows : List Row) (entries : List (ℤ × X)) → IsPermutation (map (stored columns) entries) rows → IsDistinct same_rowid (map (stored columns) entries)
-    → Holds columns rows (map (λ (e : ℤ × X). e.1) entries)
-held_found {X = X} columns rows entries same distinct =
-    let back = pull_back (stored columns) _ rows same entries refl in
-    record {
-      entries = back.0;
-      rows_are = back.2;
-      apart = IsDistinct-IsPermutation same_rowid flips _ _ same distinct;
-      same = IsPermutation-map (λ (e : ℤ × X). e.1) _ _ back.1;
-    }

@@ -91,8 +91,8 @@ without_result_of person tables =
     record tables { results = delete_where (λ r. text_eq r.0 person) tables.results }
 
 -- no choices, words and results
-unfoldable pub without_round : Tables → Tables
-without_round tables = record tables { choices = []; words = []; results = [] }
+unfoldable pub without_round_tables : Tables → Tables
+without_round_tables tables = record tables { choices = []; words = []; results = [] }
 
 -- ---- moves
 

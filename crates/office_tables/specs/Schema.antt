@@ -212,7 +212,7 @@ abbrev pub indexes_with : ℕ → ℕ
 indexes_with tables =
     slice_index_or (0 ∷ 1 ∷ 4 ∷ 4 ∷ 5 ∷ 6 ∷ 7 ∷ 9 ∷ 11 ∷ []) tables 11
 
--- the first tables of an office, with their indexes: all without the tables of a round are five
+-- the first tables of an office, with their indexes: all but the tables of a round are the first five
 abbrev pub first_tables : ℕ → Schema
 first_tables tables = record {
   tables = take tables office_schema.tables;

@@ -2,7 +2,7 @@
 ghost use Rattle.std.specs.Prelude.{◌≡◌, OnOk, OnErr};
 ghost use Rattle.sqlite.specs.Held.{state};
 ghost use Rattle.office_tables.specs.Declaring.{MakesTooFew, MayLackTables, Stands};
-ghost use Rattle.office_tables.specs.Edits.{without_round};
+ghost use Rattle.office_tables.specs.Edits.{without_round_tables};
 ghost use Rattle.office_tables.specs.Makes.{Makes};
 ghost use Rattle.office_tables.specs.Schema.{choice_text, result_text, word_text};
 ghost use Rattle.office_tables.specs.Steps.{StaysInside};
@@ -17,7 +17,7 @@ pub fn clear_round_tables<S: Alter>(tx: &mut Transaction<'_, S>) -> Result<(), E
     ensures same_reference { tx.new.conn.ghost_name ≡ tx.old.conn.ghost_name }
     ensures made { OnOk result
         (Makes (state S.Store tx.old.conn.now) (state S.Store tx.new.conn.now)
-        (without_round)) }
+        (without_round_tables)) }
     ensures undone { OnErr result
         (MayLackTables (state S.Store tx.old.conn.now) (state S.Store tx.new.conn.now)) }
     ensures inside { StaysInside (state S.Store tx.old.conn.now) (state S.Store tx.new.conn.now) }

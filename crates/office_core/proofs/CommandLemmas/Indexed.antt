@@ -27,7 +27,7 @@ either : (a b : Bool) → (a || b) ≡ true → a ≡ false → b ≡ true
 either true b h n = cc
 either false b h n = h
 
-some_or : {X : Type 0} (b : Bool) (x : X) (o : Option X)
+pub some_or : {X : Type 0} (b : Bool) (x : X) (o : Option X)
     → is_some (cond b (Some x) o) ≡ (b || is_some o)
 some_or true x o = refl
 some_or false x o = refl

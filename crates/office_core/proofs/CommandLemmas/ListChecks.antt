@@ -37,14 +37,6 @@ pub first_of : (o : Option Refusal) → first_refusal (check_of o) ≡ o
 first_of None = refl
 first_of (Some refusal) = refl
 
--- a list that was not read
-pub unread : (command : EntryCommand) (office : Office) (bytes : List ℕ) (fault : ListFault)
-    → Fails command.form bytes fault → IsOrMemory (list_refusal command office bytes) (bad_list fault)
-unread command office bytes fault (inl memory) = inr (ap bad_list memory.0)
-unread command office bytes fault (inr bad) =
-    inl (ap (λ o. option_map_or (λ fault. Some (bad_list fault)) o
-    (first_denied command office 1 (entries_in command bytes))) bad)
-
 -- the refusal of a list that has no bad record is that of its records
 pub by_records : (command : EntryCommand) (office : Office) (bytes : List ℕ)
     → list_fault command.form (records_of bytes) ≡ None
@@ -52,25 +44,6 @@ pub by_records : (command : EntryCommand) (office : Office) (bytes : List ℕ)
 by_records command office bytes good =
     ap (λ o. option_map_or (λ fault. Some (bad_list fault)) o
     (first_denied command office 1 (entries_in command bytes))) good
-
-pub read_and_allowed : (command : EntryCommand) (office : Office) (bytes : List ℕ)
-    (entries : List command.Entry) (changes : List Change)
-    → Tells command.form bytes entries → AreAllowed command office entries changes
-    → AreAdded command office bytes changes
-read_and_allowed command office bytes entries changes told are = record {
-  accepted = by_records command office bytes told.good
-      ∙ ap (λ es. first_denied command office 1 es) (sym told.told) ∙ are.allowed;
-  changed = are.changed ∙ ap (λ es. changes_by command es) told.told;
-}
-
-pub read_and_refused : (command : EntryCommand) (office : Office) (bytes : List ℕ)
-    (entries : List command.Entry) (refusal : Refusal)
-    → Tells command.form bytes entries → IsOrMemory (first_denied command office 1 entries) refusal
-    → IsOrMemory (list_refusal command office bytes) refusal
-read_and_refused command office bytes entries refusal told (inl is) =
-    inl (by_records command office bytes told.good
-    ∙ ap (λ es. first_denied command office 1 es) (sym told.told) ∙ is)
-read_and_refused command office bytes entries refusal told (inr memory) = inr memory
 
 pub few_told : {X : Type 0} (form : ListForm X) (bytes : List ℕ) (entries : List X)
     → Tells form bytes entries → length entries ≤ record_limit
@@ -93,23 +66,6 @@ as_many command office bytes changes are =
     ap (λ cs. length cs) are.changed
     ∙ length-map (entries_in command bytes) (λ entry. command.change entry)
     ∙ length-map (data_records (records_of bytes)) command.form.entry
-
--- the refusal of a record counts for the list
-pub denied : (command : EntryCommand) (office : Office) (at : ℕ) (entry : command.Entry)
-    (entries : List command.Entry) (refusal : Refusal)
-    → IsRefusal [] (command.checks office entry) refusal
-    → IsOrMemory (first_denied command office at (entry ∷ entries)) (denial_of at refusal)
-denied command office at entry entries refusal (inl is) =
-    elim (is_want refusal) as
-    (λ b. IsOrMemory (first_denied command office at (entry ∷ entries))
-    (cond b refused.OutOfMemory (refused.BadRecord at (Denied (number_of refusal))))) [
-      | true ↦ inr refl
-      | false ↦ inl (ap (λ o. option_map_or
-          (λ refusal. Some (refused.BadRecord at (Denied (number_of refusal)))) o
-          (first_denied command (command.next office entry) (at + 1) entries)) is)
-    ]
-denied command office at entry entries refusal (inr memory) =
-    inr (ap (denial_of at) memory.0)
 
 -- a record that is allowed leaves the refusal to those after it
 pub passed : (command : EntryCommand) (office : Office) (at : ℕ) (entry : command.Entry)

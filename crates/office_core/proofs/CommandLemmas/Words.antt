@@ -18,6 +18,7 @@ use Rattle.office_state.specs.declared.change.Change.{Change}
 use Rattle.office_state.specs.declared.change.Change.TheVariants.{PutWord}
 use Rattle.office_state.specs.declared.office.Office.{Office}
 use Rattle.office_core.specs.Command.Draw.{words_put, with_words}
+use Rattle.office_core.proofs.CommandLemmas.Indexed.{some_or}
 
 pub words_put_more : (people : List Text) (words : List ℕ) (i : ℕ) (d : Text) (e : ℕ)
     → i < length people → i < length words
@@ -71,11 +72,6 @@ or_swap true true c = refl
 or_swap true false c = refl
 or_swap false true c = refl
 or_swap false false c = refl
-
-some_or : {X : Type 0} (b : Bool) (x : X) (o : Option X)
-    → is_some (cond b (Some x) o) ≡ (b || is_some o)
-some_or true x o = refl
-some_or false x o = refl
 
 -- who has a word then
 pub with_words-has : (kept : TextMap ℕ) (people : List Text) (words : List ℕ) (p : Text)

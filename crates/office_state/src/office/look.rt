@@ -26,10 +26,12 @@ impl Office {
         None
     }
 
-    /// Who lives in each room, found in one pass over the people. It is refused only for memory.
+    /// Who lives in each room, found in one pass over the people. It is refused only for memory. Where nobody is known it
+    /// takes none.
     pub fn tenants(&self, alloc: Global) -> Result<Table<RoomCodes, PersonId>, OutOfMemory>
-        ensures { IfOk result
+        ensures tenants { IfOk result
             (λ tenants. (room : List ℕ) → map.get tenants room ≡ tenant self.now room) }
+        ensures memory { OnErr result (0 < length (map.entries self.now.people)) }
     {
         let mut tenants = Table::new(alloc);
         for (id, person) in self.people.iter() {
@@ -55,7 +57,7 @@ impl Office {
     }
 
     /// Where a person lives, or `None` for no home and for somebody unknown.
-    pub fn home_of(&self, person: &PersonId) -> Option<&RoomCode>
+    pub(crate) fn home_of(&self, person: &PersonId) -> Option<&RoomCode>
         ensures { option_copied result ≡ home_of self.now person.now }
     {
         self.people.get(person)?.home.as_ref()
@@ -82,7 +84,7 @@ impl Office {
         self.withdrawn.contains_key(person)
     }
 
-    /// Whether a person sees the result.
+    /// Whether a person sees the result. Somebody unknown has not withdrawn, so it is true of them while it is published.
     pub fn is_shown(&self, person: &PersonId) -> bool
         ensures { result ≡ is_shown self.now person.now }
     {
@@ -97,7 +99,7 @@ impl Office {
     }
 
     /// Whether a round has begun, and is neither settled nor cancelled.
-    pub fn is_under_way(&self, round: u16) -> bool
+    pub(crate) fn is_under_way(&self, round: u16) -> bool
         ensures { result ≡ is_under_way self.now round }
     {
         !is_idle(self.phase) && round == self.number
@@ -116,7 +118,7 @@ impl Office {
         count
     }
 
-    /// Who has not withdrawn, by identifier. Nobody takes no memory.
+    /// Who has not withdrawn, by identifier. Where nobody takes part it takes no memory.
     pub fn participants(&self, alloc: Global) -> Result<Vec<PersonId>, OutOfMemory>
         ensures people { IfOk result (λ people. people.items ≡ participants self.now) }
         ensures memory { OnErr result (0 < length (participants self.now)) }
@@ -131,7 +133,7 @@ impl Office {
     }
 }
 
-/// A copy of a text that was found, if any. It is refused only for memory; none takes none.
+/// A copy of a text that was found, if any. It is refused only for memory; `None` takes none.
 pub fn copy_found<G: Grammar>(found: Option<&Text<G>>) -> Result<Option<Text<G>>, OutOfMemory>
     ensures copy { IfOk result (λ copy. copy ≡ option_copied found.entry) }
     ensures memory { OnErr result (IsSome found.entry) }

@@ -121,7 +121,7 @@ impl<V> Rounds<V> {
 
 impl<V: Copied> Rounds<V> {
     /// An equal map. The empty one takes no memory.
-    pub fn copy(&self) -> Result<Self, OutOfMemory>
+    pub(crate) fn copy(&self) -> Result<Self, OutOfMemory>
         ensures copy { IfOk result (λ copy. copy ≡ self.now) }
         ensures memory { OnErr result (0 < map.len self.now) }
     {

@@ -1,17 +1,20 @@
 //! Who moves when a round is settled.
-ghost use Rattle.std.specs.Prelude.{◌≡◌, IfOk};
+ghost use Rattle.std.specs.Prelude.{◌≡◌, ◌<◌, IfOk, OnErr, length};
+ghost use Rattle.office_state.specs.Office.{participants};
 ghost use Rattle.office_state.specs.Round.Settlement.{movers};
 
 use crate::office::Office;
 use crate::office::look::{copy_found, is_same_room};
 use office_lists::Mover;
-use room_types::{OutOfMemory, RoomCode};
+use room_types::OutOfMemory;
 use std::alloc::Global;
 
-/// The participants whose home changes, by identifier, each with the old room and the new one. It goes through the
-/// people once, and is refused only for memory.
+/// The participants whose home changes by the recorded results, by identifier, each with the old room and the new one (where
+/// none are recorded, each who has a home, and no new one). It goes through the people once, and is refused only for memory.
+/// Where nobody takes part it takes none.
 pub fn movers(alloc: Global, office: &Office) -> Result<Vec<Mover>, OutOfMemory>
-    ensures { IfOk result (λ found. found.items ≡ movers office.now) }
+    ensures movers { IfOk result (λ found. found.items ≡ movers office.now) }
+    ensures memory { OnErr result (0 < length (participants office.now)) }
 {
     let mut movers = Vec::new(alloc);
     for (id, _) in office.people.iter() {

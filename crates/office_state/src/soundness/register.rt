@@ -3,7 +3,7 @@ ghost use Rattle.std.specs.Prelude.{◌≡◌, ◌<◌, IfOk, OnErr, Some, lengt
 ghost use Rattle.std.specs.Bool.{Decides};
 ghost use Rattle.std.specs.List.{list_all};
 ghost use Rattle.std.specs.FinMap as map;
-ghost use Rattle.office_state.specs.Office.Invariants.{HomesDiffer, IsRegister};
+ghost use Rattle.office_state.specs.Office.Invariants.{IsRegister};
 ghost use Rattle.office_state.specs.Inner.Soundness.{differ_from, is_home_open};
 ghost use Rattle.office_state.specs.Soundness.{AreNoted};
 

@@ -9,13 +9,13 @@ use Rattle.office_core.proofs.command.settle.settle.Goals as goal
 pub waves-requires-clause-few : goal.waves-requires-clause-few
 waves-requires-clause-few c =
     subst (λ ms. length ms ≤ people_limit)
-    (sym (c.as_slice-movers.ensures.value ∙ c.in_ok-movers.ensures))
+    (sym (c.as_slice-movers.ensures.value ∙ c.in_ok-movers.ensures.movers))
     (few_movers c.args.office.now c.requires.register)
 
 pub waves-requires-clause-new_rooms_differ : goal.waves-requires-clause-new_rooms_differ
 waves-requires-clause-new_rooms_differ c =
     let office = c.args.office.now in
-    subst (λ ms. NewRoomsDiffer ms) (sym (c.as_slice-movers.ensures.value ∙ c.in_ok-movers.ensures))
+    subst (λ ms. NewRoomsDiffer ms) (sym (c.as_slice-movers.ensures.value ∙ c.in_ok-movers.ensures.movers))
     (new_rooms_differ office c.requires.register (lawful-IsMarket office c.requires)
     (c.requires.results.given (published_given office.phase
     (sym c.is_published.ensures ∙ c.if-not-is_published.false))))

@@ -1,4 +1,4 @@
-use Rattle.std.proofs.Common.{◌∙◌, sym, ap, Some, cond}
+use Rattle.std.proofs.Common.{◌∙◌, sym, ap, Some, cond, length, arith}
 use Rattle.std.specs.Option.{option_or}
 use Rattle.std.specs.FinMap as map
 use Rattle.std.specs.Map.Iter.{deref_pair}
@@ -18,6 +18,10 @@ loop-id-init c = record {
       ∙ tenants-none room (first_person (lives_in room) c.into_iter-id-iterator.result)
       ∙ ap (λ es. first_person (lives_in room) es)
       (c.into_iter-id-iterator.ensures.into_iter_gives ∙ c.iter-id-items.ensures.rest);
+  left =
+      let all = ap (λ es. length es)
+      (c.into_iter-id-iterator.ensures.into_iter_gives ∙ c.iter-id-items.ensures.rest) in
+      omega (arith, all);
 }
 
 pub loop-id-preserved-in_ok-insert : goal.loop-id-preserved-in_ok-insert
@@ -40,4 +44,8 @@ loop-id-preserved-in_ok-insert c = record {
       (sym (rest_more deref_pair _ _ _
       (c.in-Some.id, c.in-Some.person) c.in-Some.is c.next.ensures.steps))
       ∙ c.loop-id.invariant.found room;
+  left =
+      let more = ap (λ es. length es) (rest_more deref_pair _ _ _
+      (c.in-Some.id, c.in-Some.person) c.in-Some.is c.next.ensures.steps) in
+      omega (arith, more, c.loop-id.invariant.left);
 }

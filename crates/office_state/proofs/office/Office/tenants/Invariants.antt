@@ -1,4 +1,4 @@
-use Rattle.std.proofs.Common.{◌≡◌, List, ℕ}
+use Rattle.std.proofs.Common.{◌≡◌, ◌≤◌, List, ℕ, length}
 use Rattle.std.specs.Option.{option_or}
 use Rattle.std.specs.FinMap as map
 use Rattle.office_state.specs.Office.{first_person, lives_in, tenant}
@@ -11,4 +11,5 @@ invariant-loop-id l = record {
   ends : (goal.iterator-loop-id).is_finite l.id-iterator;
   found : (room : List ℕ) → option_or (map.get l.tenants room)
       (first_person (lives_in room) l.id-iterator) ≡ tenant l.self room;
+  left : length l.id-iterator ≤ length (map.entries l.self.people);
 }

@@ -9,6 +9,6 @@ returns-clause-indexed c =
     record {
       keys = λ key. c.in_ok-keys.ensures key
           ∙ ap (λ people. is_some (holder (λ p. Some p.key) people key)) same;
-      homes = λ room. ap is_some (c.in_ok-tenants.ensures room)
+      homes = λ room. ap is_some (c.in_ok-tenants.ensures.tenants room)
           ∙ ap (λ people. is_some (holder (λ p. p.home) people room)) same;
     }
