@@ -73,7 +73,7 @@ fn makes_tables_once(rt: HostRuntime) {
     let alloc = rt.alloc();
     let mut desk = new_desk(&rt, alloc);
     let asked = handle_all_in_memory(&mut desk, alloc, &[Request::Ask(Query::Round)]);
-    assert!(rt; matches!(asked, Ok(answers) if answers.len() == 1));
+    assert!(rt; matches!(&asked, Ok(answers) if answers.len() == 1));
     assert!(rt; is_there_already(Desk::create(alloc, desk.release())));
 }
 
