@@ -12,6 +12,7 @@ pub mod Indexed
 pub mod Kept
 pub mod Leave
 pub mod ListChecks
+pub mod Moving
 pub mod OpenRound
 pub mod Publish
 pub mod Recorded

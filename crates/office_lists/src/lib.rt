@@ -18,7 +18,7 @@ pub use crate::exports::{
 };
 pub use crate::fault::{Cause, ListFault};
 pub use crate::leaving::{MOVE_LIMIT, Mover, one_wave_each, waves};
-pub use crate::move_day::{move_day_text, one_move_day_list};
+pub use crate::move_day::{in_moving_order, move_day_text, one_move_day_list};
 pub use crate::reading::{RECORD_LIMIT, read_choices, read_people, read_rooms};
 pub use crate::tables::{or_none, people_text, results_text, rooms_text};
 pub use crate::writing::{WriteEnd, write_moves, write_people, write_rooms};

@@ -1,5 +1,5 @@
 //! The list for the day of moving.
-ghost use Rattle.std.specs.Prelude.{◌≡◌, ◌++◌, [], ◌∷◌, List, IfOk, OnOk, string_bytes, map};
+ghost use Rattle.std.specs.Prelude.{◌≡◌, ◌<◌, ◌++◌, [], ◌∷◌, List, length, IfOk, OnOk, OnErr, string_bytes, map};
 ghost use Rattle.room_types.specs.Ascending.{ascending};
 ghost use Rattle.room_types.specs.declared.moves.Move.{Move};
 ghost use Rattle.office_lists.specs.Tables.{line};
@@ -16,7 +16,7 @@ pub fn move_day_text(alloc: Global, moves: &[Move]) -> Result<String, OutOfMemor
     ensures listed { IfOk result (λ text. IsMoveDayList moves.now (string_bytes text)) }
     ensures computed { IfOk result (λ text. string_bytes text ≡ move_day_table moves.now) }
 {
-    let rows = in_order(alloc, moves)?;
+    let rows = in_moving_order(alloc, moves)?;
     let mut text = String::new(alloc);
     push_move(&mut text, "wave", "person", "from", "to")?;
     for row in &rows {
@@ -32,10 +32,15 @@ pub fn move_day_text(alloc: Global, moves: &[Move]) -> Result<String, OutOfMemor
     Ok(text)
 }
 
-// The moves by wave, the swaps last, and by identifier in one wave.
-fn in_order(alloc: Global, moves: &[Move]) -> Result<Vec<&Move>, OutOfMemory>
-    ensures { IfOk result (λ rows. map (λ row. row.now) rows.items ≡ ascending move_cmp moves.now) }
+/// The moves by wave, the swaps last, and by identifier in one wave. It takes n log n comparisons. No moves take no memory.
+pub fn in_moving_order(alloc: Global, moves: &[Move]) -> Result<Vec<&Move>, OutOfMemory>
+    ensures ordered { IfOk result (λ rows. map (λ row. row.now) rows.items
+        ≡ ascending move_cmp moves.now) }
+    ensures memory { OnErr result (0 < length moves.now) }
 {
+    if moves.is_empty() {
+        return Ok(Vec::new(alloc));
+    }
     let mut rows: Vec<&Move> = moves.iter().collect(alloc)?;
     rows.sort_by(|a, b| compare(a, b))?;
     Ok(rows)

@@ -1,12 +1,12 @@
 -- The refusals of a list.
 use Rattle.std.proofs.Common.{◌≡◌, ◌+◌, ◌≤◌, ◌⊎◌, ℕ, true, false, List, [], ◌∷◌, length}
-use Rattle.std.proofs.Common.{Option, Some, None, cond, refl, ap, ◌∙◌, sym, subst, inl, inr}
+use Rattle.std.proofs.Common.{Option, Some, None, refl, ap, ◌∙◌, sym, subst, inl, inr}
 use Rattle.std.proofs.lemmas.Bool.{or_right}
 use Rattle.std.proofs.lemmas.List.{length-map}
 use Rattle.std.specs.FinMap.{len as map_len}
 use Rattle.std.specs.Prelude.{nat_le, nat_lt, not}
 use Rattle.std.specs.Option.{option_map_or}
-use Rattle.office_lists.specs.Records.{Fails, ListForm, Tells, data_records, list_fault, record_limit, records_of}
+use Rattle.office_lists.specs.Records.{ListForm, Tells, data_records, list_fault, record_limit, records_of}
 use Rattle.room_types.specs.Texts.{Text, TextMap}
 use Rattle.room_types.specs.declared.kinds.ListKind.{ListKind}
 use Rattle.room_types.specs.declared.kinds.ListKind.TheVariants.{Rooms, People, Choices}
@@ -22,12 +22,12 @@ use Rattle.office_state.specs.declared.change.Change.TheVariants.{KeepList}
 use Rattle.office_state.specs.declared.office.Office.{Office}
 use Rattle.office_core.specs.Command.Decision.{IsRefusal, refusal_takes_memory}
 use Rattle.office_core.specs.Command.Import.{EntryCommand, bad_list, check_of, entries_in, first_denied}
-use Rattle.office_core.specs.Command.Import.{changes_by, choices_command, list_refusal, record_count, refusal_of}
+use Rattle.office_core.specs.Command.Import.{choices_command, list_refusal, record_count, refusal_of}
 use Rattle.office_core.specs.Command.Import.{new_label_changes, new_label_checks, may_come, person_command}
 use Rattle.office_core.specs.Command.Import.{record_changes, room_command}
-use Rattle.office_core.specs.Inner.Tries.{AreAdded, AreAllowed, IsOrMemory, denial_of}
+use Rattle.office_core.specs.Inner.Tries.{AreAdded, AreAllowed, IsOrMemory}
 use Rattle.office_core.specs.Refusal.{number_of}
-use Rattle.office_core.specs.Refusal.Checks.{Check, first_refusal, is_want, names_room, tells_of_list}
+use Rattle.office_core.specs.Refusal.Checks.{Check, first_refusal, names_room, tells_of_list}
 use Rattle.office_core.specs.declared.refusal.Refusal.{Refusal}
 use Rattle.office_core.specs.declared.refusal.Refusal.TheVariants as refused
 use Rattle.office_core.proofs.CommandLemmas.Changes.{has_last}

@@ -1,9 +1,16 @@
 -- Moves with their waves, one by one.
-use Rattle.std.proofs.Common.{◌≡◌, ℕ, ◌+◌, ◌<◌, List, ◌∷◌, length, drop, get_or, ap, ◌∙◌}
+use Rattle.std.proofs.Common.{◌≡◌, ℕ, ◌+◌, ◌<◌, List, [], ◌∷◌, ◌++◌, length, take, drop, get_or, cond, ap, ◌∙◌}
 use Rattle.std.proofs.lemmas.List.{drop_more}
+use Rattle.std.proofs.lemmas.List.Elements.{filter_more}
+use Rattle.std.proofs.lemmas.List.FromFn.{length-map-range_with_len}
+use Rattle.room_types.specs.declared.moves.Move.{Move}
 use Rattle.room_types.specs.declared.moves.Wave.{Wave}
-use Rattle.office_lists.specs.Waves.{Mover}
-use Rattle.office_state.specs.Round.Settlement.{moves_with}
+use Rattle.office_lists.specs.MoveDay.{is_swap}
+use Rattle.office_lists.specs.Waves.{Mover, end_numbers, leavers, wave_of, waves_of}
+use Rattle.office_state.specs.Round.Settlement.{movers, moves_with, settled_moves}
+use Rattle.office_state.specs.declared.office.Office.{Office}
+use Rattle.office_core.specs.Command.Settle.{swaps}
+use Rattle.office_core.proofs.CommandLemmas.Moving.{length-moves_with}
 
 pub moves_with_more : (round : ℕ) (ms : List Mover) (waves : List Wave) (i : ℕ) (d : Mover)
     (e : Wave) → i < length ms → i < length waves
@@ -19,3 +26,14 @@ pub moves_with_more : (round : ℕ) (ms : List Mover) (waves : List Wave) (i : �
 moves_with_more round ms waves i d e h k =
     ap (λ m. moves_with round m (drop i waves)) (drop_more ms i d h)
     ∙ ap (λ w. moves_with round (get_or ms i d ∷ drop (i + 1) ms) w) (drop_more waves i e k)
+
+pub swaps_more : (moves : List Move) (i : ℕ) (d : Move) → i < length moves
+    → swaps (take (i + 1) moves)
+    ≡ swaps (take i moves) ++ cond (is_swap (get_or moves i d).wave) (get_or moves i d ∷ []) []
+swaps_more moves i d within = filter_more (λ move. is_swap move.wave) moves i d within
+
+-- as many moves as movers
+pub as_many_settled : (office : Office) → length (settled_moves office) ≡ length (movers office)
+as_many_settled office = length-moves_with office.number (movers office) (waves_of (movers office))
+    (length-map-range_with_len (wave_of (end_numbers (movers office)) (leavers (movers office))) 0
+    (length (movers office)))

@@ -1,13 +1,13 @@
 -- The changes of a settlement: where they lead, that homes differ on the way, and that they fit.
-use Rattle.std.proofs.Common.{◌≡◌, true, false, List, [], ◌∷◌, ◌++◌, map as map_list, Option, Some}
-use Rattle.std.proofs.Common.{None, cond, refl, ap, ◌∙◌, sym, subst, inl, inr}
+use Rattle.std.proofs.Common.{◌≡◌, ℕ, zero, suc, ◌<◌, true, false, List, [], ◌∷◌, ◌++◌, get_or}
+use Rattle.std.proofs.Common.{map as map_list, Option, Some, None, cond, refl, ap, ◌∙◌, sym, subst, inl, inr, ◌⊎◌, arith}
 use Rattle.std.specs.Option.{option_map, option_and_then}
+use Rattle.std.specs.List.{All}
 use Rattle.std.specs.Ordering.{eq_by_cmp}
 use Rattle.std.specs.FinMap as map
 use Rattle.room_types.specs.Texts.{Text, TextMap, text_cmp}
-use Rattle.room_types.specs.TextMaps.{text_cases}
+use Rattle.room_types.specs.TextMaps.{text_cases, differ}
 use Rattle.room_types.specs.declared.moves.Move.{Move}
-use Rattle.office_lists.specs.Waves.{Mover}
 use Rattle.office_state.specs.Change.{with_home, applied_all, StaysApart, AllFit}
 use Rattle.office_state.specs.Office.Invariants.{HomesDiffer, Unshared}
 use Rattle.office_state.specs.Office.Moves.{with_move}
@@ -19,8 +19,9 @@ use Rattle.office_state.specs.declared.office.person.Person.{Person}
 use Rattle.office_state.proofs.OfficeLemmas.Homes.{moved}
 use Rattle.office_state.proofs.RoundLemmas.Movers.{rehomed, rehomed_by, at_home, get-rehomed}
 use Rattle.office_state.proofs.RoundLemmas.Movers.{left_people, arrived_people}
-use Rattle.office_state.proofs.RoundLemmas.Settling.{home_in, AreFresh, LeadTo}
+use Rattle.office_state.proofs.RoundLemmas.Settling.{home_in, AreFresh}
 use Rattle.office_core.specs.Command.Settle.{leaving, arriving}
+use Rattle.office_core.proofs.CommandLemmas.Moving.{mover_of, CameBefore, FindEmpty}
 
 -- a move changes the people alone
 with_home-rehomed : (office : Office) (person : Text) (home : Option Text)
@@ -35,23 +36,25 @@ with_home-rehomed office person home =
     ]
 
 -- where the changes lead
-pub left-lead : (office : Office) (ms : List Mover) (rest : List Change)
+pub left-lead : (office : Office) (ms : List Move) (rest : List Change)
     → applied_all office (map_list leaving ms ++ rest)
-    ≡ applied_all (record office { people = left_people office.people ms }) rest
+    ≡ applied_all
+    (record office { people = left_people office.people (map_list mover_of ms) }) rest
 left-lead office [] rest = refl
-left-lead office (mover ∷ others) rest =
+left-lead office (move ∷ others) rest =
     ap (λ o. applied_all o (map_list leaving others ++ rest))
-    (with_home-rehomed office mover.0 None)
-    ∙ left-lead (record office { people = rehomed office.people mover.0 None }) others rest
+    (with_home-rehomed office move.person None)
+    ∙ left-lead (record office { people = rehomed office.people move.person None }) others rest
 
-pub arrived-lead : (office : Office) (ms : List Mover) (rest : List Change)
+pub arrived-lead : (office : Office) (ms : List Move) (rest : List Change)
     → applied_all office (map_list arriving ms ++ rest)
-    ≡ applied_all (record office { people = arrived_people office.people ms }) rest
+    ≡ applied_all
+    (record office { people = arrived_people office.people (map_list mover_of ms) }) rest
 arrived-lead office [] rest = refl
-arrived-lead office (mover ∷ others) rest =
+arrived-lead office (move ∷ others) rest =
     ap (λ o. applied_all o (map_list arriving others ++ rest))
-    (with_home-rehomed office mover.0 mover.2)
-    ∙ arrived-lead (record office { people = rehomed office.people mover.0 mover.2 }) others rest
+    (with_home-rehomed office move.person move.to)
+    ∙ arrived-lead (record office { people = rehomed office.people move.person move.to }) others rest
 
 pub moves-lead : (office : Office) (moves : List Move) (rest : List Change)
     → applied_all office (map_list (λ move. AddMove move) moves ++ rest)
@@ -60,77 +63,113 @@ moves-lead office [] rest = refl
 moves-lead office (move ∷ moves) rest =
     moves-lead (record office { moves = with_move office.moves move }) moves rest
 
--- each home of the inner people is that person's home among the outer ones
-abbrev pub HomesWithin : TextMap Person → TextMap Person → Type 0
-HomesWithin inner outer =
-    (q room : Text) → home_in inner q ≡ Some room → home_in outer q ≡ Some room
-
-differ-within : (inner outer : TextMap Person) → HomesWithin inner outer
-    → Unshared (λ p. p.home) outer → Unshared (λ p. p.home) inner
-differ-within inner outer within differ p q room hp hq =
-    differ p q room (within p room hp) (within q room hq)
-
-home_at : (to : Option Text) (o : Option Person) (room : Text)
-    → option_and_then (λ p. p.home) (option_map (at_home to) o) ≡ Some room → to ≡ Some room
-home_at to None room h = cc
-home_at to (Some kept) room h = h
-
--- a move whose new home, if any, is the person's home among the outer people stays within them
-rehomed-within : (inner outer : TextMap Person) (person : Text) (home : Option Text)
-    → HomesWithin inner outer → ((room : Text) → home ≡ Some room
-    → home_in outer person ≡ Some room)
-    → HomesWithin (rehomed inner person home) outer
-rehomed-within inner outer person home within new q room h =
+-- who lives somewhere once a person has moved is that person, or lived there before
+lives_then : (people : TextMap Person) (person : Text) (home : Option Text) (q room : Text)
+    → home_in (rehomed people person home) q ≡ Some room
+    → ((q ≡ person) × (home ≡ Some room))
+    ⊎ ((eq_by_cmp text_cmp q person ≡ false) × (home_in people q ≡ Some room))
+lives_then people person home q room h =
     let at : option_and_then (λ (p : Person). p.home)
-    (cond (eq_by_cmp text_cmp q person) (option_map (at_home home) (map.get inner q))
-    (map.get inner q)) ≡ Some room = ap (option_and_then (λ p. p.home))
-    (sym (get-rehomed inner person home q)) ∙ h in
+    (cond (eq_by_cmp text_cmp q person) (option_map (at_home home) (map.get people q))
+    (map.get people q)) ≡ Some room = ap (option_and_then (λ p. p.home))
+    (sym (get-rehomed people person home q)) ∙ h in
     elim (eq_by_cmp text_cmp q person) as
     (λ b. eq_by_cmp text_cmp q person ≡ b
     → option_and_then (λ (p : Person). p.home)
-    (cond b (option_map (at_home home) (map.get inner q)) (map.get inner q)) ≡ Some room
-    → home_in outer q ≡ Some room) [
+    (cond b (option_map (at_home home) (map.get people q)) (map.get people q)) ≡ Some room
+    → ((q ≡ person) × (home ≡ Some room))
+    ⊎ ((eq_by_cmp text_cmp q person ≡ false) × (home_in people q ≡ Some room))) [
       | true ↦ λ ties there.
           let same : q ≡ person =
           elim (text_cases q person) as (λ _. q ≡ person)
           [ inl same ↦ same | inr other ↦ cc ] in
-          ap (home_in outer) same ∙ new room (home_at home (map.get inner q) room there)
-      | false ↦ λ _ there. within q room there
+          inl (same, home_at (map.get people q) there)
+      | false ↦ λ other there. inr (other, there)
     ] refl at
+  where
+    home_at : (o : Option Person)
+        → option_and_then (λ p. p.home) (option_map (at_home home) o) ≡ Some room → home ≡ Some room
+    home_at None h = cc
+    home_at (Some kept) h = h
+
+-- homes differ once a person has moved to a room where nobody else lives
+rehomed-differ : (people : TextMap Person) (person : Text) (home : Option Text)
+    → Unshared (λ p. p.home) people
+    → ((q room : Text) → home ≡ Some room → home_in people q ≡ Some room → q ≡ person)
+    → Unshared (λ p. p.home) (rehomed people person home)
+rehomed-differ people person home apart own p q room hp hq =
+    elim (lives_then people person home p room hp) as (λ _. p ≡ q) [
+      | inl a ↦ elim (lives_then people person home q room hq) as (λ _. p ≡ q) [
+        | inl b ↦ a.0 ∙ sym b.0
+        | inr b ↦ a.0 ∙ sym (own q room a.1 b.1)
+      ]
+      | inr a ↦ elim (lives_then people person home q room hq) as (λ _. p ≡ q) [
+        | inl b ↦ own p room b.1 a.1 ∙ sym b.0
+        | inr b ↦ apart p q room a.1 b.1
+      ]
+    ]
 
 stays_apart-along : (old new : Office) (changes : List Change) → old ≡ new → StaysApart new changes
     → StaysApart old changes
 stays_apart-along old new changes same s = subst (λ o. StaysApart o changes) (sym same) s
 
-pub left-apart : (office : Office) (ms : List Mover) (rest : List Change) → HomesDiffer office
-    → StaysApart (record office { people = left_people office.people ms }) rest
+pub left-apart : (office : Office) (ms : List Move) (rest : List Change) → HomesDiffer office
+    → (HomesDiffer (record office { people = left_people office.people (map_list mover_of ms) })
+    → StaysApart (record office { people = left_people office.people (map_list mover_of ms) }) rest)
     → StaysApart office (map_list leaving ms ++ rest)
-left-apart office [] rest differ s = s
-left-apart office (mover ∷ others) rest differ s =
-    let people : TextMap Person = rehomed office.people mover.0 None in
-    let apart : Unshared (λ p. p.home) people =
-    differ-within people office.people
-    (rehomed-within office.people office.people mover.0 None (λ q room h. h) (λ room e. cc))
-    differ in (
-      differ,
-      stays_apart-along (with_home office mover.0 None) (record office { people = people })
-          (map_list leaving others ++ rest) (with_home-rehomed office mover.0 None)
-          (left-apart (record office { people = people }) others rest apart s),
+left-apart office [] rest apart s = s apart
+left-apart office (move ∷ others) rest apart s =
+    let people : TextMap Person = rehomed office.people move.person None in (
+      apart,
+      stays_apart-along (with_home office move.person None) (record office { people = people })
+          (map_list leaving others ++ rest) (with_home-rehomed office move.person None)
+          (left-apart (record office { people = people }) others rest
+          (rehomed-differ office.people move.person None apart (λ q room e. cc)) s),
     )
 
-pub arrived-apart : (office : Office) (outer : TextMap Person) (ms : List Mover)
-    (rest : List Change) → Unshared (λ p. p.home) outer → HomesWithin office.people outer
-    → LeadTo outer ms
-    → StaysApart (record office { people = arrived_people office.people ms }) rest
+-- each move leads to the home that the person has among the outer people
+abbrev pub Leads : TextMap Person → Move → Type 0
+Leads outer move = (room : Text) → move.to ≡ Some room → home_in outer move.person ≡ Some room
+
+-- once the first has come, the others find their rooms empty still
+others_find_empty : (people outer : TextMap Person) (move : Move) (others : List Move)
+    → Unshared (λ p. p.home) outer → All (Leads outer) (move ∷ others)
+    → FindEmpty (home_in people) (move ∷ others)
+    → FindEmpty (home_in (rehomed people move.person move.to)) others
+others_find_empty people outer move others apart lead empty k d within q room goes lives =
+    elim (lives_then people move.person move.to q room lives) as (λ _. CameBefore others k d q) [
+      | inl here ↦ inl (here.0 ∙ apart move.person (get_or others k d).person room
+          (lead 0 d (omega arith) room here.1) (lead (suc k) d (omega (arith, within)) room goes))
+      | inr there ↦ elim (empty (suc k) d (omega (arith, within)) q room goes there.1) as
+          (λ _. CameBefore others k d q) [
+            | inl own ↦ inl own
+            | inr came ↦ earlier there.0 came.0 came.1 came.2
+          ]
+    ]
+  where
+    earlier : eq_by_cmp text_cmp q move.person ≡ false → (j : ℕ) → j < suc k
+        → (get_or (move ∷ others) j d).person ≡ q → CameBefore others k d q
+    earlier other zero low same = absurd (differ q move.person (sym same) other)
+    earlier other (suc j) low same = inr (j, omega (arith, low), same)
+
+pub arrived-apart : (office : Office) (outer : TextMap Person) (ms : List Move) (rest : List Change)
+    → HomesDiffer office → Unshared (λ p. p.home) outer → All (Leads outer) ms
+    → FindEmpty (home_in office.people) ms
+    → StaysApart (record office { people = arrived_people office.people (map_list mover_of ms) }) rest
     → StaysApart office (map_list arriving ms ++ rest)
-arrived-apart office outer [] rest differ within lead s = s
-arrived-apart office outer (mover ∷ others) rest differ within lead s =
-    let people : TextMap Person = rehomed office.people mover.0 mover.2 in (
-      differ-within office.people outer within differ,
-      stays_apart-along (with_home office mover.0 mover.2) (record office { people = people })
-          (map_list arriving others ++ rest) (with_home-rehomed office mover.0 mover.2)
-          (arrived-apart (record office { people = people }) outer others rest differ
-          (rehomed-within office.people outer mover.0 mover.2 within lead.0) lead.1 s),
+arrived-apart office outer [] rest apart settled lead empty s = s
+arrived-apart office outer (move ∷ others) rest apart settled lead empty s =
+    let people : TextMap Person = rehomed office.people move.person move.to in (
+      apart,
+      stays_apart-along (with_home office move.person move.to) (record office { people = people })
+          (map_list arriving others ++ rest) (with_home-rehomed office move.person move.to)
+          (arrived-apart (record office { people = people }) outer others rest
+          (rehomed-differ office.people move.person move.to apart
+          (λ q room goes lives. elim (empty 0 move (omega arith) q room goes lives) as
+          (λ _. q ≡ move.person)
+          [ inl own ↦ own | inr came ↦ absurd (omega (arith, came.1)) ]))
+          settled (λ k d within. lead (suc k) d (omega (arith, within)))
+          (others_find_empty office.people outer move others settled lead empty) s),
     )
 
 pub moves-apart : (office : Office) (moves : List Move) (rest : List Change) → HomesDiffer office
@@ -144,28 +183,30 @@ moves-apart office (move ∷ moves) rest differ s = (
 )
 
 -- the changes fit
-pub left-fit : (first office : Office) (ms : List Mover) (rest : List Change)
-    → AllFit first (record office { people = left_people office.people ms }) rest
+pub left-fit : (first office : Office) (ms : List Move) (rest : List Change)
+    → AllFit first
+    (record office { people = left_people office.people (map_list mover_of ms) }) rest
     → AllFit first office (map_list leaving ms ++ rest)
 left-fit first office [] rest s = s
-left-fit first office (mover ∷ others) rest s = (
+left-fit first office (move ∷ others) rest s = (
   tt,
   subst (λ o. AllFit first o (map_list leaving others ++ rest))
-      (sym (with_home-rehomed office mover.0 None))
-      (left-fit first (record office { people = rehomed office.people mover.0 None }) others rest
-      s),
+      (sym (with_home-rehomed office move.person None))
+      (left-fit first (record office { people = rehomed office.people move.person None }) others
+      rest s),
 )
 
-pub arrived-fit : (first office : Office) (ms : List Mover) (rest : List Change)
-    → AllFit first (record office { people = arrived_people office.people ms }) rest
+pub arrived-fit : (first office : Office) (ms : List Move) (rest : List Change)
+    → AllFit first
+    (record office { people = arrived_people office.people (map_list mover_of ms) }) rest
     → AllFit first office (map_list arriving ms ++ rest)
 arrived-fit first office [] rest s = s
-arrived-fit first office (mover ∷ others) rest s = (
+arrived-fit first office (move ∷ others) rest s = (
   tt,
   subst (λ o. AllFit first o (map_list arriving others ++ rest))
-      (sym (with_home-rehomed office mover.0 mover.2))
-      (arrived-fit first (record office { people = rehomed office.people mover.0 mover.2 }) others
-      rest s),
+      (sym (with_home-rehomed office move.person move.to))
+      (arrived-fit first (record office { people = rehomed office.people move.person move.to })
+      others rest s),
 )
 
 pub moves-fit : (first office : Office) (moves : List Move) (rest : List Change)

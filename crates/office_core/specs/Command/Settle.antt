@@ -1,7 +1,10 @@
 -- The participants move, the moves are recorded, and the round is over.
 use Rattle.std.specs.Prelude.{not, List, [], ◌∷◌, ◌++◌, length, None, map}
+use Rattle.std.specs.List.{filter}
+use Rattle.room_types.specs.Ascending.{ascending}
 use Rattle.room_types.specs.declared.phase.Phase.TheVariants.{Idle}
-use Rattle.office_lists.specs.Waves.{Mover}
+use Rattle.room_types.specs.declared.moves.Move.{Move}
+use Rattle.office_lists.specs.MoveDay.{is_swap, move_cmp}
 use Rattle.office_state.specs.Change.{without_round}
 use Rattle.office_state.specs.Office.Phases.{is_published}
 use Rattle.office_state.specs.Round.Settlement.{movers, settled_moves, settled_people, with_moves}
@@ -27,16 +30,22 @@ next office = record (without_round office) {
 abbrev pub reply_to : Office → Reply
 reply_to office = reply.Settled (length (movers office))
 
--- first all movers leave, so that no two people ever have one home
-abbrev pub leaving : Mover → Change
-leaving mover = PutHome mover.0 None
+-- who leaves first
+abbrev pub leaving : Move → Change
+leaving move = PutHome move.person None
 
-abbrev pub arriving : Mover → Change
-arriving mover = PutHome mover.0 mover.2
+-- those who swap, each of whom has a room that another of them gets
+abbrev pub swaps : List Move → List Move
+swaps = filter (λ move. is_swap move.wave)
 
+abbrev pub arriving : Move → Change
+arriving move = PutHome move.person move.to
+
+-- those who swap leave first, and then everybody arrives, in the order of the list for the day of moving: whoever has a
+-- room of the next wave has moved by then, so that no two people ever have one home
 abbrev pub changes_of : Office → List Change
 changes_of office =
-    map leaving (movers office)
-    ++ (map arriving (movers office)
+    map leaving (swaps (settled_moves office))
+    ++ (map arriving (ascending move_cmp (settled_moves office))
     ++ (map (λ move. AddMove move) (settled_moves office)
     ++ ClearRound ∷ PutRound office.number Idle ∷ []))

@@ -1,15 +1,16 @@
 //! The participants move, the moves are recorded, and the round is over.
-ghost use Rattle.std.specs.Prelude.{◌≡◌, ◌++◌, length, OnOk, map as map_list};
+ghost use Rattle.std.specs.Prelude.{◌≡◌, ◌++◌, length, IsTrue, IfOk, OnOk, map as map_list};
 ghost use Rattle.room_types.specs.declared.moves.Move.{Move};
 ghost use Rattle.office_state.specs.Office.Invariants.{IsLawful};
-ghost use Rattle.office_state.specs.Round.Settlement.{moves_with};
+ghost use Rattle.office_state.specs.Office.Phases.{is_published};
+ghost use Rattle.office_state.specs.Round.Settlement.{moves_with, settled_moves};
 ghost use Rattle.office_core.specs.Command.Decision.{IsDecided};
-ghost use Rattle.office_core.specs.Command.Settle.{checks, reply_to, changes_of, leaving, arriving};
+ghost use Rattle.office_core.specs.Command.Settle.{checks, reply_to, changes_of, leaving, swaps, arriving};
 
 use crate::command::decision::Decision;
 use crate::refusal::Refusal;
 use crate::reply::Reply;
-use office_lists::{Mover, waves};
+use office_lists::{Mover, in_moving_order, waves};
 use office_state::phases::is_published;
 use office_state::round::movers;
 use office_state::{Change, Office};
@@ -17,8 +18,9 @@ use room_types::rows::copy_optional;
 use room_types::{Move, OutOfMemory, Phase, Wave};
 use std::alloc::Global;
 
-/// Decides the day of moving: all movers leave, each arrives in the new room, the moves are recorded with their
-/// waves, and the round is over. Refused with `BadPhase` unless published.
+/// Decides the day of moving: those who swap leave, then everybody arrives in the new room, wave by wave, the moves are
+/// recorded, and the round is over. Refused with `BadPhase` unless published. Each home is taken from its index once, and
+/// twice only where two have to pass each other.
 #[tactic(auto, using(crate::proofs::CommandLemmas::Changes::has_last))]
 pub fn settle(alloc: Global, office: &Office) -> Result<Decision, Refusal>
     requires { IsLawful office.now }
@@ -27,70 +29,93 @@ pub fn settle(alloc: Global, office: &Office) -> Result<Decision, Refusal>
     if !is_published(office.phase) {
         return Err(Refusal::BadPhase(office.phase));
     }
-    let movers = movers(alloc, office)?;
-    let movers = movers.as_slice();
-    let waves = waves(alloc, movers)?;
+    let moves = settled_moves(alloc, office)?;
+    let moves = moves.as_slice();
     let mut changes = Vec::new(alloc);
-    all_leave(&mut changes, movers)?;
-    all_arrive(&mut changes, movers)?;
-    all_recorded(&mut changes, office.number, movers, waves.as_slice())?;
+    swaps_leave(&mut changes, moves)?;
+    let in_order = in_moving_order(alloc, moves)?;
+    all_arrive(&mut changes, in_order.as_slice())?;
+    all_recorded(&mut changes, moves)?;
     changes.push(Change::ClearRound)?;
     changes.push(Change::PutRound {
         number: office.number,
         phase: Phase::Idle,
     })?;
     Ok(Decision {
-        reply: Reply::Settled {
-            moves: movers.len(),
-        },
+        reply: Reply::Settled { moves: moves.len() },
         changes,
     })
 }
 
-// All movers leave.
-fn all_leave(changes: &mut Vec<Change>, movers: &[Mover]) -> Result<(), OutOfMemory>
-    ensures { OnOk result (changes.new.items ≡ changes.old.items ++ map_list leaving movers.now) }
+// The moves of the round, each with its wave.
+fn settled_moves(alloc: Global, office: &Office) -> Result<Vec<Move>, OutOfMemory>
+    requires lawful { IsLawful office.now }
+    requires published { IsTrue (is_published office.now.phase) }
+    ensures { IfOk result (λ moves. moves.items ≡ settled_moves office.now) }
 {
-    for mover in movers {
-        let person = mover.0.copy()?;
-        changes.push(Change::PutHome { person, home: None })?;
-    }
-    Ok(())
+    let movers = movers(alloc, office)?;
+    let waves = waves(alloc, movers.as_slice())?;
+    moves_with(alloc, office.number, movers.as_slice(), waves.as_slice())
 }
 
-// Each mover comes to the new room.
-fn all_arrive(changes: &mut Vec<Change>, movers: &[Mover]) -> Result<(), OutOfMemory>
-    ensures { OnOk result (changes.new.items ≡ changes.old.items ++ map_list arriving movers.now) }
-{
-    for mover in movers {
-        let person = mover.0.copy()?;
-        let home = copy_optional(&mover.2)?;
-        changes.push(Change::PutHome { person, home })?;
-    }
-    Ok(())
-}
-
-// Each move is recorded, with its wave.
 #[tactic(auto, using(crate::proofs::CommandLemmas::Recorded::moves_with_more))]
-fn all_recorded(
-    changes: &mut Vec<Change>,
+fn moves_with(
+    alloc: Global,
     round: u16,
     movers: &[Mover],
     waves: &[Wave],
-) -> Result<(), OutOfMemory>
+) -> Result<Vec<Move>, OutOfMemory>
     requires { length waves.now ≡ length movers.now }
-    ensures { OnOk result (changes.new.items ≡ changes.old.items
-        ++ map_list (λ (move : Move). Change.AddMove move)
-        (moves_with round movers.now waves.now)) }
+    ensures { IfOk result (λ moves. moves.items ≡ moves_with round movers.now waves.now) }
 {
+    let mut moves = Vec::new(alloc);
     for (i, mover) in movers.iter().enumerate() {
-        changes.push(Change::AddMove(Move {
+        moves.push(Move {
             round,
             person: mover.0.copy()?,
             from: copy_optional(&mover.1)?,
             to: copy_optional(&mover.2)?,
             wave: waves[i],
-        }))?;
+        })?;
+    }
+    Ok(moves)
+}
+
+// Those who swap leave.
+#[tactic(auto, using(crate::proofs::CommandLemmas::Recorded::swaps_more))]
+fn swaps_leave(changes: &mut Vec<Change>, moves: &[Move]) -> Result<(), OutOfMemory>
+    ensures { OnOk result (changes.new.items ≡ changes.old.items
+        ++ map_list leaving (swaps moves.now)) }
+{
+    for moved in moves {
+        if let Wave::Swap = moved.wave {
+            let person = moved.person.copy()?;
+            changes.push(Change::PutHome { person, home: None })?;
+        }
+    }
+    Ok(())
+}
+
+// Each mover comes to the new room, in the order given.
+fn all_arrive(changes: &mut Vec<Change>, moves: &[&Move]) -> Result<(), OutOfMemory>
+    ensures { OnOk result (changes.new.items ≡ changes.old.items
+        ++ map_list arriving (map_list (λ moved. moved.now) moves.now)) }
+{
+    for moved in moves {
+        let person = moved.person.copy()?;
+        let home = copy_optional(&moved.to)?;
+        changes.push(Change::PutHome { person, home })?;
+    }
+    Ok(())
+}
+
+// Each move is recorded.
+fn all_recorded(changes: &mut Vec<Change>, moves: &[Move]) -> Result<(), OutOfMemory>
+    ensures { OnOk result (changes.new.items ≡ changes.old.items
+        ++ map_list (λ (move : Move). Change.AddMove move) moves.now) }
+{
+    for moved in moves {
+        changes.push(Change::AddMove(moved.copy()?))?;
     }
     Ok(())
 }

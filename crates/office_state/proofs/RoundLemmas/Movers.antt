@@ -142,22 +142,14 @@ get-arrived people (mover ∷ others) q =
     ∙ ap (arrive_at (mover_to others q)) (get-rehomed people mover.0 mover.2 q)
     ∙ arrived_after (mover_to others q) (eq_by_cmp text_cmp q mover.0) mover.2 (map.get people q)
 
-left_and_arrived : (t : Option (Option Text)) (b : Bool) (o : Option Person) → is_some t ≡ b
+left_and_arrived : (t : Option (Option Text)) (b : Bool) (o : Option Person)
+    → (b ≡ true → is_some t ≡ true)
     → arrive_at t (cond b (option_map (at_home None) o) o) ≡ arrive_at t o
-left_and_arrived None true o e = cc
-left_and_arrived None false o e = refl
-left_and_arrived (Some to) true None e = refl
-left_and_arrived (Some to) true (Some kept) e = refl
-left_and_arrived (Some to) false o e = refl
-
--- the people after both
-pub get-moved : (people : TextMap Person) (ms : List Mover) (q : Text)
-    → map.get (arrived_people (left_people people ms) ms) q
-    ≡ arrive_at (mover_to ms q) (map.get people q)
-get-moved people ms q =
-    get-arrived (left_people people ms) ms q
-    ∙ ap (arrive_at (mover_to ms q)) (get-left people ms q)
-    ∙ left_and_arrived (mover_to ms q) (is_mover ms q) (map.get people q) (is_some-mover_to ms q)
+left_and_arrived None true o comes = let never = comes refl in cc
+left_and_arrived None false o comes = refl
+left_and_arrived (Some to) true None comes = refl
+left_and_arrived (Some to) true (Some kept) comes = refl
+left_and_arrived (Some to) false o comes = refl
 
 -- where somebody goes who is among those that pass
 module _ (from to : Text → Option Text) (test : Text → Bool) where
@@ -265,13 +257,17 @@ stays_put : (to : Option Text) (o : Option Person)
 stays_put to None h = refl
 stays_put to (Some kept) h = ap (λ home. Some (at_home home kept)) (same_optional kept.home to h)
 
--- leaving and arriving settle the people
-pub people_settled : (office : Office)
-    → arrived_people (left_people office.people (movers office)) (movers office)
-    ≡ settled_people office
-people_settled office = same_map nat_list_cmp_total exact_texts _ _ (λ q.
-    get-moved office.people (movers office) q
-    ∙ ap (λ t. arrive_at t (map.get office.people q)) (mover_to-movers office q)
+-- leaving and arriving settle the people, in whatever order the movers arrive, and whoever of them left before
+pub people_settled : (office : Office) (gone order : List Mover)
+    → ((q : Text) → is_mover gone q ≡ true → is_mover order q ≡ true)
+    → ((q : Text) → mover_to order q ≡ mover_to (movers office) q)
+    → arrived_people (left_people office.people gone) order ≡ settled_people office
+people_settled office gone order come same = same_map nat_list_cmp_total exact_texts _ _ (λ q.
+    get-arrived (left_people office.people gone) order q
+    ∙ ap (arrive_at (mover_to order q)) (get-left office.people gone q)
+    ∙ left_and_arrived (mover_to order q) (is_mover gone q) (map.get office.people q)
+    (λ h. is_some-mover_to order q ∙ come q h)
+    ∙ ap (λ t. arrive_at t (map.get office.people q)) (same q ∙ mover_to-movers office q)
     ∙ elim (is_participant office q) as
     (λ part. arrive_at (cond (part && moves_out office q)
     (Some (recorded_result office q)) None) (map.get office.people q)
@@ -338,12 +334,6 @@ len-rehomed people person home =
       | Some kept ↦ λ known. len-put_known people person (at_home home kept) (ap is_some known)
     ] refl
 
-len-left : (people : TextMap Person) (ms : List Mover)
-    → map.len (left_people people ms) ≡ map.len people
-len-left people [] = refl
-len-left people (mover ∷ others) =
-    len-left (rehomed people mover.0 None) others ∙ len-rehomed people mover.0 None
-
 len-arrived : (people : TextMap Person) (ms : List Mover)
     → map.len (arrived_people people ms) ≡ map.len people
 len-arrived people [] = refl
@@ -352,35 +342,33 @@ len-arrived people (mover ∷ others) =
 
 pub len-settled : (office : Office) → map.len (settled_people office) ≡ map.len office.people
 len-settled office =
-    ap map.len (sym (people_settled office))
-    ∙ len-arrived (left_people office.people (movers office)) (movers office)
-    ∙ len-left office.people (movers office)
+    ap map.len (sym (people_settled office [] (movers office) (λ q never. cc) (λ q. refl)))
+    ∙ len-arrived office.people (movers office)
 
--- who still has a home once all movers have left has it after the settlement
-pub left_within : (office : Office) (q room : Text)
+-- who is no mover lives after the settlement as before
+pub stays_settled : (office : Office) (q : Text) → is_mover (movers office) q ≡ false
+    → map.get (settled_people office) q ≡ map.get office.people q
+stays_settled office q stays =
+    ap (λ people. map.get people q)
+    (sym (people_settled office [] (movers office) (λ q never. cc) (λ q. refl)))
+    ∙ get-arrived office.people (movers office) q
+    ∙ ap (λ t. arrive_at t (map.get office.people q))
+    (none_if_not_some (mover_to (movers office) q) (is_some-mover_to (movers office) q ∙ stays))
+
+-- who has a home once these have left is none of them, and had it before
+pub left_home : (people : TextMap Person) (gone : List Mover) (q room : Text)
+    → option_and_then (λ (p : Person). p.home) (map.get (left_people people gone) q) ≡ Some room
+    → (is_mover gone q ≡ false)
+    × (option_and_then (λ (p : Person). p.home) (map.get people q) ≡ Some room)
+left_home people gone q room h =
+    elim (is_mover gone q) as (λ b. is_mover gone q ≡ b
     → option_and_then (λ (p : Person). p.home)
-    (map.get (left_people office.people (movers office)) q) ≡ Some room
-    → option_and_then (λ (p : Person). p.home) (map.get (settled_people office) q) ≡ Some room
-left_within office q room h =
-    let ms = movers office in
-    let at : option_and_then (λ (p : Person). p.home)
-    (cond (is_mover ms q) (option_map (at_home None) (map.get office.people q))
-    (map.get office.people q)) ≡ Some room =
-    ap (option_and_then (λ p. p.home)) (sym (get-left office.people ms q)) ∙ h in
-    let after : map.get (settled_people office) q
-    ≡ arrive_at (mover_to ms q) (map.get office.people q) =
-    ap (λ people. map.get people q) (sym (people_settled office))
-    ∙ get-moved office.people ms q in
-    elim (is_mover ms q) as (λ b. is_some (mover_to ms q) ≡ b
-    → option_and_then (λ (p : Person). p.home)
-    (cond b (option_map (at_home None) (map.get office.people q)) (map.get office.people q))
-    ≡ Some room
-    → option_and_then (λ (p : Person). p.home) (map.get (settled_people office) q) ≡ Some room) [
-      | true ↦ λ _ gone. absurd (nowhere_home (map.get office.people q) room gone)
-      | false ↦ λ stays there. ap (option_and_then (λ p. p.home))
-          (after ∙ ap (λ t. arrive_at t (map.get office.people q))
-          (none_if_not_some (mover_to ms q) stays)) ∙ there
-    ] (is_some-mover_to ms q) at
+    (cond b (option_map (at_home None) (map.get people q)) (map.get people q)) ≡ Some room
+    → (is_mover gone q ≡ false)
+    × (option_and_then (λ (p : Person). p.home) (map.get people q) ≡ Some room)) [
+      | true ↦ λ _ homeless. absurd (nowhere_home (map.get people q) room homeless)
+      | false ↦ λ stays there. (stays, there)
+    ] refl (ap (option_and_then (λ p. p.home)) (sym (get-left people gone q)) ∙ h)
   where
     nowhere_home : (o : Option Person) (room : Text)
         → option_and_then (λ (p : Person). p.home) (option_map (at_home None) o) ≡ Some room → ⊥

@@ -3,6 +3,7 @@ use Rattle.office_core.specs.Command.Settle.{arriving}
 use Rattle.office_core.proofs.command.settle.all_arrive.Given as goal
 
 -- the changes before, and those of who has come so far
-abbrev pub invariant-loop-mover : goal.invariant-loop-mover
-invariant-loop-mover l =
-    l.changes.items ≡ l.fn.changes.items ++ map arriving (take l.mover-index l.movers)
+abbrev pub invariant-loop-moved : goal.invariant-loop-moved
+invariant-loop-moved l =
+    l.changes.items
+    ≡ l.fn.changes.items ++ map arriving (map (λ moved. moved.now) (take l.moved-index l.moves))

@@ -1,13 +1,9 @@
-use Rattle.std.proofs.Common.{◌≡◌, ◌++◌, drop, map}
-use Rattle.room_types.specs.declared.moves.Move.{Move}
-use Rattle.office_state.specs.Round.Settlement.{moves_with}
+use Rattle.std.proofs.Common.{◌≡◌, ◌++◌, take, map}
 use Rattle.office_state.specs.declared.change.Change.TheVariants.{AddMove}
 use Rattle.office_core.proofs.command.settle.all_recorded.Given as goal
 
--- the changes so far and those of the moves that are left are all
-abbrev pub invariant-loop-i : goal.invariant-loop-i
-invariant-loop-i l =
-    l.changes.items ++ map (λ (move : Move). AddMove move)
-    (moves_with l.round (drop l.i l.movers) (drop l.i l.waves))
-    ≡ l.fn.changes.items ++ map (λ (move : Move). AddMove move)
-    (moves_with l.round l.movers l.waves)
+-- the changes before, and those of the moves so far
+abbrev pub invariant-loop-moved : goal.invariant-loop-moved
+invariant-loop-moved l =
+    l.changes.items
+    ≡ l.fn.changes.items ++ map (λ move. AddMove move) (take l.moved-index l.moves)

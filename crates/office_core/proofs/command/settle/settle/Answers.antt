@@ -1,21 +1,42 @@
-use Rattle.std.proofs.Common.{◌≤◌, sym, subst, ◌∙◌, length}
-use Rattle.office_lists.specs.Waves.{NewRoomsDiffer}
-use Rattle.office_state.specs.Office.Limits.{people_limit}
-use Rattle.office_state.proofs.RoundLemmas.Problem.{lawful-IsMarket}
-use Rattle.office_state.proofs.RoundLemmas.Settled.{new_rooms_differ, few_movers}
-use Rattle.office_state.proofs.OfficeLemmas.Untouched.{published_given}
+use Rattle.std.proofs.Common.{◌≡◌, List, [], ◌∷◌, ◌++◌, map, rules, length, ap, ◌∙◌}
+use Rattle.std.proofs.lemmas.List.{append_assoc}
+use Rattle.room_types.specs.Ascending.{ascending}
+use Rattle.office_lists.specs.MoveDay.{move_cmp}
+use Rattle.office_state.specs.declared.change.Change.{Change}
+use Rattle.office_state.specs.declared.change.Change.TheVariants.{AddMove}
+use Rattle.office_core.specs.Command.Settle.{leaving, arriving, swaps}
+use Rattle.office_core.specs.declared.reply.Reply.TheVariants.{Settled}
+use Rattle.office_core.proofs.CommandLemmas.Recorded.{as_many_settled}
 use Rattle.office_core.proofs.command.settle.settle.Goals as goal
 
-pub waves-requires-clause-few : goal.waves-requires-clause-few
-waves-requires-clause-few c =
-    subst (λ ms. length ms ≤ people_limit)
-    (sym (c.as_slice-movers.ensures.value ∙ c.in_ok-movers.ensures.movers))
-    (few_movers c.args.office.now c.requires.register)
+-- the changes, as they are added
+collected : (left arrived recorded once twice leaves arrivals records : List Change) (clear last : Change)
+    → left ≡ leaves → arrived ≡ left ++ arrivals → recorded ≡ arrived ++ records
+    → once ≡ recorded ++ clear ∷ [] → twice ≡ once ++ last ∷ []
+    → twice ≡ leaves ++ (arrivals ++ (records ++ clear ∷ last ∷ []))
+collected left arrived recorded once twice leaves arrivals records clear last a b c d e =
+    e ∙ ap (λ x. x ++ last ∷ []) (d ∙ ap (λ x. x ++ clear ∷ []) (c ∙ ap (λ x. x ++ records) (b
+    ∙ ap (λ x. x ++ arrivals) a)))
+    ∙ append_assoc ((leaves ++ arrivals) ++ records) (clear ∷ []) (last ∷ [])
+    ∙ append_assoc (leaves ++ arrivals) records (clear ∷ last ∷ [])
+    ∙ append_assoc leaves arrivals (records ++ clear ∷ last ∷ [])
 
-pub waves-requires-clause-new_rooms_differ : goal.waves-requires-clause-new_rooms_differ
-waves-requires-clause-new_rooms_differ c =
-    let office = c.args.office.now in
-    subst (λ ms. NewRoomsDiffer ms) (sym (c.as_slice-movers.ensures.value ∙ c.in_ok-movers.ensures.movers))
-    (new_rooms_differ office c.requires.register (lawful-IsMarket office c.requires)
-    (c.requires.results.given (published_given office.phase
-    (sym c.is_published.ensures ∙ c.if-not-is_published.false))))
+pub returns : goal.returns
+returns c =
+    let moves = c.as_slice-moves.ensures.value ∙ c.in_ok-moves.ensures in
+    let order = c.as_slice.ensures.value in
+    record {
+      accepted = search rules;
+      replied = ap (λ count. Settled count) (ap length moves ∙ as_many_settled c.args.office.now);
+      changed = collected c.swaps_leave.new.changes.items c.all_arrive.new.changes.items
+          c.all_recorded.new.changes.items c.push.new.self.items c.push-2.new.self.items _ _ _ _ _
+          (c.in_ok-swaps_leave.ensures ∙ ap (λ x. x ++ map leaving (swaps c.as_slice-moves.result.now)) c.new-changes.ensures.items
+          ∙ ap (λ m. map leaving (swaps m)) moves)
+          (c.in_ok-all_arrive.ensures
+          ∙ ap (λ rows. c.swaps_leave.new.changes.items ++ map arriving (map (λ moved. moved.now) rows)) order
+          ∙ ap (λ rows. c.swaps_leave.new.changes.items ++ map arriving rows) c.in_ok-in_order.ensures.ordered
+          ∙ ap (λ ms. c.swaps_leave.new.changes.items ++ map arriving (ascending move_cmp ms)) moves)
+          (c.in_ok-all_recorded.ensures
+          ∙ ap (λ ms. c.all_arrive.new.changes.items ++ map (λ move. AddMove move) ms) moves)
+          c.in_ok-push.ensures.items c.in_ok-push-2.ensures.items;
+    }

@@ -10,10 +10,10 @@ use Rattle.room_types.specs.Ascending.{ascending}
 use Rattle.room_types.proofs.Arrangements.{one_arrangement, map-ascending}
 use Rattle.office_lists.specs.MoveDay.{move_cmp}
 use Rattle.office_lists.proofs.MoveDays.{move_total}
-use Rattle.office_lists.proofs.move_day.in_order.Goals as goal
+use Rattle.office_lists.proofs.move_day.in_moving_order.Goals as goal
 
-pub returns : goal.returns
-returns c =
+pub returns-clause-ordered : goal.returns-clause-ordered
+returns-clause-ordered c =
     let view : Bor Move → Move = λ row. row.now in
     let shows : map view c.in_ok-rows.rows.items ≡ c.args.moves.now = IfOk-at_ok _ c.in_ok-rows.was (map_from_collect _ c.collect.ensures.ran (YieldsList-from_slice c.args.moves.now cc)) in
     let weak = ranks_by move_total view in

@@ -1,0 +1,333 @@
+-- The movers in the order of the day: they are the same people, and whoever comes to a room finds it empty, but for those who
+-- swap, who have left before.
+use Rattle.std.proofs.Common.{◌≡◌, ℕ, zero, suc, ◌<◌, Bool, true, false, ◌||◌, List, [], ◌∷◌, length, get_or}
+use Rattle.std.proofs.Common.{map as map_list, Option, Some, None, cond, refl, ap, ◌∙◌, sym, subst, inl, inr, ◌⊎◌, arith}
+use Rattle.std.specs.Option.{option_and_then, option_map_or, option_or}
+use Rattle.std.specs.List.{All, AllByRecursion, Contains, position, position_or_len}
+use Rattle.std.specs.Ordering.{eq_by_cmp, is_eq, is_gt, is_lt, ordering_then}
+use Rattle.std.specs.Cmp.{nat_cmp_is, tied_itself}
+use Rattle.std.specs.Cmp.Lexicographic.{nat_list_cmp_total}
+use Rattle.std.specs.declared.cmp.Ordering.TheVariants.{Less}
+use Rattle.std.proofs.lemmas.Bool.{false≢true, cases_lt, lt-ltb}
+use Rattle.std.proofs.lemmas.List.{get_or_default, get_or-map}
+use Rattle.std.proofs.lemmas.List.FromFn.{get_or-map-range_with_len, length-map-range_with_len}
+use Rattle.std.proofs.lemmas.List.Sorted.{All-permutation, Contains-permutation, ranks_by, sorted_far}
+use Rattle.std.proofs.lemmas.List.Sums.{fails_before_first, passes_at_first}
+use Rattle.std.proofs.lemmas.Slice.Eq.{bytes_eq-Decides}
+use Rattle.room_types.specs.Ascending.{placed, ascending}
+use Rattle.room_types.specs.Texts.{Text, text_cmp, text_eq}
+use Rattle.room_types.specs.TextMaps.{text_cases}
+use Rattle.room_types.specs.declared.moves.Move.{Move}
+use Rattle.room_types.specs.declared.moves.Wave.{Wave}
+use Rattle.room_types.specs.declared.moves.Wave.TheVariants.{Swap, Nth}
+use Rattle.room_types.proofs.Arrangements.{one_arrangement}
+use Rattle.office_lists.specs.MoveDay.{is_swap, move_cmp, wave_cmp}
+use Rattle.office_lists.specs.Waves.{Mover, NewRoomsDiffer, leaver, leavers, end_numbers, next, wave_of, waves_of, IsWave}
+use Rattle.office_lists.proofs.Following.{number-later}
+use Rattle.office_lists.proofs.Leavers.{one_wave_each}
+use Rattle.office_lists.proofs.MoveDays.{move_total}
+use Rattle.office_state.specs.Round.Settlement.{moves_with}
+use Rattle.office_state.proofs.RoundLemmas.Movers.{is_mover, mover_to}
+use Rattle.office_core.specs.Command.Settle.{swaps}
+
+-- who moves, without the wave
+abbrev pub mover_of : Move → Mover
+mover_of move = (move.person, move.from, move.to)
+
+-- ---- the same movers
+
+either_way : (a b c : Bool) → (a || (b || c)) ≡ (b || (a || c))
+either_way true true c = refl
+either_way true false c = refl
+either_way false b c = refl
+
+is_mover-placed : (m : Move) (ms : List Move) (q : Text)
+    → is_mover (map_list mover_of (placed move_cmp m ms)) q ≡ is_mover (map_list mover_of (m ∷ ms)) q
+is_mover-placed m [] q = refl
+is_mover-placed m (first ∷ rest) q =
+    elim (is_gt (move_cmp m first)) as
+    (λ b. is_mover (map_list mover_of (cond b (first ∷ placed move_cmp m rest) (m ∷ first ∷ rest))) q
+    ≡ is_mover (map_list mover_of (m ∷ first ∷ rest)) q) [
+      | true ↦ ap (λ b. eq_by_cmp text_cmp q first.person || b) (is_mover-placed m rest q)
+          ∙ either_way (eq_by_cmp text_cmp q first.person) (eq_by_cmp text_cmp q m.person)
+          (is_mover (map_list mover_of rest) q)
+      | false ↦ refl
+    ]
+
+pub is_mover-ascending : (ms : List Move) (q : Text)
+    → is_mover (map_list mover_of (ascending move_cmp ms)) q ≡ is_mover (map_list mover_of ms) q
+is_mover-ascending [] q = refl
+is_mover-ascending (m ∷ ms) q =
+    is_mover-placed m (ascending move_cmp ms) q
+    ∙ ap (λ b. eq_by_cmp text_cmp q m.person || b) (is_mover-ascending ms q)
+
+or_more : (a b : Bool) → b ≡ true → (a || b) ≡ true
+or_more true b h = refl
+or_more false b h = h
+
+pub is_mover-swaps : (ms : List Move) (q : Text) → is_mover (map_list mover_of (swaps ms)) q ≡ true
+    → is_mover (map_list mover_of ms) q ≡ true
+is_mover-swaps [] q h = h
+is_mover-swaps (m ∷ ms) q h =
+    elim (is_swap m.wave) as
+    (λ b. is_mover (map_list mover_of (cond b (m ∷ swaps ms) (swaps ms))) q ≡ true
+    → is_mover (map_list mover_of (m ∷ ms)) q ≡ true) [
+      | true ↦ λ there. elim (eq_by_cmp text_cmp q m.person) as
+          (λ b. (b || is_mover (map_list mover_of (swaps ms)) q) ≡ true
+          → (b || is_mover (map_list mover_of ms) q) ≡ true) [
+            | true ↦ λ _. refl
+            | false ↦ is_mover-swaps ms q
+          ] there
+      | false ↦ λ there. or_more (eq_by_cmp text_cmp q m.person) _ (is_mover-swaps ms q there)
+    ] h
+
+-- who swaps is among those who swap
+swap_at : (ms : List Move) (k : ℕ) (d : Move) → k < length ms → is_swap (get_or ms k d).wave ≡ true
+    → is_mover (map_list mover_of (swaps ms)) (get_or ms k d).person ≡ true
+swap_at [] k d within h = absurd (omega arith)
+swap_at (m ∷ ms) zero d within h =
+    ap (λ b. is_mover (map_list mover_of (cond b (m ∷ swaps ms) (swaps ms))) m.person) h
+    ∙ ap (λ o. is_eq o || is_mover (map_list mover_of (swaps ms)) m.person)
+    (tied_itself nat_list_cmp_total m.person)
+swap_at (m ∷ ms) (suc k) d within h =
+    let there = swap_at ms k d (omega (arith, within)) h in
+    elim (is_swap m.wave) as
+    (λ b. is_mover (map_list mover_of (cond b (m ∷ swaps ms) (swaps ms))) (get_or ms k d).person ≡ true) [
+      | true ↦ or_more (eq_by_cmp text_cmp (get_or ms k d).person m.person) _ there
+      | false ↦ there
+    ]
+
+mover_at : (ms : List Mover) (q : Text) → is_mover ms q ≡ true
+    → (j : ℕ) × (j < length ms) × ((d : Mover) → (get_or ms j d).0 ≡ q)
+mover_at [] q h = absurd (false≢true h)
+mover_at (m ∷ ms) q h =
+    elim (text_cases q m.0) as
+    (λ _. (j : ℕ) × (j < length (m ∷ ms)) × ((d : Mover) → (get_or (m ∷ ms) j d).0 ≡ q)) [
+      | inl same ↦ (0, omega arith, λ d. sym same)
+      | inr other ↦
+          let rest = mover_at ms q (ap (λ b. b || is_mover ms q) (sym other) ∙ h) in
+          (suc rest.0, omega (arith, rest.1), rest.2)
+    ]
+
+-- where each mover goes by what is known of the person
+pub mover_to-by : (to : Text → Option Text) (ms : List Mover) (q : Text)
+    → AllByRecursion (λ (m : Mover). m.2 ≡ to m.0) ms
+    → mover_to ms q ≡ cond (is_mover ms q) (Some (to q)) None
+mover_to-by to [] q h = refl
+mover_to-by to (m ∷ ms) q h =
+    ap (λ o. option_or o (cond (eq_by_cmp text_cmp q m.0) (Some m.2) None)) (mover_to-by to ms q h.1)
+    ∙ elim (text_cases q m.0) as
+    (λ _. option_or (cond (is_mover ms q) (Some (to q)) None)
+    (cond (eq_by_cmp text_cmp q m.0) (Some m.2) None)
+    ≡ cond (eq_by_cmp text_cmp q m.0 || is_mover ms q) (Some (to q)) None) [
+      | inl same ↦
+          ap (λ t. option_or (cond (is_mover ms q) (Some (to q)) None)
+          (cond (eq_by_cmp text_cmp q m.0) (Some t) None)) (h.0 ∙ ap to (sym same))
+          ∙ together (is_mover ms q) (eq_by_cmp text_cmp q m.0)
+      | inr other ↦
+          ap (λ b. option_or (cond (is_mover ms q) (Some (to q)) None) (cond b (Some m.2) None)) other
+          ∙ alone (is_mover ms q)
+          ∙ ap (λ b. cond (b || is_mover ms q) (Some (to q)) None) (sym other)
+    ]
+  where
+    together : (a b : Bool)
+        → option_or (cond a (Some (to q)) None) (cond b (Some (to q)) None) ≡ cond (b || a) (Some (to q)) None
+    together true true = refl
+    together true false = refl
+    together false true = refl
+    together false false = refl
+
+    alone : (a : Bool) → option_or (cond a (Some (to q)) None) None ≡ cond a (Some (to q)) None
+    alone true = refl
+    alone false = refl
+
+-- ---- the moves of the movers
+
+pub length-moves_with : (n : ℕ) (ms : List Mover) (ws : List Wave) → length ws ≡ length ms
+    → length (moves_with n ms ws) ≡ length ms
+length-moves_with n [] [] h = refl
+length-moves_with n [] (w ∷ ws) h = absurd (omega (arith, h))
+length-moves_with n (m ∷ ms) [] h = absurd (omega (arith, h))
+length-moves_with n (m ∷ ms) (w ∷ ws) h =
+    let rest = length-moves_with n ms ws (omega (arith, h)) in omega (arith, rest)
+
+pub movers_of : (n : ℕ) (ms : List Mover) (ws : List Wave) → length ws ≡ length ms
+    → map_list mover_of (moves_with n ms ws) ≡ ms
+movers_of n [] [] h = refl
+movers_of n [] (w ∷ ws) h = absurd (omega (arith, h))
+movers_of n (m ∷ ms) [] h = absurd (omega (arith, h))
+movers_of n (m ∷ ms) (w ∷ ws) h = ap (λ others. m ∷ others) (movers_of n ms ws (omega (arith, h)))
+
+-- the move of mover k
+abbrev move_at : ℕ → List Mover → List Wave → ℕ → Move
+move_at n ms ws k =
+    let m : Mover = get_or ms k ([], None, None) in
+    record { round = n; person = m.0; from = m.1; to = m.2; wave = get_or ws k Swap }
+
+moves_with-at : (n : ℕ) (ms : List Mover) (ws : List Wave) (k : ℕ) (d : Move) → length ws ≡ length ms
+    → k < length ms → get_or (moves_with n ms ws) k d ≡ move_at n ms ws k
+moves_with-at n [] ws k d h within = absurd (omega arith)
+moves_with-at n (m ∷ ms) [] k d h within = absurd (omega (arith, h))
+moves_with-at n (m ∷ ms) (w ∷ ws) zero d h within = refl
+moves_with-at n (m ∷ ms) (w ∷ ws) (suc k) d h within =
+    moves_with-at n ms ws k d (omega (arith, h)) (omega (arith, within))
+
+pub all_moves : (P : Move → Type 0) (n : ℕ) (ms : List Mover) (ws : List Wave) → length ws ≡ length ms
+    → ((k : ℕ) → k < length ms → P (move_at n ms ws k)) → All P (moves_with n ms ws)
+all_moves P n ms ws many h = λ k d within.
+    let in' : k < length ms = omega (arith, within, length-moves_with n ms ws many) in
+    subst P (sym (moves_with-at n ms ws k d many in')) (h k in')
+
+-- ---- who comes before
+
+-- somebody is the person of move k, or of one before it
+abbrev pub CameBefore : List Move → ℕ → Move → Text → Type 0
+CameBefore rows k d q =
+    (q ≡ (get_or rows k d).person) ⊎ ((j : ℕ) × (j < k) × ((get_or rows j d).person ≡ q))
+
+-- the room that somebody comes to is empty by then: who lives there is the person, or one of those who come before
+abbrev pub FindEmpty : (Text → Option Text) → List Move → Type 0
+FindEmpty home rows = (k : ℕ) (d : Move) → k < length rows → (q room : Text)
+    → (get_or rows k d).to ≡ Some room → home q ≡ Some room → CameBefore rows k d q
+
+-- likewise, or somebody whose move is below this one
+abbrev pub IsCleared : (Text → Option Text) → List Move → Move → Type 0
+IsCleared home moves m = (q room : Text) → m.to ≡ Some room → home q ≡ Some room
+    → (q ≡ m.person)
+    ⊎ ((b : Move) × Contains moves b × (b.person ≡ q) × (is_lt (move_cmp b m) ≡ true))
+
+pub empty_in_order : (home : Text → Option Text) (moves : List Move)
+    → All (IsCleared home moves) moves → FindEmpty home (ascending move_cmp moves)
+empty_in_order home moves h =
+    let rows = ascending move_cmp moves in
+    let so = (one_arrangement move_cmp move_total moves).some in
+    let each : All (IsCleared home moves) rows =
+    All-permutation (IsCleared home moves) moves rows so.same_items h in
+    λ k d within q room goes lives. elim (each k d within q room goes lives) as
+    (λ _. CameBefore rows k d q) [
+      | inl own ↦ inl own
+      | inr below ↦
+          let there : Contains rows below.0 =
+          Contains-permutation moves rows below.0 so.same_items below.1 in
+          let at : get_or rows there.0 d ≡ below.0 =
+          get_or_default rows there.0 d below.0 there.1 ∙ there.2 in
+          elim (cases_lt there.0 k) as
+          (λ _. CameBefore rows k d q) [
+            | inl before ↦ inr (there.0, before, ap (λ (m : Move). m.person) at ∙ below.2)
+            | inr after ↦
+                let far : is_lt (move_cmp (get_or rows there.0 d) (get_or rows k d)) ≡ false =
+                sorted_far (λ x y. is_lt (move_cmp x y)) (ranks_by move_total (λ x. x)) rows so.ascends k there.0 d
+                (omega (arith, after)) there.1 in
+                absurd (false≢true (sym far ∙ ap (λ b. is_lt (move_cmp b (get_or rows k d))) at ∙ below.3))
+          ]
+    ]
+
+-- the move of a wave is below one of the next
+next_wave : (n : ℕ) (a b : Move) → a.wave ≡ Nth n → b.wave ≡ Nth (suc n) → is_lt (move_cmp a b) ≡ true
+next_wave n a b p q =
+    (λ i. is_lt (ordering_then (wave_cmp (p i) (q i)) (text_cmp a.person b.person)))
+    ∙ ap (λ c. is_lt (ordering_then c (text_cmp a.person b.person)))
+    (sym (nat_cmp_is n (suc n) Less (omega arith)))
+
+-- the first that passes is found
+position_found : {X : Type 0} (p : X → Bool) (xs : List X) (j : ℕ) (d : X) → j < length xs
+    → p (get_or xs j d) ≡ true
+    → (position_or_len p xs < length xs) × (position p xs ≡ Some (position_or_len p xs))
+position_found p xs j d within h =
+    elim (cases_lt j (position_or_len p xs)) as
+    (λ _. (position_or_len p xs < length xs) × (position p xs ≡ Some (position_or_len p xs))) [
+      | inl before ↦ absurd (false≢true (sym (fails_before_first p xs j d before) ∙ h))
+      | inr after ↦
+          let low : position_or_len p xs < length xs = omega (arith, after, within) in
+          (low, ap (λ b. cond b (Some (position_or_len p xs)) None) (lt-ltb (position_or_len p xs) (length xs) low))
+    ]
+
+left_room : (o : Option Text) (room : Text) → option_map_or (λ old. text_eq old room) o false ≡ true
+    → o ≡ Some room
+left_room None room h = absurd (false≢true h)
+left_room (Some old) room h = ap (λ r. Some r) ((bytes_eq-Decides old room).0 h)
+
+is_left : (o : Option Text) (room : Text) → o ≡ Some room
+    → option_map_or (λ old. text_eq old room) o false ≡ true
+is_left None room h = cc
+is_left (Some old) room h =
+    let same : old ≡ room = ap (λ o. option_map_or (λ r. r) o old) h in (bytes_eq-Decides old room).1 same
+
+-- The people whose homes are these, no two of whom share one, where those who swap have none any more. A mover's old room is the
+-- home, and whoever lives where a mover comes to is the person or a mover.
+module _ (n : ℕ) (ms : List Mover) (differ : NewRoomsDiffer ms) (before now : Text → Option Text)
+    (apart : (p q room : Text) → before p ≡ Some room → before q ≡ Some room → p ≡ q)
+    (from : (k : ℕ) → k < length ms → (get_or ms k ([], None, None)).1 ≡ before (get_or ms k ([], None, None)).0)
+    (kept : (q room : Text) → now q ≡ Some room → (before q ≡ Some room)
+    × (is_mover (map_list mover_of (swaps (moves_with n ms (waves_of ms)))) q ≡ false))
+    (known : (k : ℕ) (q room : Text) → k < length ms → (get_or ms k ([], None, None)).2 ≡ Some room
+    → before q ≡ Some room → (q ≡ (get_or ms k ([], None, None)).0) ⊎ (is_mover ms q ≡ true)) where
+  abbrev nobody : Mover
+  nobody = ([], None, None)
+
+  abbrev moves : List Move
+  moves = moves_with n ms (waves_of ms)
+
+  abbrev wave : ℕ → Wave
+  wave = wave_of (end_numbers ms) (leavers ms)
+
+  many : length (waves_of ms) ≡ length ms
+  many = length-map-range_with_len wave 0 (length ms)
+
+  wave_is : (k : ℕ) → k < length ms → get_or (waves_of ms) k Swap ≡ wave k
+  wave_is k within = get_or-map-range_with_len wave 0 (length ms) k k Swap within (omega arith)
+
+  -- the mover who has the room that mover i comes to, if anybody has it
+  holder : (i : ℕ) (q room : Text) → i < length ms → (get_or ms i nobody).2 ≡ Some room
+      → before q ≡ Some room → is_mover ms q ≡ true
+      → (k : ℕ) × (k < length ms) × ((get_or ms k nobody).0 ≡ q) × (next (leavers ms) i ≡ Some k)
+  holder i q room within goes lives mover =
+      let test : Mover → Bool = λ entry. option_map_or (λ old. text_eq old room) entry.1 false in
+      let at = mover_at ms q mover in
+      let old : (get_or ms at.0 nobody).1 ≡ Some room =
+      from at.0 at.1 ∙ ap before (at.2 nobody) ∙ lives in
+      let found = position_found test ms at.0 nobody at.1 (is_left _ room old) in
+      let k : ℕ = position_or_len test ms in
+      let there : (get_or ms k nobody).1 ≡ Some room =
+      left_room _ room (passes_at_first test ms nobody found.0) in (
+        k,
+        found.0,
+        apart _ q room (sym (from k found.0) ∙ there) lives,
+        get_or-map (λ (entry : Mover). option_and_then (leaver ms) entry.2) ms i nobody None within
+            ∙ ap (option_and_then (leaver ms)) goes ∙ found.1,
+      )
+
+  pub all_cleared : All (IsCleared now moves) moves
+  all_cleared = all_moves (IsCleared now moves) n ms (waves_of ms) many (λ i within q room goes lives.
+      let lived = kept q room lives in
+      elim (known i q room within goes lived.0) as
+      (λ _. (q ≡ (get_or ms i nobody).0) ⊎ ((b : Move) × Contains moves b × (b.person ≡ q)
+      × (is_lt (move_cmp b (move_at n ms (waves_of ms) i)) ≡ true))) [
+        | inl own ↦ inl own
+        | inr mover ↦
+            let one = one_wave_each ms differ in
+            let h = holder i q room within goes lived.0 mover in
+            let b : Move = move_at n ms (waves_of ms) h.0 in
+            let is : get_or moves h.0 b ≡ b = moves_with-at n ms (waves_of ms) h.0 b many h.1 in
+            let in' : h.0 < length moves = omega (arith, h.1, length-moves_with n ms (waves_of ms) many) in
+            inr (
+              b,
+              (h.0, in', is),
+              h.2,
+              elim (wave h.0) as
+                  (λ w. wave h.0 ≡ w → is_lt (move_cmp b (move_at n ms (waves_of ms) i)) ≡ true) [
+                    | Swap ↦ λ swap.
+                        let gone = swap_at moves h.0 b in'
+                        (ap (λ (m : Move). is_swap m.wave) is ∙ ap is_swap (wave_is h.0 h.1 ∙ swap)) in
+                        absurd (false≢true (sym lived.1
+                        ∙ ap (is_mover (map_list mover_of (swaps moves))) (sym (ap (λ (m : Move). m.person) is ∙ h.2))
+                        ∙ gone))
+                    | Nth number ↦ λ numbered.
+                        let later : IsWave (end_numbers ms) (leavers ms) i (Nth (suc number)) =
+                        number-later (end_numbers ms) (leavers ms) number i h.0 h.3
+                        (subst (IsWave (end_numbers ms) (leavers ms) h.0) numbered (one.some h.0 h.1)) in
+                        next_wave number b (move_at n ms (waves_of ms) i) (wave_is h.0 h.1 ∙ numbered)
+                        (wave_is i within ∙ sym (one.one i (Nth (suc number)) within later))
+                  ] refl,
+            )
+      ])

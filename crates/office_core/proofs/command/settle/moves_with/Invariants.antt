@@ -1,0 +1,9 @@
+use Rattle.std.proofs.Common.{◌≡◌, ◌++◌, drop}
+use Rattle.office_state.specs.Round.Settlement.{moves_with}
+use Rattle.office_core.proofs.command.settle.moves_with.Given as goal
+
+-- the moves so far and those that are left are all
+abbrev pub invariant-loop-i : goal.invariant-loop-i
+invariant-loop-i l =
+    l.moves.items ++ moves_with l.round (drop l.i l.movers) (drop l.i l.waves)
+    ≡ moves_with l.round l.movers l.waves
