@@ -69,8 +69,10 @@ def settlement(file):
     """The statements of a settlement, from what it left."""
     with opened(file) as database:
         moves = database.execute("SELECT round, person, from_room, to_room, wave FROM move ORDER BY person").fetchall()
-    leave = [f"UPDATE person SET home = NULL WHERE id = '{move[1]}'" for move in moves]
-    arrive = [f"UPDATE person SET home = '{move[3]}' WHERE id = '{move[1]}'" for move in moves]
+    # those who swap leave first, and then everybody arrives wave by wave, a swap having no number
+    leave = [f"UPDATE person SET home = NULL WHERE id = '{move[1]}'" for move in moves if move[4] is None]
+    by_wave = sorted(moves, key=lambda move: (move[4] is None, move[4] or 0, move[1]))
+    arrive = [f"UPDATE person SET home = '{move[3]}' WHERE id = '{move[1]}'" for move in by_wave]
     record = [f"INSERT INTO move VALUES({', '.join(map(text_of, move))})" for move in moves]
     clear = ["DROP TABLE choice", "DROP TABLE result", "DROP TABLE word", WORD, RESULT, CHOICE]
     return leave + arrive + record + clear + ["UPDATE person SET withdrawn = 0 WHERE withdrawn = 1",
