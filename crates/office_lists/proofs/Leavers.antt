@@ -6,7 +6,7 @@ use Rattle.std.specs.List.{position, position_or_len}
 use Rattle.std.proofs.lemmas.Bool.{cases_lt, false≢true, lt-ltb, le-ltb}
 use Rattle.std.proofs.lemmas.List.{get_or-map, length-map, take_more, length-take-le, length_push}
 use Rattle.std.proofs.lemmas.List.Folds.{position_or_len_push}
-use Rattle.std.proofs.lemmas.List.Sums.{prefix_len-le-length}
+use Rattle.std.proofs.lemmas.List.Sums.{fails_before_first, prefix_len-le-length}
 use Rattle.std.proofs.lemmas.List.Quantifiers.{position-Some}
 use Rattle.std.proofs.lemmas.Slice.Eq.{bytes_eq-Decides}
 use Rattle.room_types.specs.Texts.{Text, text_eq}
@@ -14,7 +14,7 @@ use Rattle.office_lists.specs.Waves.{Mover, NewRoomsDiffer, leaver, leavers, end
 use Rattle.room_types.specs.declared.moves.Wave.{Wave}
 use Rattle.room_types.specs.declared.moves.Wave.TheVariants.{Swap}
 use Rattle.room_types.proofs.Options.{option_or-none}
-use Rattle.std.proofs.lemmas.List.FromFn.{fill_by_all}
+use Rattle.std.proofs.lemmas.List.FromFn.{fill_by_all, length-map-range_with_len}
 use Rattle.office_lists.specs.Followers.{AreApart, AreFollowers}
 use Rattle.office_lists.proofs.Following.{one_wave, some_wave}
 use Rattle.office_lists.proofs.Chains.{next-within, AreNumberedTo, wave_at}
@@ -49,7 +49,7 @@ position-push p xs y =
     ]
 
 -- whether an entry's old room is this one
-abbrev has_left : Text → Mover → Bool
+abbrev pub has_left : Text → Mover → Bool
 has_left room entry = option_map_or (λ old. text_eq old room) entry.1 false
 
 leaver-more : (entries : List Mover) (i : ℕ) (entry : Mover) (room : Text) → i < length entries → entry ≡ get_or entries i entry
@@ -104,6 +104,30 @@ record HasLeaver (entries : List Mover) (i k : ℕ) : Type 0 where
   below : k < length entries
   left : has_left room (get_or entries k ([], None, None)) ≡ true
 
+-- an old room that is told by its text
+pub left_room : (room : Text) (entry : Mover) → has_left room entry ≡ true → entry.1 ≡ Some room
+left_room room entry h =
+    elim entry.1 as (λ o. option_map_or (λ old. text_eq old room) o false ≡ true → o ≡ Some room) [
+      | None ↦ λ e. absurd (false≢true e)
+      | Some old ↦ λ e. ap (λ r. Some r) ((bytes_eq-Decides old room).0 e)
+    ] h
+
+pub has_left_room : (room : Text) (entry : Mover) → entry.1 ≡ Some room → has_left room entry ≡ true
+has_left_room room entry h =
+    ap (λ o. option_map_or (λ old. text_eq old room) o false) h ∙ (bytes_eq-Decides room room).1 refl
+
+-- the first that passes is found, where one passes
+pub position_found : {X : Type 0} (p : X → Bool) (xs : List X) (j : ℕ) (d : X) → j < length xs → p (get_or xs j d) ≡ true
+    → (position_or_len p xs < length xs) × (position p xs ≡ Some (position_or_len p xs))
+position_found p xs j d within h =
+    elim (cases_lt j (position_or_len p xs)) as
+    (λ _. (position_or_len p xs < length xs) × (position p xs ≡ Some (position_or_len p xs))) [
+      | inl before ↦ absurd (false≢true (sym (fails_before_first p xs j d before) ∙ h))
+      | inr after ↦
+          let low : position_or_len p xs < length xs = omega (arith, after, within) in
+          (low, ap (λ b. cond b (Some (position_or_len p xs)) None) (lt-ltb (position_or_len p xs) (length xs) low))
+    ]
+
 -- the room is that which the leaver leaves
 same_room : (one other : Text) (entry : Mover) → has_left one entry ≡ true → has_left other entry ≡ true → one ≡ other
 same_room one other entry p q =
@@ -149,6 +173,9 @@ module _ (entries : List Mover) where
           ]
         ];
   }
+
+  pub as_many_waves : length (waves_of entries) ≡ length entries
+  as_many_waves = length-map-range_with_len (wave_of (end_numbers entries) (leavers entries)) 0 (length entries)
 
   pub length-leavers : length (leavers entries) ≡ length entries
   length-leavers = length-map entries (λ entry. option_and_then (leaver entries) entry.2)

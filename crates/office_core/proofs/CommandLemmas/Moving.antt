@@ -1,22 +1,21 @@
 -- The movers in the order of the day: they are the same people, and whoever comes to a room finds it empty, but for those who
 -- swap, who have left before.
-use Rattle.std.proofs.Common.{◌≡◌, ℕ, zero, suc, ◌<◌, Bool, true, false, ◌||◌, List, [], ◌∷◌, length, get_or}
+use Rattle.std.proofs.Common.{◌≡◌, ℕ, zero, suc, ◌<◌, true, false, ◌||◌, List, [], ◌∷◌, length, get_or}
 use Rattle.std.proofs.Common.{map as map_list, Option, Some, None, cond, refl, ap, ◌∙◌, sym, subst, inl, inr, ◌⊎◌, arith}
-use Rattle.std.specs.Option.{option_and_then, option_map_or, option_or}
-use Rattle.std.specs.List.{All, AllByRecursion, Contains, position, position_or_len}
-use Rattle.std.specs.Ordering.{eq_by_cmp, is_eq, is_gt, is_lt, ordering_then}
+use Rattle.std.specs.Option.{option_and_then}
+use Rattle.std.specs.List.{All, Contains, list_any, position_or_len}
+use Rattle.std.specs.Ordering.{eq_by_cmp, is_eq, is_lt, ordering_then}
 use Rattle.std.specs.Cmp.{nat_cmp_is, tied_itself}
 use Rattle.std.specs.Cmp.Lexicographic.{nat_list_cmp_total}
 use Rattle.std.specs.declared.cmp.Ordering.TheVariants.{Less}
-use Rattle.std.proofs.lemmas.Bool.{false≢true, cases_lt, lt-ltb}
-use Rattle.std.proofs.lemmas.List.{get_or_default, get_or-map}
-use Rattle.std.proofs.lemmas.List.FromFn.{get_or-map-range_with_len, length-map-range_with_len}
-use Rattle.std.proofs.lemmas.List.Sorted.{All-permutation, Contains-permutation, ranks_by, sorted_far}
-use Rattle.std.proofs.lemmas.List.Sums.{fails_before_first, passes_at_first}
-use Rattle.std.proofs.lemmas.Slice.Eq.{bytes_eq-Decides}
-use Rattle.room_types.specs.Ascending.{placed, ascending}
-use Rattle.room_types.specs.Texts.{Text, text_cmp, text_eq}
-use Rattle.room_types.specs.TextMaps.{text_cases}
+use Rattle.std.proofs.lemmas.Bool.{false≢true, cases_lt, or_right}
+use Rattle.std.proofs.lemmas.List.{get_or_default, get_or-map, length-map}
+use Rattle.std.proofs.lemmas.List.Folds.{Any-from_list_any}
+use Rattle.std.proofs.lemmas.List.FromFn.{get_or-map-range_with_len}
+use Rattle.std.proofs.lemmas.List.Sorted.{All-permutation, Contains-permutation, list_any-IsPermutation, ranks_by, sorted_far}
+use Rattle.std.proofs.lemmas.List.Sums.{passes_at_first}
+use Rattle.room_types.specs.Ascending.{ascending}
+use Rattle.room_types.specs.Texts.{Text, text_cmp}
 use Rattle.room_types.specs.declared.moves.Move.{Move}
 use Rattle.room_types.specs.declared.moves.Wave.{Wave}
 use Rattle.room_types.specs.declared.moves.Wave.TheVariants.{Swap, Nth}
@@ -24,10 +23,10 @@ use Rattle.room_types.proofs.Arrangements.{one_arrangement}
 use Rattle.office_lists.specs.MoveDay.{is_swap, move_cmp, wave_cmp}
 use Rattle.office_lists.specs.Waves.{Mover, NewRoomsDiffer, leaver, leavers, end_numbers, next, wave_of, waves_of, IsWave}
 use Rattle.office_lists.proofs.Following.{number-later}
-use Rattle.office_lists.proofs.Leavers.{one_wave_each}
+use Rattle.office_lists.proofs.Leavers.{as_many_waves, has_left, has_left_room, left_room, one_wave_each, position_found}
 use Rattle.office_lists.proofs.MoveDays.{move_total}
 use Rattle.office_state.specs.Round.Settlement.{moves_with}
-use Rattle.office_state.proofs.RoundLemmas.Movers.{is_mover, mover_to}
+use Rattle.office_state.proofs.RoundLemmas.Movers.{is_mover, tied_text}
 use Rattle.office_core.specs.Command.Settle.{swaps}
 
 -- who moves, without the wave
@@ -36,34 +35,18 @@ mover_of move = (move.person, move.from, move.to)
 
 -- ---- the same movers
 
-either_way : (a b c : Bool) → (a || (b || c)) ≡ (b || (a || c))
-either_way true true c = refl
-either_way true false c = refl
-either_way false b c = refl
-
-is_mover-placed : (m : Move) (ms : List Move) (q : Text)
-    → is_mover (map_list mover_of (placed move_cmp m ms)) q ≡ is_mover (map_list mover_of (m ∷ ms)) q
-is_mover-placed m [] q = refl
-is_mover-placed m (first ∷ rest) q =
-    elim (is_gt (move_cmp m first)) as
-    (λ b. is_mover (map_list mover_of (cond b (first ∷ placed move_cmp m rest) (m ∷ first ∷ rest))) q
-    ≡ is_mover (map_list mover_of (m ∷ first ∷ rest)) q) [
-      | true ↦ ap (λ b. eq_by_cmp text_cmp q first.person || b) (is_mover-placed m rest q)
-          ∙ either_way (eq_by_cmp text_cmp q first.person) (eq_by_cmp text_cmp q m.person)
-          (is_mover (map_list mover_of rest) q)
-      | false ↦ refl
-    ]
+any_mover : (ms : List Move) (q : Text)
+    → is_mover (map_list mover_of ms) q ≡ list_any (λ (m : Move). eq_by_cmp text_cmp q m.person) ms
+any_mover [] q = refl
+any_mover (m ∷ ms) q = ap (λ b. eq_by_cmp text_cmp q m.person || b) (any_mover ms q)
 
 pub is_mover-ascending : (ms : List Move) (q : Text)
     → is_mover (map_list mover_of (ascending move_cmp ms)) q ≡ is_mover (map_list mover_of ms) q
-is_mover-ascending [] q = refl
-is_mover-ascending (m ∷ ms) q =
-    is_mover-placed m (ascending move_cmp ms) q
-    ∙ ap (λ b. eq_by_cmp text_cmp q m.person || b) (is_mover-ascending ms q)
-
-or_more : (a b : Bool) → b ≡ true → (a || b) ≡ true
-or_more true b h = refl
-or_more false b h = h
+is_mover-ascending ms q =
+    any_mover (ascending move_cmp ms) q
+    ∙ sym (list_any-IsPermutation (λ (m : Move). eq_by_cmp text_cmp q m.person) ms
+    (ascending move_cmp ms) (one_arrangement move_cmp move_total ms).some.same_items)
+    ∙ sym (any_mover ms q)
 
 pub is_mover-swaps : (ms : List Move) (q : Text) → is_mover (map_list mover_of (swaps ms)) q ≡ true
     → is_mover (map_list mover_of ms) q ≡ true
@@ -78,10 +61,10 @@ is_mover-swaps (m ∷ ms) q h =
             | true ↦ λ _. refl
             | false ↦ is_mover-swaps ms q
           ] there
-      | false ↦ λ there. or_more (eq_by_cmp text_cmp q m.person) _ (is_mover-swaps ms q there)
+      | false ↦ λ there. or_right (eq_by_cmp text_cmp q m.person) _ (is_mover-swaps ms q there)
     ] h
 
--- who swaps is among those who swap
+-- the person of a move whose wave is a swap is among those who swap
 swap_at : (ms : List Move) (k : ℕ) (d : Move) → k < length ms → is_swap (get_or ms k d).wave ≡ true
     → is_mover (map_list mover_of (swaps ms)) (get_or ms k d).person ≡ true
 swap_at [] k d within h = absurd (omega arith)
@@ -93,63 +76,22 @@ swap_at (m ∷ ms) (suc k) d within h =
     let there = swap_at ms k d (omega (arith, within)) h in
     elim (is_swap m.wave) as
     (λ b. is_mover (map_list mover_of (cond b (m ∷ swaps ms) (swaps ms))) (get_or ms k d).person ≡ true) [
-      | true ↦ or_more (eq_by_cmp text_cmp (get_or ms k d).person m.person) _ there
+      | true ↦ or_right (eq_by_cmp text_cmp (get_or ms k d).person m.person) _ there
       | false ↦ there
     ]
 
+-- a mover stands somewhere
 mover_at : (ms : List Mover) (q : Text) → is_mover ms q ≡ true
     → (j : ℕ) × (j < length ms) × ((d : Mover) → (get_or ms j d).0 ≡ q)
-mover_at [] q h = absurd (false≢true h)
-mover_at (m ∷ ms) q h =
-    elim (text_cases q m.0) as
-    (λ _. (j : ℕ) × (j < length (m ∷ ms)) × ((d : Mover) → (get_or (m ∷ ms) j d).0 ≡ q)) [
-      | inl same ↦ (0, omega arith, λ d. sym same)
-      | inr other ↦
-          let rest = mover_at ms q (ap (λ b. b || is_mover ms q) (sym other) ∙ h) in
-          (suc rest.0, omega (arith, rest.1), rest.2)
-    ]
-
--- where each mover goes by what is known of the person
-pub mover_to-by : (to : Text → Option Text) (ms : List Mover) (q : Text)
-    → AllByRecursion (λ (m : Mover). m.2 ≡ to m.0) ms
-    → mover_to ms q ≡ cond (is_mover ms q) (Some (to q)) None
-mover_to-by to [] q h = refl
-mover_to-by to (m ∷ ms) q h =
-    ap (λ o. option_or o (cond (eq_by_cmp text_cmp q m.0) (Some m.2) None)) (mover_to-by to ms q h.1)
-    ∙ elim (text_cases q m.0) as
-    (λ _. option_or (cond (is_mover ms q) (Some (to q)) None)
-    (cond (eq_by_cmp text_cmp q m.0) (Some m.2) None)
-    ≡ cond (eq_by_cmp text_cmp q m.0 || is_mover ms q) (Some (to q)) None) [
-      | inl same ↦
-          ap (λ t. option_or (cond (is_mover ms q) (Some (to q)) None)
-          (cond (eq_by_cmp text_cmp q m.0) (Some t) None)) (h.0 ∙ ap to (sym same))
-          ∙ together (is_mover ms q) (eq_by_cmp text_cmp q m.0)
-      | inr other ↦
-          ap (λ b. option_or (cond (is_mover ms q) (Some (to q)) None) (cond b (Some m.2) None)) other
-          ∙ alone (is_mover ms q)
-          ∙ ap (λ b. cond (b || is_mover ms q) (Some (to q)) None) (sym other)
-    ]
-  where
-    together : (a b : Bool)
-        → option_or (cond a (Some (to q)) None) (cond b (Some (to q)) None) ≡ cond (b || a) (Some (to q)) None
-    together true true = refl
-    together true false = refl
-    together false true = refl
-    together false false = refl
-
-    alone : (a : Bool) → option_or (cond a (Some (to q)) None) None ≡ cond a (Some (to q)) None
-    alone true = refl
-    alone false = refl
+mover_at ms q h =
+    let there = Any-from_list_any (λ (m : Mover). eq_by_cmp text_cmp q m.0) ms h in (
+      there.0,
+      there.2,
+      λ d. ap (λ (m : Mover). m.0) (get_or_default ms there.0 d there.1 there.2 ∙ there.3)
+          ∙ sym (tied_text q there.1.0 there.4),
+    )
 
 -- ---- the moves of the movers
-
-pub length-moves_with : (n : ℕ) (ms : List Mover) (ws : List Wave) → length ws ≡ length ms
-    → length (moves_with n ms ws) ≡ length ms
-length-moves_with n [] [] h = refl
-length-moves_with n [] (w ∷ ws) h = absurd (omega (arith, h))
-length-moves_with n (m ∷ ms) [] h = absurd (omega (arith, h))
-length-moves_with n (m ∷ ms) (w ∷ ws) h =
-    let rest = length-moves_with n ms ws (omega (arith, h)) in omega (arith, rest)
 
 pub movers_of : (n : ℕ) (ms : List Mover) (ws : List Wave) → length ws ≡ length ms
     → map_list mover_of (moves_with n ms ws) ≡ ms
@@ -157,6 +99,11 @@ movers_of n [] [] h = refl
 movers_of n [] (w ∷ ws) h = absurd (omega (arith, h))
 movers_of n (m ∷ ms) [] h = absurd (omega (arith, h))
 movers_of n (m ∷ ms) (w ∷ ws) h = ap (λ others. m ∷ others) (movers_of n ms ws (omega (arith, h)))
+
+pub length-moves_with : (n : ℕ) (ms : List Mover) (ws : List Wave) → length ws ≡ length ms
+    → length (moves_with n ms ws) ≡ length ms
+length-moves_with n ms ws h =
+    sym (length-map (moves_with n ms ws) mover_of) ∙ ap length (movers_of n ms ws h)
 
 -- the move of mover k
 abbrev move_at : ℕ → List Mover → List Wave → ℕ → Move
@@ -190,8 +137,8 @@ abbrev pub FindEmpty : (Text → Option Text) → List Move → Type 0
 FindEmpty home rows = (k : ℕ) (d : Move) → k < length rows → (q room : Text)
     → (get_or rows k d).to ≡ Some room → home q ≡ Some room → CameBefore rows k d q
 
--- likewise, or somebody whose move is below this one
-abbrev pub IsCleared : (Text → Option Text) → List Move → Move → Type 0
+-- who lives where this move leads is its person, or the person of a move below it
+abbrev IsCleared : (Text → Option Text) → List Move → Move → Type 0
 IsCleared home moves m = (q room : Text) → m.to ≡ Some room → home q ≡ Some room
     → (q ≡ m.person)
     ⊎ ((b : Move) × Contains moves b × (b.person ≡ q) × (is_lt (move_cmp b m) ≡ true))
@@ -229,32 +176,8 @@ next_wave n a b p q =
     ∙ ap (λ c. is_lt (ordering_then c (text_cmp a.person b.person)))
     (sym (nat_cmp_is n (suc n) Less (omega arith)))
 
--- the first that passes is found
-position_found : {X : Type 0} (p : X → Bool) (xs : List X) (j : ℕ) (d : X) → j < length xs
-    → p (get_or xs j d) ≡ true
-    → (position_or_len p xs < length xs) × (position p xs ≡ Some (position_or_len p xs))
-position_found p xs j d within h =
-    elim (cases_lt j (position_or_len p xs)) as
-    (λ _. (position_or_len p xs < length xs) × (position p xs ≡ Some (position_or_len p xs))) [
-      | inl before ↦ absurd (false≢true (sym (fails_before_first p xs j d before) ∙ h))
-      | inr after ↦
-          let low : position_or_len p xs < length xs = omega (arith, after, within) in
-          (low, ap (λ b. cond b (Some (position_or_len p xs)) None) (lt-ltb (position_or_len p xs) (length xs) low))
-    ]
-
-left_room : (o : Option Text) (room : Text) → option_map_or (λ old. text_eq old room) o false ≡ true
-    → o ≡ Some room
-left_room None room h = absurd (false≢true h)
-left_room (Some old) room h = ap (λ r. Some r) ((bytes_eq-Decides old room).0 h)
-
-is_left : (o : Option Text) (room : Text) → o ≡ Some room
-    → option_map_or (λ old. text_eq old room) o false ≡ true
-is_left None room h = cc
-is_left (Some old) room h =
-    let same : old ≡ room = ap (λ o. option_map_or (λ r. r) o old) h in (bytes_eq-Decides old room).1 same
-
--- The people whose homes are these, no two of whom share one, where those who swap have none any more. A mover's old room is the
--- home, and whoever lives where a mover comes to is the person or a mover.
+-- `before` is where people live before the day, no two in one room, and `now` where they live once those who swap have left. A
+-- mover's old room is the home, and whoever lived where a mover comes to is that mover or another.
 module _ (n : ℕ) (ms : List Mover) (differ : NewRoomsDiffer ms) (before now : Text → Option Text)
     (apart : (p q room : Text) → before p ≡ Some room → before q ≡ Some room → p ≡ q)
     (from : (k : ℕ) → k < length ms → (get_or ms k ([], None, None)).1 ≡ before (get_or ms k ([], None, None)).0)
@@ -272,7 +195,7 @@ module _ (n : ℕ) (ms : List Mover) (differ : NewRoomsDiffer ms) (before now : 
   wave = wave_of (end_numbers ms) (leavers ms)
 
   many : length (waves_of ms) ≡ length ms
-  many = length-map-range_with_len wave 0 (length ms)
+  many = as_many_waves ms
 
   wave_is : (k : ℕ) → k < length ms → get_or (waves_of ms) k Swap ≡ wave k
   wave_is k within = get_or-map-range_with_len wave 0 (length ms) k k Swap within (omega arith)
@@ -282,14 +205,13 @@ module _ (n : ℕ) (ms : List Mover) (differ : NewRoomsDiffer ms) (before now : 
       → before q ≡ Some room → is_mover ms q ≡ true
       → (k : ℕ) × (k < length ms) × ((get_or ms k nobody).0 ≡ q) × (next (leavers ms) i ≡ Some k)
   holder i q room within goes lives mover =
-      let test : Mover → Bool = λ entry. option_map_or (λ old. text_eq old room) entry.1 false in
       let at = mover_at ms q mover in
       let old : (get_or ms at.0 nobody).1 ≡ Some room =
       from at.0 at.1 ∙ ap before (at.2 nobody) ∙ lives in
-      let found = position_found test ms at.0 nobody at.1 (is_left _ room old) in
-      let k : ℕ = position_or_len test ms in
+      let found = position_found (has_left room) ms at.0 nobody at.1 (has_left_room room (get_or ms at.0 nobody) old) in
+      let k : ℕ = position_or_len (has_left room) ms in
       let there : (get_or ms k nobody).1 ≡ Some room =
-      left_room _ room (passes_at_first test ms nobody found.0) in (
+      left_room room (get_or ms k nobody) (passes_at_first (has_left room) ms nobody found.0) in (
         k,
         found.0,
         apart _ q room (sym (from k found.0) ∙ there) lives,

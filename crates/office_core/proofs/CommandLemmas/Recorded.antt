@@ -2,11 +2,11 @@
 use Rattle.std.proofs.Common.{◌≡◌, ℕ, ◌+◌, ◌<◌, List, [], ◌∷◌, ◌++◌, length, take, drop, get_or, cond, ap, ◌∙◌}
 use Rattle.std.proofs.lemmas.List.{drop_more}
 use Rattle.std.proofs.lemmas.List.Elements.{filter_more}
-use Rattle.std.proofs.lemmas.List.FromFn.{length-map-range_with_len}
 use Rattle.room_types.specs.declared.moves.Move.{Move}
 use Rattle.room_types.specs.declared.moves.Wave.{Wave}
 use Rattle.office_lists.specs.MoveDay.{is_swap}
-use Rattle.office_lists.specs.Waves.{Mover, end_numbers, leavers, wave_of, waves_of}
+use Rattle.office_lists.specs.Waves.{Mover, waves_of}
+use Rattle.office_lists.proofs.Leavers.{as_many_waves}
 use Rattle.office_state.specs.Round.Settlement.{movers, moves_with, settled_moves}
 use Rattle.office_state.specs.declared.office.Office.{Office}
 use Rattle.office_core.specs.Command.Settle.{swaps}
@@ -34,6 +34,6 @@ swaps_more moves i d within = filter_more (λ move. is_swap move.wave) moves i d
 
 -- as many moves as movers
 pub as_many_settled : (office : Office) → length (settled_moves office) ≡ length (movers office)
-as_many_settled office = length-moves_with office.number (movers office) (waves_of (movers office))
-    (length-map-range_with_len (wave_of (end_numbers (movers office)) (leavers (movers office))) 0
-    (length (movers office)))
+as_many_settled office =
+    length-moves_with office.number (movers office) (waves_of (movers office))
+    (as_many_waves (movers office))

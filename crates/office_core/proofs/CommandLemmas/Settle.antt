@@ -2,10 +2,9 @@
 use Rattle.std.proofs.Common.{◌≡◌, ℕ, ◌≤◌, ◌<◌, true, false, ◌&&◌, List, [], ◌∷◌, length, get_or, map as map_list}
 use Rattle.std.proofs.Common.{Some, None, cond, refl, ap, ◌∙◌, sym, subst, inl, inr, ◌⊎◌, arith}
 use Rattle.std.specs.Option.{option_and_then}
-use Rattle.std.specs.List.{All, AllByRecursion, filter}
+use Rattle.std.specs.List.{All, AllByRecursion}
 use Rattle.std.proofs.lemmas.Bool.{not-false, le-leb}
-use Rattle.std.proofs.lemmas.List.Elements.{All-from_recursion, All-map, recursion_from_All}
-use Rattle.std.proofs.lemmas.List.FromFn.{length-map-range_with_len}
+use Rattle.std.proofs.lemmas.List.Elements.{All-map, recursion_from_All}
 use Rattle.std.proofs.lemmas.List.Sorted.{All-permutation}
 use Rattle.std.specs.FinMap as map
 use Rattle.room_types.specs.Ascending.{ascending}
@@ -14,33 +13,34 @@ use Rattle.room_types.specs.declared.moves.Move.{Move}
 use Rattle.room_types.specs.declared.phase.Phase.TheVariants.{Idle}
 use Rattle.room_types.proofs.Arrangements.{one_arrangement}
 use Rattle.office_lists.specs.MoveDay.{move_cmp}
-use Rattle.office_lists.specs.Waves.{Mover, end_numbers, leavers, wave_of, waves_of}
+use Rattle.office_lists.specs.Waves.{Mover, waves_of}
+use Rattle.office_lists.proofs.Leavers.{as_many_waves}
 use Rattle.office_lists.proofs.MoveDays.{move_total}
 use Rattle.office_state.specs.Change.{without_round, LeadsOn}
 use Rattle.office_state.specs.Office.Invariants.{IsLawful, IsRegister, Unshared}
 use Rattle.office_state.specs.Office.Moves.{moves_of}
-use Rattle.office_state.specs.Office.{home_of, is_over, participants, recorded_result}
+use Rattle.office_state.specs.Office.Phases.{is_published}
+use Rattle.office_state.specs.Office.{home_of, is_over, recorded_result}
 use Rattle.office_state.specs.Round.{round_results}
-use Rattle.office_state.specs.Round.Settlement.{movers, moves_out, settled_moves, settled_people, with_moves}
+use Rattle.office_state.specs.Round.Settlement.{movers, settled_moves, settled_people, with_moves}
 use Rattle.office_state.specs.declared.change.Change.{Change}
 use Rattle.office_state.specs.declared.change.Change.TheVariants.{ClearRound, PutRound}
 use Rattle.office_state.specs.declared.office.Office.{Office}
 use Rattle.office_state.specs.declared.office.person.Person.{Person}
 use Rattle.office_state.proofs.OfficeLemmas.Empty.{no_lists}
 use Rattle.office_state.proofs.OfficeLemmas.Moves.{no_moves_known}
-use Rattle.office_state.proofs.RoundLemmas.Movers.{is_mover, mover_to, left_people, arrived_people, people_settled}
-use Rattle.office_state.proofs.RoundLemmas.Movers.{left_home, stays_settled}
 use Rattle.office_state.proofs.OfficeLemmas.Over.{over-idle, under_way-not_over}
+use Rattle.office_state.proofs.OfficeLemmas.Untouched.{published_busy, published_given, results_undrawn}
+use Rattle.office_state.proofs.RoundLemmas.Movers.{is_mover, mover_to, mover_to-by, each_mover}
+use Rattle.office_state.proofs.RoundLemmas.Movers.{left_people, arrived_people, people_settled, left_home, stays_settled}
 use Rattle.office_state.proofs.RoundLemmas.Problem.{lawful-IsMarket}
 use Rattle.office_state.proofs.RoundLemmas.Settled.{KeepsMoves, with_moves-keeps, fresh, movers_go}
 use Rattle.office_state.proofs.RoundLemmas.Settled.{movers_lead, movers_differ, new_rooms_differ, settled_register}
 use Rattle.office_state.proofs.RoundLemmas.Settling.{home_in}
-use Rattle.office_state.proofs.OfficeLemmas.Untouched.{published_busy, published_given}
-use Rattle.office_state.proofs.OfficeLemmas.Untouched.{results_undrawn}
 use Rattle.office_core.specs.Refusal.Checks.{first_refusal}
 use Rattle.office_core.specs.Command.Settle.{checks, next, changes_of, swaps}
 use Rattle.office_core.proofs.RefusalLemmas.Checks.{none_applies}
-use Rattle.office_core.proofs.CommandLemmas.Moving.{mover_of, mover_to-by, movers_of, all_moves, all_cleared}
+use Rattle.office_core.proofs.CommandLemmas.Moving.{mover_of, movers_of, all_moves, all_cleared}
 use Rattle.office_core.proofs.CommandLemmas.Moving.{is_mover-ascending, is_mover-swaps, FindEmpty, empty_in_order}
 use Rattle.office_core.proofs.CommandLemmas.Settling.{left-lead, arrived-lead, moves-lead, left-apart}
 use Rattle.office_core.proofs.CommandLemmas.Settling.{arrived-apart, moves-apart, left-fit, Leads}
@@ -57,14 +57,7 @@ none_yet office l open_round (m ∷ ms) = (
   none_yet office l open_round ms,
 )
 
--- what holds of each mover by where the person lives and what the person gets
-each_mover : (office : Office) (P : Mover → Type 0)
-    → ((p : Text) → P (p, home_of office p, recorded_result office p)) → All P (movers office)
-each_mover office P h =
-    All-map P (λ p. (p, home_of office p, recorded_result office p))
-    (filter (moves_out office) (participants office)) (λ k d within. h _)
-
-module _ (office : Office) (l : IsLawful office) (published : first_refusal (checks office) ≡ None) where
+module _ (office : Office) (l : IsLawful office) (h : first_refusal (checks office) ≡ None) where
   abbrev ms : List Mover
   ms = movers office
 
@@ -81,10 +74,13 @@ module _ (office : Office) (l : IsLawful office) (published : first_refusal (che
   left = left_people office.people gone
 
   many : length (waves_of ms) ≡ length ms
-  many = length-map-range_with_len (wave_of (end_numbers ms) (leavers ms)) 0 (length ms)
+  many = as_many_waves ms
+
+  published : is_published office.phase ≡ true
+  published = not-false _ (none_applies (checks office) h).0
 
   given : office.results ≡ round_results office
-  given = l.results.given (published_given office.phase (not-false _ (none_applies (checks office) published).0))
+  given = l.results.given (published_given office.phase published)
 
   -- what holds of the moves holds of them in order
   in_order : (P : Move → Type 0) → All P moves → All P order
@@ -99,7 +95,8 @@ module _ (office : Office) (l : IsLawful office) (published : first_refusal (che
   order_gets : All (λ (m : Move). m.to ≡ recorded_result office m.person) order
   order_gets = in_order (λ m. m.to ≡ recorded_result office m.person)
       (all_moves (λ m. m.to ≡ recorded_result office m.person) office.number ms (waves_of ms) many
-      (λ k within. each_mover office (λ m. m.2 ≡ recorded_result office m.0) (λ p. refl) k ([], None, None) within))
+      (λ k within. each_mover office (λ m. m.2 ≡ recorded_result office m.0) (λ p. refl) k
+      ([], None, None) within))
 
   -- the movers in order are the movers
   same_movers : (q : Text) → is_mover (map_list mover_of order) q ≡ is_mover ms q
@@ -126,10 +123,8 @@ module _ (office : Office) (l : IsLawful office) (published : first_refusal (che
   mover_leads : (k : ℕ) → k < length ms → (room : Text)
       → (get_or ms k ([], None, None)).2 ≡ Some room
       → home_in (settled_people office) (get_or ms k ([], None, None)).0 ≡ Some room
-  mover_leads k within = All-from_recursion
-      (λ (m : Mover). (room : Text) → m.2 ≡ Some room
-      → home_in (settled_people office) m.0 ≡ Some room) ms
-      (movers_lead office l.register (lawful-IsMarket office l) given) k ([], None, None) within
+  mover_leads k within =
+      movers_lead office l.register (lawful-IsMarket office l) given k ([], None, None) within
 
   moves_lead : All (Leads (settled_people office)) moves
   moves_lead = all_moves (Leads (settled_people office)) office.number ms (waves_of ms) many mover_leads
@@ -149,81 +144,71 @@ module _ (office : Office) (l : IsLawful office) (published : first_refusal (che
 
   find_empty : FindEmpty (home_in left) order
   find_empty = empty_in_order (home_in left) moves
-      (all_cleared office.number ms (new_rooms_differ office l.register (lawful-IsMarket office l) given) (home_of office) (home_in left)
-      l.register.homes
-      (each_from)
+      (all_cleared office.number ms
+      (new_rooms_differ office l.register (lawful-IsMarket office l) given) (home_of office)
+      (home_in left) l.register.homes each_from
       (λ q room lives. let h = left_home office.people gone q room lives in (h.1, h.0))
       known)
     where
       each_from : (k : ℕ) → k < length ms
           → (get_or ms k ([], None, None)).1 ≡ home_of office (get_or ms k ([], None, None)).0
-      each_from k within = each_mover office (λ m. m.1 ≡ home_of office m.0) (λ p. refl) k ([], None, None) within
+      each_from k within =
+          each_mover office (λ m. m.1 ≡ home_of office m.0) (λ p. refl) k ([], None, None) within
 
-pub settle-leads : (office : Office) → IsLawful office → first_refusal (checks office) ≡ None
-    → LeadsOn office (next office) (changes_of office)
-settle-leads office l h =
-    let n = none_applies (checks office) h in
-    let published = not-false _ n.0 in
-    let busy = published_busy office.phase published in
-    let given = l.results.given (published_given office.phase published) in
-    let ok = lawful-IsMarket office l in
-    let new : Office = next office in
-    let ms : List Mover = movers office in
-    let moves : List Move = settled_moves office in
-    let order : List Move = ascending move_cmp moves in
-    let left : TextMap Person = left_people office.people (map_list mover_of (swaps moves)) in
-    let there : TextMap Person = arrived_people left (map_list mover_of order) in
-    let all_settled : there ≡ settled_people office = settled office l h in
-    let rest : List Change = ClearRound ∷ PutRound office.number Idle ∷ [] in
-    let registered : IsRegister office.rooms (settled_people office) = register office l h in
-    let differ : Unshared (λ p. p.home) there =
-    subst (λ people. Unshared (λ p. p.home) people) (sym all_settled) registered.homes in
-    let numbered : 1 ≤ office.number = l.round.numbered busy in
-    let fine : is_over new office.number ≡ true =
-    (λ i. le-leb 1 office.number numbered i
-    && le-leb office.number office.number (omega arith) i && true) in
-    let kept : KeepsMoves (is_over new) new.moves =
-    with_moves-keeps (is_over new) office.moves office.number ms (waves_of ms)
-    (record {
-      over = λ round known. over-idle office round (l.moves.over round known);
-      none_empty = l.moves.none_empty;
-      arrived = l.moves.arrived;
-    })
-    fine (movers_go office l.register ok given) in
-    record {
-      leads =
-          left-lead office (swaps moves) _
-          ∙ arrived-lead (record office { people = left }) order _
-          ∙ moves-lead (record office { people = there }) moves rest
-          ∙ ap (λ people. record (without_round office)
-          { people = people; moves = with_moves office.moves moves; phase = Idle }) all_settled;
-      apart =
-          left-apart office (swaps moves) _ l.register.homes
-          (λ apart. arrived-apart (record office { people = left })
-          (settled_people office) order _ apart registered.homes
-          (in_order office l h (Leads (settled_people office)) (moves_lead office l h))
-          (find_empty office l h)
-          (moves-apart (record office { people = there }) moves rest differ
-          (differ, (differ, differ))));
-      fits =
-          left-fit office office (swaps moves) _
-          (arrived-fit office (record office { people = left }) order _
-          (moves-fit office (record office { people = there }) moves rest
-          (fresh office.moves office.number ms (waves_of ms)
-          (none_yet office l (under_way-not_over office busy) ms)
-          (movers_differ office l.register ok given)) (tt, (tt, tt))));
-      lawful = record {
-        kept = l.kept;
-        register = registered;
-        lists = no_lists office.rooms (settled_people office);
-        round = record {
-          few_rounds = l.round.few_rounds;
-          numbered = λ e. absurd (cc);
-          idle_choices = λ _. refl;
-          idle_withdrawn = λ _. refl;
+  pub settle-leads : LeadsOn office (next office) (changes_of office)
+  settle-leads =
+      let busy = published_busy office.phase published in
+      let ok = lawful-IsMarket office l in
+      let new : Office = next office in
+      let there : TextMap Person = arrived_people left (map_list mover_of order) in
+      let rest : List Change = ClearRound ∷ PutRound office.number Idle ∷ [] in
+      let differ : Unshared (λ p. p.home) there =
+      subst (λ people. Unshared (λ p. p.home) people) (sym settled) register.homes in
+      let numbered : 1 ≤ office.number = l.round.numbered busy in
+      let fine : is_over new office.number ≡ true =
+      (λ i. le-leb 1 office.number numbered i
+      && le-leb office.number office.number (omega arith) i && true) in
+      let kept : KeepsMoves (is_over new) new.moves =
+      with_moves-keeps (is_over new) office.moves office.number ms (waves_of ms)
+      (record {
+        over = λ round known. over-idle office round (l.moves.over round known);
+        none_empty = l.moves.none_empty;
+        arrived = l.moves.arrived;
+      })
+      fine (movers_go office l.register ok given) in
+      record {
+        leads =
+            left-lead office (swaps moves) _
+            ∙ arrived-lead (record office { people = left }) order _
+            ∙ moves-lead (record office { people = there }) moves rest
+            ∙ ap (λ people. record (without_round office)
+            { people = people; moves = with_moves office.moves moves; phase = Idle }) settled;
+        apart =
+            left-apart office (swaps moves) _ l.register.homes
+            (λ apart. arrived-apart (record office { people = left })
+            (settled_people office) order _ apart register.homes
+            (in_order (Leads (settled_people office)) moves_lead) find_empty
+            (moves-apart (record office { people = there }) moves rest differ
+            (differ, (differ, differ))));
+        fits =
+            left-fit office office (swaps moves) _
+            (arrived-fit office (record office { people = left }) order _
+            (moves-fit office (record office { people = there }) moves rest
+            (fresh office.moves office.number ms (waves_of ms)
+            (none_yet office l (under_way-not_over office busy) ms)
+            (movers_differ office l.register ok given)) (tt, (tt, tt))));
+        lawful = record {
+          kept = l.kept;
+          register = register;
+          lists = no_lists office.rooms (settled_people office);
+          round = record {
+            few_rounds = l.round.few_rounds;
+            numbered = λ e. absurd (cc);
+            idle_choices = λ _. refl;
+            idle_withdrawn = λ _. refl;
+          };
+          words = record { none = λ _. refl; each = λ e. absurd (cc) };
+          results = results_undrawn new refl refl;
+          moves = record { over = kept.over; none_empty = kept.none_empty; arrived = kept.arrived };
         };
-        words = record { none = λ _. refl; each = λ e. absurd (cc) };
-        results = results_undrawn new refl refl;
-        moves = record { over = kept.over; none_empty = kept.none_empty; arrived = kept.arrived };
-      };
-    }
+      }

@@ -30,7 +30,7 @@ next office = record (without_round office) {
 abbrev pub reply_to : Office → Reply
 reply_to office = reply.Settled (length (movers office))
 
--- who leaves first
+-- the change by which a mover leaves the old room
 abbrev pub leaving : Move → Change
 leaving move = PutHome move.person None
 
@@ -38,11 +38,12 @@ leaving move = PutHome move.person None
 abbrev pub swaps : List Move → List Move
 swaps = filter (λ move. is_swap move.wave)
 
+-- the change by which a mover comes to the new room
 abbrev pub arriving : Move → Change
 arriving move = PutHome move.person move.to
 
--- those who swap leave first, and then everybody arrives, in the order of the list for the day of moving: whoever has a
--- room of the next wave has moved by then, so that no two people ever have one home
+-- those who swap leave first, and then everybody arrives, in the order of the list for the day of moving: whoever lives where
+-- somebody of a later wave comes to has moved by then, so that no room is ever the home of two people
 abbrev pub changes_of : Office → List Change
 changes_of office =
     map leaving (swaps (settled_moves office))

@@ -19,8 +19,8 @@ use room_types::{Move, OutOfMemory, Phase, Wave};
 use std::alloc::Global;
 
 /// Decides the day of moving: those who swap leave, then everybody arrives in the new room, wave by wave, the moves are
-/// recorded, and the round is over. Refused with `BadPhase` unless published. Each home is taken from its index once, and
-/// twice only where two have to pass each other.
+/// recorded, and the round is over. Refused with `BadPhase` unless published. Each mover's home is changed once, and twice where
+/// movers pass their rooms round in a circle.
 #[tactic(auto, using(crate::proofs::CommandLemmas::Changes::has_last))]
 pub fn settle(alloc: Global, office: &Office) -> Result<Decision, Refusal>
     requires { IsLawful office.now }
@@ -58,6 +58,7 @@ fn settled_moves(alloc: Global, office: &Office) -> Result<Vec<Move>, OutOfMemor
     moves_with(alloc, office.number, movers.as_slice(), waves.as_slice())
 }
 
+// The moves of these movers, with these waves.
 #[tactic(auto, using(crate::proofs::CommandLemmas::Recorded::moves_with_more))]
 fn moves_with(
     alloc: Global,

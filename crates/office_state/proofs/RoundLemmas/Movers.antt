@@ -3,12 +3,14 @@ use Rattle.std.proofs.Common.{◌≡◌, Bool, true, false, ◌&&◌, ◌||◌, 
 use Rattle.std.proofs.Common.{map as map_list, Option, Some, None, cond, refl, ap, ◌∙◌, sym, ◌⊎◌}
 use Rattle.std.proofs.Common.{inl, inr}
 use Rattle.std.specs.Option.{is_some, option_map, option_or, option_and_then}
-use Rattle.std.specs.List.{filter, list_any}
+use Rattle.std.specs.List.{All, AllByRecursion, filter, list_any}
 use Rattle.std.specs.Ordering.{eq_by_cmp}
 use Rattle.std.specs.Cmp.Lexicographic.{nat_list_cmp_total}
 use Rattle.std.specs.FinMap as map
 use Rattle.std.specs.FinMap.{find, get-insert, get-entries, get-from_entries, same_map}
-use Rattle.std.proofs.lemmas.Bool.{not-false}
+use Rattle.std.proofs.lemmas.Bool.{false≢true, not-false}
+use Rattle.std.proofs.lemmas.List.Elements.{All-map, recursion_from_All}
+use Rattle.std.proofs.lemmas.Map.Views.{any-filter_same}
 use Rattle.room_types.specs.Texts.{Text, TextMap, text_cmp}
 use Rattle.room_types.specs.TextMaps.{text_cases, exact_texts, len-put_known}
 use Rattle.room_types.proofs.Options.{none_if_not_some, option_or-none}
@@ -21,6 +23,12 @@ use Rattle.office_state.specs.declared.office.Office.{Office}
 use Rattle.office_state.specs.declared.office.person.Person.{Person}
 use Rattle.office_state.proofs.RoundLemmas.People.{participants_hold}
 use Rattle.office_state.proofs.OfficeLemmas.People.{same_optional}
+
+-- texts that tie are the same
+pub tied_text : (q p : Text) → eq_by_cmp text_cmp q p ≡ true → q ≡ p
+tied_text q p ties =
+    elim (text_cases q p) as (λ _. q ≡ p)
+    [ inl same ↦ same | inr other ↦ absurd (false≢true (sym other ∙ ties)) ]
 
 -- the people after one person's move, by what is known of the person
 abbrev pub rehomed_by : TextMap Person → Text → Option Text → Option Person → TextMap Person
@@ -69,19 +77,18 @@ get-rehomed people person home q =
           ]
     ] refl
 
--- all movers have left
+-- the people once these have left
 abbrev pub left_people : TextMap Person → List Mover → TextMap Person
 left_people people [] = people
 left_people people (mover ∷ others) = left_people (rehomed people mover.0 None) others
 
--- and each lives in the new room
+-- the people once each of these has come to the new room, in turn
 abbrev pub arrived_people : TextMap Person → List Mover → TextMap Person
 arrived_people people [] = people
 arrived_people people (mover ∷ others) = arrived_people (rehomed people mover.0 mover.2) others
 
 abbrev pub is_mover : List Mover → Text → Bool
-is_mover [] q = false
-is_mover (mover ∷ others) q = eq_by_cmp text_cmp q mover.0 || is_mover others q
+is_mover ms q = list_any (λ mover. eq_by_cmp text_cmp q mover.0) ms
 
 -- where a mover goes to
 abbrev pub mover_to : List Mover → Text → Option (Option Text)
@@ -89,7 +96,7 @@ mover_to [] q = None
 mover_to (mover ∷ others) q =
     option_or (mover_to others q) (cond (eq_by_cmp text_cmp q mover.0) (Some mover.2) None)
 
-pub is_some-mover_to : (ms : List Mover) (q : Text) → is_some (mover_to ms q) ≡ is_mover ms q
+is_some-mover_to : (ms : List Mover) (q : Text) → is_some (mover_to ms q) ≡ is_mover ms q
 is_some-mover_to [] q = refl
 is_some-mover_to (mover ∷ others) q =
     by (mover_to others q) (eq_by_cmp text_cmp q mover.0)
@@ -111,7 +118,7 @@ left_twice true false o = refl
 left_twice false true o = refl
 left_twice false false o = refl
 
-pub get-left : (people : TextMap Person) (ms : List Mover) (q : Text)
+get-left : (people : TextMap Person) (ms : List Mover) (q : Text)
     → map.get (left_people people ms) q
     ≡ cond (is_mover ms q) (option_map (at_home None) (map.get people q)) (map.get people q)
 get-left people [] q = refl
@@ -121,7 +128,7 @@ get-left people (mover ∷ others) q =
     (get-rehomed people mover.0 None q)
     ∙ left_twice (is_mover others q) (eq_by_cmp text_cmp q mover.0) (map.get people q)
 
-abbrev pub arrive_at : Option (Option Text) → Option Person → Option Person
+abbrev arrive_at : Option (Option Text) → Option Person → Option Person
 arrive_at None o = o
 arrive_at (Some to) o = option_map (at_home to) o
 
@@ -151,68 +158,67 @@ left_and_arrived (Some to) true None comes = refl
 left_and_arrived (Some to) true (Some kept) comes = refl
 left_and_arrived (Some to) false o comes = refl
 
--- where somebody goes who is among those that pass
-module _ (from to : Text → Option Text) (test : Text → Bool) where
-  mover_to-some : (ps : List Text) (q : Text)
-      → mover_to (map_list (λ p. (p, from p, to p)) (filter test ps)) q
-      ≡ cond (list_any (eq_by_cmp text_cmp q) ps && test q) (Some (to q)) None
-  mover_to-some [] q = refl
-  mover_to-some (p ∷ ps) q =
-      let rest : Option (Option Text) =
-      mover_to (map_list (λ p. (p, from p, to p)) (filter test ps)) q in
-      let known : rest ≡ cond (list_any (eq_by_cmp text_cmp q) ps && test q) (Some (to q)) None =
-      mover_to-some ps q in
-      elim (eq_by_cmp text_cmp q p) as (λ b. eq_by_cmp text_cmp q p ≡ b
-      → mover_to (map_list (λ p. (p, from p, to p))
-      (cond (test p) (p ∷ filter test ps) (filter test ps))) q
-      ≡ cond ((b || list_any (eq_by_cmp text_cmp q) ps) && test q) (Some (to q)) None) [
-        | true ↦ λ ties.
-            let same : q ≡ p = elim (text_cases q p) as
-            (λ _. q ≡ p) [ inl same ↦ same | inr other ↦ cc ] in
-            elim (test p) as (λ t. test p ≡ t
-            → mover_to (map_list (λ p. (p, from p, to p))
-            (cond t (p ∷ filter test ps) (filter test ps))) q
-            ≡ cond (test q) (Some (to q)) None) [
-              | true ↦ λ t.
-                  let passes : test q ≡ true = ap test same ∙ t in
-                  (λ i. option_or (known i) (cond (ties i) (Some (to (sym same i))) None))
-                  ∙ ap (λ b. option_or (cond (list_any (eq_by_cmp text_cmp q) ps && b)
-                  (Some (to q)) None) (Some (to q))) passes
-                  ∙ either (list_any (eq_by_cmp text_cmp q) ps && true) (to q)
-                  ∙ ap (λ b. cond b (Some (to q)) None) (sym passes)
-              | false ↦ λ t.
-                  let fails : test q ≡ false = ap test same ∙ t in
-                  known ∙ ap (λ b. cond (list_any (eq_by_cmp text_cmp q) ps && b)
-                  (Some (to q)) None) fails ∙ neither (list_any (eq_by_cmp text_cmp q) ps)
-                  (to q)
-                  ∙ ap (λ b. cond b (Some (to q)) None) (sym fails)
-            ] refl
-        | false ↦ λ apart. elim (test p) as
-            (λ t. mover_to (map_list (λ p. (p, from p, to p))
-            (cond t (p ∷ filter test ps) (filter test ps))) q
-            ≡ cond (list_any (eq_by_cmp text_cmp q) ps && test q) (Some (to q)) None) [
-              | true ↦ ap (λ b. option_or rest (cond b (Some (to p)) None)) apart ∙ option_or-none rest
-                  ∙ known
-              | false ↦ known
-            ]
-      ] refl
-    where
-      either : (b : Bool) (x : Option Text) → option_or (cond b (Some x) None) (Some x) ≡ Some x
-      either true x = refl
-      either false x = refl
+-- where each mover goes by what is known of the person
+pub mover_to-by : (to : Text → Option Text) (ms : List Mover) (q : Text)
+    → AllByRecursion (λ (m : Mover). m.2 ≡ to m.0) ms
+    → mover_to ms q ≡ cond (is_mover ms q) (Some (to q)) None
+mover_to-by to [] q h = refl
+mover_to-by to (m ∷ ms) q h =
+    ap (λ o. option_or o (cond (eq_by_cmp text_cmp q m.0) (Some m.2) None))
+    (mover_to-by to ms q h.1)
+    ∙ elim (text_cases q m.0) as
+    (λ _. option_or (cond (is_mover ms q) (Some (to q)) None)
+    (cond (eq_by_cmp text_cmp q m.0) (Some m.2) None)
+    ≡ cond (eq_by_cmp text_cmp q m.0 || is_mover ms q) (Some (to q)) None) [
+      | inl same ↦
+          ap (λ t. option_or (cond (is_mover ms q) (Some (to q)) None)
+          (cond (eq_by_cmp text_cmp q m.0) (Some t) None)) (h.0 ∙ ap to (sym same))
+          ∙ together (is_mover ms q) (eq_by_cmp text_cmp q m.0)
+      | inr other ↦
+          ap (λ b. option_or (cond (is_mover ms q) (Some (to q)) None) (cond b (Some m.2) None))
+          other
+          ∙ option_or-none (cond (is_mover ms q) (Some (to q)) None)
+          ∙ ap (λ b. cond (b || is_mover ms q) (Some (to q)) None) (sym other)
+    ]
+  where
+    together : (a b : Bool)
+        → option_or (cond a (Some (to q)) None) (cond b (Some (to q)) None)
+        ≡ cond (b || a) (Some (to q)) None
+    together true true = refl
+    together true false = refl
+    together false true = refl
+    together false false = refl
 
-      neither : (b : Bool) (x : Option Text) → cond (b && false) (Some x) None ≡ None
-      neither true x = refl
-      neither false x = refl
+-- what holds of each mover by where the person lives and what the person gets
+pub each_mover : (office : Office) (P : Mover → Type 0)
+    → ((p : Text) → P (p, home_of office p, recorded_result office p)) → All P (movers office)
+each_mover office P h =
+    All-map P (λ p. (p, home_of office p, recorded_result office p))
+    (filter (moves_out office) (participants office)) (λ k d within. h _)
 
-pub mover_to-movers : (office : Office) (q : Text)
-    → mover_to (movers office) q ≡ cond (is_participant office q && moves_out office q)
-    (Some (recorded_result office q)) None
+any_mapped : (test : Text → Bool) (f : Text → Mover) → ((p : Text) → test (f p).0 ≡ test p)
+    → (ps : List Text) → list_any (λ m. test m.0) (map_list f ps) ≡ list_any test ps
+any_mapped test f same [] = refl
+any_mapped test f same (p ∷ ps) = λ i. same p i || any_mapped test f same ps i
+
+-- who moves is a participant whose home changes
+is_mover-movers : (office : Office) (q : Text)
+    → is_mover (movers office) q ≡ (moves_out office q && is_participant office q)
+is_mover-movers office q =
+    any_mapped (eq_by_cmp text_cmp q) (λ p. (p, home_of office p, recorded_result office p))
+    (λ p. refl) (filter (moves_out office) (participants office))
+    ∙ any-filter_same (eq_by_cmp text_cmp q) (moves_out office) (moves_out office q)
+    (λ p ties. sym (ap (moves_out office) (tied_text q p ties))) (participants office)
+    ∙ ap (λ b. moves_out office q && b) (participants_hold office q)
+
+mover_to-movers : (office : Office) (q : Text)
+    → mover_to (movers office) q
+    ≡ cond (moves_out office q && is_participant office q) (Some (recorded_result office q)) None
 mover_to-movers office q =
-    mover_to-some (home_of office) (recorded_result office) (moves_out office)
-    (participants office) q
-    ∙ ap (λ b. cond (b && moves_out office q) (Some (recorded_result office q)) None)
-    (participants_hold office q)
+    mover_to-by (recorded_result office) (movers office) q
+    (recursion_from_All (λ (m : Mover). m.2 ≡ recorded_result office m.0) (movers office)
+    (each_mover office (λ m. m.2 ≡ recorded_result office m.0) (λ p. refl)))
+    ∙ ap (λ b. cond b (Some (recorded_result office q)) None) (is_mover-movers office q)
 
 find_changed : (change : Text → Person → Person) (es : List (Text × Person)) (q : Text)
     → find text_cmp q (map_list (λ e. (e.0, change e.0 e.1)) es)
@@ -268,22 +274,31 @@ people_settled office gone order come same = same_map nat_list_cmp_total exact_t
     ∙ left_and_arrived (mover_to order q) (is_mover gone q) (map.get office.people q)
     (λ h. is_some-mover_to order q ∙ come q h)
     ∙ ap (λ t. arrive_at t (map.get office.people q)) (same q ∙ mover_to-movers office q)
-    ∙ elim (is_participant office q) as
-    (λ part. arrive_at (cond (part && moves_out office q)
-    (Some (recorded_result office q)) None) (map.get office.people q)
-    ≡ option_map (λ kept. cond part (at_home (recorded_result office q) kept) kept)
-    (map.get office.people q)) [
-      | false ↦ same_none (map.get office.people q)
-      | true ↦ elim (moves_out office q) as
-          (λ out. moves_out office q ≡ out
-          → arrive_at (cond out (Some (recorded_result office q)) None) (map.get office.people q)
-          ≡ option_map (at_home (recorded_result office q)) (map.get office.people q)) [
-            | true ↦ λ _. refl
-            | false ↦ λ stays. stays_put (recorded_result office q) (map.get office.people q)
+    ∙ elim (moves_out office q) as
+    (λ out. moves_out office q ≡ out
+    → arrive_at (cond (out && is_participant office q) (Some (recorded_result office q)) None)
+    (map.get office.people q) ≡ option_map (settled office q) (map.get office.people q)) [
+      | true ↦ λ _. elim (is_participant office q) as
+          (λ part. arrive_at (cond part (Some (recorded_result office q)) None)
+          (map.get office.people q)
+          ≡ option_map (λ kept. cond part (at_home (recorded_result office q) kept) kept)
+          (map.get office.people q))
+          [ true ↦ refl | false ↦ same_none (map.get office.people q) ]
+      | false ↦ λ stays. elim (is_participant office q) as
+          (λ part. map.get office.people q
+          ≡ option_map (λ kept. cond part (at_home (recorded_result office q) kept) kept)
+          (map.get office.people q)) [
+            | true ↦ stays_put (recorded_result office q) (map.get office.people q)
                 (not-false _ stays)
-          ] refl
-    ]
+            | false ↦ same_none (map.get office.people q)
+          ]
+    ] refl
     ∙ sym (get-settled office q))
+
+-- also in the order of the identifiers, nobody having left before
+arrived_settled : (office : Office)
+    → arrived_people office.people (movers office) ≡ settled_people office
+arrived_settled office = people_settled office [] (movers office) (λ q never. cc) (λ q. refl)
 
 -- the settled home of somebody
 pub home_settled : (office : Office) (q room : Text)
@@ -342,15 +357,14 @@ len-arrived people (mover ∷ others) =
 
 pub len-settled : (office : Office) → map.len (settled_people office) ≡ map.len office.people
 len-settled office =
-    ap map.len (sym (people_settled office [] (movers office) (λ q never. cc) (λ q. refl)))
+    ap map.len (sym (arrived_settled office))
     ∙ len-arrived office.people (movers office)
 
 -- who is no mover lives after the settlement as before
 pub stays_settled : (office : Office) (q : Text) → is_mover (movers office) q ≡ false
     → map.get (settled_people office) q ≡ map.get office.people q
 stays_settled office q stays =
-    ap (λ people. map.get people q)
-    (sym (people_settled office [] (movers office) (λ q never. cc) (λ q. refl)))
+    ap (λ people. map.get people q) (sym (arrived_settled office))
     ∙ get-arrived office.people (movers office) q
     ∙ ap (λ t. arrive_at t (map.get office.people q))
     (none_if_not_some (mover_to (movers office) q) (is_some-mover_to (movers office) q ∙ stays))

@@ -43,7 +43,7 @@ use Rattle.office_state.proofs.RoundLemmas.People.{participants_differ}
 use Rattle.office_state.proofs.RoundLemmas.Results.{get-round_results}
 use Rattle.office_state.proofs.RoundLemmas.Rooms.{found_each, given_open, given_once, not_kept_back}
 use Rattle.office_state.proofs.RoundLemmas.Rooms.{tenant_gets}
-use Rattle.office_state.proofs.RoundLemmas.Settling.{AreFresh, LeadTo, moves_of-with_move}
+use Rattle.office_state.proofs.RoundLemmas.Settling.{AreFresh, home_in, moves_of-with_move}
 use Rattle.office_state.proofs.OfficeLemmas.Moves.{kept_moves}
 
 abbrev Some_home : Person → Option Text
@@ -121,17 +121,14 @@ module _ (office : Office) (l : IsRegister office.rooms office.people)
       (λ k d b. goes _ (moving k d b).0 (moving k d b).1))
 
   -- each mover comes to the settled home
-  pub movers_lead : LeadTo (settled_people office) (movers office)
-  movers_lead = recursion_from_All
-      (λ (m : Mover). (room : Text) → m.2 ≡ Some room
-      → option_and_then (λ (p : Person). p.home) (map.get (settled_people office) m.0) ≡ Some room)
-      (movers office)
-      (All-map (λ (m : Mover). (room : Text) → m.2 ≡ Some room
-      → option_and_then (λ (p : Person). p.home) (map.get (settled_people office) m.0)
-      ≡ Some room)
+  pub movers_lead : All (λ (m : Mover). (room : Text) → m.2 ≡ Some room
+      → home_in (settled_people office) m.0 ≡ Some room) (movers office)
+  movers_lead =
+      All-map (λ (m : Mover). (room : Text) → m.2 ≡ Some room
+      → home_in (settled_people office) m.0 ≡ Some room)
       (λ p. (p, home_of office p, recorded_result office p))
       (filter (moves_out office) (participants office))
-      (λ k d b room e. comes _ (moving k d b).0 room e))
+      (λ k d b room e. comes _ (moving k d b).0 room e)
     where
       known : (p : Text) → is_participant office p ≡ true → knows_person office p ≡ true
       known p part = (and_parts (knows_person office p) (not (has_withdrawn office p)) part).0

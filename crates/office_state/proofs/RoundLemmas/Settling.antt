@@ -19,11 +19,6 @@ use Rattle.office_state.specs.declared.office.person.Person.{Person}
 abbrev pub home_in : TextMap Person → Text → Option Text
 home_in people q = had_by (λ p. p.home) people q
 
--- each mover comes to the home that the person has among the outer people
-abbrev pub LeadTo : TextMap Person → List Mover → Type 0
-LeadTo outer ms = AllByRecursion
-    (λ (m : Mover). (room : Text) → m.2 ≡ Some room → home_in outer m.0 ≡ Some room) ms
-
 -- each move is of somebody who has none in that round yet
 abbrev pub AreFresh : RoundMap RoundMoves → List Move → Type 0
 AreFresh kept [] = Unit {0}
