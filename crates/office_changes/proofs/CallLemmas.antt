@@ -19,22 +19,19 @@ use Rattle.office_cells.specs.Columns.{move_columns}
 use Rattle.office_cells.specs.Forms.{IsMoveRow}
 use Rattle.office_tables.specs.Edits.{with_room, with_shut, with_person, without_person, with_home, with_withdrawn}
 use Rattle.office_tables.specs.Edits.{without_withdrawn, with_round, without_choices_of, without_round_tables}
-use Rattle.office_tables.specs.Edits.{with_word, without_word_of, with_result, without_result_of}
-use Rattle.office_tables.specs.Edits.{with_move, with_kept}
+use Rattle.office_tables.specs.Edits.{with_word, with_result, with_move, with_kept}
 use Rattle.office_tables.specs.Makes.{Makes}
 use Rattle.office_tables.specs.Steps.{StaysInside}
 use Rattle.office_changes.specs.Carries.{Turns, CarriesOne, CarriesAlways}
 use Rattle.office_changes.specs.Choosing.{with_choices}
 use Rattle.office_changes.proofs.CarryLemmas.{carries, turns, turns_then}
-use Rattle.office_changes.proofs.ChangeRows.{room_added, room_shut, person_put, person_gone, home_put, withdrawn_put}
-use Rattle.office_changes.proofs.ChangeRows.{choices_put, word_put, result_put, move_added, list_kept, round_put}
+use Rattle.office_changes.proofs.ChangeRows.{room_added, room_shut, person_added, person_gone, home_put, withdrawn_put}
+use Rattle.office_changes.proofs.ChangeRows.{choices_put, word_added, result_added, move_added, list_kept, round_put}
 use Rattle.office_changes.proofs.ChangeRows.{round_cleared}
 use Rattle.office_changes.proofs.SpelledLemmas.{room_spelled, shut_spelled, person_spelled, without_person_spelled}
 use Rattle.office_changes.proofs.SpelledLemmas.{home_spelled, withdrawn_spelled, without_withdrawn_spelled}
 use Rattle.office_changes.proofs.SpelledLemmas.{without_choices_of_spelled, without_round_tables_spelled, word_spelled}
-use Rattle.office_changes.proofs.SpelledLemmas.{without_word_of_spelled, result_spelled}
-use Rattle.office_changes.proofs.SpelledLemmas.{without_result_of_spelled}
-use Rattle.office_changes.proofs.SpelledLemmas.{move_spelled, kept_spelled, round_spelled}
+use Rattle.office_changes.proofs.SpelledLemmas.{result_spelled, move_spelled, kept_spelled, round_spelled}
 
 early : (mid new : State) → StaysInside mid new → HasCleanDisk new → HasCleanDisk mid
 early mid new inside clean = omega (arith, inside.survives.clean)
@@ -55,6 +52,17 @@ module _ (old new : State) where
       carries first old new _ (with_shut room shut) (λ office fits. room_shut office room shut (fits ∙ known))
       (turns old new _ (λ t h. shut_spelled t h room shut) m)
 
+  pub carries_person : (person name key : Text) (home : Option Text) → IsTextOf is_person_id (value.Text person)
+      → IsTextOf is_name (value.Text name) → IsTextOf is_key (value.Text key)
+      → IsOptionalTextOf is_room_code (text_or_null home)
+      → Makes old new (with_person person (record { name = name; key = key; home = home }))
+      → CarriesAlways old new (PutPerson person name key home)
+  carries_person person name key home is_id is_its_name is_its_key lives m first =
+      let v : Person = record { name = name; key = key; home = home } in
+      carries first old new _ (with_person person v)
+      (λ office fits. person_added office person name key home fits.0 fits.1)
+      (turns old new _ (λ t h. person_spelled t h person v is_id is_its_name is_its_key lives) m)
+
   pub carries_gone : (person : Text) → Makes old new (without_person person) → CarriesAlways old new (DropPerson person)
   carries_gone person m first =
       carries first old new _ (without_person person) (λ office fits. person_gone office person)
@@ -71,6 +79,19 @@ module _ (old new : State) where
   carries_withdrawn person m first =
       carries first old new _ (with_withdrawn person) (λ office fits. withdrawn_put office person)
       (turns old new _ (λ t h. withdrawn_spelled t h person) m)
+
+  pub carries_word : (person : Text) (word : ℕ) → IsTextOf is_person_id (value.Text person) → word < 2 ^ 64
+      → Makes old new (with_word person word) → CarriesAlways old new (PutWord person word)
+  carries_word person word is_id low m first =
+      carries first old new _ (with_word person word) (λ office fits. word_added office person word fits.1)
+      (turns old new _ (λ t h. word_spelled t h person word is_id low) m)
+
+  pub carries_result : (person : Text) (room : Option Text) → IsTextOf is_person_id (value.Text person)
+      → IsOptionalTextOf is_room_code (text_or_null room) → Makes old new (with_result person room)
+      → CarriesAlways old new (PutResult person room)
+  carries_result person room is_id code m first =
+      carries first old new _ (with_result person room) (λ office fits. result_added office person room fits.1)
+      (turns old new _ (λ t h. result_spelled t h person room is_id code) m)
 
   pub carries_move : (move : Move) → IsMoveRow (move_columns move) → Makes old new (with_move move)
       → CarriesAlways old new (AddMove move)
@@ -96,19 +117,6 @@ module _ (old new : State) where
 -- ---- two statements
 
 module _ (old mid new : State) (inside : StaysInside mid new) where
-  pub carries_person : (person name key : Text) (home : Option Text) → IsTextOf is_person_id (value.Text person)
-      → IsTextOf is_name (value.Text name) → IsTextOf is_key (value.Text key)
-      → IsOptionalTextOf is_room_code (text_or_null home) → Makes old mid (without_person person)
-      → Makes mid new (with_person person (record { name = name; key = key; home = home }))
-      → CarriesAlways old new (PutPerson person name key home)
-  carries_person person name key home is_id is_its_name is_its_key lives m n first =
-      let v : Person = record { name = name; key = key; home = home } in
-      carries first old new _ (λ t. with_person person v (without_person person t))
-      (λ office fits. person_put office person name key home fits)
-      (turns_then old mid new _ _ (early mid new inside)
-      (turns old mid _ (λ t h. without_person_spelled t h person) m)
-      (turns mid new _ (λ t h. person_spelled t h person v is_id is_its_name is_its_key lives) n))
-
   pub carries_choices : (person : Text) (rooms : List Text) → Makes old mid (without_choices_of person)
       → Turns mid new (with_choices person 0 rooms) → CarriesAlways old new (PutChoices person rooms)
   carries_choices person rooms m n first =
@@ -116,26 +124,6 @@ module _ (old mid new : State) (inside : StaysInside mid new) where
       (λ office fits. choices_put office person rooms)
       (turns_then old mid new _ _ (early mid new inside)
       (turns old mid _ (λ t h. without_choices_of_spelled t h person) m) n)
-
-  pub carries_word : (person : Text) (word : ℕ) → IsTextOf is_person_id (value.Text person) → word < 2 ^ 64
-      → Makes old mid (without_word_of person) → Makes mid new (with_word person word)
-      → CarriesAlways old new (PutWord person word)
-  carries_word person word is_id low m n first =
-      carries first old new _ (λ t. with_word person word (without_word_of person t))
-      (λ office fits. word_put office person word)
-      (turns_then old mid new _ _ (early mid new inside)
-      (turns old mid _ (λ t h. without_word_of_spelled t h person) m)
-      (turns mid new _ (λ t h. word_spelled t h person word is_id low) n))
-
-  pub carries_result : (person : Text) (room : Option Text) → IsTextOf is_person_id (value.Text person)
-      → IsOptionalTextOf is_room_code (text_or_null room) → Makes old mid (without_result_of person)
-      → Makes mid new (with_result person room) → CarriesAlways old new (PutResult person room)
-  carries_result person room is_id code m n first =
-      carries first old new _ (λ t. with_result person room (without_result_of person t))
-      (λ office fits. result_put office person room)
-      (turns_then old mid new _ _ (early mid new inside)
-      (turns old mid _ (λ t h. without_result_of_spelled t h person) m)
-      (turns mid new _ (λ t h. result_spelled t h person room is_id code) n))
 
   -- the end of a round
   pub carries_cleared : Makes old mid without_round_tables → Makes mid new without_withdrawn → CarriesAlways old new ClearRound

@@ -20,7 +20,7 @@ use Rattle.room_types.proofs.Trees.{entries-empty}
 use Rattle.room_types.proofs.Options.{none_if_not_some, some_of}
 use Rattle.office_state.specs.Change.{applied}
 use Rattle.office_state.specs.Office.Moves.{moves_of}
-use Rattle.office_state.specs.Office.{knows_room, has_withdrawn}
+use Rattle.office_state.specs.Office.{knows_room, knows_person, has_withdrawn}
 use Rattle.office_state.specs.declared.change.Change.TheVariants.{PutRoom, PutPerson, DropPerson, PutHome, PutWithdrawn}
 use Rattle.office_state.specs.declared.change.Change.TheVariants.{PutChoices, PutWord, PutResult, AddMove}
 use Rattle.office_state.specs.declared.change.Change.TheVariants.{PutRound, ClearRound, KeepList}
@@ -35,11 +35,10 @@ use Rattle.office_changes.specs.Alike.{AreAlike}
 use Rattle.office_changes.specs.Choosing.{with_choices}
 use Rattle.office_tables.specs.Edits.{with_room, with_shut, with_person, without_person, with_home, with_withdrawn}
 use Rattle.office_tables.specs.Edits.{without_withdrawn, with_round, with_choice, without_choices_of, without_round_tables}
-use Rattle.office_tables.specs.Edits.{with_word, without_word_of, with_result, without_result_of}
-use Rattle.office_tables.specs.Edits.{with_move, with_kept, taking_part}
+use Rattle.office_tables.specs.Edits.{with_word, with_result, with_move, with_kept, taking_part}
 use Rattle.office_changes.proofs.AlikeLemmas.{alike-refl, rooms_alike, people_alike, choices_alike, words_alike}
 use Rattle.office_changes.proofs.AlikeLemmas.{results_alike, moves_alike, lists_alike, alike-trans}
-use Rattle.office_changes.proofs.RowsChanged.{rows_put, rows_gone, row_put, row_gone, row_added}
+use Rattle.office_changes.proofs.RowsChanged.{rows_put, rows_gone, row_gone, row_added}
 use Rattle.office_changes.proofs.RowsChanged.{row_unknown, row_changed}
 
 -- the test of a statement tells the rows of one key
@@ -51,14 +50,6 @@ tells a b = sym (is_eq-slice_cmp a b)
 module _ {X : Type 0} (m : TextMap X) (k : Text) where
   abbrev is_its : Text × X → Bool
   is_its r = text_eq r.0 k
-
-  entry_put : (v : X) → IsPermutation (maps.entries (maps.insert m k v)) ((k, v) ∷ delete_where is_its (maps.entries m))
-  entry_put v =
-      subst (λ l. IsPermutation l ((k, v) ∷ delete_where is_its (maps.entries m)))
-      (map-id (maps.entries (maps.insert m k v)))
-      (subst (λ l. IsPermutation (map (λ e. e) (maps.entries (maps.insert m k v))) ((k, v) ∷ delete_where is_its l))
-      (map-id (maps.entries m))
-      (row_put (λ e. e) (λ r. r.0) (λ e. refl) k is_its (λ r. tells r.0 k) m v))
 
   entry_added : (v : X) → maps.contains_key m k ≡ false
       → IsPermutation (maps.entries (maps.insert m k v)) ((k, v) ∷ maps.entries m)
@@ -101,18 +92,21 @@ module _ (office : Office) (person : Text) where
   abbrev is_that : PersonRecord → Bool
   is_that r = text_eq r.id person
 
-  pub person_put : (name key : Text) (home : Option Text) → has_withdrawn office person ≡ false
+  -- a person who is not known and has not withdrawn
+  pub person_added : (name key : Text) (home : Option Text) → knows_person office person ≡ false
+      → has_withdrawn office person ≡ false
       → AreAlike (rows_of (applied office (PutPerson person name key home)))
-      (with_person person (record { name = name; key = key; home = home }) (without_person person (rows_of office)))
-  unfolding rows_of with_person without_person
-  person_put name key home here =
+      (with_person person (record { name = name; key = key; home = home }) (rows_of office))
+  unfolding rows_of with_person
+  person_added name key home new here =
       let v : Person = record { name = name; key = key; home = home } in
       let head : shown (person, v) ≡ record { id = person; person = v; withdrawn = false } =
       ap (λ b. record { id = person; person = v; withdrawn = b }) here in
       people_alike (rows_of office) _ _
       (subst (λ r. IsPermutation (person_rows (maps.insert office.people person v) office.withdrawn)
-      (r ∷ delete_where is_that (person_rows office.people office.withdrawn))) head
-      (row_put shown (λ (r : PersonRecord). r.id) (λ e. refl) person is_that (λ r. tells r.id person) office.people v))
+      (r ∷ person_rows office.people office.withdrawn)) head
+      (row_added shown (λ (r : PersonRecord). r.id) (λ e. refl) person is_that (λ r. tells r.id person) office.people v
+      (none_if_not_some (maps.get office.people person) new)))
 
   pub person_gone : AreAlike (rows_of (applied office (DropPerson person))) (without_person person (rows_of office))
   unfolding rows_of without_person
@@ -208,17 +202,18 @@ module _ (office : Office) (person : Text) where
 -- ---- words, results, moves and kept lists
 
 module _ (office : Office) (person : Text) where
-  pub word_put : (word : ℕ)
-      → AreAlike (rows_of (applied office (PutWord person word)))
-      (with_word person word (without_word_of person (rows_of office)))
-  unfolding rows_of with_word without_word_of
-  word_put word = words_alike (rows_of office) _ _ (entry_put office.words person word)
+  -- somebody has a word who had none
+  pub word_added : (word : ℕ) → maps.contains_key office.words person ≡ false
+      → AreAlike (rows_of (applied office (PutWord person word))) (with_word person word (rows_of office))
+  unfolding rows_of with_word
+  word_added word new = words_alike (rows_of office) _ _ (entry_added office.words person word new)
 
-  pub result_put : (room : Option Text)
-      → AreAlike (rows_of (applied office (PutResult person room)))
-      (with_result person room (without_result_of person (rows_of office)))
-  unfolding rows_of with_result without_result_of
-  result_put room = results_alike (rows_of office) _ _ (entry_put office.results person (record { room = room }))
+  -- and likewise a result
+  pub result_added : (room : Option Text) → maps.contains_key office.results person ≡ false
+      → AreAlike (rows_of (applied office (PutResult person room))) (with_result person room (rows_of office))
+  unfolding rows_of with_result
+  result_added room new =
+      results_alike (rows_of office) _ _ (entry_added office.results person (record { room = room }) new)
 
 -- somebody moves who has not moved in the round
 pub move_added : (office : Office) (move : Move)

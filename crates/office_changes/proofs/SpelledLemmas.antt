@@ -26,7 +26,7 @@ use Rattle.office_rows.specs.declared.records.ChoiceRecord.{ChoiceRecord}
 use Rattle.office_rows.specs.declared.records.PersonRecord.{PersonRecord}
 use Rattle.office_tables.specs.Edits.{with_room, with_shut, with_person, without_person, with_home, with_withdrawn}
 use Rattle.office_tables.specs.Edits.{without_withdrawn, with_round, with_choice, without_choices_of, without_round_tables}
-use Rattle.office_tables.specs.Edits.{with_word, without_word_of, with_result, without_result_of}
+use Rattle.office_tables.specs.Edits.{with_word, with_result}
 use Rattle.office_tables.specs.Edits.{with_move, with_kept}
 use Rattle.office_changes.specs.Alike.{AreAlike}
 
@@ -182,11 +182,6 @@ module _ (t : Tables) (h : IsSpelled t) where
   unfolding with_word
   word_spelled person word id low = words_spelled _ (All-cons IsWordRow _ _ (id, (word, refl, low)) h.words)
 
-  pub without_word_of_spelled : (person : Text) → IsSpelled (without_word_of person t)
-  unfolding without_word_of
-  without_word_of_spelled person =
-      words_spelled _ (formed_left word_columns IsWordRow (λ r. text_eq r.0 person) t.words h.words)
-
   pub result_spelled : (person : Text) (room : Option Text) → IsTextOf is_person_id (value.Text person)
       → IsOptionalTextOf is_room_code (text_or_null room) → IsSpelled (with_result person room t)
   unfolding with_result
@@ -197,19 +192,6 @@ module _ (t : Tables) (h : IsSpelled t) where
     choices = h.choices;
     words = h.words;
     results = All-cons IsResultRow _ _ (id, code) h.results;
-    moves = h.moves;
-    lists = h.lists;
-  }
-
-  pub without_result_of_spelled : (person : Text) → IsSpelled (without_result_of person t)
-  unfolding without_result_of
-  without_result_of_spelled person = record {
-    rooms = h.rooms;
-    people = h.people;
-    rounds = h.rounds;
-    choices = h.choices;
-    words = h.words;
-    results = formed_left result_columns IsResultRow (λ r. text_eq r.0 person) t.results h.results;
     moves = h.moves;
     lists = h.lists;
   }

@@ -10,7 +10,7 @@ use office_tables::people::{add_person, drop_person, set_home, set_withdrawn};
 use room_types::{Key, Name, PersonId, RoomCode};
 use sqlite::{Alter, Error, Transaction};
 
-/// A person is there, in place of one of the same identifier.
+/// A person is there. One of the same identifier may not be, since no change that fits puts a person twice.
 pub(crate) fn put_person<S: Alter>(
     tx: &mut Transaction<'_, S>,
     person: &PersonId,
@@ -28,7 +28,6 @@ pub(crate) fn put_person<S: Alter>(
     know_text(name);
     know_text(key);
     know_optional(home);
-    drop_person(tx, person)?;
     add_person(tx, person, name, key, home)
 }
 

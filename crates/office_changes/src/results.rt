@@ -7,11 +7,11 @@ ghost use Rattle.office_changes.specs.Carries.{CarriesAlways};
 
 use crate::cells::{know_move, know_optional, know_text};
 use office_tables::moves::add_move;
-use office_tables::results::{add_result, drop_result};
+use office_tables::results::add_result;
 use room_types::{Move, PersonId, RoomCode};
 use sqlite::{Alter, Error, Transaction};
 
-/// A person gets this room, or none, in place of any result before.
+/// A person gets this room, or none.
 pub(crate) fn put_result<S: Alter>(
     tx: &mut Transaction<'_, S>,
     person: &PersonId,
@@ -25,7 +25,6 @@ pub(crate) fn put_result<S: Alter>(
 {
     know_text(person);
     know_optional(room);
-    drop_result(tx, person)?;
     add_result(tx, person, room)
 }
 

@@ -6,12 +6,12 @@ ghost use Rattle.office_tables.specs.Steps.{StaysInside};
 ghost use Rattle.office_changes.specs.Carries.{CarriesAlways};
 
 use crate::cells::{know_text, know_word};
-use office_tables::words::{add_word, drop_word};
+use office_tables::words::add_word;
 use room_types::{PersonId, Word};
 use sqlite::{Alter, Error, Transaction};
 use std::alloc::Global;
 
-/// A person drew this word, in place of any before.
+/// A person drew this word.
 pub(crate) fn put_word<S: Alter>(
     alloc: Global,
     tx: &mut Transaction<'_, S>,
@@ -26,6 +26,5 @@ pub(crate) fn put_word<S: Alter>(
 {
     know_text(person);
     know_word(word);
-    drop_word(tx, person)?;
     add_word(alloc, tx, person, word)
 }

@@ -91,16 +91,20 @@ StaysApart office (change ∷ changes) =
     HomesDiffer office × StaysApart (applied office change) changes
 
 -- What a keeper of rows may rely on at each change, `first` being the office before all of them: a
--- room is known now as it was at first, who is put or dropped has not withdrawn, who withdraws or
--- gets a list, a word or a result is known, a person moves once a round, and a label is new.
+-- room is known now as it was at first, who is put is new, who is put or dropped has not withdrawn,
+-- who withdraws or gets a list is known, and so is who gets a word or a result, and has none yet; a
+-- person moves once a round, and a label is new.
 abbrev pub Fits : Office → Office → Change → Type 0
 Fits first office (PutRoom room shut) = knows_room office room ≡ knows_room first room
-Fits first office (PutPerson person name key home) = has_withdrawn office person ≡ false
+Fits first office (PutPerson person name key home) =
+    (knows_person office person ≡ false) × (has_withdrawn office person ≡ false)
 Fits first office (DropPerson person) = has_withdrawn office person ≡ false
 Fits first office (PutWithdrawn person) = knows_person office person ≡ true
 Fits first office (PutChoices person choices) = knows_person office person ≡ true
-Fits first office (PutWord person word) = knows_person office person ≡ true
-Fits first office (PutResult person room) = knows_person office person ≡ true
+Fits first office (PutWord person word) =
+    (knows_person office person ≡ true) × (map.contains_key office.words person ≡ false)
+Fits first office (PutResult person room) =
+    (knows_person office person ≡ true) × (map.contains_key office.results person ≡ false)
 Fits first office (AddMove move) =
     map.contains_key (moves_of office.moves move.round) move.person ≡ false
 Fits first office (KeepList label kind bytes count) =

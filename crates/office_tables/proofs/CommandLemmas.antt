@@ -65,17 +65,9 @@ pub add_word_is : Means text.add_word_text (Insert 5 (Values (lit Null ∷ col 0
 unfolding understood everything
 add_word_is = record { is = refl; plain = (refl, refl) }
 
-pub drop_word_is : Means text.drop_word_text (Delete 5 (alone (over 11 (by_parameter 1 0 ∷ []) (col 1 0 ∷ []) [])))
-unfolding understood everything
-drop_word_is = record { is = refl; plain = (refl, refl) }
-
 pub add_result_is : Means text.add_result_text (Insert 6 (Values (lit Null ∷ col 0 0 ∷ col 0 1 ∷ []) 3))
 unfolding understood everything
 add_result_is = record { is = refl; plain = (refl, refl) }
-
-pub drop_result_is : Means text.drop_result_text (Delete 6 (alone (over 13 (by_parameter 1 0 ∷ []) (col 1 0 ∷ []) [])))
-unfolding understood everything
-drop_result_is = record { is = refl; plain = (refl, refl) }
 
 pub add_move_is : Means text.add_move_text (Insert 3 (Values (lit Null ∷ col 0 0 ∷ col 0 1 ∷ col 0 2 ∷ col 0 3 ∷ col 0 4 ∷ []) 6))
 unfolding understood everything

@@ -95,18 +95,10 @@ module _ (old new : State) where
   makes_word person word = inserted_anew words old new text.add_word_text (Text person ∷ Text (word_text word) ∷ []) (lit Null ∷ col 0 0 ∷ col 0 1 ∷ []) 3 meaning.add_word_is
       (Null ∷ Text person ∷ Text (word_text word) ∷ []) refl (person, word) (ap (λ a. a ∷ Text person ∷ Text (word_text word) ∷ []) cast-Null)
 
-  pub makes_no_word_of : (person : Bytes) → Runs text.drop_word_text (Text person ∷ []) → Makes old new (edit.without_word_of person)
-  unfolding edit.without_word_of
-  makes_no_word_of person = deleted words old new text.drop_word_text (Text person ∷ []) (by_parameter 1 0 ∷ []) (col 1 0 ∷ []) (λ r. refl) (λ r. text_eq r.0 person) (λ e. same_text e.1.0 person) meaning.drop_word_is
-
   pub makes_result : (person : Bytes) (room : Option Bytes) → Runs text.add_result_text (Text person ∷ text_or_null room ∷ []) → Makes old new (edit.with_result person room)
   unfolding edit.with_result
   makes_result person room = inserted_anew results old new text.add_result_text (Text person ∷ text_or_null room ∷ []) (lit Null ∷ col 0 0 ∷ col 0 1 ∷ []) 3 meaning.add_result_is
       (Null ∷ Text person ∷ text_or_null room ∷ []) refl (person, record { room = room }) (ap₂ (λ a b. a ∷ Text person ∷ b ∷ []) cast-Null (cast-text_or_null room))
-
-  pub makes_no_result_of : (person : Bytes) → Runs text.drop_result_text (Text person ∷ []) → Makes old new (edit.without_result_of person)
-  unfolding edit.without_result_of
-  makes_no_result_of person = deleted results old new text.drop_result_text (Text person ∷ []) (by_parameter 1 0 ∷ []) (col 1 0 ∷ []) (λ r. refl) (λ r. text_eq r.0 person) (λ e. same_text e.1.0 person) meaning.drop_result_is
 
   pub makes_move : (move : Move) → Runs text.add_move_text (Int (pos move.round) ∷ Text move.person ∷ text_or_null move.from ∷ text_or_null move.to ∷ wave_value move.wave ∷ []) → Makes old new (edit.with_move move)
   unfolding edit.with_move

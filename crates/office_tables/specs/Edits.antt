@@ -78,17 +78,9 @@ without_choices_of person tables =
 unfoldable pub with_word : Text → ℕ → Tables → Tables
 with_word person word tables = record tables { words = (person, word) ∷ tables.words }
 
-unfoldable pub without_word_of : Text → Tables → Tables
-without_word_of person tables =
-    record tables { words = delete_where (λ r. text_eq r.0 person) tables.words }
-
 unfoldable pub with_result : Text → Option Text → Tables → Tables
 with_result person room tables =
     record tables { results = (person, record { room = room }) ∷ tables.results }
-
-unfoldable pub without_result_of : Text → Tables → Tables
-without_result_of person tables =
-    record tables { results = delete_where (λ r. text_eq r.0 person) tables.results }
 
 -- no choices, words and results
 unfoldable pub without_round_tables : Tables → Tables

@@ -77,16 +77,10 @@ drop_choices_text = codes "DELETE FROM choice WHERE person = ?1"
 abbrev pub add_word_text : List ℕ
 add_word_text = codes "INSERT INTO word(person, hex) VALUES (?1, ?2)"
 
-abbrev pub drop_word_text : List ℕ
-drop_word_text = codes "DELETE FROM word WHERE person = ?1"
-
 -- ---- the table result
 
 abbrev pub add_result_text : List ℕ
 add_result_text = codes "INSERT INTO result(person, room) VALUES (?1, ?2)"
-
-abbrev pub drop_result_text : List ℕ
-drop_result_text = codes "DELETE FROM result WHERE person = ?1"
 
 -- ---- the tables of a round
 

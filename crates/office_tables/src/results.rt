@@ -1,7 +1,7 @@
 //! The table of results.
 ghost use Rattle.std.specs.Prelude.{◌≡◌, OnOk, OnErr};
 ghost use Rattle.sqlite.specs.Held.{state};
-ghost use Rattle.office_tables.specs.Edits.{with_result, without_result_of};
+ghost use Rattle.office_tables.specs.Edits.{with_result};
 ghost use Rattle.office_tables.specs.Makes.{Makes};
 ghost use Rattle.office_tables.specs.Steps.{IsUndone, StaysInside};
 
@@ -29,22 +29,5 @@ pub fn add_result<S: Alter>(
         tx,
         "INSERT INTO result(person, room) VALUES (?1, ?2)",
         params![person.as_str(), code_of(room)],
-    )
-}
-
-/// Takes a person's result out.
-pub fn drop_result<S: Alter>(tx: &mut Transaction<'_, S>, person: &PersonId) -> Result<(), Error>
-    ensures same_reference { tx.new.conn.ghost_name ≡ tx.old.conn.ghost_name }
-    ensures made { OnOk result
-        (Makes (state S.Store tx.old.conn.now) (state S.Store tx.new.conn.now)
-        (without_result_of person.now)) }
-    ensures undone { OnErr result
-        (IsUndone (state S.Store tx.old.conn.now) (state S.Store tx.new.conn.now)) }
-    ensures inside { StaysInside (state S.Store tx.old.conn.now) (state S.Store tx.new.conn.now) }
-{
-    run(
-        tx,
-        "DELETE FROM result WHERE person = ?1",
-        params![person.as_str()],
     )
 }

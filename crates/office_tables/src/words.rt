@@ -1,7 +1,7 @@
 //! The table of the words of a draw.
 ghost use Rattle.std.specs.Prelude.{◌≡◌, OnOk, OnErr};
 ghost use Rattle.sqlite.specs.Held.{state};
-ghost use Rattle.office_tables.specs.Edits.{with_word, without_word_of};
+ghost use Rattle.office_tables.specs.Edits.{with_word};
 ghost use Rattle.office_tables.specs.Makes.{Makes};
 ghost use Rattle.office_tables.specs.Steps.{IsUndone, StaysInside};
 
@@ -30,22 +30,5 @@ pub fn add_word<S: Alter>(
         tx,
         "INSERT INTO word(person, hex) VALUES (?1, ?2)",
         params![person.as_str(), hex.as_str()],
-    )
-}
-
-/// Takes a person's word out.
-pub fn drop_word<S: Alter>(tx: &mut Transaction<'_, S>, person: &PersonId) -> Result<(), Error>
-    ensures same_reference { tx.new.conn.ghost_name ≡ tx.old.conn.ghost_name }
-    ensures made { OnOk result
-        (Makes (state S.Store tx.old.conn.now) (state S.Store tx.new.conn.now)
-        (without_word_of person.now)) }
-    ensures undone { OnErr result
-        (IsUndone (state S.Store tx.old.conn.now) (state S.Store tx.new.conn.now)) }
-    ensures inside { StaysInside (state S.Store tx.old.conn.now) (state S.Store tx.new.conn.now) }
-{
-    run(
-        tx,
-        "DELETE FROM word WHERE person = ?1",
-        params![person.as_str()],
     )
 }

@@ -5,11 +5,11 @@ use office_create::{CreateFault, create};
 use office_tables::choices::{add_choice, drop_choices};
 use office_tables::moves::add_move;
 use office_tables::people::{add_person, clear_withdrawn, drop_person, set_home, set_withdrawn};
-use office_tables::results::{add_result, drop_result};
+use office_tables::results::add_result;
 use office_tables::rooms::{add_room, set_shut};
 use office_tables::round_tables::clear_round_tables;
 use office_tables::rounds::set_round;
-use office_tables::words::{add_word, drop_word};
+use office_tables::words::add_word;
 use room_types::{Move, PersonId, Phase, RoomCode, Wave, Word};
 use sqlite::{Connection, Error, MemStore, Transaction};
 use std::alloc::Global;
@@ -99,7 +99,9 @@ fn writes_rows(rt: HostRuntime) {
     let person = text(&rt, alloc, "T1");
     add(&rt, alloc, &mut tx, &person, &room).expect(&rt, "rows are added");
     has_rows(&rt, &mut tx, &ADDED);
-    replace(&rt, alloc, &mut tx, &person, &room).expect(&rt, "rows are replaced");
+    drop_choices(&mut tx, &person).expect(&rt, "the list is dropped");
+    add_choice(&mut tx, &person, 0, &room).expect(&rt, "a list follows");
+    has_rows(&rt, &mut tx, &ADDED);
     clear(&mut tx, &person, &room).expect(&rt, "rows are cleared");
     has_rows(&rt, &mut tx, &CLEARED);
     tx.commit().expect(&rt, "a commit");
@@ -136,22 +138,6 @@ fn add(
             wave: Wave::Nth(2),
         },
     )?;
-    Ok(())
-}
-
-fn replace(
-    rt: &impl Abort,
-    alloc: Global,
-    tx: &mut Transaction<'_, MemStore>,
-    person: &PersonId,
-    room: &RoomCode,
-) -> Result<(), Error> {
-    drop_choices(tx, person)?;
-    add_choice(tx, person, 0, room)?;
-    drop_word(tx, person)?;
-    add_word(alloc, tx, person, Word::new(7))?;
-    drop_result(tx, person)?;
-    add_result(tx, person, &Some(text(rt, alloc, "H1")))?;
     Ok(())
 }
 

@@ -52,8 +52,11 @@ add_person-leads office person name key home l h =
       leads = refl;
       apart = (l.register.homes, lawful.register.homes);
       fits = (
-        unknown_stays office.rooms office.people office.choices office.withdrawn l.lists
-            person n.1.0,
+        (
+          n.1.0,
+          unknown_stays office.rooms office.people office.choices office.withdrawn l.lists
+              person n.1.0,
+        ),
         tt,
       );
       lawful = lawful;

@@ -1,6 +1,7 @@
 -- A draw keeps the laws.
 use Rattle.std.proofs.Common.{◌≡◌, ℕ, not, ◌||◌, List, [], ◌∷◌, length, None, refl, ap, ◌∙◌, sym}
 use Rattle.std.proofs.lemmas.Bool.{and_parts, not-false, eqb-true}
+use Rattle.std.proofs.lemmas.Map.Keys.{IsDistinct-from_sorted}
 use Rattle.std.proofs.Math.Bool.{or-false}
 use Rattle.std.specs.List.{list_any}
 use Rattle.std.specs.Option.{is_some}
@@ -15,7 +16,7 @@ use Rattle.office_state.specs.Office.{participants, knows_person, has_withdrawn}
 use Rattle.office_state.specs.declared.change.Change.{Change}
 use Rattle.office_state.specs.declared.change.Change.TheVariants.{PutRound}
 use Rattle.office_state.specs.declared.office.Office.{Office}
-use Rattle.office_state.proofs.RoundLemmas.People.{participants_hold}
+use Rattle.office_state.proofs.RoundLemmas.People.{participants_ascend, participants_hold}
 use Rattle.office_state.proofs.OfficeLemmas.Over.{over-under_way}
 use Rattle.office_state.proofs.OfficeLemmas.Untouched.{closed_undrawn, closed_busy, undrawn}
 use Rattle.office_state.proofs.OfficeLemmas.Untouched.{results_undrawn, moves_stay}
@@ -66,8 +67,12 @@ draw-leads office words l h =
       apart = words_put-apart office people words rest l.register.homes
           (l.register.homes, l.register.homes);
       fits = words_put-fit office office people words rest
-          (λ q e. (and_parts (knows_person office q) (not (has_withdrawn office q))
-          (sym (participants_hold office q) ∙ e)).0)
+          (IsDistinct-from_sorted text_cmp people (participants_ascend office))
+          (λ q e. (
+            (and_parts (knows_person office q) (not (has_withdrawn office q))
+                (sym (participants_hold office q) ∙ e)).0,
+            ap (λ kept. map.contains_key kept q) u.no_words ∙ ap is_some (get-empty text_cmp q),
+          ))
           (tt, tt);
       lawful = lawful;
     }

@@ -1,14 +1,17 @@
 -- A run keeps the laws.
-use Rattle.std.proofs.Common.{◌≡◌, Bool, true, false, cond, not, List, [], ◌∷◌, ◌++◌}
-use Rattle.std.proofs.Common.{map as map_list, Option, Some, None, refl, ap, ◌∙◌, sym}
+use Rattle.std.proofs.Common.{◌≡◌, Bool, true, false, cond, not, List, [], ◌∷◌, ◌++◌, T}
+use Rattle.std.proofs.Common.{map as map_list, Option, Some, None, refl, ap, ◌∙◌, sym, inl, inr}
 use Rattle.std.proofs.lemmas.Bool.{and_parts, not-false}
 use Rattle.std.specs.Cmp.{tied_itself}
 use Rattle.std.specs.Cmp.Lexicographic.{nat_list_cmp_total}
 use Rattle.std.specs.Option.{is_some}
 use Rattle.std.specs.Ordering.{eq_by_cmp, is_eq}
 use Rattle.std.specs.FinMap as map
-use Rattle.std.specs.FinMap.{find, get-entries}
+use Rattle.std.specs.FinMap.{entries_sorted, find, get-empty, get-entries, is_sorted}
+use Rattle.std.specs.FinMap.Entries.{below_all}
+use Rattle.room_types.specs.TextMaps.{first_holds, get-put_other, second_holds, text_cases}
 use Rattle.room_types.specs.Texts.{Text, text_cmp}
+use Rattle.room_types.proofs.MapEntries.{none_below}
 use Rattle.room_types.specs.declared.phase.Phase.TheVariants.{Ran}
 use Rattle.office_state.specs.Change.{applied_all, LeadsOn, StaysApart, AllFit}
 use Rattle.office_state.specs.Office.Invariants.{IsLawful, HomesDiffer}
@@ -51,17 +54,37 @@ found_later : {X : Type 0} (b : Bool) (x : X) (o : Option X) → is_some o ≡ t
 found_later true x o e = refl
 found_later false x o e = e
 
--- each of the people with a result is known
+-- who is found below an entry is another person
+found_below : {X : Type 0} (p : Text) (es : List (Text × X)) → T (below_all text_cmp p es)
+    → (q : Text) → is_some (find text_cmp q es) ≡ true → eq_by_cmp text_cmp q p ≡ false
+found_below p es below q found =
+    elim (text_cases q p) as (λ _. eq_by_cmp text_cmp q p ≡ false) [
+      | inl same ↦
+          let no : true ≡ false = sym found
+          ∙ ap (λ k. is_some (find text_cmp k es)) same
+          ∙ ap is_some (none_below text_cmp p es below) in
+          absurd (cc)
+      | inr other ↦ other
+    ]
+
+-- each of the people who get a result is known, and has none yet
 results-fit : (first office : Office) (es : List (Text × Assigned)) (rest : List Change)
-    → ((q : Text) → is_some (find text_cmp q es) ≡ true → knows_person office q ≡ true)
+    → T (is_sorted text_cmp es)
+    → ((q : Text) → is_some (find text_cmp q es) ≡ true
+    → (knows_person office q ≡ true) × (map.contains_key office.results q ≡ false))
     → AllFit first (record office { results = with_all office.results es }) rest
     → AllFit first office (map_list result_put es ++ rest)
-results-fit first office [] rest known s = s
-results-fit first office (e ∷ es) rest known s = (
-  known e.0 (ap (λ o. is_some (cond (is_eq o) (Some e.1) (find text_cmp e.0 es)))
+results-fit first office [] rest sorted new s = s
+results-fit first office (e ∷ es) rest sorted new s = (
+  new e.0 (ap (λ o. is_some (cond (is_eq o) (Some e.1) (find text_cmp e.0 es)))
       (tied_itself nat_list_cmp_total e.0)),
   results-fit first (record office { results = map.insert office.results e.0 e.1 }) es rest
-      (λ q h. known q (found_later (eq_by_cmp text_cmp q e.0) e.1 (find text_cmp q es) h)) s,
+      (second_holds _ _ sorted)
+      (λ q h. let there = new q (found_later (eq_by_cmp text_cmp q e.0) e.1 (find text_cmp q es) h) in (
+        there.0,
+        ap is_some (get-put_other office.results e.0 e.1 q
+            (found_below e.0 es (first_holds _ _ sorted) q h)) ∙ there.1,
+      )) s,
 )
 
 pub run-leads : (office : Office) → IsLawful office → first_refusal (checks office) ≡ None
@@ -100,10 +123,14 @@ run-leads office l h =
           ∙ with_all-entries (round_results office));
       apart = results-apart office entries rest l.register.homes
           (l.register.homes, l.register.homes);
-      fits = results-fit office office entries rest
-          (λ q e. (and_parts (knows_person office q) (not (has_withdrawn office q))
-          (sym (contains_key-round_results office q)
-          ∙ ap is_some (get-entries (round_results office) q) ∙ e)).0)
+      fits = results-fit office office entries rest (entries_sorted (round_results office))
+          (λ q e. (
+            (and_parts (knows_person office q) (not (has_withdrawn office q))
+                (sym (contains_key-round_results office q)
+                ∙ ap is_some (get-entries (round_results office) q) ∙ e)).0,
+            ap (λ kept. map.contains_key kept q) (l.results.none (drawn_unran office.phase drawn))
+                ∙ ap is_some (get-empty text_cmp q),
+          ))
           (tt, tt);
       lawful = lawful;
     }

@@ -1,15 +1,16 @@
 -- Words that are put, one person at a time.
 use Rattle.std.proofs.Common.{◌≡◌, ℕ, ◌+◌, ◌<◌, Bool, true, false, ◌||◌, List, [], ◌∷◌, ◌++◌}
-use Rattle.std.proofs.Common.{length, drop, get_or, refl, ap, ◌∙◌, arith}
+use Rattle.std.proofs.Common.{length, drop, get_or, refl, ap, sym, ◌∙◌, inl, inr, arith}
 use Rattle.std.proofs.lemmas.Bool.{or_right}
 use Rattle.std.proofs.lemmas.List.{drop_more}
-use Rattle.std.specs.List.{list_any}
+use Rattle.std.specs.List.{AllByRecursion, IsDistinct, list_any}
 use Rattle.std.specs.Option.{is_some}
 use Rattle.std.specs.Cmp.{tied_itself}
 use Rattle.std.specs.Ordering.{eq_by_cmp, is_eq}
 use Rattle.std.specs.Cmp.Lexicographic.{nat_list_cmp_total}
 use Rattle.std.specs.FinMap as map
 use Rattle.std.specs.FinMap.{get-insert}
+use Rattle.room_types.specs.TextMaps.{get-put_other, text_cases}
 use Rattle.room_types.specs.Texts.{Text, TextMap, text_cmp}
 use Rattle.office_state.specs.Change.{applied_all, StaysApart, AllFit}
 use Rattle.office_state.specs.Office.Invariants.{HomesDiffer}
@@ -50,22 +51,49 @@ words_put-apart office (person ∷ people) (word ∷ words) rest h s = (
 words_put-apart office [] words rest h s = s
 words_put-apart office (person ∷ people) [] rest h s = s
 
--- each of the people with a word is known
+none_again : (person : Text) (others : List Text)
+    → AllByRecursion (λ other. eq_by_cmp text_cmp person other ≡ false) others
+    → list_any (eq_by_cmp text_cmp person) others ≡ false
+none_again person [] differ = refl
+none_again person (other ∷ others) differ =
+    ap (λ b. b || list_any (eq_by_cmp text_cmp person) others) differ.0
+    ∙ none_again person others differ.1
+
+-- who comes later is another person, where people differ
+comes_later : (person : Text) (others : List Text)
+    → AllByRecursion (λ other. eq_by_cmp text_cmp person other ≡ false) others
+    → (q : Text) → list_any (eq_by_cmp text_cmp q) others ≡ true → eq_by_cmp text_cmp q person ≡ false
+comes_later person others differ q later =
+    elim (text_cases q person) as (λ _. eq_by_cmp text_cmp q person ≡ false) [
+      | inl same ↦
+          let no : true ≡ false = sym later
+          ∙ ap (λ p. list_any (eq_by_cmp text_cmp p) others) same ∙ none_again person others differ in
+          absurd (cc)
+      | inr other ↦ other
+    ]
+
+-- each of the people who get a word is known, and has none yet
 pub words_put-fit : (first office : Office) (people : List Text) (words : List ℕ)
-    (rest : List Change)
-    → ((q : Text) → list_any (eq_by_cmp text_cmp q) people ≡ true → knows_person office q ≡ true)
+    (rest : List Change) → IsDistinct (eq_by_cmp text_cmp) people
+    → ((q : Text) → list_any (eq_by_cmp text_cmp q) people ≡ true
+    → (knows_person office q ≡ true) × (map.contains_key office.words q ≡ false))
     → AllFit first (record office { words = with_words office.words people words }) rest
     → AllFit first office (words_put people words ++ rest)
-words_put-fit first office (person ∷ people) (word ∷ words) rest known s = (
-  known person (ap (λ o. is_eq o || list_any (eq_by_cmp text_cmp person) people)
+unfolding IsDistinct
+words_put-fit first office (person ∷ people) (word ∷ words) rest differ new s = (
+  new person (ap (λ o. is_eq o || list_any (eq_by_cmp text_cmp person) people)
       (tied_itself nat_list_cmp_total person)),
   words_put-fit first (record office { words = map.insert office.words person word }) people words
-      rest
-      (λ q e. known q (or_right (eq_by_cmp text_cmp q person)
-      (list_any (eq_by_cmp text_cmp q) people) e)) s,
+      rest differ.1
+      (λ q e. let there = new q (or_right (eq_by_cmp text_cmp q person)
+      (list_any (eq_by_cmp text_cmp q) people) e) in (
+        there.0,
+        ap is_some (get-put_other office.words person word q (comes_later person people differ.0 q e))
+            ∙ there.1,
+      )) s,
 )
-words_put-fit first office [] words rest known s = s
-words_put-fit first office (person ∷ people) [] rest known s = s
+words_put-fit first office [] words rest differ new s = s
+words_put-fit first office (person ∷ people) [] rest differ new s = s
 
 or_swap : (a b c : Bool) → (a || (b || c)) ≡ ((b || a) || c)
 or_swap true true c = refl

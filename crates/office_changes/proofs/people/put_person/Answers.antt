@@ -6,11 +6,8 @@ use Rattle.office_changes.proofs.people.put_person.Goals as goal
 pub returns-clause-made : goal.returns-clause-made
 returns-clause-made g c =
     let old = state g.S.Store c.args.tx.now.conn.now in
-    let mid = state g.S.Store c.drop_person.new.tx.conn.now in
     let new = state g.S.Store c.add_person.new.tx.conn.now in
     on_ok_weaker c.add_person.result
-    (carries_person old mid new c.add_person.ensures.inside c.args.person.now c.args.name.now c.args.key.now
-    c.args.home.now
-    c.know_text.ensures c.know_text-2.ensures c.know_text-3.ensures c.know_optional.ensures
-    c.in_ok-drop_person.ensures.made)
+    (carries_person old new c.args.person.now c.args.name.now c.args.key.now c.args.home.now
+    c.know_text.ensures c.know_text-2.ensures c.know_text-3.ensures c.know_optional.ensures)
     c.add_person.ensures.made

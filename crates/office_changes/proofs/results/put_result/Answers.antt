@@ -6,9 +6,7 @@ use Rattle.office_changes.proofs.results.put_result.Goals as goal
 pub returns-clause-made : goal.returns-clause-made
 returns-clause-made g c =
     let old = state g.S.Store c.args.tx.now.conn.now in
-    let mid = state g.S.Store c.drop_result.new.tx.conn.now in
     let new = state g.S.Store c.add_result.new.tx.conn.now in
     on_ok_weaker c.add_result.result
-    (carries_result old mid new c.add_result.ensures.inside c.args.person.now c.args.room.now c.know_text.ensures
-    c.know_optional.ensures c.in_ok-drop_result.ensures.made)
+    (carries_result old new c.args.person.now c.args.room.now c.know_text.ensures c.know_optional.ensures)
     c.add_result.ensures.made

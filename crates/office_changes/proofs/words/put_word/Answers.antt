@@ -6,9 +6,7 @@ use Rattle.office_changes.proofs.words.put_word.Goals as goal
 pub returns-clause-made : goal.returns-clause-made
 returns-clause-made g c =
     let old = state g.S.Store c.args.tx.now.conn.now in
-    let mid = state g.S.Store c.drop_word.new.tx.conn.now in
     let new = state g.S.Store c.add_word.new.tx.conn.now in
     on_ok_weaker c.add_word.result
-    (carries_word old mid new c.add_word.ensures.inside c.args.person.now c.args.word c.know_text.ensures
-    c.know_word.ensures c.in_ok-drop_word.ensures.made)
+    (carries_word old new c.args.person.now c.args.word c.know_text.ensures c.know_word.ensures)
     c.add_word.ensures.made
