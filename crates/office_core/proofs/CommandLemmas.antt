@@ -7,6 +7,7 @@ pub mod Cancel
 pub mod Changes
 pub mod CloseRound
 pub mod Draw
+pub mod Ended
 pub mod Import
 pub mod Indexed
 pub mod Kept

@@ -1,6 +1,6 @@
 -- Reading the fields of a record.
 use Rattle.std.proofs.Common.{◌≡◌, ◌∙◌, ◌<◌, ◌≤◌, ◌++◌, ◌==◌, ◌&&◌, Bor, Bool, true, false, ℕ, suc, List, [], ◌∷◌, length, map, drop, get_or, drop-cons, Some, refl, sym, ap, rules, tests}
-use Rattle.std.proofs.lemmas.Bool.{ne_eqb}
+use Rattle.std.proofs.lemmas.Bool.{and_parts, false_from_ne_true, ne_eqb}
 use Rattle.std.proofs.lemmas.List.{drop_all}
 use Rattle.std.proofs.lemmas.Str.{IsUtf8-from_is_utf8, is_utf8-from_IsUtf8}
 use Rattle.std.specs.List.{list_all, slice_split}
@@ -44,15 +44,8 @@ all_utf8 (f ∷ fs) text = rw (is_utf8-from_IsUtf8 f text.0, all_utf8 fs text.1)
 pub all_text : (fields : Record) → list_all is_utf8 fields ≡ true → AllText fields
 unfolding AllText
 all_text [] all = tt
-all_text (f ∷ fs) all = (IsUtf8-from_is_utf8 f (left (is_utf8 f) _ all), all_text fs (right (is_utf8 f) _ all))
-  where
-    left : (a b : Bool) → (a && b) ≡ true → a ≡ true
-    left true b e = refl
-    left false b e = cc e
-
-    right : (a b : Bool) → (a && b) ≡ true → b ≡ true
-    right true b e = e
-    right false b e = cc e
+all_text (f ∷ fs) all =
+    let parts = and_parts (is_utf8 f) _ all in (IsUtf8-from_is_utf8 f parts.0, all_text fs parts.1)
 
 same_count : (m n : ℕ) → m ≡ n → (m == n) ≡ true
 same_count m n e = search (rules, tests)
@@ -61,11 +54,7 @@ pub other_count : {X : Type 0} (form : ListForm X) (fields : Record) → ¬ (len
 other_count form fields differ = rw (ne_eqb (length fields) (length form.header) differ) refl
 
 pub no_text : {X : Type 0} (form : ListForm X) (fields : Record) → length fields ≡ length form.header → ¬ (AllText fields) → cause_of form fields ≡ Some NotText
-no_text form fields same bad = rw (same_count (length fields) (length form.header) same, none (list_all is_utf8 fields) (λ e. bad (all_text fields e))) refl
-  where
-    none : (b : Bool) → ¬ (b ≡ true) → b ≡ false
-    none true h = absurd (h refl)
-    none false h = refl
+no_text form fields same bad = rw (same_count (length fields) (length form.header) same, false_from_ne_true (list_all is_utf8 fields) (λ e. bad (all_text fields e))) refl
 
 pub cause_of_text : {X : Type 0} (form : ListForm X) (fields : Record) → length fields ≡ length form.header → AllText fields → cause_of form fields ≡ field_cause form fields
 cause_of_text form fields same text = rw (same_count (length fields) (length form.header) same, all_utf8 fields text) refl

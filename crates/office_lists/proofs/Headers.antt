@@ -1,5 +1,6 @@
 -- Comparing a record with a header, field by field.
 use Rattle.std.proofs.Common.{◌≡◌, ◌∙◌, ◌<◌, ◌≤◌, ◌+◌, ◌&&◌, not, Bor, Bool, true, false, ℕ, zero, suc, List, [], ◌∷◌, length, map, drop, get_or, Some, None, refl, sym, ap, ap₂, arith, add-one, drop-cons}
+use Rattle.std.proofs.lemmas.Bool.{not-false, not-true}
 use Rattle.std.specs.Str.{bytes_eq}
 use Rattle.csv.specs.Records.{field_at}
 use Rattle.room_types.specs.Texts.{Text}
@@ -55,22 +56,14 @@ finished names fs same from = from ∙ ap₂ (λ (ns : List (Bor Text)) (gs : Re
 pub same_at : (names : List (Bor Text)) (fs : Record) (i : ℕ) (d : Bor Text) (f n : Text) → i < length names → Some f ≡ field_at fs i
     → SameFrom names fs i → n ≡ (get_or names i d).now → not (bytes_eq f n) ≡ false → SameFrom names fs (i + 1)
 same_at names fs i d f n low is same name e =
-    let equal : bytes_eq f (get_or names i d).now ≡ true = ap (bytes_eq f) (sym name) ∙ not_false (bytes_eq f n) e in
+    let equal : bytes_eq f (get_or names i d).now ≡ true = ap (bytes_eq f) (sym name) ∙ not-false (bytes_eq f n) e in
     at_field names fs i d f low (sym is) same ∙ ap (λ (b : Bool). b && same_fields (texts (drop (i + 1) names)) (drop (i + 1) fs)) equal
-  where
-    not_false : (b : Bool) → not b ≡ false → b ≡ true
-    not_false true h = refl
-    not_false false h = cc
 
 pub differs_at : (names : List (Bor Text)) (fs : Record) (i : ℕ) (d : Bor Text) (f n : Text) → i < length names → Some f ≡ field_at fs i
     → SameFrom names fs i → n ≡ (get_or names i d).now → not (bytes_eq f n) ≡ true → false ≡ same_fields (texts names) fs
 differs_at names fs i d f n low is same name e =
-    let other : bytes_eq f (get_or names i d).now ≡ false = ap (bytes_eq f) (sym name) ∙ not_true (bytes_eq f n) e in
+    let other : bytes_eq f (get_or names i d).now ≡ false = ap (bytes_eq f) (sym name) ∙ not-true (bytes_eq f n) e in
     sym (at_field names fs i d f low (sym is) same ∙ ap (λ (b : Bool). b && same_fields (texts (drop (i + 1) names)) (drop (i + 1) fs)) other)
-  where
-    not_true : (b : Bool) → not b ≡ true → b ≡ false
-    not_true true h = cc
-    not_true false h = refl
 
 -- a field that is missing is past the end
 pub missing : (fs : Record) (i : ℕ) → None ≡ field_at fs i → length fs ≤ i

@@ -1,6 +1,6 @@
 -- The records that a reader has given, and what a list of them is.
 use Rattle.std.proofs.Common.{◌≡◌, ◌∙◌, ◌<◌, ◌≤◌, ◌+◌, ◌++◌, ◌==◌, ◌&&◌, Bor, Bool, true, false, cond, ℕ, zero, suc, List, [], ◌∷◌, length, map, nat_lt, Option, Some, None, refl, sym, ap, arith, inl, inr, append_assoc, length-append, le-ltb}
-use Rattle.std.proofs.lemmas.Bool.{ne_eqb}
+use Rattle.std.proofs.lemmas.Bool.{and_parts, ne_eqb}
 use Rattle.std.proofs.lemmas.List.{map-append, length-map}
 use Rattle.std.specs.Option.{option_map, option_map_or}
 use Rattle.csv.specs.Reading.{ExplainsRead, Reached, ReadRecord, Ready, default_config, error_kind, is_flexible, records_from, source_of, stops_reader, strip_bom}
@@ -239,8 +239,4 @@ unfolding same_fields
 same_width [] [] same = refl
 same_width [] (y ∷ ys) same = cc same
 same_width (x ∷ xs) [] same = cc same
-same_width (x ∷ xs) (y ∷ ys) same = ap suc (same_width xs ys (right _ _ same))
-  where
-    right : (a b : Bool) → (a && b) ≡ true → b ≡ true
-    right true b e = e
-    right false b e = cc e
+same_width (x ∷ xs) (y ∷ ys) same = ap suc (same_width xs ys (and_parts _ _ same).1)

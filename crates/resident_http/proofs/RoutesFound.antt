@@ -1,5 +1,6 @@
 -- What the router finds is what the path stands for.
 use Rattle.std.proofs.Common.{◌≡◌, ℕ, Bool, true, false, cond, ◌&&◌, List, [], ◌∷◌, Some, None, refl, ap, ◌∙◌, arith, nat_lt, codes, bytes_eq, option_map}
+use Rattle.std.proofs.lemmas.Bool.{and_parts}
 use Rattle.std.proofs.lemmas.Bool.Decides.{nat_tests}
 use Rattle.std.specs.List.{list_all}
 use Rattle.matchit.specs.Router.{RouteOf}
@@ -9,14 +10,10 @@ use Rattle.resident_http.specs.Routes.{route_of}
 use Rattle.resident_http.specs.RouteRows.{route_rows}
 use Rattle.resident_http.proofs.LiteralRoutes.{IsLiteral, seek_literal}
 
-both : (a b : Bool) → (a && b) ≡ true → (a ≡ true) × (b ≡ true)
-both true b e = (refl, e)
-both false b e = absurd (cc)
-
 literal : (text : List ℕ) → list_all (λ b. nat_lt b 256) text ≡ true → IsLiteral text
 literal [] e = tt
 literal (b ∷ text) e =
-    let parts = both (nat_lt b 256) (list_all (λ x. nat_lt x 256) text) e in
+    let parts = and_parts (nat_lt b 256) (list_all (λ x. nat_lt x 256) text) e in
     let first = parts.0 in
     (grind (arith, nat_tests), literal text parts.1)
 

@@ -1,6 +1,7 @@
 -- What finite maps from texts say after a change: laws for the crates above.
 use Rattle.std.specs.Prelude.{◌≡◌, ◌+◌, Bool, true, false, ◌&&◌, T, List, [], ◌∷◌, map, Some, None, cond, refl, ◌⊎◌}
 use Rattle.std.proofs.Common.{sym, ap, ◌∙◌, subst, inl, inr}
+use Rattle.std.proofs.lemmas.Bool.{false≢true}
 use Rattle.std.proofs.lemmas.Simd.{map-map}
 use Rattle.std.specs.declared.cmp.Ordering.{Ordering}
 use Rattle.std.specs.declared.cmp.Ordering.TheVariants.{Less, Equal, Greater}
@@ -29,6 +30,11 @@ text_cases q k =
       | Equal ↦ λ e. inl (exact_texts q k e)
       | Greater ↦ λ e. inr refl
     ] refl
+
+pub tied_text : (q k : Text) → eq_by_cmp text_cmp q k ≡ true → q ≡ k
+tied_text q k ties =
+    elim (text_cases q k) as (λ _. q ≡ k)
+    [ inl same ↦ same | inr other ↦ absurd (false≢true (sym other ∙ ties)) ]
 
 -- not both
 pub differ : (q k : Text) → q ≡ k → eq_by_cmp text_cmp q k ≡ false → ⊥

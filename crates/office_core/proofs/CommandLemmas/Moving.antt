@@ -15,6 +15,7 @@ use Rattle.std.proofs.lemmas.List.FromFn.{get_or-map-range_with_len}
 use Rattle.std.proofs.lemmas.List.Sorted.{All-permutation, Contains-permutation, list_any-IsPermutation, ranks_by, sorted_far}
 use Rattle.std.proofs.lemmas.List.Sums.{passes_at_first}
 use Rattle.room_types.specs.Ascending.{ascending}
+use Rattle.room_types.specs.TextMaps.{tied_text}
 use Rattle.room_types.specs.Texts.{Text, text_cmp}
 use Rattle.room_types.specs.declared.moves.Move.{Move}
 use Rattle.room_types.specs.declared.moves.Wave.{Wave}
@@ -26,7 +27,7 @@ use Rattle.office_lists.proofs.Following.{number-later}
 use Rattle.office_lists.proofs.Leavers.{as_many_waves, has_left, has_left_room, left_room, one_wave_each, position_found}
 use Rattle.office_lists.proofs.MoveDays.{move_total}
 use Rattle.office_state.specs.Round.Settlement.{moves_with}
-use Rattle.office_state.proofs.RoundLemmas.Movers.{is_mover, tied_text}
+use Rattle.office_state.proofs.RoundLemmas.Movers.{is_mover}
 use Rattle.office_core.specs.Command.Settle.{swaps}
 
 -- who moves, without the wave

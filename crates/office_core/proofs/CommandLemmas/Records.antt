@@ -2,7 +2,7 @@
 use Rattle.std.proofs.Common.{◌≡◌, ◌+◌, ◌≤◌, ◌==◌, ◌&&◌, ℕ, Bool, true, false, not, List, [], ◌∷◌}
 use Rattle.std.proofs.Common.{length, map, nat_lt, Option, Some, None, cond, refl}
 use Rattle.std.proofs.Common.{arith}
-use Rattle.std.proofs.lemmas.Bool.{ltb-false}
+use Rattle.std.proofs.lemmas.Bool.{and_parts, ltb-false}
 use Rattle.std.proofs.lemmas.List.{length-map}
 use Rattle.std.specs.Prelude.{is_none}
 use Rattle.std.specs.List.{list_all}
@@ -93,10 +93,6 @@ few_rows form bytes h =
     length-map (data_records (records_of bytes)) form.entry in
     omega (arith, few_records form bytes h, same)
 
-both : (a b : Bool) → (a && b) ≡ true → (a ≡ true) × (b ≡ true)
-both true b h = (refl, h)
-both false b h = cc
-
 no_fault : {A : Type 0} (o : Option A) → is_none o ≡ true → o ≡ None
 no_fault None h = refl
 no_fault (Some x) h = cc
@@ -125,7 +121,7 @@ recordable fields h =
     let choices = where_so (is_choices (field 1 fields)) None 2 person.1 in
     faultless (codes_in (field 1 fields))
     (no_fault (choices_fault (codes_in (field 1 fields)))
-    (both (list_all is_room_code (codes_in (field 1 fields)))
+    (and_parts (list_all is_room_code (codes_in (field 1 fields)))
     (is_none (choices_fault (codes_in (field 1 fields)))) choices.0).1)
 
 each_told : (rows : List Record) → Each (λ fields. cause_of choices_list fields ≡ None) rows

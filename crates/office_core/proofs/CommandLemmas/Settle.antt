@@ -27,10 +27,9 @@ use Rattle.office_state.specs.declared.change.Change.{Change}
 use Rattle.office_state.specs.declared.change.Change.TheVariants.{ClearRound, PutRound}
 use Rattle.office_state.specs.declared.office.Office.{Office}
 use Rattle.office_state.specs.declared.office.person.Person.{Person}
-use Rattle.office_state.proofs.OfficeLemmas.Empty.{no_lists}
 use Rattle.office_state.proofs.OfficeLemmas.Moves.{no_moves_known}
 use Rattle.office_state.proofs.OfficeLemmas.Over.{over-idle, under_way-not_over}
-use Rattle.office_state.proofs.OfficeLemmas.Untouched.{published_busy, published_given, results_undrawn}
+use Rattle.office_state.proofs.OfficeLemmas.Untouched.{published_busy, published_given}
 use Rattle.office_state.proofs.RoundLemmas.Movers.{is_mover, mover_to, mover_to-by, each_mover}
 use Rattle.office_state.proofs.RoundLemmas.Movers.{left_people, arrived_people, people_settled, left_home, stays_settled}
 use Rattle.office_state.proofs.RoundLemmas.Problem.{lawful-IsMarket}
@@ -40,6 +39,7 @@ use Rattle.office_state.proofs.RoundLemmas.Settling.{home_in}
 use Rattle.office_core.specs.Refusal.Checks.{first_refusal}
 use Rattle.office_core.specs.Command.Settle.{checks, next, changes_of, swaps}
 use Rattle.office_core.proofs.RefusalLemmas.Checks.{none_applies}
+use Rattle.office_core.proofs.CommandLemmas.Ended.{ended-lawful}
 use Rattle.office_core.proofs.CommandLemmas.Moving.{mover_of, movers_of, all_moves, all_cleared}
 use Rattle.office_core.proofs.CommandLemmas.Moving.{is_mover-ascending, is_mover-swaps, FindEmpty, empty_in_order}
 use Rattle.office_core.proofs.CommandLemmas.Settling.{left-lead, arrived-lead, moves-lead, left-apart}
@@ -197,18 +197,6 @@ module _ (office : Office) (l : IsLawful office) (h : first_refusal (checks offi
             (fresh office.moves office.number ms (waves_of ms)
             (none_yet office l (under_way-not_over office busy) ms)
             (movers_differ office l.register ok given)) (tt, (tt, tt))));
-        lawful = record {
-          kept = l.kept;
-          register = register;
-          lists = no_lists office.rooms (settled_people office);
-          round = record {
-            few_rounds = l.round.few_rounds;
-            numbered = λ e. absurd (cc);
-            idle_choices = λ _. refl;
-            idle_withdrawn = λ _. refl;
-          };
-          words = record { none = λ _. refl; each = λ e. absurd (cc) };
-          results = results_undrawn new refl refl;
-          moves = record { over = kept.over; none_empty = kept.none_empty; arrived = kept.arrived };
-        };
+        lawful = ended-lawful office (settled_people office) new.moves l register
+            (record { over = kept.over; none_empty = kept.none_empty; arrived = kept.arrived });
       }

@@ -6,7 +6,7 @@ use Rattle.std.specs.List.{All}
 use Rattle.std.specs.Ordering.{eq_by_cmp}
 use Rattle.std.specs.FinMap as map
 use Rattle.room_types.specs.Texts.{Text, TextMap, text_cmp}
-use Rattle.room_types.specs.TextMaps.{differ}
+use Rattle.room_types.specs.TextMaps.{differ, tied_text}
 use Rattle.room_types.specs.declared.moves.Move.{Move}
 use Rattle.office_state.specs.Change.{with_home, applied_all, StaysApart, AllFit}
 use Rattle.office_state.specs.Office.Invariants.{HomesDiffer, Unshared}
@@ -18,7 +18,7 @@ use Rattle.office_state.specs.declared.office.Office.{Office}
 use Rattle.office_state.specs.declared.office.person.Person.{Person}
 use Rattle.office_state.proofs.OfficeLemmas.Homes.{moved}
 use Rattle.office_state.proofs.RoundLemmas.Movers.{rehomed, rehomed_by, at_home, get-rehomed}
-use Rattle.office_state.proofs.RoundLemmas.Movers.{left_people, arrived_people, tied_text}
+use Rattle.office_state.proofs.RoundLemmas.Movers.{left_people, arrived_people}
 use Rattle.office_state.proofs.RoundLemmas.Settling.{home_in, AreFresh}
 use Rattle.office_core.specs.Command.Settle.{leaving, arriving}
 use Rattle.office_core.proofs.CommandLemmas.Moving.{mover_of, CameBefore, FindEmpty}

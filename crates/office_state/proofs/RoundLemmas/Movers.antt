@@ -12,7 +12,7 @@ use Rattle.std.proofs.lemmas.Bool.{false≢true, not-false}
 use Rattle.std.proofs.lemmas.List.Elements.{All-map, recursion_from_All}
 use Rattle.std.proofs.lemmas.Map.Views.{any-filter_same}
 use Rattle.room_types.specs.Texts.{Text, TextMap, text_cmp}
-use Rattle.room_types.specs.TextMaps.{text_cases, exact_texts, len-put_known}
+use Rattle.room_types.specs.TextMaps.{text_cases, tied_text, exact_texts, len-put_known}
 use Rattle.room_types.proofs.Options.{none_if_not_some, option_or-none}
 use Rattle.office_lists.specs.Waves.{Mover}
 use Rattle.office_state.specs.Office.{home_of, participants, recorded_result, is_same_text}
@@ -23,12 +23,6 @@ use Rattle.office_state.specs.declared.office.Office.{Office}
 use Rattle.office_state.specs.declared.office.person.Person.{Person}
 use Rattle.office_state.proofs.RoundLemmas.People.{participants_hold}
 use Rattle.office_state.proofs.OfficeLemmas.People.{same_optional}
-
--- texts that tie are the same
-pub tied_text : (q p : Text) → eq_by_cmp text_cmp q p ≡ true → q ≡ p
-tied_text q p ties =
-    elim (text_cases q p) as (λ _. q ≡ p)
-    [ inl same ↦ same | inr other ↦ absurd (false≢true (sym other ∙ ties)) ]
 
 -- the people after one person's move, by what is known of the person
 abbrev pub rehomed_by : TextMap Person → Text → Option Text → Option Person → TextMap Person
