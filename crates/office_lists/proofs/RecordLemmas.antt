@@ -1,5 +1,5 @@
 -- The records that a reader has given, and what a list of them is.
-use Rattle.std.proofs.Common.{◌≡◌, ◌∙◌, ◌<◌, ◌≤◌, ◌+◌, ◌++◌, ◌==◌, ◌&&◌, Bor, Bool, true, false, cond, ℕ, zero, suc, List, [], ◌∷◌, length, map, nat_lt, Option, Some, None, refl, sym, ap, arith, inl, inr, append_assoc, length-append, le-ltb}
+use Rattle.std.proofs.Common.{◌≡◌, ◌∙◌, ◌<◌, ◌≤◌, ◌+◌, ◌++◌, ◌==◌, Bor, Bool, true, false, cond, ℕ, zero, suc, List, [], ◌∷◌, length, map, nat_lt, Option, Some, None, refl, sym, ap, arith, inl, inr, append_assoc, length-append, le-ltb}
 use Rattle.std.proofs.lemmas.Bool.{and_parts, ne_eqb}
 use Rattle.std.proofs.lemmas.List.{map-append, length-map}
 use Rattle.std.specs.Option.{option_map, option_map_or}

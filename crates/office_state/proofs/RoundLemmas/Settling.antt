@@ -2,14 +2,12 @@
 use Rattle.std.proofs.Common.{◌≡◌, false, List, [], ◌∷◌, Option, Some, cond, ap, ◌∙◌}
 use Rattle.std.specs.Prelude.{unwrap_or}
 use Rattle.std.specs.Option.{option_map}
-use Rattle.std.specs.List.{AllByRecursion}
 use Rattle.std.specs.Ordering.{is_eq}
 use Rattle.std.specs.Cmp.{nat_cmp_total, tied_itself}
 use Rattle.std.specs.FinMap as map
 use Rattle.std.specs.FinMap.{get-insert}
 use Rattle.room_types.specs.Texts.{Text, TextMap}
 use Rattle.room_types.specs.declared.moves.Move.{Move}
-use Rattle.office_lists.specs.Waves.{Mover}
 use Rattle.office_state.specs.Office.Moves.{RoundMap, moves_of, with_move}
 use Rattle.office_state.specs.Office.{had_by}
 use Rattle.office_state.specs.declared.office.moves.RoundMoves.{RoundMoves}
