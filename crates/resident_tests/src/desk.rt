@@ -4,15 +4,16 @@ mod faults;
 mod sockets;
 mod talks;
 
+use http::StatusCode;
 use office_store::{Desk, Handler};
 use office_words::{Sentence, read_line};
 use resident_desk::{Served, serve_one};
+use room_types::Watched;
 use room_types::stream::Pair;
-use room_types::{Stream, Watched};
 use sqlite::MemStore;
 use std::alloc::Global;
 use std::io::Read;
-use std::test::Fail;
+use std::process::Abort;
 
 // The round is open: T1 lives in H1 and T2 in H2, V is vacant, and T2 lists H1.
 const OPEN_ROUND: &str = "\
@@ -42,33 +43,68 @@ const ANSWER: &str = "HTTP/1.1 200 OK\r\n\
     \r\n\
     {\"choices\":[\"H2\"]}";
 
+// A conversation that went well.
+const WELL: Served = Served::Answered {
+    status: StatusCode::OK,
+};
+
+// How a conversation ended, and what was written.
+#[derive(Drop)]
+struct Talk {
+    how: Served,
+    written: Vec<u8>,
+}
+
 // A desk in an open round.
-fn open_round(alloc: Global) -> Result<Desk<MemStore>, Fail> {
-    let mut desk = Desk::in_memory(alloc)?;
-    handle_lines(alloc, &mut desk, OPEN_ROUND)?;
-    Ok(desk)
+fn open_round(rt: &impl Abort, alloc: Global) -> Desk<MemStore> {
+    let mut desk = Desk::in_memory(alloc).expect(rt, "a desk in memory");
+    handle_lines(rt, alloc, &mut desk, OPEN_ROUND);
+    desk
+}
+
+/// Lets the desk go. Whoever has one hands it on to here, so that it is proved in one place that all its parts can be let go.
+pub fn let_go(desk: Desk<MemStore>) {
+    drop(desk);
 }
 
 // Has these lines of the office handled at the desk.
-fn handle_lines(alloc: Global, desk: &mut Desk<MemStore>, lines: &str) -> Result<(), Fail> {
+fn handle_lines(rt: &impl Abort, alloc: Global, desk: &mut Desk<MemStore>, lines: &str) {
     for line in lines.lines() {
-        if let Sentence::Asks(request) = read_line(alloc, line.as_bytes())? {
-            let _answer = desk.handle(alloc, &request);
-        }
+        let sentence = read_line(alloc, line.as_bytes()).expect(rt, "memory");
+        handle_sentence(alloc, desk, sentence);
     }
-    Ok(())
 }
 
-// How the conversation with this reader ends, and what is written.
-fn served<R: Read + Drop>(
-    alloc: Global,
-    desk: &mut Desk<MemStore>,
-    reader: R,
-) -> (Served, Vec<u8>) {
+fn handle_sentence(alloc: Global, desk: &mut Desk<MemStore>, sentence: Sentence) {
+    if let Sentence::Asks(request) = sentence {
+        let _answer = desk.handle(alloc, &request);
+    }
+}
+
+// The conversation with this reader.
+fn served<R: Read + Drop>(alloc: Global, desk: &mut Desk<MemStore>, reader: R) -> Talk {
     let mut stream = Watched::new(Pair {
         reader,
         writer: Vec::new(alloc),
     });
     let how = serve_one(alloc, desk, &mut stream);
-    (how, stream.into_inner().writer)
+    Talk {
+        how,
+        written: stream.into_inner().writer,
+    }
+}
+
+// How many lists are recorded in the tables.
+fn list_count(rt: &impl Abort, alloc: Global, desk: &mut Desk<MemStore>) -> usize {
+    desk.load(alloc)
+        .expect(rt, "an office in the tables")
+        .choices
+        .len()
+}
+
+/// All that is left to read.
+pub fn read_whole(rt: &impl Abort, alloc: Global, reader: &mut impl Read) -> Vec<u8> {
+    let mut bytes = Vec::new(alloc);
+    reader.read_to_end(&mut bytes).expect(rt, "bytes");
+    bytes
 }

@@ -1,6 +1,8 @@
 //! Residents, served over connections that are scripted, and over a socket.
 ghost use Rattle.std.specs.Prelude.{⊤};
 
+use crate::asserting::assert_same;
+use crate::desk::{let_go, read_whole};
 use office_lines::do_line::do_line;
 use office_store::Desk;
 use resident_server::listener::Listener;
@@ -9,9 +11,9 @@ use room_types::Watched;
 use room_types::stream::Pair;
 use sqlite::MemStore;
 use std::alloc::Global;
-use std::io::{Read, Write};
+use std::io::Write;
 use std::net::{Ipv4Addr, Shutdown, SocketAddr, TcpListener, TcpStream};
-use std::test::Fail;
+use std::process::Abort;
 
 // Connections that come one after the other, each with what is read from it, or fail to come, and what was written to those
 // that were let go.
@@ -68,6 +70,17 @@ const H2_IS_RECORDED: &[u8] = b"HTTP/1.1 200 OK\r\nContent-Type: application/jso
 const WITHDRAWS: &[u8] =
     b"POST /me/withdraw HTTP/1.1\r\nHost: a\r\nRoom-Key: key00000000000t1\r\n\r\n";
 
+const COMING: [Option<&[u8]>; 5] = [
+    Some(HANDS_IN_H2),
+    None,
+    Some(b""),
+    Some(WITHDRAWS),
+    Some(HANDS_IN_H2),
+];
+
+const TIM_TAN: &[u8] =
+    b"person T1\nname Tim Tan\nhome H1\nround 1 open\nchoices H2\nwithdrawn yes\nresult hidden\n";
+
 // What the office says to this line.
 fn said(alloc: Global, desk: &mut Desk<MemStore>, line: &str) -> Vec<u8> {
     let mut output = Watched::new(Vec::new(alloc));
@@ -75,9 +88,15 @@ fn said(alloc: Global, desk: &mut Desk<MemStore>, line: &str) -> Vec<u8> {
     output.into_inner()
 }
 
+// That the office says this to the line.
+fn is_said(rt: &impl Abort, alloc: Global, desk: &mut Desk<MemStore>, line: &str, wanted: &[u8]) {
+    let said = said(alloc, desk, line);
+    assert_same!(rt; said.as_slice(), wanted, line);
+}
+
 // An office with a round that is open, and Tim Tan in it.
-fn open_desk(alloc: Global) -> Result<Desk<MemStore>, Fail> {
-    let mut desk = Desk::in_memory(alloc)?;
+fn open_desk(rt: &impl Abort, alloc: Global) -> Desk<MemStore> {
+    let mut desk = Desk::in_memory(alloc).expect(rt, "a desk in memory");
     for line in [
         "room H1",
         "room H2",
@@ -85,79 +104,123 @@ fn open_desk(alloc: Global) -> Result<Desk<MemStore>, Fail> {
         "home T1 H1",
         "open",
     ] {
-        said(alloc, &mut desk, line);
+        let _said = said(alloc, &mut desk, line);
     }
-    Ok(desk)
+    desk
+}
+
+// What came of a server: its exit status, how often it flushed, and what it said.
+#[derive(Drop)]
+struct Ended {
+    status: u8,
+    flushes: u64,
+    said: Vec<u8>,
+}
+
+fn served<L: Listener>(
+    alloc: Global,
+    desk: &mut Desk<MemStore>,
+    listener: &mut L,
+    port: u16,
+    count: u32,
+) -> Ended {
+    let mut output = Watched::new(Vec::new(alloc));
+    let status = serve_listener(alloc, desk, listener, port, count, &mut output);
+    let flushes = output.flushes();
+    Ended {
+        status,
+        flushes,
+        said: output.into_inner(),
+    }
 }
 
 #[test]
-fn serves_each_connection_in_turn(rt: HostRuntime) -> Result<(), Fail> {
+fn serves_each_connection_in_turn(rt: HostRuntime) {
     let alloc = rt.alloc();
-    let mut desk = open_desk(alloc)?;
-    let mut listener = Script::new(
-        alloc,
-        &[
-            Some(HANDS_IN_H2),
-            None,
-            Some(b""),
-            Some(WITHDRAWS),
-            Some(HANDS_IN_H2),
-        ],
-    );
-    let mut output = Watched::new(Vec::new(alloc));
-    let status = serve_listener(alloc, &mut desk, &mut listener, 8080, 4, &mut output);
-    assert_eq!(rt; status, 0);
-    assert_eq!(rt; output.flushes(), 2);
-    assert_eq!(rt;
-        output.into_inner().as_slice(),
+    let mut desk = open_desk(&rt, alloc);
+    let mut listener = Script::new(alloc, &COMING);
+    let ended = served(alloc, &mut desk, &mut listener, 8080, 4);
+    served_four(&rt, &ended);
+    are_written(&rt, &listener.written);
+    is_said(&rt, alloc, &mut desk, "me key00000000000t1", TIM_TAN);
+    let_go(desk);
+}
+
+fn served_four(rt: &impl Abort, ended: &Ended) {
+    assert_same!(rt; ended.status, 0);
+    assert_same!(rt; ended.flushes, 2);
+    assert_same!(rt;
+        ended.said.as_slice(),
         b"listening on 127.0.0.1:8080\nserved 4\n".as_slice()
     );
-    assert_eq!(rt; listener.written.len(), 3);
-    assert_eq!(rt; listener.written[0].as_slice(), H2_IS_RECORDED);
-    assert!(rt; listener.written[1].is_empty());
-    assert_eq!(rt;
-        said(alloc, &mut desk, "me key00000000000t1").as_slice(),
-        b"person T1\nname Tim Tan\nhome H1\nround 1 open\nchoices H2\nwithdrawn yes\nresult hidden\n".as_slice()
+}
+
+// That this was written to three connections: that H2 is recorded, nothing, and another answer.
+fn are_written(rt: &impl Abort, written: &[Vec<u8>]) {
+    assert_same!(rt; written.len(), 3);
+    assert_same!(rt;
+        written.first().map(|bytes| bytes.as_slice()),
+        Some(H2_IS_RECORDED)
     );
-    Ok(())
+    assert_same!(rt; written.get(1).map(|bytes| bytes.len()), Some(0));
 }
 
 // Where it cannot be said that the server listens, nobody is served.
 #[test]
-fn serves_nobody_where_output_fails(rt: HostRuntime) -> Result<(), Fail> {
+fn serves_nobody_where_output_fails(rt: HostRuntime) {
     let alloc = rt.alloc();
-    let mut desk = open_desk(alloc)?;
+    let mut desk = open_desk(&rt, alloc);
     let mut listener = Script::new(alloc, &[Some(WITHDRAWS)]);
+    assert_same!(rt;
+        served_unheard(alloc, &mut desk, &mut listener),
+        (3, true)
+    );
+    assert_same!(rt; listener.coming.len(), 1);
+    is_said(
+        &rt,
+        alloc,
+        &mut desk,
+        "round",
+        b"round 1 open people 1 withdrawn 0\n",
+    );
+    let_go(desk);
+}
+
+// The exit status of a server whose output takes nothing, and whether the output failed.
+fn served_unheard<L: Listener>(
+    alloc: Global,
+    desk: &mut Desk<MemStore>,
+    listener: &mut L,
+) -> (u8, bool) {
     let mut closed = [0; 0];
     let mut output = Watched::new(closed.as_mut_slice());
-    assert_eq!(rt;
-        serve_listener(alloc, &mut desk, &mut listener, 8080, 1, &mut output),
-        3
-    );
-    assert!(rt; output.failed() && listener.coming.len() == 1);
-    assert_eq!(rt;
-        said(alloc, &mut desk, "round").as_slice(),
-        b"round 1 open people 1 withdrawn 0\n".as_slice()
-    );
-    Ok(())
+    let status = serve_listener(alloc, desk, listener, 8080, 1, &mut output);
+    (status, output.failed())
 }
 
 // A socket's connection is served: it waits in the queue of the system until it is accepted.
 #[test]
-fn serves_over_a_socket(rt: HostRuntime) -> Result<(), Fail> {
-    let alloc = rt.alloc();
-    let mut desk = open_desk(alloc)?;
-    let mut listener = TcpListener::bind(&rt, SocketAddr::from((Ipv4Addr::LOCALHOST, 0)))?;
-    let mut resident = TcpStream::connect(&rt, listener.local_addr()?)?;
-    resident.write_all(HANDS_IN_H2)?;
-    resident.shutdown(Shutdown::Write)?;
-    let mut output = Watched::new(Vec::new(alloc));
-    assert_eq!(rt;
-        serve_listener(alloc, &mut desk, &mut listener, 1, 1, &mut output),
-        0
-    );
-    let mut answer = Vec::new(alloc);
-    resident.read_to_end(&mut answer)?;
-    assert_eq!(rt; answer.as_slice(), H2_IS_RECORDED);
-    Ok(())
+fn serves_over_a_socket(rt: HostRuntime) {
+    let place = SocketAddr::from((Ipv4Addr::LOCALHOST, 0));
+    let mut listener = TcpListener::bind(&rt, place).expect(&rt, "a port");
+    let address = listener.local_addr().expect(&rt, "an address");
+    let mut resident = TcpStream::connect(&rt, address).expect(&rt, "a connection");
+    let mut desk = open_desk(&rt, rt.alloc());
+    hands_in(&rt, &mut resident);
+    let ended = served(rt.alloc(), &mut desk, &mut listener, 1, 1);
+    assert_same!(rt; ended.status, 0);
+    is_recorded(&rt, rt.alloc(), &mut resident);
+    let_go(desk);
+}
+
+// The resident sends a list, and no more.
+fn hands_in(rt: &impl Abort, resident: &mut TcpStream) {
+    resident.write_all(HANDS_IN_H2).expect(rt, "a request");
+    resident.shutdown(Shutdown::Write).expect(rt, "an end");
+}
+
+// That the resident is told that the list is recorded.
+fn is_recorded(rt: &impl Abort, alloc: Global, resident: &mut TcpStream) {
+    let answer = read_whole(rt, alloc, resident);
+    assert_same!(rt; answer.as_slice(), H2_IS_RECORDED);
 }

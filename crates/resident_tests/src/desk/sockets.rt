@@ -1,28 +1,46 @@
 //! A conversation over a real socket, both of whose ends are in this process.
-use super::{ANSWER, REQUEST, open_round};
-use http::StatusCode;
+use super::{ANSWER, REQUEST, WELL, let_go, open_round, read_whole};
+use crate::asserting::assert_same;
+use office_store::Desk;
 use resident_desk::{Served, serve_one};
-use room_types::Watched;
-use std::io::{Read, Write};
+use room_types::{Stream, Watched};
+use sqlite::MemStore;
+use std::alloc::Global;
+use std::io::Write;
 use std::net::{TcpListener, TcpStream};
-use std::test::Fail;
+use std::process::Abort;
 
 #[test]
-fn answers_over_a_socket(rt: HostRuntime) -> Result<(), Fail> {
-    let mut desk = open_round(rt.alloc())?;
-    let listener = TcpListener::bind(&rt, "127.0.0.1:0")?;
-    let mut resident = TcpStream::connect(&rt, listener.local_addr()?)?;
-    resident.write_all(REQUEST.as_bytes())?;
-    let (socket, _) = listener.accept()?;
-    let mut stream = Watched::new(socket);
-    let how = serve_one(rt.alloc(), &mut desk, &mut stream);
-    let well = Served::Answered {
-        status: StatusCode::OK,
-    };
-    assert_eq!(rt; how, well);
+fn answers_over_a_socket(rt: HostRuntime) {
+    let listener = TcpListener::bind(&rt, "127.0.0.1:0").expect(&rt, "a port");
+    let address = listener.local_addr().expect(&rt, "an address");
+    let mut resident = TcpStream::connect(&rt, address).expect(&rt, "a connection");
+    let mut desk = open_round(&rt, rt.alloc());
+    is_answered(&rt, rt.alloc(), &mut desk, &listener, &mut resident);
+    let_go(desk);
+}
+
+// That the resident, whose connection waits at the listener, is answered.
+fn is_answered(
+    rt: &impl Abort,
+    alloc: Global,
+    desk: &mut Desk<MemStore>,
+    listener: &TcpListener,
+    resident: &mut TcpStream,
+) {
+    resident
+        .write_all(REQUEST.as_bytes())
+        .expect(rt, "a request");
+    let (socket, _) = listener.accept().expect(rt, "a connection");
+    assert_same!(rt; served_on(alloc, desk, socket), WELL);
+    let answer = read_whole(rt, alloc, resident);
+    assert_same!(rt; answer.as_slice(), ANSWER.as_bytes());
+}
+
+// How the conversation on this stream ended; it is let go.
+fn served_on<T: Stream + Drop>(alloc: Global, desk: &mut Desk<MemStore>, stream: T) -> Served {
+    let mut stream = Watched::new(stream);
+    let how = serve_one(alloc, desk, &mut stream);
     drop(stream.into_inner());
-    let mut answer = Vec::new(rt.alloc());
-    resident.read_to_end(&mut answer)?;
-    assert_eq!(rt; answer.as_slice(), ANSWER.as_bytes());
-    Ok(())
+    how
 }

@@ -1,7 +1,11 @@
 //! Worked conversations with residents, and what the office does between them.
-use super::{ANSWER, REQUEST, handle_lines, open_round, served};
+use super::{ANSWER, REQUEST, Talk, handle_lines, let_go, open_round, served};
+use crate::asserting::{assert_same, holds, same_at};
+use office_store::Desk;
 use resident_desk::Served;
-use std::test::Fail;
+use sqlite::MemStore;
+use std::alloc::Global;
+use std::process::Abort;
 
 // What the office does, as lines; or what a resident sends, with the status and the body of the answer.
 enum Step {
@@ -166,6 +170,15 @@ const STORY: [Step; 37] = [
     ),
 ];
 
+// The answer to a wrong method.
+const WRONG_METHOD: &str = "HTTP/1.1 405 Method Not Allowed\r\n\
+    Content-Type: application/json\r\n\
+    Content-Length: 28\r\n\
+    Allow: PUT\r\n\
+    Connection: close\r\n\
+    \r\n\
+    {\"error\":\"MethodNotAllowed\"}";
+
 // The status that was answered, or none on another ending.
 fn status_told(how: &Served) -> Option<u16> {
     match how {
@@ -175,67 +188,96 @@ fn status_told(how: &Served) -> Option<u16> {
 }
 
 #[test]
-fn tells_a_year(rt: HostRuntime) -> Result<(), Fail> {
-    let mut desk = open_round(rt.alloc())?;
+fn tells_a_year(rt: HostRuntime) {
+    let mut desk = open_round(&rt, rt.alloc());
     for step in &STORY {
-        match step {
-            Step::Office(lines) => handle_lines(rt.alloc(), &mut desk, lines)?,
-            Step::Talk(request, status, body) => {
-                let (how, answer) = served(rt.alloc(), &mut desk, request.as_bytes());
-                let front = format!(in rt.alloc(); "HTTP/1.1 {status} ")?;
-                let told = status_told(&how) == Some(*status);
-                assert!(rt;
-                    told && answer.as_slice().starts_with(front.as_bytes()),
-                    "{request}"
-                );
-                assert!(rt; answer.as_slice().ends_with(body.as_bytes()), "{request}");
-            }
+        take_step(&rt, rt.alloc(), &mut desk, step);
+    }
+    let_go(desk);
+}
+
+fn take_step(rt: &impl Abort, alloc: Global, desk: &mut Desk<MemStore>, step: &Step) {
+    match step {
+        Step::Office(lines) => handle_lines(rt, alloc, desk, lines),
+        Step::Talk(request, status, body) => {
+            let talk = served(alloc, desk, request.as_bytes());
+            has_status(rt, alloc, &talk, *status, request);
+            holds(
+                rt,
+                talk.written.as_slice().ends_with(body.as_bytes()),
+                request,
+            );
         }
     }
-    Ok(())
+}
+
+// That the answer to this request has this status, which it also begins with.
+fn has_status(rt: &impl Abort, alloc: Global, talk: &Talk, status: u16, request: &str) {
+    let front = format!(in alloc; "HTTP/1.1 {status} ").expect(rt, "memory");
+    assert_same!(rt; status_told(&talk.how), Some(status), request);
+    let begins = talk.written.as_slice().starts_with(front.as_bytes());
+    holds(rt, begins, request);
+}
+
+// That this request has this answer to the byte.
+fn is_answered(
+    rt: &impl Abort,
+    alloc: Global,
+    desk: &mut Desk<MemStore>,
+    request: &str,
+    answer: &str,
+) {
+    let talk = served(alloc, desk, request.as_bytes());
+    assert_same!(rt; talk.written.as_slice(), answer.as_bytes(), request);
 }
 
 // To the byte: the answer to a list, and the one to a wrong method.
 #[test]
-fn answers_to_the_byte(rt: HostRuntime) -> Result<(), Fail> {
-    let mut desk = open_round(rt.alloc())?;
-    let (_, answer) = served(rt.alloc(), &mut desk, REQUEST.as_bytes());
-    assert_eq!(rt; answer.as_slice(), ANSWER.as_bytes());
-    let (_, wrong) = served(
-        rt.alloc(),
-        &mut desk,
-        b"DELETE /me/choices HTTP/1.1\r\nHost: a\r\n\r\n".as_slice(),
-    );
-    assert_eq!(rt;
-        wrong.as_slice(),
-        b"HTTP/1.1 405 Method Not Allowed\r\n\
-        Content-Type: application/json\r\n\
-        Content-Length: 28\r\n\
-        Allow: PUT\r\n\
-        Connection: close\r\n\
-        \r\n\
-        {\"error\":\"MethodNotAllowed\"}"
-            .as_slice()
-    );
-    Ok(())
+fn answers_to_the_byte(rt: HostRuntime) {
+    let alloc = rt.alloc();
+    let mut desk = open_round(&rt, alloc);
+    is_answered(&rt, alloc, &mut desk, REQUEST, ANSWER);
+    let wrong = "DELETE /me/choices HTTP/1.1\r\nHost: a\r\n\r\n";
+    is_answered(&rt, alloc, &mut desk, wrong, WRONG_METHOD);
+    let_go(desk);
 }
 
 // A body of 1,024 bytes is read whole; so is one in a head with 64 fields, and 65 are too many.
 #[test]
-fn takes_all_that_may_come(rt: HostRuntime) -> Result<(), Fail> {
-    let mut desk = open_round(rt.alloc())?;
-    let head = REQUEST.strip_suffix("6\r\n\r\n[\"H2\"]").unwrap_or("");
-    let longest = format!(in rt.alloc();
-        "{head}1024\r\n\r\n[\"H2\"]{}",
-        " ".repeat(rt.alloc(), 1_018)?
-    )?;
-    let (_, answer) = served(rt.alloc(), &mut desk, longest.as_bytes());
-    assert_eq!(rt; answer.as_slice(), ANSWER.as_bytes());
+fn takes_all_that_may_come(rt: HostRuntime) {
+    let alloc = rt.alloc();
+    let mut desk = open_round(&rt, alloc);
+    is_answered_at_length(&rt, alloc, &mut desk);
     for (others, status) in [(61, 200), (62, 400)] {
-        let fields = "X: y\r\n".repeat(rt.alloc(), others)?;
-        let request = format!(in rt.alloc(); "{head}6\r\n{fields}\r\n[\"H2\"]")?;
-        let (how, _) = served(rt.alloc(), &mut desk, request.as_bytes());
-        assert!(rt; status_told(&how) == Some(status), "{others}");
+        has_status_with(&rt, alloc, &mut desk, others, status);
     }
-    Ok(())
+    let_go(desk);
+}
+
+// The request up to the length of its body.
+fn front_of_request() -> &'static str {
+    REQUEST.strip_suffix("6\r\n\r\n[\"H2\"]").unwrap_or("")
+}
+
+// That the request is answered with a body of 1,024 bytes.
+fn is_answered_at_length(rt: &impl Abort, alloc: Global, desk: &mut Desk<MemStore>) {
+    let front = front_of_request();
+    let spaces = " ".repeat(alloc, 1_018).expect(rt, "memory");
+    let longest = format!(in alloc; "{front}1024\r\n\r\n[\"H2\"]{spaces}").expect(rt, "memory");
+    is_answered(rt, alloc, desk, longest.as_str(), ANSWER);
+}
+
+// That the request is answered by this status with so many fields more.
+fn has_status_with(
+    rt: &impl Abort,
+    alloc: Global,
+    desk: &mut Desk<MemStore>,
+    others: usize,
+    status: u16,
+) {
+    let front = front_of_request();
+    let fields = "X: y\r\n".repeat(alloc, others).expect(rt, "memory");
+    let request = format!(in alloc; "{front}6\r\n{fields}\r\n[\"H2\"]").expect(rt, "memory");
+    let talk = served(alloc, desk, request.as_bytes());
+    same_at(rt, &status_told(&talk.how), &Some(status), others);
 }

@@ -1,4 +1,8 @@
 //! The bytes of answers, and the bodies of requests.
+ghost use Rattle.std.specs.Prelude.{◌≡◌, true};
+ghost use Rattle.resident_http.specs.Faults.{names_fault};
+
+use crate::asserting::{assert_same, same};
 use http::StatusCode;
 use office_core::Standing;
 use resident_http::answer::{HttpAnswer, UNAVAILABLE, answer_bytes};
@@ -7,9 +11,10 @@ use resident_http::choices::choices_of_body;
 use resident_http::faults::fault_name;
 use resident_http::method::Method;
 use room_types::{
-    Choices, Listing, Name, OutOfMemory, PersonId, Phase, RoomCode, RoomRow, State, TypeFault,
+    Choices, Grammar, Listing, OutOfMemory, Phase, RoomCode, RoomRow, State, Text, TypeFault,
 };
 use std::alloc::Global;
+use std::process::Abort;
 
 // The reason and each name of the statuses whose faults have several names.
 const NAMED_FAULTS: [(StatusCode, &str, &str); 6] = [
@@ -64,154 +69,168 @@ const FAULTS: [(StatusCode, &str, &str); 7] = [
     ),
 ];
 
-fn room(alloc: Global, code: &str) -> Result<RoomCode, TypeFault> {
-    RoomCode::read(alloc, code)
+// The value that the text spells.
+fn text<G: Grammar>(rt: &impl Abort, alloc: Global, text: &str) -> Text<G> {
+    Text::read(alloc, text).expect(rt, text)
 }
 
-fn rooms(alloc: Global, codes: &[&str]) -> Result<Vec<RoomCode>, TypeFault> {
+fn rooms(rt: &impl Abort, alloc: Global, codes: &[&str]) -> Vec<RoomCode> {
     let mut all = Vec::new(alloc);
     for code in codes {
-        all.push(room(alloc, code)?)
-            .map_err(|_| TypeFault::OutOfMemory)?;
+        all.push(text(rt, alloc, code)).expect(rt, "memory");
     }
-    Ok(all)
+    all
 }
 
 // What Tim Tan sees, who lives in H1 and lists H2.
 fn standing(
+    rt: &impl Abort,
     alloc: Global,
     phase: Phase,
     shown: bool,
-    room_got: Option<RoomCode>,
-) -> Result<Standing, TypeFault> {
-    Ok(Standing {
-        person: PersonId::read(alloc, "T1")?,
-        name: Name::read(alloc, "Tim Tan")?,
-        home: Some(room(alloc, "H1")?),
+    got: Option<RoomCode>,
+) -> Standing {
+    Standing {
+        person: text(rt, alloc, "T1"),
+        name: text(rt, alloc, "Tim Tan"),
+        home: Some(text(rt, alloc, "H1")),
         round: 1,
         phase,
-        choices: Choices::read(rooms(alloc, &["H2"])?)?,
+        choices: Choices::read(rooms(rt, alloc, &["H2"])).expect(rt, "a list of rooms"),
         withdrawn: false,
         shown,
-        result: room_got,
-    })
+        result: got,
+    }
+}
+
+const SUCCESS: &[u8] = b"HTTP/1.1 200 OK\r\nContent-Type: application/json\r\n\
+    Content-Length: 18\r\nConnection: close\r\n\r\n{\"choices\":[\"H2\"]}";
+
+const WRONG_METHOD: &[u8] = b"HTTP/1.1 405 Method Not Allowed\r\n\
+    Content-Type: application/json\r\nContent-Length: 28\r\nAllow: PUT\r\n\
+    Connection: close\r\n\r\n{\"error\":\"MethodNotAllowed\"}";
+
+// That an answer has these bytes.
+fn is_written(rt: &impl Abort, alloc: Global, answer: &HttpAnswer, wanted: &[u8]) {
+    let bytes = answer_bytes(alloc, answer).expect(rt, "memory");
+    assert_same!(rt; bytes.as_slice(), wanted);
 }
 
 #[test]
-fn a_success_to_the_byte(rt: HostRuntime) -> Result<(), TypeFault> {
+fn a_success_to_the_byte(rt: HostRuntime) {
     let alloc = rt.alloc();
-    let body = choices_body(alloc, &rooms(alloc, &["H2"])?)?;
-    let bytes = answer_bytes(alloc, &HttpAnswer::success(body))?;
-    assert_eq!(rt;
-        bytes.as_slice(),
-        b"HTTP/1.1 200 OK\r\nContent-Type: application/json\r\n\
-        Content-Length: 18\r\nConnection: close\r\n\r\n{\"choices\":[\"H2\"]}"
-            .as_slice()
-    );
-    Ok(())
+    let rooms = rooms(&rt, alloc, &["H2"]);
+    let body = choices_body(alloc, &rooms).expect(&rt, "memory");
+    is_written(&rt, alloc, &HttpAnswer::success(body), SUCCESS);
 }
 
 #[test]
-fn a_wrong_method_to_the_byte(rt: HostRuntime) -> Result<(), OutOfMemory> {
+fn a_wrong_method_to_the_byte(rt: HostRuntime) {
     let alloc = rt.alloc();
-    let bytes = answer_bytes(alloc, &HttpAnswer::wrong_method(alloc, Method::Put)?)?;
-    assert_eq!(rt;
-        bytes.as_slice(),
-        b"HTTP/1.1 405 Method Not Allowed\r\n\
-        Content-Type: application/json\r\nContent-Length: 28\r\nAllow: PUT\r\n\
-        Connection: close\r\n\r\n{\"error\":\"MethodNotAllowed\"}"
-            .as_slice()
-    );
-    Ok(())
+    let answer = HttpAnswer::wrong_method(alloc, Method::Put).expect(&rt, "memory");
+    is_written(&rt, alloc, &answer, WRONG_METHOD);
 }
 
 #[test]
-fn faults_with_their_reasons_and_names(rt: HostRuntime) -> Result<(), TypeFault> {
+fn faults_with_their_reasons_and_names(rt: HostRuntime) {
     let alloc = rt.alloc();
     for (status, line, name) in FAULTS {
-        let answer = HttpAnswer::fault(alloc, status, fault_name(status))?;
-        let wanted = fault_text(alloc, line, name)?;
-        assert_eq!(rt; answer_bytes(alloc, &answer)?.as_slice(), wanted.as_bytes());
+        let told = fault_name(status);
+        assert_same!(rt; told, name);
+        is_fault(&rt, alloc, status, line, told);
     }
-    let unavailable = HttpAnswer::fault(alloc, StatusCode::SERVICE_UNAVAILABLE, "Unavailable")?;
-    assert_eq!(rt; answer_bytes(alloc, &unavailable)?.as_slice(), UNAVAILABLE);
-    Ok(())
+}
+
+#[test]
+fn a_desk_that_is_unavailable(rt: HostRuntime) {
+    let alloc = rt.alloc();
+    let status = StatusCode::SERVICE_UNAVAILABLE;
+    let unavailable = HttpAnswer::fault(alloc, status, "Unavailable").expect(&rt, "memory");
+    is_written(&rt, alloc, &unavailable, UNAVAILABLE);
+}
+
+// That the fault's answer has this status line, and this name in its body.
+fn is_fault(rt: &impl Abort, alloc: Global, status: StatusCode, line: &str, name: &str)
+    requires { names_fault status name.now ≡ true }
+{
+    let answer = HttpAnswer::fault(alloc, status, name).expect(rt, "memory");
+    let wanted = fault_text(rt, alloc, line, name);
+    is_written(rt, alloc, &answer, wanted.as_bytes());
 }
 
 // The text of a fault's answer without the field `Allow`.
-fn fault_text(alloc: Global, line: &str, name: &str) -> Result<String, OutOfMemory> {
+fn fault_text(rt: &impl Abort, alloc: Global, line: &str, name: &str) -> String {
     let length = name.len() + 12;
-    let text = format!(in alloc;
+    format!(in alloc;
         "HTTP/1.1 {line}\r\nContent-Type: application/json\r\nContent-Length: {length}\r\nConnection: close\r\n\r\n{{\"error\":\"{name}\"}}"
-    )?;
-    Ok(text)
+    ).expect(rt, "memory")
 }
 
 #[test]
-fn faults_with_several_names(rt: HostRuntime) -> Result<(), TypeFault> {
+fn faults_with_several_names(rt: HostRuntime) {
     let alloc = rt.alloc();
     for (status, line, name) in NAMED_FAULTS {
-        let answer = HttpAnswer::fault(alloc, status, name)?;
-        let wanted = fault_text(alloc, line, name)?;
-        assert_eq!(rt; answer_bytes(alloc, &answer)?.as_slice(), wanted.as_bytes());
+        is_fault(&rt, alloc, status, line, name);
     }
-    Ok(())
+}
+
+// The body of what Tim Tan sees after the run.
+const RAN: &[u8] = b"{\"choices\":[\"H2\"],\"home\":\"H1\",\"name\":\"Tim Tan\",\
+    \"person\":\"T1\",\"phase\":\"ran\",\"result\":null,\"round\":1,\"shown\":false,\
+    \"withdrawn\":false}";
+
+// The same once the results are published.
+const PUBLISHED: &[u8] = b"{\"choices\":[\"H2\"],\"home\":\"H1\",\"name\":\"Tim Tan\",\
+    \"person\":\"T1\",\"phase\":\"published\",\"result\":\"H2\",\"round\":1,\"shown\":true,\
+    \"withdrawn\":false}";
+
+const ROOMS: &[u8] = b"[{\"room\":\"H1\",\"state\":\"occupied\"},\
+    {\"room\":\"H2\",\"state\":\"occupied\"},{\"room\":\"V\",\"state\":\"free\"}]";
+
+// That there is a body, and that it is this one.
+fn is_body(rt: &impl Abort, body: Result<Listing<u8>, OutOfMemory>, wanted: &[u8]) {
+    let body = body.expect(rt, "memory");
+    assert_same!(rt; body.as_slice(), wanted);
 }
 
 #[test]
-fn bodies_to_the_byte(rt: HostRuntime) -> Result<(), TypeFault> {
+fn bodies_to_the_byte(rt: HostRuntime) {
     let alloc = rt.alloc();
-    let ran = standing_body(alloc, &standing(alloc, Phase::Ran, false, None)?)?;
-    assert_eq!(rt;
-        ran.as_slice(),
-        b"{\"choices\":[\"H2\"],\"home\":\"H1\",\"name\":\"Tim Tan\",\
-        \"person\":\"T1\",\"phase\":\"ran\",\"result\":null,\"round\":1,\"shown\":false,\
-        \"withdrawn\":false}"
-            .as_slice()
-    );
-    let got = Some(room(alloc, "H2")?);
-    let published = standing_body(alloc, &standing(alloc, Phase::Published, true, got)?)?;
-    assert_eq!(rt;
-        published.as_slice(),
-        b"{\"choices\":[\"H2\"],\"home\":\"H1\",\"name\":\"Tim Tan\",\
-        \"person\":\"T1\",\"phase\":\"published\",\"result\":\"H2\",\"round\":1,\"shown\":true,\
-        \"withdrawn\":false}"
-            .as_slice()
-    );
-    assert_eq!(rt;
-        withdrawn_body(alloc)?.as_slice(),
-        b"{\"withdrawn\":true}".as_slice()
-    );
-    assert_eq!(rt;
-        choices_body(alloc, &[])?.as_slice(),
-        b"{\"choices\":[]}".as_slice()
-    );
-    Ok(())
+    ran_is_told(&rt, alloc);
+    published_is_told(&rt, alloc);
+    is_body(&rt, withdrawn_body(alloc), b"{\"withdrawn\":true}");
+    is_body(&rt, choices_body(alloc, &[]), b"{\"choices\":[]}");
+}
+
+fn ran_is_told(rt: &impl Abort, alloc: Global) {
+    let ran = standing(rt, alloc, Phase::Ran, false, None);
+    is_body(rt, standing_body(alloc, &ran), RAN);
+}
+
+fn published_is_told(rt: &impl Abort, alloc: Global) {
+    let got = Some(text(rt, alloc, "H2"));
+    let published = standing(rt, alloc, Phase::Published, true, got);
+    is_body(rt, standing_body(alloc, &published), PUBLISHED);
+}
+
+fn row(rt: &impl Abort, alloc: Global, code: &str, state: State) -> RoomRow {
+    RoomRow {
+        room: text(rt, alloc, code),
+        state,
+        tenant: None,
+    }
 }
 
 #[test]
-fn rooms_to_the_byte(rt: HostRuntime) -> Result<(), TypeFault> {
+fn rooms_to_the_byte(rt: HostRuntime) {
     let alloc = rt.alloc();
-    let mut rows = Vec::new(alloc);
-    for (code, state) in [
-        ("H1", State::Occupied),
-        ("H2", State::Occupied),
-        ("V", State::Free),
-    ] {
-        let row = RoomRow {
-            room: room(alloc, code)?,
-            state,
-            tenant: None,
-        };
-        rows.push(row).map_err(|_| TypeFault::OutOfMemory)?;
-    }
-    assert_eq!(rt;
-        rooms_body(alloc, &rows)?.as_slice(),
-        b"[{\"room\":\"H1\",\"state\":\"occupied\"},\
-        {\"room\":\"H2\",\"state\":\"occupied\"},{\"room\":\"V\",\"state\":\"free\"}]"
-            .as_slice()
-    );
-    Ok(())
+    let rows = vec![in alloc;
+        row(&rt, alloc, "H1", State::Occupied),
+        row(&rt, alloc, "H2", State::Occupied),
+        row(&rt, alloc, "V", State::Free),
+    ]
+    .expect(&rt, "memory");
+    is_body(&rt, rooms_body(alloc, &rows), ROOMS);
 }
 
 // Bodies that are no array of room codes.
@@ -234,56 +253,69 @@ const BAD_BODIES: [&[u8]; 12] = [
 const REPEATED: [&[u8]; 2] = [b"[\"H2\",\"H2\"]", b"[\"H2\",\"V\",\"H2\"]"];
 
 #[test]
-fn lists_of_rooms_are_read(rt: HostRuntime) -> Result<(), TypeFault> {
+fn lists_of_rooms_are_read(rt: HostRuntime) {
     let alloc = rt.alloc();
-    let one = choices_of_body(alloc, b"[\"H2\"]")?;
-    assert_eq!(rt; one.as_slice(), rooms(alloc, &["H2"])?.as_slice());
-    let spaced = choices_of_body(alloc, b" [ \"H2\" , \"\\u0056\" ]\r\n\t ")?;
-    assert_eq!(rt; spaced.as_slice(), rooms(alloc, &["H2", "V"])?.as_slice());
-    assert_eq!(rt; choices_of_body(alloc, b"[]")?.as_slice().len(), 0);
-    let most = listed(alloc, 40, "]")?;
-    assert_eq!(rt;
-        choices_of_body(alloc, most.as_bytes())?.as_slice().len(),
-        40
-    );
-    Ok(())
+    is_list(&rt, alloc, b"[\"H2\"]", &["H2"]);
+    let spaced = b" [ \"H2\" , \"\\u0056\" ]\r\n\t ";
+    is_list(&rt, alloc, spaced, &["H2", "V"]);
+    is_list(&rt, alloc, b"[]", &[]);
+    assert_same!(rt; longest_list(&rt, alloc), 40);
+}
+
+// That a body lists these rooms.
+fn is_list(rt: &impl Abort, alloc: Global, body: &[u8], codes: &[&str]) {
+    let found = choices_of_body(alloc, body).expect(rt, "a list of rooms");
+    let wanted = rooms(rt, alloc, codes);
+    assert_same!(rt; found.as_slice(), wanted.as_slice());
+}
+
+// How many rooms are read of a list of forty.
+fn longest_list(rt: &impl Abort, alloc: Global) -> usize {
+    let body = listed(rt, alloc, 40, "]");
+    let found = choices_of_body(alloc, body.as_bytes()).expect(rt, "a list of rooms");
+    found.as_slice().len()
 }
 
 #[test]
-fn other_bodies_are_refused(rt: HostRuntime) -> Result<(), TypeFault> {
+fn other_bodies_are_refused(rt: HostRuntime) {
     let alloc = rt.alloc();
+    let bad = TypeFault::BadValue;
     for body in BAD_BODIES {
-        assert!(rt; matches!(choices_of_body(alloc, body), Err(TypeFault::BadValue)));
+        is_refused(&rt, alloc, body, &bad);
     }
+    is_refused_with_rooms(&rt, alloc, ",1]", &bad);
+    is_refused_with_rooms(&rt, alloc, "]", &TypeFault::TooManyChoices);
+}
+
+#[test]
+fn repeated_rooms_are_refused(rt: HostRuntime) {
+    let alloc = rt.alloc();
+    let repeated = TypeFault::RoomRepeated(text(&rt, alloc, "H2"));
     for body in REPEATED {
-        match choices_of_body(alloc, body) {
-            Err(TypeFault::RoomRepeated(code)) => assert_eq!(rt; code, room(alloc, "H2")?),
-            Err(_) | Ok(_) => panic!(rt; "a room that stands twice is not told"),
-        }
+        is_refused(&rt, alloc, body, &repeated);
     }
-    let many = listed(alloc, 41, "]")?;
-    assert!(rt;
-        matches!(
-            choices_of_body(alloc, many.as_bytes()),
-            Err(TypeFault::TooManyChoices)
-        )
-    );
-    let bad = listed(alloc, 41, ",1]")?;
-    assert!(rt;
-        matches!(
-            choices_of_body(alloc, bad.as_bytes()),
-            Err(TypeFault::BadValue)
-        )
-    );
-    Ok(())
+}
+
+// That a body is refused with this fault.
+fn is_refused(rt: &impl Abort, alloc: Global, body: &[u8], wanted: &TypeFault) {
+    match choices_of_body(alloc, body) {
+        Err(fault) => same(rt, &fault, wanted, "fault"),
+        Ok(_) => panic!(rt; "a body is read"),
+    }
+}
+
+// That a body of 41 rooms with this end is refused with this fault.
+fn is_refused_with_rooms(rt: &impl Abort, alloc: Global, end: &str, wanted: &TypeFault) {
+    let body = listed(rt, alloc, 41, end);
+    is_refused(rt, alloc, body.as_bytes(), wanted);
 }
 
 // A body of so many different rooms, and then the end.
-fn listed(alloc: Global, count: usize, end: &str) -> Result<String, OutOfMemory> {
-    let mut body = String::from_str(alloc, "[\"A0\"")?;
+fn listed(rt: &impl Abort, alloc: Global, count: usize, end: &str) -> String {
+    let mut body = String::from_str(alloc, "[\"A0\"").expect(rt, "memory");
     for i in 1..count {
-        write!(body, ",\"A{i}\"")?;
+        write!(body, ",\"A{i}\"").expect(rt, "memory");
     }
-    body.push_str(end)?;
-    Ok(body)
+    body.push_str(end).expect(rt, "memory");
+    body
 }

@@ -1,7 +1,9 @@
 //! What bytes ask: requests that are read, and the first fault of others.
+use crate::asserting::{assert_same, same_at};
 use resident_http::ask::{AskState, HEAD_LIMIT, read_ask};
 use resident_http::choices::choices_of_body;
-use std::test::Fail;
+use std::alloc::Global;
+use std::process::Abort;
 
 // A list of rooms is handed in.
 const REQUEST: &[u8] = b"PUT /me/choices HTTP/1.1\r\n\
@@ -108,22 +110,37 @@ const READ: [(&[u8], &str, Option<&str>); 9] = [
     ),
 ];
 
-// The status with which bytes are refused, if they are.
-fn status_of(bytes: &[u8]) -> Option<u16> {
-    match read_ask(bytes) {
-        AskState::Fault(status) => Some(status.as_u16()),
-        AskState::More | AskState::Ask { .. } => None,
-    }
+// What bytes ask, in short.
+#[derive(Clone, Copy, PartialEq, Eq, Debug)]
+enum Asked {
+    // More bytes are to come.
+    More,
+    // A whole request, whose body has so many bytes.
+    Whole(usize),
+    // They are refused with this status.
+    Refused(u16),
 }
 
-fn is_more(bytes: &[u8]) -> bool {
-    matches!(read_ask(bytes), AskState::More)
+fn in_short(bytes: &[u8]) -> Asked {
+    match read_ask(bytes) {
+        AskState::More => Asked::More,
+        AskState::Ask { body, .. } => Asked::Whole(body.len()),
+        AskState::Fault(status) => Asked::Refused(status.as_u16()),
+    }
 }
 
 // The body of a whole request.
 fn body_of(bytes: &[u8]) -> Option<&[u8]> {
     match read_ask(bytes) {
         AskState::Ask { body, .. } => Some(body),
+        AskState::More | AskState::Fault(_) => None,
+    }
+}
+
+// The path and the key of a whole request.
+fn path_and_key(bytes: &[u8]) -> Option<(&str, Option<&str>)> {
+    match read_ask(bytes) {
+        AskState::Ask { path, key, .. } => Some((path, key)),
         AskState::More | AskState::Fault(_) => None,
     }
 }
@@ -138,11 +155,11 @@ fn a_request_is_read(rt: HostRuntime) {
             body,
             used,
         } => {
-            assert_eq!(rt; method, b"PUT".as_slice());
-            assert_eq!(rt; path, "/me/choices");
-            assert_eq!(rt; key, Some("key00000000000t1"));
-            assert_eq!(rt; body, b"[\"H2\"]".as_slice());
-            assert_eq!(rt; used, REQUEST.len());
+            assert_same!(rt; method, b"PUT".as_slice());
+            assert_same!(rt; path, "/me/choices");
+            assert_same!(rt; key, Some("key00000000000t1"));
+            assert_same!(rt; body, b"[\"H2\"]".as_slice());
+            assert_same!(rt; used, REQUEST.len());
         }
         AskState::More | AskState::Fault(_) => panic!(rt; "the request is not read"),
     }
@@ -151,95 +168,122 @@ fn a_request_is_read(rt: HostRuntime) {
 #[test]
 fn more_is_asked_of_each_front(rt: HostRuntime) {
     for length in 0..REQUEST.len() {
-        assert!(rt; is_more(&REQUEST[..length]), "the first {length} bytes");
+        same_at(&rt, &in_short(&REQUEST[..length]), &Asked::More, length);
     }
 }
 
 #[test]
 fn the_first_fault_counts(rt: HostRuntime) {
     for (bytes, status) in FAULTS {
-        assert_eq!(rt; status_of(bytes), Some(status));
+        assert_same!(rt; in_short(bytes), Asked::Refused(status));
     }
 }
 
 #[test]
 fn paths_and_keys(rt: HostRuntime) {
-    for (bytes, wanted_path, wanted_key) in READ {
-        match read_ask(bytes) {
-            AskState::Ask { path, key, .. } => {
-                assert_eq!(rt; path, wanted_path);
-                assert_eq!(rt; key, wanted_key);
-            }
-            AskState::More | AskState::Fault(_) => panic!(rt; "a request is not read"),
-        }
+    for (bytes, path, key) in READ {
+        assert_same!(rt; path_and_key(bytes), Some((path, key)));
     }
 }
 
-// Bytes after the body are ignored, and the length may begin with zeros.
+// Requests and their bodies: bytes after the body are ignored, and the length may begin with zeros.
+const BODIES: [(&[u8], &[u8]); 3] = [
+    (
+        b"PUT / HTTP/1.1\r\nHost: a\r\nContent-Length: 0006\r\n\r\n[\"H2\"]",
+        b"[\"H2\"]",
+    ),
+    (
+        b"PUT / HTTP/1.1\r\nHost: a\r\nContent-Length: 2\r\n\r\n[]GET /",
+        b"[]",
+    ),
+    (b"PUT / HTTP/1.1\r\nHost: a\r\n\r\n[]", b""),
+];
+
 #[test]
 fn bodies_by_their_length(rt: HostRuntime) {
-    let zeros = b"PUT / HTTP/1.1\r\nHost: a\r\nContent-Length: 0006\r\n\r\n[\"H2\"]".as_slice();
-    assert_eq!(rt; body_of(zeros), Some(b"[\"H2\"]".as_slice()));
-    let longer = b"PUT / HTTP/1.1\r\nHost: a\r\nContent-Length: 2\r\n\r\n[]GET /".as_slice();
-    assert_eq!(rt; body_of(longer), Some(b"[]".as_slice()));
-    let none = b"PUT / HTTP/1.1\r\nHost: a\r\n\r\n[]".as_slice();
-    assert_eq!(rt; body_of(none), Some(b"".as_slice()));
+    for (bytes, body) in BODIES {
+        assert_same!(rt; body_of(bytes), Some(body));
+    }
+}
+
+// The front, and then a byte so many times.
+fn padded(rt: &impl Abort, alloc: Global, front: &[u8], byte: u8, times: usize) -> Vec<u8> {
+    let mut bytes = Vec::from_slice(alloc, front).expect(rt, "memory");
+    for _ in 0..times {
+        bytes.push(byte).expect(rt, "memory");
+    }
+    bytes
+}
+
+// A list with so many spaces after it, of what is to have 1,024 bytes.
+fn spaced_list(rt: &impl Abort, alloc: Global, spaces: usize) -> Vec<u8> {
+    let front = b"PUT /me/choices HTTP/1.1\r\nHost: a\r\nContent-Length: 1024\r\n\r\n[\"H2\"]";
+    padded(rt, alloc, front, b' ', spaces)
 }
 
 #[test]
-fn the_longest_body(rt: HostRuntime) -> Result<(), Fail> {
+fn the_longest_body(rt: HostRuntime) {
     let alloc = rt.alloc();
-    let head = b"PUT /me/choices HTTP/1.1\r\nHost: a\r\nContent-Length: 1024\r\n\r\n[\"H2\"]";
-    let mut bytes = Vec::from_slice(alloc, head.as_slice())?;
-    for _ in 1..1_018 {
-        bytes.push(b' ')?;
+    let short = spaced_list(&rt, alloc, 1_017);
+    assert_same!(rt; in_short(&short), Asked::More);
+    let whole = spaced_list(&rt, alloc, 1_018);
+    assert_same!(rt; in_short(&whole), Asked::Whole(1_024));
+    assert_same!(rt; rooms_listed(&rt, alloc, &whole), 1);
+}
+
+// How many rooms the body of a request lists.
+fn rooms_listed(rt: &impl Abort, alloc: Global, bytes: &[u8]) -> usize {
+    let body = body_of(bytes).expect(rt, "a whole request");
+    let choices = choices_of_body(alloc, body).expect(rt, "a list of rooms");
+    choices.as_slice().len()
+}
+
+// Heads up to their limits: how many bytes come before the end, the end, and what they ask.
+const HEADS: [(usize, &[u8], Asked); 5] = [
+    (HEAD_LIMIT - 4, b"", Asked::More),
+    (HEAD_LIMIT - 4, b"\r\n\r\n", Asked::Whole(0)),
+    (HEAD_LIMIT - 1, b"", Asked::More),
+    (HEAD_LIMIT, b"", Asked::Refused(400)),
+    (HEAD_LIMIT, b"\r\n\r\n", Asked::Refused(400)),
+];
+
+#[test]
+fn heads_up_to_their_limits(rt: HostRuntime) {
+    for (length, end, wanted) in HEADS {
+        same_at(
+            &rt,
+            &asked_by_head(&rt, rt.alloc(), length, end),
+            &wanted,
+            length,
+        );
     }
-    assert!(rt; is_more(&bytes));
-    bytes.push(b' ')?;
-    match body_of(&bytes) {
-        Some(body) => {
-            assert_eq!(rt; body.len(), 1_024);
-            match choices_of_body(alloc, body) {
-                Ok(choices) => assert_eq!(rt; choices.as_slice().len(), 1),
-                Err(_) => panic!(rt; "the list is not read"),
-            }
-        }
-        None => panic!(rt; "the request is not read"),
+}
+
+// What a head asks that has so many bytes before this end.
+fn asked_by_head(rt: &impl Abort, alloc: Global, length: usize, end: &[u8]) -> Asked {
+    let front = b"GET / HTTP/1.1\r\nHost: ".as_slice();
+    let letters = length.saturating_sub(front.len());
+    let mut head = padded(rt, alloc, front, b'a', letters);
+    head.extend_from_slice(end).expect(rt, "memory");
+    in_short(&head)
+}
+
+// A head with a field `Host` and so many others.
+fn head_of_fields(rt: &impl Abort, alloc: Global, others: usize) -> Vec<u8> {
+    let mut head = Vec::from_slice(alloc, b"GET / HTTP/1.1\r\nHost: a\r\n").expect(rt, "memory");
+    for _ in 0..others {
+        head.extend_from_slice(b"A: b\r\n").expect(rt, "memory");
     }
-    Ok(())
+    head.extend_from_slice(b"\r\n").expect(rt, "memory");
+    head
 }
 
 #[test]
-fn heads_up_to_their_limits(rt: HostRuntime) -> Result<(), Fail> {
-    let mut head = Vec::from_slice(rt.alloc(), b"GET / HTTP/1.1\r\nHost: ")?;
-    for _ in head.len()..HEAD_LIMIT - 4 {
-        head.push(b'a')?;
-    }
-    assert!(rt; is_more(&head));
-    let mut endless = head.clone()?;
-    head.extend_from_slice(b"\r\n\r\n")?;
-    assert_eq!(rt; body_of(&head), Some(b"".as_slice()));
-    endless.extend_from_slice(b"aaa")?;
-    assert!(rt; is_more(&endless));
-    endless.push(b'a')?;
-    assert_eq!(rt; status_of(&endless), Some(400));
-    endless.extend_from_slice(b"\r\n\r\n")?;
-    assert_eq!(rt; status_of(&endless), Some(400));
-    Ok(())
-}
-
-#[test]
-fn fields_up_to_their_limit(rt: HostRuntime) -> Result<(), Fail> {
-    let mut head = Vec::from_slice(rt.alloc(), b"GET / HTTP/1.1\r\nHost: a\r\n")?;
-    for _ in 1..64 {
-        head.extend_from_slice(b"A: b\r\n")?;
-    }
-    let mut more = head.clone()?;
-    head.extend_from_slice(b"\r\n")?;
-    assert_eq!(rt; body_of(&head), Some(b"".as_slice()));
-    more.extend_from_slice(b"A: b\r\n\r\n")?;
-    assert_eq!(rt; status_of(&more), Some(400));
-    Ok(())
+fn fields_up_to_their_limit(rt: HostRuntime) {
+    let most = head_of_fields(&rt, rt.alloc(), 63);
+    assert_same!(rt; in_short(&most), Asked::Whole(0));
+    let more = head_of_fields(&rt, rt.alloc(), 64);
+    assert_same!(rt; in_short(&more), Asked::Refused(400));
 }
 
 // Of bytes that come to be refused with 400: none of their fronts is a request, and once a front is refused, all longer
@@ -247,25 +291,29 @@ fn fields_up_to_their_limit(rt: HostRuntime) -> Result<(), Fail> {
 fn is_refused_from_some_front(bytes: &[u8]) -> bool {
     let mut refused = false;
     for length in 0..bytes.len() + 1 {
-        let front = &bytes[..length];
-        let refused_now = status_of(front) == Some(400);
-        if refused && !refused_now || !refused_now && !is_more(front) {
+        let asked = in_short(&bytes[..length]);
+        if !may_follow(refused, asked) {
             return false;
         }
-        refused = refused_now;
+        refused = asked == Asked::Refused(400);
     }
     refused
 }
 
-#[test]
-fn fronts_of_what_is_refused(rt: HostRuntime) -> Result<(), Fail> {
-    let mut head = Vec::from_slice(rt.alloc(), b"GET / HTTP/1.1\r\nHost: a\r\n")?;
-    for _ in 1..65 {
-        head.extend_from_slice(b"A: b\r\n")?;
+// Whether a front may ask this after one that was refused, or that was not.
+fn may_follow(refused: bool, asked: Asked) -> bool {
+    match asked {
+        Asked::More => !refused,
+        Asked::Whole(_) => false,
+        Asked::Refused(status) => status == 400,
     }
-    head.extend_from_slice(b"\r\n")?;
-    assert!(rt; is_refused_from_some_front(&head));
-    assert!(rt; is_refused_from_some_front(b"GET /\xff HTTP/1.1\r\nHost: a\r\n\r\n"));
-    assert!(rt; !is_refused_from_some_front(REQUEST));
-    Ok(())
+}
+
+#[test]
+fn fronts_of_what_is_refused(rt: HostRuntime) {
+    let head = head_of_fields(&rt, rt.alloc(), 64);
+    assert_same!(rt; is_refused_from_some_front(&head), true);
+    let bad_path = b"GET /\xff HTTP/1.1\r\nHost: a\r\n\r\n";
+    assert_same!(rt; is_refused_from_some_front(bad_path), true);
+    assert_same!(rt; is_refused_from_some_front(REQUEST), false);
 }

@@ -1,7 +1,8 @@
 //! What requests ask for.
+use crate::asserting::assert_same;
 use resident_http::routes::{Route, Routed, route_request};
-use room_types::OutOfMemory;
 use std::alloc::Global;
+use std::process::Abort;
 
 // A row is a method, a path, a key or none, and what is asked for.
 const ROUTES: &str = "\
@@ -31,38 +32,48 @@ GET /me - forbidden\n\
 PUT /me/choices - forbidden";
 
 #[test]
-fn worked_routes(rt: HostRuntime) -> Result<(), OutOfMemory> {
+fn worked_routes(rt: HostRuntime) {
+    assert_same!(rt; ROUTES.lines().count(), 24);
     for row in ROUTES.lines() {
-        let mut cells = row.split(' ');
-        let (Some(method), Some(path), Some(key), Some(wanted)) = (
-            cells.next(),
-            cells.next(),
-            cells.next(),
-            cells.next(),
-        ) else {
-            panic!(rt; "{row} is no row");
-        };
-        let key = (key != "-").then_some(key);
-        assert_eq!(rt; told(rt.alloc(), method, path, key)?, wanted, "{row}");
+        is_told(&rt, rt.alloc(), row);
     }
-    Ok(())
+}
+
+fn is_told(rt: &impl Abort, alloc: Global, row: &str) {
+    let mut cells = row.split(' ');
+    let (Some(method), Some(path), Some(key), Some(wanted)) = (
+        cells.next(),
+        cells.next(),
+        cells.next(),
+        cells.next(),
+    ) else {
+        panic!(rt; "{row} is no row");
+    };
+    let routed = route_request(alloc, method.as_bytes(), path, key_in(key)).expect(rt, "memory");
+    assert_same!(rt; word_for(routed), wanted, row);
+}
+
+// The key that this cell stands for.
+fn key_in(cell: &str) -> Option<&str> {
+    if cell == "-" { None } else { Some(cell) }
 }
 
 // What a request asks for, in one word.
-fn told(
-    alloc: Global,
-    method: &str,
-    path: &str,
-    key: Option<&str>,
-) -> Result<&'static str, OutOfMemory> {
-    let word = match route_request(alloc, method.as_bytes(), path, key)? {
+fn word_for(routed: Routed<'_>) -> &'static str {
+    match routed {
         Routed::Unknown => "unknown",
         Routed::WrongMethod { allow } => allow.as_str(),
         Routed::Forbidden => "forbidden",
-        Routed::To { route, key } if key == "key00000000000t1" => word_of(route),
-        Routed::To { .. } => "another key",
-    };
-    Ok(word)
+        Routed::To { route, key } => word_with_key(route, key),
+    }
+}
+
+fn word_with_key(route: Route, key: &str) -> &'static str {
+    if key == "key00000000000t1" {
+        word_of(route)
+    } else {
+        "another key"
+    }
 }
 
 fn word_of(route: Route) -> &'static str {
