@@ -17,14 +17,14 @@ pub(crate) fn make_tables<S: Alter>(tx: &mut Transaction<'_, S>) -> Result<(), E
     ensures inside { StaysInside (state S.Store tx.old.conn.now) (state S.Store tx.new.conn.now) }
 {
     for place in 0..8 {
-        run(tx, text_of(place), &[])?;
+        run(tx, declaration(place), &[])?;
     }
     Ok(())
 }
 
 // What declares the table at this place. A table comes after those that it refers to, and those of a round are the last,
 // since they are dropped and made anew.
-fn text_of(place: usize) -> &'static str
+fn declaration(place: usize) -> &'static str
     requires { place < 8 }
     ensures { result.now ≡ table_text place }
 {

@@ -23,7 +23,7 @@ pub fn numbers_rise<S: Alter>(conn: &mut Connection<S>) -> Result<bool, Error>
 {
     for place in 0..8 {
         let rows = rowids(conn, place)?;
-        if !rise(rows.as_slice()) {
+        if !do_rowids_rise(rows.as_slice()) {
             return Ok(false);
         }
     }
@@ -46,12 +46,12 @@ fn rowids<S: Alter>(conn: &mut Connection<S>, place: usize) -> Result<Vec<Row>, 
 {
     let outside = conn.is_autocommit();
     prove!(outside);
-    let rows = conn.query_all(text_of(place), &[])?;
+    let rows = conn.query_all(rowid_query(place), &[])?;
     Ok(rows)
 }
 
 // The query over the rowids of the table at this place.
-fn text_of(place: usize) -> &'static str
+fn rowid_query(place: usize) -> &'static str
     requires { place < 8 }
     ensures { result.now ≡ rowid_text place }
 {
@@ -68,7 +68,7 @@ fn text_of(place: usize) -> &'static str
 }
 
 // Whether the first columns are numbers, each above the one before.
-fn rise(rows: &[Row]) -> bool
+fn do_rowids_rise(rows: &[Row]) -> bool
     ensures { IsTrue result → AreNumbered rows.now }
 {
     let mut last = None;

@@ -34,34 +34,34 @@ fn request_after(alloc: Global, verb: Verb, rest: &[&str]) -> Result<Request, Wo
     ensures memory { WantsMemoryOnlyIf (copies verb (map (λ word. word.now) rest.now)) result }
 {
     match verb {
-        Verb::Room => add_room(alloc, rest),
-        Verb::Person => add_person(alloc, rest),
-        Verb::Home => set_home(alloc, rest),
-        Verb::Leave => leave(alloc, rest),
-        Verb::Remove => remove(alloc, rest),
-        Verb::Shut => shut(alloc, rest),
-        Verb::Reopen => reopen(alloc, rest),
+        Verb::Room => words_to_add_room(alloc, rest),
+        Verb::Person => words_to_add_person(alloc, rest),
+        Verb::Home => words_to_set_home(alloc, rest),
+        Verb::Leave => words_to_leave(alloc, rest),
+        Verb::Remove => words_to_remove(alloc, rest),
+        Verb::Shut => words_to_shut(alloc, rest),
+        Verb::Reopen => words_to_reopen(alloc, rest),
         Verb::Open => alone(rest, Request::Office(Command::OpenRound)),
         Verb::Close => alone(rest, Request::Office(Command::CloseRound)),
         Verb::Run => alone(rest, Request::Office(Command::Run)),
         Verb::Publish => alone(rest, Request::Office(Command::Publish)),
         Verb::Settle => alone(rest, Request::Office(Command::Settle)),
         Verb::Cancel => alone(rest, Request::Office(Command::Cancel)),
-        Verb::Choose => set_choices(alloc, rest),
-        Verb::Withdraw => withdraw(alloc, rest),
-        Verb::Draw => draw(alloc, rest),
+        Verb::Choose => words_to_set_choices(alloc, rest),
+        Verb::Withdraw => words_to_withdraw(alloc, rest),
+        Verb::Draw => words_to_draw(alloc, rest),
         Verb::Rooms => alone(rest, Request::Ask(Query::Rooms)),
         Verb::People => alone(rest, Request::Ask(Query::People)),
         Verb::Round => alone(rest, Request::Ask(Query::Round)),
         Verb::Order => alone(rest, Request::Ask(Query::Order)),
         Verb::Results => alone(rest, Request::Ask(Query::Results)),
-        Verb::Moves => ask_moves(rest),
-        Verb::Me => ask_me(alloc, rest),
-        Verb::WhatIf => ask_what_if(alloc, rest),
+        Verb::Moves => words_to_ask_moves(rest),
+        Verb::Me => words_to_ask_me(alloc, rest),
+        Verb::WhatIf => words_to_ask_what_if(alloc, rest),
     }
 }
 
-fn add_room(alloc: Global, words: &[&str]) -> Result<Request, WordFault>
+fn words_to_add_room(alloc: Global, words: &[&str]) -> Result<Request, WordFault>
     ensures understands { Understands (add_room (map (λ word. word.now) words.now)) result }
     ensures memory { WantsMemoryOnlyIf (copies verb.Room (map (λ word. word.now) words.now))
         result }
@@ -71,7 +71,7 @@ fn add_room(alloc: Global, words: &[&str]) -> Result<Request, WordFault>
 }
 
 // The rest of the words, joined by one space, is the name.
-fn add_person(alloc: Global, words: &[&str]) -> Result<Request, WordFault>
+fn words_to_add_person(alloc: Global, words: &[&str]) -> Result<Request, WordFault>
     ensures understands { Understands (add_person (map (λ word. word.now) words.now)) result }
     ensures memory { WantsMemoryOnlyIf (copies verb.Person (map (λ word. word.now) words.now))
         result }
@@ -92,7 +92,7 @@ fn add_person(alloc: Global, words: &[&str]) -> Result<Request, WordFault>
     }
 }
 
-fn set_home(alloc: Global, words: &[&str]) -> Result<Request, WordFault>
+fn words_to_set_home(alloc: Global, words: &[&str]) -> Result<Request, WordFault>
     ensures understands { Understands (set_home (map (λ word. word.now) words.now)) result }
     ensures memory { WantsMemoryOnlyIf (copies verb.Home (map (λ word. word.now) words.now))
         result }
@@ -107,7 +107,7 @@ fn set_home(alloc: Global, words: &[&str]) -> Result<Request, WordFault>
     }
 }
 
-fn leave(alloc: Global, words: &[&str]) -> Result<Request, WordFault>
+fn words_to_leave(alloc: Global, words: &[&str]) -> Result<Request, WordFault>
     ensures understands { Understands (leave (map (λ word. word.now) words.now)) result }
     ensures memory { WantsMemoryOnlyIf (copies verb.Leave (map (λ word. word.now) words.now))
         result }
@@ -116,7 +116,7 @@ fn leave(alloc: Global, words: &[&str]) -> Result<Request, WordFault>
     Ok(Request::Office(Command::Leave { person }))
 }
 
-fn remove(alloc: Global, words: &[&str]) -> Result<Request, WordFault>
+fn words_to_remove(alloc: Global, words: &[&str]) -> Result<Request, WordFault>
     ensures understands { Understands (remove (map (λ word. word.now) words.now)) result }
     ensures memory { WantsMemoryOnlyIf (copies verb.Remove (map (λ word. word.now) words.now))
         result }
@@ -125,7 +125,7 @@ fn remove(alloc: Global, words: &[&str]) -> Result<Request, WordFault>
     Ok(Request::Office(Command::Remove { person }))
 }
 
-fn shut(alloc: Global, words: &[&str]) -> Result<Request, WordFault>
+fn words_to_shut(alloc: Global, words: &[&str]) -> Result<Request, WordFault>
     ensures understands { Understands (shut (map (λ word. word.now) words.now)) result }
     ensures memory { WantsMemoryOnlyIf (copies verb.Shut (map (λ word. word.now) words.now))
         result }
@@ -134,7 +134,7 @@ fn shut(alloc: Global, words: &[&str]) -> Result<Request, WordFault>
     Ok(Request::Office(Command::Shut { room }))
 }
 
-fn reopen(alloc: Global, words: &[&str]) -> Result<Request, WordFault>
+fn words_to_reopen(alloc: Global, words: &[&str]) -> Result<Request, WordFault>
     ensures understands { Understands (reopen (map (λ word. word.now) words.now)) result }
     ensures memory { WantsMemoryOnlyIf (copies verb.Reopen (map (λ word. word.now) words.now))
         result }
@@ -143,7 +143,7 @@ fn reopen(alloc: Global, words: &[&str]) -> Result<Request, WordFault>
     Ok(Request::Office(Command::Reopen { room }))
 }
 
-fn set_choices(alloc: Global, words: &[&str]) -> Result<Request, WordFault>
+fn words_to_set_choices(alloc: Global, words: &[&str]) -> Result<Request, WordFault>
     ensures understands { Understands (set_choices (map (λ word. word.now) words.now)) result }
     ensures memory { WantsMemoryOnlyIf (copies verb.Choose (map (λ word. word.now) words.now))
         result }
@@ -158,7 +158,7 @@ fn set_choices(alloc: Global, words: &[&str]) -> Result<Request, WordFault>
     }
 }
 
-fn withdraw(alloc: Global, words: &[&str]) -> Result<Request, WordFault>
+fn words_to_withdraw(alloc: Global, words: &[&str]) -> Result<Request, WordFault>
     ensures understands { Understands (withdraw (map (λ word. word.now) words.now)) result }
     ensures memory { WantsMemoryOnlyIf (copies verb.Withdraw (map (λ word. word.now) words.now))
         result }
@@ -167,7 +167,7 @@ fn withdraw(alloc: Global, words: &[&str]) -> Result<Request, WordFault>
     Ok(Request::Office(Command::Withdraw { person }))
 }
 
-fn draw(alloc: Global, words: &[&str]) -> Result<Request, WordFault>
+fn words_to_draw(alloc: Global, words: &[&str]) -> Result<Request, WordFault>
     ensures understands { Understands (draw (map (λ word. word.now) words.now)) result }
     ensures memory { WantsMemoryOnlyIf (copies verb.Draw (map (λ word. word.now) words.now))
         result }
@@ -176,7 +176,7 @@ fn draw(alloc: Global, words: &[&str]) -> Result<Request, WordFault>
     Ok(Request::Office(Command::Draw { words }))
 }
 
-fn ask_moves(words: &[&str]) -> Result<Request, WordFault>
+fn words_to_ask_moves(words: &[&str]) -> Result<Request, WordFault>
     ensures understands { Understands (ask_moves (map (λ word. word.now) words.now)) result }
     ensures memory { WantsMemoryOnlyIf (copies verb.Moves (map (λ word. word.now) words.now))
         result }
@@ -190,7 +190,7 @@ fn ask_moves(words: &[&str]) -> Result<Request, WordFault>
     }
 }
 
-fn ask_me(alloc: Global, words: &[&str]) -> Result<Request, WordFault>
+fn words_to_ask_me(alloc: Global, words: &[&str]) -> Result<Request, WordFault>
     ensures understands { Understands (ask_me (map (λ word. word.now) words.now)) result }
     ensures memory { WantsMemoryOnlyIf (copies verb.Me (map (λ word. word.now) words.now)) result }
 {
@@ -198,7 +198,7 @@ fn ask_me(alloc: Global, words: &[&str]) -> Result<Request, WordFault>
     Ok(Request::Ask(Query::Me(key)))
 }
 
-fn ask_what_if(alloc: Global, words: &[&str]) -> Result<Request, WordFault>
+fn words_to_ask_what_if(alloc: Global, words: &[&str]) -> Result<Request, WordFault>
     ensures understands { Understands (ask_what_if (map (λ word. word.now) words.now)) result }
     ensures memory { WantsMemoryOnlyIf (copies verb.WhatIf (map (λ word. word.now) words.now))
         result }

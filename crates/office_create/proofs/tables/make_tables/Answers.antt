@@ -13,7 +13,7 @@ loop-place-preserved g c = record {
       let early : HasCleanDisk (state g.S.Store c.loop-place.tx.conn.now) = omega (arith, c.run.ensures.inside.survives.clean) in
       let ran = c.in_ok-run.ensures.ran clean in
       let text : Executes (table_text c.loop-place.place) [] (state g.S.Store c.loop-place.tx.conn.now) (state g.S.Store c.run.new.tx.conn.now) (Ok ran.count) =
-      subst (λ t. Executes t [] (state g.S.Store c.loop-place.tx.conn.now) (state g.S.Store c.run.new.tx.conn.now) (Ok ran.count)) c.text_of.ensures ran.ran in
+      subst (λ t. Executes t [] (state g.S.Store c.loop-place.tx.conn.now) (state g.S.Store c.run.new.tx.conn.now) (Ok ran.count)) c.declaration.ensures ran.ran in
       next_stage (state g.S.Store c.loop-place.tx.conn.now) (state g.S.Store c.run.new.tx.conn.now) ran.count c.loop-place.place (omega arith) (c.loop-place.invariant.shown early was) text;
   mode = λ clean. (c.in_ok-run.ensures.ran clean).mode ∙ c.loop-place.invariant.mode (omega (arith, c.run.ensures.inside.survives.clean));
   inside = inside_then _ _ _ c.loop-place.invariant.inside c.run.ensures.inside;

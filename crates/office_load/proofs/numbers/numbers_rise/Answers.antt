@@ -19,7 +19,7 @@ loop-place-preserved g c =
       risen = λ clean has.
           let early = honest_before before after c.rowids.ensures.reads.follows (clean, c.in_ok-rows.ensures.is_open clean) in
           let same = c.loop-place.invariant.reads.same early has in
-          let here = numbered_if_read _ _ (c.in_ok-rows.ensures.shown clean (ap (λ (d : Database). d.schema) same ∙ has)) (subst AreNumbered c.as_slice.ensures.value (c.if-not-rise.ensures refl)) in
+          let here = numbered_if_read _ _ (c.in_ok-rows.ensures.shown clean (ap (λ (d : Database). d.schema) same ∙ has)) (subst AreNumbered c.as_slice.ensures.value (c.if-not-do_rowids_rise.ensures refl)) in
           next_place (λ k. AreNumbered (start.now.trees (tree_of k))) c.loop-place.place (c.loop-place.invariant.risen early.0 has)
           (subst (λ (d : Database). AreNumbered (d.trees (tree_of c.loop-place.place))) same here);
     }

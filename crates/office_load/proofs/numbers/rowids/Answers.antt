@@ -12,18 +12,18 @@ use Rattle.office_load.proofs.numbers.rowids.Goals as goal
 
 pub returns-in_err-rows-clause-reads : goal.returns-in_err-rows-clause-reads
 returns-in_err-rows-clause-reads g c =
-    reads_failed c.text_of.result.now [] _ _ _ c.query_all.ensures.survives _ (c.is_autocommit-outside.ensures.settled (c.is_autocommit-outside.ensures.value ∙ ap not c.requires.outside)) c.in_err-rows.ensures.err
+    reads_failed c.rowid_query.result.now [] _ _ _ c.query_all.ensures.survives _ (c.is_autocommit-outside.ensures.settled (c.is_autocommit-outside.ensures.value ∙ ap not c.requires.outside)) c.in_err-rows.ensures.err
 
 pub returns-clause-reads : goal.returns-clause-reads
 returns-clause-reads g c =
     let plain = (rowids_listed c.args.place c.requires.known).plain in
-    reads_shown c.text_of.result.now [] _ _ _ c.query_all.ensures.survives _ (subst (λ t. IsPlain (understood office_schema t)) (sym c.text_of.ensures) plain) c.in_ok-rows.ensures.ok
+    reads_shown c.rowid_query.result.now [] _ _ _ c.query_all.ensures.survives _ (subst (λ t. IsPlain (understood office_schema t)) (sym c.rowid_query.ensures) plain) c.in_ok-rows.ensures.ok
 
 pub returns-clause-shown : goal.returns-clause-shown
 returns-clause-shown g c clean has =
     let old = state g.S.Store c.args.conn.now in
-    let shown = subst (λ t. Shown t [] old (state g.S.Store c.query_all.new.self) c.in_ok-rows.rows.items) c.text_of.ensures (c.in_ok-rows.ensures.ok clean) in
+    let shown = subst (λ t. Shown t [] old (state g.S.Store c.query_all.new.self) c.in_ok-rows.rows.items) c.rowid_query.ensures (c.in_ok-rows.ensures.ok clean) in
     shows_table (rowid_text c.args.place) (tree_of c.args.place) only_rowid _ (rowids_listed c.args.place c.requires.known) old _ _ has shown
 
 pub returns-clause-is_open : goal.returns-clause-is_open
-returns-clause-is_open g c clean = shown_is_open c.text_of.result.now [] _ _ c.in_ok-rows.rows.items (c.in_ok-rows.ensures.ok clean)
+returns-clause-is_open g c clean = shown_is_open c.rowid_query.result.now [] _ _ c.in_ok-rows.rows.items (c.in_ok-rows.ensures.ok clean)

@@ -1,7 +1,7 @@
 use Rattle.std.proofs.Common.{take}
 use Rattle.office_load.specs.Numbers.{AreNumbered}
 use Rattle.office_load.proofs.Numbering.{IsLast}
-use Rattle.office_load.proofs.numbers.rise.Given as goal
+use Rattle.office_load.proofs.numbers.do_rowids_rise.Given as goal
 
 abbrev pub invariant-loop-row : goal.invariant-loop-row
 invariant-loop-row l = record {

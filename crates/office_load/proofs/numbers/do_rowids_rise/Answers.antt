@@ -5,7 +5,7 @@ use Rattle.sqlite_value.specs.declared.value.Value.TheVariants.{Int}
 use Rattle.sqlite_trees.specs.Tree.{rowid}
 use Rattle.office_load.specs.Numbers.{AreNumbered}
 use Rattle.office_load.proofs.Numbering.{AreBelow, none_numbered, pushed}
-use Rattle.office_load.proofs.numbers.rise.Goals as goal
+use Rattle.office_load.proofs.numbers.do_rowids_rise.Goals as goal
 
 pub loop-row-preserved : goal.loop-row-preserved
 loop-row-preserved c =
