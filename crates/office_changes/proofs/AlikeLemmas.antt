@@ -1,5 +1,5 @@
 -- Tables that differ in the order of one of them.
-use Rattle.std.proofs.Common.{◌≡◌, List, IsPermutation, subst}
+use Rattle.std.proofs.Common.{List, IsPermutation}
 use Rattle.std.specs.Prelude.{ℕ, Bool}
 use Rattle.std.proofs.lemmas.List.Sorted.{IsPermutation-refl, IsPermutation-trans}
 use Rattle.room_types.specs.Texts.{Text}
@@ -9,7 +9,17 @@ use Rattle.office_state.specs.declared.office.kept_list.KeptList.{KeptList}
 use Rattle.office_rows.specs.Tables.{Tables}
 use Rattle.office_rows.specs.declared.records.ChoiceRecord.{ChoiceRecord}
 use Rattle.office_rows.specs.declared.records.PersonRecord.{PersonRecord}
-use Rattle.office_changes.specs.Alike.{AreAlike}
+
+-- each table has the rows of the other, in some order
+pub record AreAlike (these those : Tables) : Type 0 where
+  pub rooms : IsPermutation these.rooms those.rooms
+  pub people : IsPermutation these.people those.people
+  pub rounds : IsPermutation these.rounds those.rounds
+  pub choices : IsPermutation these.choices those.choices
+  pub words : IsPermutation these.words those.words
+  pub results : IsPermutation these.results those.results
+  pub moves : IsPermutation these.moves those.moves
+  pub lists : IsPermutation these.lists those.lists
 
 pub alike-refl : (tables : Tables) → AreAlike tables tables
 alike-refl t = record {

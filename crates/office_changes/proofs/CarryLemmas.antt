@@ -12,7 +12,7 @@ use Rattle.office_rows.specs.Tables.{Tables, rows_of}
 use Rattle.office_tables.specs.Makes.{Makes}
 use Rattle.office_tables.specs.Tables.{HasTables}
 use Rattle.office_tables.proofs.HoldLemmas.{held_permuted}
-use Rattle.office_changes.specs.Alike.{AreAlike}
+use Rattle.office_changes.proofs.AlikeLemmas.{AreAlike}
 use Rattle.office_changes.specs.Carries.{Turns, CarriesOne}
 use Rattle.office_changes.proofs.SpelledLemmas.{spelled_alike}
 

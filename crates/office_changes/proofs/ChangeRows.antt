@@ -10,7 +10,7 @@ use Rattle.std.specs.FinMap as maps
 use Rattle.std.specs.FinMap.{get-insert, get-empty}
 use Rattle.std.proofs.lemmas.List.Sorted.{IsPermutation-sym, IsPermutation-middle}
 use Rattle.std.proofs.lemmas.Map.Text.{is_eq-slice_cmp}
-use Rattle.sqlite_keyed.specs.Lists.{update_where, delete_where}
+use Rattle.sqlite_keyed.specs.Lists.{update_where}
 use Rattle.sqlite_keyed.proofs.ListLemmas.{map-map, map_same, IsPermutation-same}
 use Rattle.room_types.specs.Texts.{Text, TextMap, text_cmp, text_eq}
 use Rattle.room_types.specs.declared.kinds.ListKind.{ListKind}
@@ -31,12 +31,11 @@ use Rattle.office_rows.specs.Tables.{Tables, rows_of}
 use Rattle.office_rows.specs.declared.records.ChoiceRecord.{ChoiceRecord}
 use Rattle.office_rows.specs.declared.records.PersonRecord.{PersonRecord}
 use Rattle.office_rows.proofs.Moving.{rows_more}
-use Rattle.office_changes.specs.Alike.{AreAlike}
 use Rattle.office_changes.specs.Choosing.{with_choices}
 use Rattle.office_tables.specs.Edits.{with_room, with_shut, with_person, without_person, with_home, with_withdrawn}
 use Rattle.office_tables.specs.Edits.{without_withdrawn, with_round, with_choice, without_choices_of, without_round_tables}
 use Rattle.office_tables.specs.Edits.{with_word, with_result, with_move, with_kept, taking_part}
-use Rattle.office_changes.proofs.AlikeLemmas.{alike-refl, rooms_alike, people_alike, choices_alike, words_alike}
+use Rattle.office_changes.proofs.AlikeLemmas.{AreAlike, alike-refl, rooms_alike, people_alike, choices_alike, words_alike}
 use Rattle.office_changes.proofs.AlikeLemmas.{results_alike, moves_alike, lists_alike, alike-trans}
 use Rattle.office_changes.proofs.RowsChanged.{rows_put, rows_gone, row_gone, row_added}
 use Rattle.office_changes.proofs.RowsChanged.{row_unknown, row_changed}

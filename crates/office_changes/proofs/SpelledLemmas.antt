@@ -28,7 +28,7 @@ use Rattle.office_tables.specs.Edits.{with_room, with_shut, with_person, without
 use Rattle.office_tables.specs.Edits.{without_withdrawn, with_round, with_choice, without_choices_of, without_round_tables}
 use Rattle.office_tables.specs.Edits.{with_word, with_result}
 use Rattle.office_tables.specs.Edits.{with_move, with_kept}
-use Rattle.office_changes.specs.Alike.{AreAlike}
+use Rattle.office_changes.proofs.AlikeLemmas.{AreAlike}
 
 module _ {X : Type 0} (columns : X → Row) (IsRow : Row → Type 0) where
   abbrev Formed : List X → Type 0

@@ -10,7 +10,7 @@ use office_tables::people::{add_person, drop_person, set_home, set_withdrawn};
 use room_types::{Key, Name, PersonId, RoomCode};
 use sqlite::{Alter, Error, Transaction};
 
-/// A person is there. One of the same identifier may not be, since no change that fits puts a person twice.
+/// A person is added, of an identifier that nobody has.
 pub(crate) fn put_person<S: Alter>(
     tx: &mut Transaction<'_, S>,
     person: &PersonId,

@@ -11,7 +11,7 @@ use office_tables::results::add_result;
 use room_types::{Move, PersonId, RoomCode};
 use sqlite::{Alter, Error, Transaction};
 
-/// A person gets this room, or none.
+/// A person, who has no result yet, gets this room, or none.
 pub(crate) fn put_result<S: Alter>(
     tx: &mut Transaction<'_, S>,
     person: &PersonId,

@@ -11,7 +11,7 @@ use room_types::{PersonId, Word};
 use sqlite::{Alter, Error, Transaction};
 use std::alloc::Global;
 
-/// A person drew this word.
+/// A person, who has none yet, drew this word.
 pub(crate) fn put_word<S: Alter>(
     alloc: Global,
     tx: &mut Transaction<'_, S>,

@@ -155,6 +155,72 @@ const NO_ROOM: [(&str, &str); 15] = [
     ("whatif N2 V H1", "would get none\n"),
 ];
 
+// Three rounds of one office: one is given up after its run, somebody is taken out and added again, and two are settled.
+const ROUND_AFTER_ROUND: [(&str, &str); 38] = [
+    ("room H1", "ok\n"),
+    ("room V", "ok\n"),
+    ("person T1 key00000000000t1 Tim Tan", "ok\n"),
+    ("home T1 H1", "ok\n"),
+    ("person N key000000000000n Ned Nye", "ok\n"),
+    ("open", "round 1 open\n"),
+    ("choose T1 V", "chosen V\n"),
+    ("choose N H1", "chosen H1\n"),
+    ("close", "closed 2\n"),
+    ("draw 0000000000000002 0000000000000001", "drawn 2\n"),
+    ("run", "ran 2\n"),
+    (
+        "results",
+        "person        room\nN             H1\nT1            V\n",
+    ),
+    ("cancel", "cancelled\n"),
+    ("remove N", "ok\n"),
+    ("person N key000000000000n Ned Nye", "ok\n"),
+    ("open", "round 2 open\n"),
+    ("choose T1 V", "chosen V\n"),
+    ("choose N V", "chosen V\n"),
+    ("close", "closed 2\n"),
+    ("draw 0000000000000001 0000000000000002", "drawn 2\n"),
+    ("run", "ran 2\n"),
+    (
+        "results",
+        "person        room\nN             V\nT1            H1\n",
+    ),
+    ("publish", "published 2\n"),
+    ("settle", "settled 1\n"),
+    ("moves 1", "wave  person        from      to\n"),
+    (
+        "moves 2",
+        "wave  person        from      to\n1     N             none      V\n",
+    ),
+    ("open", "round 3 open\n"),
+    ("choose T1 V", "chosen V\n"),
+    ("choose N H1", "chosen H1\n"),
+    ("close", "closed 2\n"),
+    ("draw 0000000000000002 0000000000000001", "drawn 2\n"),
+    ("run", "ran 2\n"),
+    (
+        "results",
+        "person        room\nN             H1\nT1            V\n",
+    ),
+    ("publish", "published 2\n"),
+    ("settle", "settled 2\n"),
+    (
+        "moves 3",
+        "wave  person        from      to\nswap  N             V         H1\nswap  T1            H1        V\n",
+    ),
+    (
+        "people",
+        "person        home      name\nN             H1        Ned Nye\nT1            V         Tim Tan\n",
+    ),
+    ("round", "round 3 idle people 2 withdrawn 0\n"),
+];
+
+#[test]
+fn hears_round_after_round(rt: HostRuntime) -> Result<(), Fail> {
+    assert!(rt; hears(&rt, &ROUND_AFTER_ROUND, 0)?);
+    Ok(())
+}
+
 #[test]
 fn hears_whole_rounds(rt: HostRuntime) -> Result<(), Fail> {
     assert!(rt; hears(&rt, &NOBODY, 0)?);
