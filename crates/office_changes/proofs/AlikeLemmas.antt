@@ -9,19 +9,9 @@ use Rattle.office_state.specs.declared.office.kept_list.KeptList.{KeptList}
 use Rattle.office_rows.specs.Tables.{Tables}
 use Rattle.office_rows.specs.declared.records.ChoiceRecord.{ChoiceRecord}
 use Rattle.office_rows.specs.declared.records.PersonRecord.{PersonRecord}
+use Rattle.office_rows.specs.SameRows.{AreSameRows}
 
--- each table has the rows of the other, in some order
-pub record AreAlike (these those : Tables) : Type 0 where
-  pub rooms : IsPermutation these.rooms those.rooms
-  pub people : IsPermutation these.people those.people
-  pub rounds : IsPermutation these.rounds those.rounds
-  pub choices : IsPermutation these.choices those.choices
-  pub words : IsPermutation these.words those.words
-  pub results : IsPermutation these.results those.results
-  pub moves : IsPermutation these.moves those.moves
-  pub lists : IsPermutation these.lists those.lists
-
-pub alike-refl : (tables : Tables) → AreAlike tables tables
+pub alike-refl : (tables : Tables) → AreSameRows tables tables
 alike-refl t = record {
   rooms = IsPermutation-refl t.rooms;
   people = IsPermutation-refl t.people;
@@ -33,7 +23,7 @@ alike-refl t = record {
   lists = IsPermutation-refl t.lists;
 }
 
-pub alike-trans : (a b c : Tables) → AreAlike a b → AreAlike b c → AreAlike a c
+pub alike-trans : (a b c : Tables) → AreSameRows a b → AreSameRows b c → AreSameRows a c
 alike-trans a b c h k = record {
   rooms = IsPermutation-trans _ _ _ h.rooms k.rooms;
   people = IsPermutation-trans _ _ _ h.people k.people;
@@ -47,7 +37,7 @@ alike-trans a b c h k = record {
 
 module _ (t : Tables) where
   pub rooms_alike : (xs ys : List (Text × Bool)) → IsPermutation xs ys
-      → AreAlike (record t { rooms = xs }) (record t { rooms = ys })
+      → AreSameRows (record t { rooms = xs }) (record t { rooms = ys })
   rooms_alike xs ys same = let still = alike-refl t in record {
     rooms = same;
     people = still.people;
@@ -60,7 +50,7 @@ module _ (t : Tables) where
   }
 
   pub people_alike : (xs ys : List PersonRecord) → IsPermutation xs ys
-      → AreAlike (record t { people = xs }) (record t { people = ys })
+      → AreSameRows (record t { people = xs }) (record t { people = ys })
   people_alike xs ys same = let still = alike-refl t in record {
     rooms = still.rooms;
     people = same;
@@ -73,7 +63,7 @@ module _ (t : Tables) where
   }
 
   pub choices_alike : (xs ys : List ChoiceRecord) → IsPermutation xs ys
-      → AreAlike (record t { choices = xs }) (record t { choices = ys })
+      → AreSameRows (record t { choices = xs }) (record t { choices = ys })
   choices_alike xs ys same = let still = alike-refl t in record {
     rooms = still.rooms;
     people = still.people;
@@ -86,7 +76,7 @@ module _ (t : Tables) where
   }
 
   pub words_alike : (xs ys : List (Text × ℕ)) → IsPermutation xs ys
-      → AreAlike (record t { words = xs }) (record t { words = ys })
+      → AreSameRows (record t { words = xs }) (record t { words = ys })
   words_alike xs ys same = let still = alike-refl t in record {
     rooms = still.rooms;
     people = still.people;
@@ -99,7 +89,7 @@ module _ (t : Tables) where
   }
 
   pub results_alike : (xs ys : List (Text × Assigned)) → IsPermutation xs ys
-      → AreAlike (record t { results = xs }) (record t { results = ys })
+      → AreSameRows (record t { results = xs }) (record t { results = ys })
   results_alike xs ys same = let still = alike-refl t in record {
     rooms = still.rooms;
     people = still.people;
@@ -112,7 +102,7 @@ module _ (t : Tables) where
   }
 
   pub moves_alike : (xs ys : List Move) → IsPermutation xs ys
-      → AreAlike (record t { moves = xs }) (record t { moves = ys })
+      → AreSameRows (record t { moves = xs }) (record t { moves = ys })
   moves_alike xs ys same = let still = alike-refl t in record {
     rooms = still.rooms;
     people = still.people;
@@ -125,7 +115,7 @@ module _ (t : Tables) where
   }
 
   pub lists_alike : (xs ys : List (Text × KeptList)) → IsPermutation xs ys
-      → AreAlike (record t { lists = xs }) (record t { lists = ys })
+      → AreSameRows (record t { lists = xs }) (record t { lists = ys })
   lists_alike xs ys same = let still = alike-refl t in record {
     rooms = still.rooms;
     people = still.people;

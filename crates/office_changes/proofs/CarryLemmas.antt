@@ -12,12 +12,12 @@ use Rattle.office_rows.specs.Tables.{Tables, rows_of}
 use Rattle.office_tables.specs.Makes.{Makes}
 use Rattle.office_tables.specs.Tables.{HasTables}
 use Rattle.office_tables.proofs.HoldLemmas.{held_permuted}
-use Rattle.office_changes.proofs.AlikeLemmas.{AreAlike}
+use Rattle.office_rows.specs.SameRows.{AreSameRows}
 use Rattle.office_changes.specs.Carries.{Turns, CarriesOne}
 use Rattle.office_changes.proofs.SpelledLemmas.{spelled_alike}
 
 -- a database that has some tables has all that are alike
-pub has_alike : (db : Database) (these those : Tables) → AreAlike these those → HasTables db those → HasTables db these
+pub has_alike : (db : Database) (these those : Tables) → AreSameRows these those → HasTables db those → HasTables db these
 has_alike db these those same h = record {
   schema = h.schema;
   rows = record {
@@ -52,7 +52,7 @@ turns_then old mid new f g early m n = record {
 
 -- the calls of a change
 pub carries : (first : Office) (old new : State) (change : Change) (f : Tables → Tables)
-    → ((office : Office) → Fits first office change → AreAlike (rows_of (applied office change)) (f (rows_of office)))
+    → ((office : Office) → Fits first office change → AreSameRows (rows_of (applied office change)) (f (rows_of office)))
     → Turns old new f → CarriesOne first old new change
 carries first old new change f same m = record {
   shown = λ office clean fits spelled was.

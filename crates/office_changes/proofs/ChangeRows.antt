@@ -27,6 +27,7 @@ use Rattle.office_state.specs.declared.change.Change.TheVariants.{PutRound, Clea
 use Rattle.office_state.specs.declared.office.Office.{Office}
 use Rattle.office_state.specs.declared.office.person.Person.{Person}
 use Rattle.office_rows.specs.Rows.{person_row, person_rows, choices_from, list_rows}
+use Rattle.office_rows.specs.SameRows.{AreSameRows}
 use Rattle.office_rows.specs.Tables.{Tables, rows_of}
 use Rattle.office_rows.specs.declared.records.ChoiceRecord.{ChoiceRecord}
 use Rattle.office_rows.specs.declared.records.PersonRecord.{PersonRecord}
@@ -35,7 +36,7 @@ use Rattle.office_changes.specs.Choosing.{with_choices}
 use Rattle.office_tables.specs.Edits.{with_room, with_shut, with_person, without_person, with_home, with_withdrawn}
 use Rattle.office_tables.specs.Edits.{without_withdrawn, with_round, with_choice, without_choices_of, without_round_tables}
 use Rattle.office_tables.specs.Edits.{with_word, with_result, with_move, with_kept, taking_part}
-use Rattle.office_changes.proofs.AlikeLemmas.{AreAlike, alike-refl, rooms_alike, people_alike, choices_alike, words_alike}
+use Rattle.office_changes.proofs.AlikeLemmas.{alike-refl, rooms_alike, people_alike, choices_alike, words_alike}
 use Rattle.office_changes.proofs.AlikeLemmas.{results_alike, moves_alike, lists_alike, alike-trans}
 use Rattle.office_changes.proofs.RowsChanged.{rows_put, rows_gone, row_gone, row_added}
 use Rattle.office_changes.proofs.RowsChanged.{row_unknown, row_changed}
@@ -71,13 +72,13 @@ module _ {X : Type 0} (m : TextMap X) (k : Text) where
 module _ (office : Office) (room : Text) (shut : Bool) where
   -- a room that is not known
   pub room_added : knows_room office room ≡ false
-      → AreAlike (rows_of (applied office (PutRoom room shut))) (with_room room shut (rows_of office))
+      → AreSameRows (rows_of (applied office (PutRoom room shut))) (with_room room shut (rows_of office))
   unfolding rows_of with_room
   room_added new = rooms_alike (rows_of office) _ _ (entry_added office.rooms room shut new)
 
   -- one that is
   pub room_shut : knows_room office room ≡ true
-      → AreAlike (rows_of (applied office (PutRoom room shut))) (with_shut room shut (rows_of office))
+      → AreSameRows (rows_of (applied office (PutRoom room shut))) (with_shut room shut (rows_of office))
   unfolding rows_of with_shut
   room_shut known =
       rooms_alike (rows_of office) _ _ (IsPermutation-same _ _ (entry_changed office.rooms room shut known))
@@ -94,7 +95,7 @@ module _ (office : Office) (person : Text) where
   -- a person who is not known and has not withdrawn
   pub person_added : (name key : Text) (home : Option Text) → knows_person office person ≡ false
       → has_withdrawn office person ≡ false
-      → AreAlike (rows_of (applied office (PutPerson person name key home)))
+      → AreSameRows (rows_of (applied office (PutPerson person name key home)))
       (with_person person (record { name = name; key = key; home = home }) (rows_of office))
   unfolding rows_of with_person
   person_added name key home new here =
@@ -107,19 +108,19 @@ module _ (office : Office) (person : Text) where
       (row_added shown (λ (r : PersonRecord). r.id) (λ e. refl) person is_that (λ r. tells r.id person) office.people v
       (none_if_not_some (maps.get office.people person) new)))
 
-  pub person_gone : AreAlike (rows_of (applied office (DropPerson person))) (without_person person (rows_of office))
+  pub person_gone : AreSameRows (rows_of (applied office (DropPerson person))) (without_person person (rows_of office))
   unfolding rows_of without_person
   person_gone =
       people_alike (rows_of office) _ _ (IsPermutation-same _ _
       (row_gone shown (λ (r : PersonRecord). r.id) (λ e. refl) person is_that (λ r. tells r.id person) office.people))
 
   pub home_put : (home : Option Text)
-      → AreAlike (rows_of (applied office (PutHome person home))) (with_home person home (rows_of office))
+      → AreSameRows (rows_of (applied office (PutHome person home))) (with_home person home (rows_of office))
   unfolding rows_of with_home
   home_put home =
       let f : PersonRecord → PersonRecord = λ r. record r { person = record r.person { home = home } } in
       elim (maps.get office.people person) as (λ o. maps.get office.people person ≡ o
-      → AreAlike (rows_of (elim o as (λ _. Office) [
+      → AreSameRows (rows_of (elim o as (λ _. Office) [
         | None ↦ office
         | Some kept ↦ record office { people = maps.insert office.people person (record kept { home = home }) }
       ])) (with_home person home (rows_of office))) [
@@ -150,7 +151,7 @@ module _ (office : Office) (person : Text) where
       either true = refl
       either false = refl
 
-  pub withdrawn_put : AreAlike (rows_of (applied office (PutWithdrawn person))) (with_withdrawn person (rows_of office))
+  pub withdrawn_put : AreSameRows (rows_of (applied office (PutWithdrawn person))) (with_withdrawn person (rows_of office))
   unfolding rows_of with_withdrawn
   withdrawn_put =
       people_alike (rows_of office) _ _ (IsPermutation-same _ _
@@ -166,7 +167,7 @@ choices_keyed person place [] = tt
 choices_keyed person place (room ∷ rooms) = (refl, choices_keyed person (place + 1) rooms)
 
 choices_added : (person : Text) (place : ℕ) (rooms : List Text) (t : Tables)
-    → AreAlike (record t { choices = choices_from person place rooms ++ t.choices }) (with_choices person place rooms t)
+    → AreSameRows (record t { choices = choices_from person place rooms ++ t.choices }) (with_choices person place rooms t)
 unfolding with_choice
 choices_added person place [] t = alike-refl t
 choices_added person place (room ∷ rooms) t =
@@ -183,7 +184,7 @@ module _ (office : Office) (person : Text) where
 
   -- a person's list is replaced
   pub choices_put : (rooms : List Text)
-      → AreAlike (rows_of (applied office (PutChoices person rooms)))
+      → AreSameRows (rows_of (applied office (PutChoices person rooms)))
       (with_choices person 0 rooms (without_choices_of person (rows_of office)))
   unfolding rows_of without_choices_of
   choices_put [] =
@@ -203,13 +204,13 @@ module _ (office : Office) (person : Text) where
 module _ (office : Office) (person : Text) where
   -- somebody has a word who had none
   pub word_added : (word : ℕ) → maps.contains_key office.words person ≡ false
-      → AreAlike (rows_of (applied office (PutWord person word))) (with_word person word (rows_of office))
+      → AreSameRows (rows_of (applied office (PutWord person word))) (with_word person word (rows_of office))
   unfolding rows_of with_word
   word_added word new = words_alike (rows_of office) _ _ (entry_added office.words person word new)
 
   -- and likewise a result
   pub result_added : (room : Option Text) → maps.contains_key office.results person ≡ false
-      → AreAlike (rows_of (applied office (PutResult person room))) (with_result person room (rows_of office))
+      → AreSameRows (rows_of (applied office (PutResult person room))) (with_result person room (rows_of office))
   unfolding rows_of with_result
   result_added room new =
       results_alike (rows_of office) _ _ (entry_added office.results person (record { room = room }) new)
@@ -217,7 +218,7 @@ module _ (office : Office) (person : Text) where
 -- somebody moves who has not moved in the round
 pub move_added : (office : Office) (move : Move)
     → maps.contains_key (moves_of office.moves move.round) move.person ≡ false
-    → AreAlike (rows_of (applied office (AddMove move))) (with_move move (rows_of office))
+    → AreSameRows (rows_of (applied office (AddMove move))) (with_move move (rows_of office))
 unfolding rows_of with_move
 move_added office move new =
     moves_alike (rows_of office) _ _ (IsPermutation-sym _ _ (rows_more office.moves move new))
@@ -225,7 +226,7 @@ move_added office move new =
 -- a list is kept under a label that is new
 pub list_kept : (office : Office) (label : Text) (kind : ListKind) (bytes : List ℕ) (count : ℕ)
     → maps.contains_key office.lists label ≡ false
-    → AreAlike (rows_of (applied office (KeepList label kind bytes count)))
+    → AreSameRows (rows_of (applied office (KeepList label kind bytes count)))
     (with_kept label (record { kind = kind; bytes = bytes; count = count }) (rows_of office))
 unfolding rows_of with_kept
 list_kept office label kind bytes count new =
@@ -235,7 +236,7 @@ list_kept office label kind bytes count new =
 -- ---- the round
 
 pub round_put : (office : Office) (number : ℕ) (phase : Phase)
-    → AreAlike (rows_of (applied office (PutRound number phase))) (with_round number phase (rows_of office))
+    → AreSameRows (rows_of (applied office (PutRound number phase))) (with_round number phase (rows_of office))
 unfolding rows_of with_round
 round_put office number phase = alike-refl (rows_of (applied office (PutRound number phase)))
 
@@ -248,7 +249,7 @@ unmarked people withdrawn =
 
 -- lists, withdrawals, words and results go
 pub round_cleared : (office : Office)
-    → AreAlike (rows_of (applied office ClearRound))
+    → AreSameRows (rows_of (applied office ClearRound))
     (without_withdrawn (without_round_tables (rows_of office)))
 unfolding rows_of without_withdrawn without_round_tables
 round_cleared office = let still = alike-refl (rows_of office) in record {

@@ -28,7 +28,7 @@ use Rattle.office_tables.specs.Edits.{with_room, with_shut, with_person, without
 use Rattle.office_tables.specs.Edits.{without_withdrawn, with_round, with_choice, without_choices_of, without_round_tables}
 use Rattle.office_tables.specs.Edits.{with_word, with_result}
 use Rattle.office_tables.specs.Edits.{with_move, with_kept}
-use Rattle.office_changes.proofs.AlikeLemmas.{AreAlike}
+use Rattle.office_rows.specs.SameRows.{AreSameRows}
 
 module _ {X : Type 0} (columns : X → Row) (IsRow : Row → Type 0) where
   abbrev Formed : List X → Type 0
@@ -57,7 +57,7 @@ module _ {X : Type 0} (columns : X → Row) (IsRow : Row → Type 0) where
     formed_changed xs h = every (update_where q f xs) (all_changed xs (each xs h))
 
 -- the order of rows is no matter
-pub spelled_alike : (these those : Tables) → AreAlike these those → IsSpelled those → IsSpelled these
+pub spelled_alike : (these those : Tables) → AreSameRows these those → IsSpelled those → IsSpelled these
 spelled_alike these those same h = record {
   rooms = All-map-IsPermutation room_columns IsRoomRow _ _ (IsPermutation-sym _ _ same.rooms) h.rooms;
   people = All-map-IsPermutation person_columns IsPersonRow _ _ (IsPermutation-sym _ _ same.people) h.people;
