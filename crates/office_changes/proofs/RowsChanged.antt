@@ -18,7 +18,7 @@ use Rattle.sqlite_keyed.specs.Lists.{update_where, delete_where}
 use Rattle.sqlite_keyed.proofs.ListLemmas.{filter_all, filter_none}
 use Rattle.room_types.specs.Texts.{Text, TextMap, text_cmp}
 use Rattle.room_types.specs.TextMaps.{exact_texts, first_holds, second_holds, less_from_test}
-use Rattle.room_types.proofs.MapEntries.{later, none_below, below_less}
+use Rattle.room_types.proofs.MapEntries.{key_after, none_below, below_less}
 
 earlier : (k x : Text) → text_cmp k x ≡ Greater → eq_by_cmp text_cmp x k ≡ false
 earlier k x e = ap is_eq (nat_list_cmp_total.antisymm x k ∙ ap ordering_reverse e)
@@ -90,7 +90,7 @@ module _ {X Row : Type 0} (rows : Text × X → List Row) (key : Row → Text)
       → delete_where mine (flat_map rows es) ≡ flat_map rows es
   kept_later [] b = refl
   kept_later (e ∷ es) b =
-      stays e es (later nat_list_cmp_total k e.0 (less_from_test _ (first_holds _ _ b)))
+      stays e es (key_after nat_list_cmp_total k e.0 (less_from_test _ (first_holds _ _ b)))
       ∙ ap (λ l. rows e ++ l) (kept_later es (second_holds _ _ b))
 
   -- an entry that is put: its rows, and those of the other keys
@@ -103,7 +103,7 @@ module _ {X Row : Type 0} (rows : Text × X → List Row) (key : Row → Text)
       (rows (k, v) ++ delete_where mine (rows e ++ flat_map rows es))) [
         | Less ↦ λ c.
             let kept : delete_where mine (rows e ++ flat_map rows es) ≡ rows e ++ flat_map rows es =
-            stays e es (later nat_list_cmp_total k e.0 c)
+            stays e es (key_after nat_list_cmp_total k e.0 c)
             ∙ ap (λ l. rows e ++ l) (kept_later es (below_less nat_list_cmp_total k e.0 es c (first_holds _ _ s))) in
             subst (λ l. IsPermutation (rows (k, v) ++ (rows e ++ flat_map rows es)) (rows (k, v) ++ l)) (sym kept)
             (IsPermutation-refl _)
@@ -133,7 +133,7 @@ module _ {X Row : Type 0} (rows : Text × X → List Row) (key : Row → Text)
       elim (text_cmp k e.0) as (λ o. text_cmp k e.0 ≡ o
       → flat_map rows (cond (not (is_eq o)) (e ∷ others k es) (others k es))
       ≡ delete_where mine (rows e ++ flat_map rows es)) [
-        | Less ↦ λ c. ap (λ l. rows e ++ l) (gone-rows es) ∙ sym (stays e es (later nat_list_cmp_total k e.0 c))
+        | Less ↦ λ c. ap (λ l. rows e ++ l) (gone-rows es) ∙ sym (stays e es (key_after nat_list_cmp_total k e.0 c))
         | Equal ↦ λ c. gone-rows es ∙ sym (goes e es (sym (exact_texts k e.0 c)))
         | Greater ↦ λ c. ap (λ l. rows e ++ l) (gone-rows es) ∙ sym (stays e es (earlier k e.0 c))
       ] refl
@@ -144,7 +144,7 @@ module _ {X Row : Type 0} (rows : Text × X → List Row) (key : Row → Text)
   kept-rows (e ∷ es) h =
       elim (text_cmp k e.0) as (λ o. text_cmp k e.0 ≡ o → cond (is_eq o) (Some e.1) (find text_cmp k es) ≡ None
       → delete_where mine (rows e ++ flat_map rows es) ≡ rows e ++ flat_map rows es) [
-        | Less ↦ λ c m. stays e es (later nat_list_cmp_total k e.0 c) ∙ ap (λ l. rows e ++ l) (kept-rows es m)
+        | Less ↦ λ c m. stays e es (key_after nat_list_cmp_total k e.0 c) ∙ ap (λ l. rows e ++ l) (kept-rows es m)
         | Equal ↦ λ c m. absurd (cc)
         | Greater ↦ λ c m. stays e es (earlier k e.0 c) ∙ ap (λ l. rows e ++ l) (kept-rows es m)
       ] refl h
@@ -210,7 +210,7 @@ module _ {X Row : Type 0} (row : Text × X → Row) (key : Row → Text) (keyed 
     same_later : (es : List (Text × X)) → T (below_all text_cmp k es) → update_where mine f (map row es) ≡ map row es
     same_later [] b = refl
     same_later (e ∷ es) b =
-        ap₂ (λ r rs. r ∷ rs) (other e (later nat_list_cmp_total k e.0 (less_from_test _ (first_holds _ _ b))))
+        ap₂ (λ r rs. r ∷ rs) (other e (key_after nat_list_cmp_total k e.0 (less_from_test _ (first_holds _ _ b))))
         (same_later es (second_holds _ _ b))
 
     unchanged : (es : List (Text × X)) → find text_cmp k es ≡ None → update_where mine f (map row es) ≡ map row es
@@ -218,7 +218,7 @@ module _ {X Row : Type 0} (row : Text × X → Row) (key : Row → Text) (keyed 
     unchanged (e ∷ es) h =
         elim (text_cmp k e.0) as (λ o. text_cmp k e.0 ≡ o → cond (is_eq o) (Some e.1) (find text_cmp k es) ≡ None
         → cond (mine (row e)) (f (row e)) (row e) ∷ update_where mine f (map row es) ≡ row e ∷ map row es) [
-          | Less ↦ λ c m. ap₂ (λ r rs. r ∷ rs) (other e (later nat_list_cmp_total k e.0 c)) (unchanged es m)
+          | Less ↦ λ c m. ap₂ (λ r rs. r ∷ rs) (other e (key_after nat_list_cmp_total k e.0 c)) (unchanged es m)
           | Equal ↦ λ c m. absurd (cc)
           | Greater ↦ λ c m. ap₂ (λ r rs. r ∷ rs) (other e (earlier k e.0 c)) (unchanged es m)
         ] refl h

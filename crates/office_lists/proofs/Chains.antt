@@ -134,13 +134,6 @@ module _ (ends : List ℕ) (ls fs : List (Option ℕ)) (linked : AreFollowers ls
             (rest.0, suc rest.1, rest.2, rest.3, ap (option_and_then (next fs)) rest.4 ∙ linked.before i j e)
       ] refl
 
-  pub none_done : (waves : List Wave) → length waves ≡ length ls → ((i : ℕ) → get_or waves i Swap ≡ Swap) → AreNumberedTo ends ls fs 0 waves
-  none_done waves as_many swaps = record {
-    as_many = as_many;
-    right = λ i number e. cc (sym (swaps i) ∙ e);
-    done = λ end c i low. absurd (omega arith);
-  }
-
   -- one more entry, the end of a chain that is numbered
   pub end_done : (count : ℕ) (old new : List Wave) → AreNumberedTo ends ls fs count old → next ls count ≡ None → length new ≡ length old → NumbersChain fs count (own_number ends count) old new → AreNumberedTo ends ls fs (count + 1) new
   end_done count old new so none same chain = record {

@@ -1,6 +1,6 @@
 -- Reading the fields of a record.
 use Rattle.std.proofs.Common.{◌≡◌, ◌∙◌, ◌<◌, ◌≤◌, ◌++◌, ◌==◌, ◌&&◌, Bor, Bool, true, false, ℕ, suc, List, [], ◌∷◌, length, map, drop, get_or, drop-cons, Some, refl, sym, ap, rules, tests}
-use Rattle.std.proofs.lemmas.Bool.{and_parts, false_from_ne_true, ne_eqb}
+use Rattle.std.proofs.lemmas.Bool.{and_parts, false_from_ne_true}
 use Rattle.std.proofs.lemmas.List.{drop_all}
 use Rattle.std.proofs.lemmas.Str.{IsUtf8-from_is_utf8, is_utf8-from_IsUtf8}
 use Rattle.std.specs.List.{list_all, slice_split}
@@ -10,7 +10,7 @@ use Rattle.room_types.specs.Grammars.{is_room_code}
 use Rattle.room_types.specs.Texts.{Text}
 use Rattle.office_lists.specs.Entries.{codes_in, is_space}
 use Rattle.office_lists.specs.Records.{ListForm, Record, cause_of, field_cause}
-use Rattle.office_lists.specs.declared.fault.Cause.TheVariants.{FieldCount, NotText}
+use Rattle.office_lists.specs.declared.fault.Cause.TheVariants.{NotText}
 
 abbrev pub texts : List (Bor Text) → List Text
 texts = map (λ (word : Bor Text). word.now)
@@ -49,9 +49,6 @@ all_text (f ∷ fs) all =
 
 same_count : (m n : ℕ) → m ≡ n → (m == n) ≡ true
 same_count m n e = search (rules, tests)
-
-pub other_count : {X : Type 0} (form : ListForm X) (fields : Record) → ¬ (length fields ≡ length form.header) → cause_of form fields ≡ Some FieldCount
-other_count form fields differ = rw (ne_eqb (length fields) (length form.header) differ) refl
 
 pub no_text : {X : Type 0} (form : ListForm X) (fields : Record) → length fields ≡ length form.header → ¬ (AllText fields) → cause_of form fields ≡ Some NotText
 no_text form fields same bad = rw (same_count (length fields) (length form.header) same, false_from_ne_true (list_all is_utf8 fields) (λ e. bad (all_text fields e))) refl

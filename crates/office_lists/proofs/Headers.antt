@@ -31,8 +31,8 @@ field_dropped (x ∷ fs) (suc i) f e = field_dropped fs i f e
 abbrev pub SameFrom : List (Bor Text) → Record → ℕ → Type 0
 SameFrom names fs i = same_fields (texts names) fs ≡ same_fields (texts (drop i names)) (drop i fs)
 
-pub start : (names : List (Bor Text)) (fs : Record) → SameFrom names fs 0
-start names fs = refl
+pub header_same_from_start : (names : List (Bor Text)) (fs : Record) → SameFrom names fs 0
+header_same_from_start names fs = refl
 
 pub at_field : (names : List (Bor Text)) (fs : Record) (i : ℕ) (d : Bor Text) (f : Text) → i < length names → field_at fs i ≡ Some f
     → SameFrom names fs i → same_fields (texts names) fs ≡ bytes_eq f (get_or names i d).now && same_fields (texts (drop (i + 1) names)) (drop (i + 1) fs)
@@ -41,9 +41,9 @@ at_field names fs i d f low is same =
     same ∙ ap₂ (λ (ns : List (Bor Text)) (gs : Record). same_fields (texts ns) gs) (drop-cons names i d low) (field_dropped fs i f is)
     ∙ ap (λ (k : ℕ). bytes_eq f (get_or names i d).now && same_fields (texts (drop k names)) (drop k fs)) (sym (add-one i))
 
-pub finished : (names : List (Bor Text)) (fs : Record) → length fs ≡ length names → SameFrom names fs (length names) → same_fields (texts names) fs ≡ true
+pub header_same_at_end : (names : List (Bor Text)) (fs : Record) → length fs ≡ length names → SameFrom names fs (length names) → same_fields (texts names) fs ≡ true
 unfolding same_fields
-finished names fs same from = from ∙ ap₂ (λ (ns : List (Bor Text)) (gs : Record). same_fields (texts ns) gs) (none names) (ap (λ (k : ℕ). drop k fs) (sym same) ∙ none_of fs)
+header_same_at_end names fs same from = from ∙ ap₂ (λ (ns : List (Bor Text)) (gs : Record). same_fields (texts ns) gs) (none names) (ap (λ (k : ℕ). drop k fs) (sym same) ∙ none_of fs)
   where
     none : (ws : List (Bor Text)) → drop (length ws) ws ≡ []
     none [] = refl
@@ -66,11 +66,11 @@ differs_at names fs i d f n low is same name e =
     sym (at_field names fs i d f low (sym is) same ∙ ap (λ (b : Bool). b && same_fields (texts (drop (i + 1) names)) (drop (i + 1) fs)) other)
 
 -- a field that is missing is past the end
-pub missing : (fs : Record) (i : ℕ) → None ≡ field_at fs i → length fs ≤ i
+pub field_missing : (fs : Record) (i : ℕ) → None ≡ field_at fs i → length fs ≤ i
 unfolding field_at
-missing [] i e = omega arith
-missing (x ∷ fs) zero e = cc
-missing (x ∷ fs) (suc i) e = let m = missing fs i e in omega arith
+field_missing [] i e = omega arith
+field_missing (x ∷ fs) zero e = cc
+field_missing (x ∷ fs) (suc i) e = let m = field_missing fs i e in omega arith
 
 pub other_length : (names : List (Bor Text)) (fs : Record) → ¬ (length fs ≡ length names) → false ≡ same_fields (texts names) fs
 other_length names fs differ = sym (same_length (texts names) fs (λ e. differ (sym e ∙ map_length names)))

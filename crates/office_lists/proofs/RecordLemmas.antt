@@ -36,10 +36,10 @@ pub record HasGiven (bytes : List ℕ) (given : List Record) (rdr : Reader (Bor 
   pub source : source_of bytes_of rdr ≡ Some rest
   pub reached : Reached default_config st.StartRecord (strip_bom bytes) given rdr.state rest
 
-pub started : (bytes : List ℕ) (rdr : Reader (Bor (List ℕ))) → rdr.trim ≡ trim.None → rdr.has_headers ≡ false → rdr.headers ≡ None
+pub reader_started : (bytes : List ℕ) (rdr : Reader (Bor (List ℕ))) → rdr.trim ≡ trim.None → rdr.has_headers ≡ false → rdr.headers ≡ None
     → is_flexible rdr ≡ true → rdr.config ≡ default_config → source_of bytes_of rdr ≡ Some (strip_bom bytes) → rdr.state ≡ st.StartRecord → HasGiven bytes [] rdr
 unfolding Reached
-started bytes rdr trims plain none flexible config source state = record {
+reader_started bytes rdr trims plain none flexible config source state = record {
   trims = trims;
   ready = inr (inr (plain, none));
   flexible = flexible;
@@ -50,10 +50,10 @@ started bytes rdr trims plain none flexible config source state = record {
 }
 
 -- one record more
-pub gives : (bytes : List ℕ) (given : List Record) (old new : Reader (Bor (List ℕ))) (row : Row) → HasGiven bytes given old
+pub reader_gives : (bytes : List ℕ) (given : List Record) (old new : Reader (Bor (List ℕ))) (row : Row) → HasGiven bytes given old
     → ReadRecord bytes_of old new true (fields_of row) → new.first ≡ true → is_flexible new ≡ is_flexible old
     → HasGiven bytes (given ++ fields_of row ∷ []) new
-gives bytes given old new row has step first same =
+reader_gives bytes given old new row has step first same =
     let more = rows-more bytes_of old new (fields_of row) default_config st.StartRecord (strip_bom bytes) has.rest given has.config has.source has.reached step in
     record {
       trims = step.3 ∙ has.trims;
@@ -163,7 +163,7 @@ one_read form bytes entries old new row entry to step first same few good is =
     record {
       header = to.header;
       done = to.done ++ fields_of row ∷ [];
-      given = gives bytes (to.header ∷ to.done) old new row to.given step first same;
+      given = reader_gives bytes (to.header ∷ to.done) old new row to.given step first same;
       few = omega (arith, count, length-append to.done (fields_of row ∷ []));
       good = fault_at_next (cause_of form) to.done (fields_of row) [] (omega (arith, count)) to.good
           ∙ ap (λ (o : Option Cause). option_map_or (λ why. Some (list.Bad (length to.done + 1) why)) o (first_bad (cause_of form) (length to.done + 1 + 1) [])) good;
@@ -176,7 +176,7 @@ next_is : {X : Type 0} (form : ListForm X) (bytes : List ℕ) (entries : List X)
     → (to : IsReadTo form bytes entries old) → ReadRecord bytes_of old new true (fields_of row) → new.first ≡ true → is_flexible new ≡ is_flexible old
     → (rest : List Record) × (list_fault form (records_of bytes) ≡ first_bad (cause_of form) 1 (to.done ++ fields_of row ∷ rest))
 next_is form bytes entries old new row to step first same =
-    let found = gave_first bytes (to.header ∷ (to.done ++ fields_of row ∷ [])) new (gives bytes (to.header ∷ to.done) old new row to.given step first same) in
+    let found = gave_first bytes (to.header ∷ (to.done ++ fields_of row ∷ [])) new (reader_gives bytes (to.header ∷ to.done) old new row to.given step first same) in
     let are : records_of bytes ≡ to.header ∷ (to.done ++ fields_of row ∷ found.0) = found.1 ∙ ap (λ (rs : List Record). to.header ∷ rs) (append_assoc to.done (fields_of row ∷ []) found.0) in
     (found.0, headed_fault form bytes to.header (to.done ++ fields_of row ∷ found.0) to.headed are)
 

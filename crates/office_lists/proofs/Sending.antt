@@ -65,13 +65,13 @@ has_byte fields = ends (row_body default_writer fields) _
     ends [] (y ∷ ys) = omega arith
     ends (x ∷ xs) ys = omega arith
 
-pub begun : (records : List Record) (output : Output) → IsWritten records 0 0 output output
-begun records output = record { size = refl; room = omega arith; written = Puts-nil output }
+pub writing_begun : (records : List Record) (output : Output) → IsWritten records 0 0 output output
+writing_begun records output = record { size = refl; room = omega arith; written = Puts-nil output }
 
-pub more : (records : List Record) (count sent : ℕ) (before middle after : Output) (bytes : List ℕ) → count < length records
+pub writing_goes_on : (records : List Record) (count sent : ℕ) (before middle after : Output) (bytes : List ℕ) → count < length records
     → bytes ≡ record_bytes (record_at records count) → length bytes < 2 ^ 64 → Puts middle after bytes
     → IsWritten records count sent before middle → IsWritten records (count + 1) (sent + length bytes) before after
-more records count sent before middle after bytes low is small puts so_far =
+writing_goes_on records count sent before middle after bytes low is small puts so_far =
     let all : export_bytes (take count records) ++ bytes ≡ export_bytes (take (count + 1) records) =
     ap (λ (b : List ℕ). export_bytes (take count records) ++ b) is ∙ sym (rw add-one (next records count low)) in
     record {
@@ -82,10 +82,10 @@ more records count sent before middle after bytes low is small puts so_far =
     }
 
 -- a write that failed within a record
-pub cut : (records : List Record) (count sent part : ℕ) (before middle after : Output) (bytes : List ℕ) → count < length records
+pub writing_cut : (records : List Record) (count sent part : ℕ) (before middle after : Output) (bytes : List ℕ) → count < length records
     → bytes ≡ record_bytes (record_at records count) → part < length bytes → Puts middle after (take part bytes)
     → IsWritten records count sent before middle → Puts before after (take (sent + part) (export_bytes records))
-cut records count sent part before middle after bytes low is short puts so_far =
+writing_cut records count sent part before middle after bytes low is short puts so_far =
     let first = export_bytes (take count records) in
     let rest = export_bytes (drop (suc count) records) in
     let all : export_bytes records ≡ first ++ (bytes ++ rest) =
@@ -108,9 +108,9 @@ cut_short records count sent part before middle bytes low is short so_far =
     omega (arith, so_far.size)
 
 -- an end before a record
-pub stopped : (records : List Record) (count sent : ℕ) (before after : Output)
+pub writing_stopped : (records : List Record) (count sent : ℕ) (before after : Output)
     → IsWritten records count sent before after → Puts before after (take sent (export_bytes records))
-stopped records count sent before after so_far =
+writing_stopped records count sent before after so_far =
     let first = export_bytes (take count records) in
     let rest = export_bytes (drop count records) in
     let all : export_bytes records ≡ first ++ rest =
@@ -126,7 +126,7 @@ stopped_short records count sent before after low so_far =
     let here = cut_short records count sent 0 before after (record_bytes (record_at records count)) low refl some so_far in
     omega arith
 
-pub whole : (records : List Record) (count sent : ℕ) (before after : Output) → length records ≤ count
+pub writing_whole : (records : List Record) (count sent : ℕ) (before after : Output) → length records ≤ count
     → IsWritten records count sent before after → Puts before after (export_bytes records)
-whole records count sent before after all so_far =
+writing_whole records count sent before after all so_far =
     subst (λ (rs : List Record). Puts before after (export_bytes rs)) (take_all count records all) so_far.written

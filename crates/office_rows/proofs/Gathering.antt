@@ -21,7 +21,7 @@ use Rattle.room_types.proofs.Trees.{entries-empty}
 use Rattle.office_state.specs.Puts.{with_all}
 use Rattle.office_state.specs.Inner.Soundness.{is_choices}
 use Rattle.office_state.proofs.SoundnessLemmas.LawTests.{choices_at, at_choices}
-use Rattle.room_types.proofs.MapEntries.{later, at_keys, at_entries, below_less, each_always, each_weaker, none_below}
+use Rattle.room_types.proofs.MapEntries.{key_after, at_keys, at_entries, below_less, each_always, each_weaker, none_below}
 use Rattle.room_types.specs.TextMaps.{first_holds, second_holds}
 use Rattle.office_state.proofs.RoundLemmas.Puts.{with_all-entries}
 use Rattle.office_rows.specs.Rows.{AreKeptLists, choices_from, list_rows, choice_rows}
@@ -91,7 +91,7 @@ AreNew lists es = AllByRecursion (λ e. map.get lists e.0 ≡ None) es
 still_new : (lists : Lists) (p : Text) (v : List Text) (es : List (Text × List Text)) → T (below_all text_cmp p es) → AreNew lists es → AreNew (map.insert lists p v) es
 still_new lists p v [] b h = tt
 still_new lists p v (e ∷ es) b h =
-    (get-put_other lists p v e.0 (later nat_list_cmp_total p e.0 (less_from_test _ (first_holds _ _ b))) ∙ h.0, still_new lists p v es (second_holds _ _ b) h.1)
+    (get-put_other lists p v e.0 (key_after nat_list_cmp_total p e.0 (less_from_test _ (first_holds _ _ b))) ∙ h.0, still_new lists p v es (second_holds _ _ b) h.1)
 
 gathered-all : (es : List (Text × List Text)) (lists : Lists) → T (is_sorted text_cmp es) → AllByRecursion (λ e. e.1 ≡ [] → ⊥) es → AreNew lists es
     → gathered lists (flat_map list_rows es) ≡ Some (with_all lists es)

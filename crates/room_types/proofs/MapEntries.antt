@@ -45,8 +45,8 @@ true_all test (x ∷ xs) h = both_true h.0 (true_all test xs h.1)
 
 -- ---- entries and keys
 
-pub later : {K : Type 0} {R : K → K → Ordering} (o : IsTotalOrder R) (x q : K) → R x q ≡ Less → eq_by_cmp R q x ≡ false
-later o x q e = ap is_eq (o.antisymm q x ∙ ap ordering_reverse e)
+pub key_after : {K : Type 0} {R : K → K → Ordering} (o : IsTotalOrder R) (x q : K) → R x q ≡ Less → eq_by_cmp R q x ≡ false
+key_after o x q e = ap is_eq (o.antisymm q x ∙ ap ordering_reverse e)
 
 module _ {K X : Type 0} (R : K → K → Ordering) where
   pub none_below : (k : K) (es : List (K × X)) → T (below_all R k es) → find R k es ≡ None
@@ -65,7 +65,7 @@ module _ {K X : Type 0} {R : K → K → Ordering} (o : IsTotalOrder R) (exact :
       → AllByRecursion (λ e. find R e.0 ((x, v) ∷ all) ≡ Some e.1) es
   found_below x v all [] b h = tt
   found_below x v all (e ∷ es) b h = (
-    ap (λ t. cond t (Some v) (find R e.0 all)) (later o x e.0 (less_from_test _ (first_holds _ _ b))) ∙ h.0,
+    ap (λ t. cond t (Some v) (find R e.0 all)) (key_after o x e.0 (less_from_test _ (first_holds _ _ b))) ∙ h.0,
     found_below x v all es (second_holds _ _ b) h.1,
   )
 

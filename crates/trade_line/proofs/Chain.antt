@@ -14,7 +14,7 @@ use Rattle.trade_line.specs.Inner.Removal.Reach.{here, there}
 use Rattle.trade_line.specs.Inner.Removal.Leads.{trade}
 use Rattle.trade_line.proofs.Search.{and_nots, find_passes, find_keeps, first_passes, first_finds, is_room_gives, is_room_from}
 use Rattle.trade_line.proofs.Exchange.{successor_at, taken_gives, first_stays}
-use Rattle.trade_line.proofs.Unique.{same_stage, taken_from, removal}
+use Rattle.trade_line.proofs.Unique.{same_stage, taken_from, trade_removed}
 
 -- those behind a point, each to the one before
 abbrev pub Behind : (ℕ → ℕ) → ℕ → List ℕ → Type 0
@@ -228,7 +228,7 @@ module _ (m : Market) where
           (waits_behind ok (leave m s (only a)) b r (λ p h. known p (inner p h)) remain2 (waits2 b r (λ p h. same p (or_right (b == p) (among r p) h)) w.1)) head_to
 
       rest : ((p : ℕ) → among (b ∷ r) p ≡ true → f p ≡ wish m (leave m s (only a)) p) × Leads m f (leave m (leave m s (only a)) (among (b ∷ r)))
-      rest = removal m f d (among (b ∷ r)) behind
+      rest = trade_removed m f d (among (b ∷ r)) behind
 
       fits : (p : ℕ) → among (a ∷ b ∷ r) p ≡ true → f p ≡ wish m s p
       fits p h = elim (or_cases (a == p) (among (b ∷ r) p) h) [

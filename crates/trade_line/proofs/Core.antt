@@ -17,15 +17,15 @@ use Rattle.trade_line.proofs.Exchange.{successor_at, taken_gives}
 use Rattle.trade_line.proofs.Unique.{taken_from}
 use Rattle.trade_line.proofs.Chain.{home_holder}
 use Rattle.trade_line.proofs.Steps.{leave_known, start_known, gets_leads}
-use Rattle.trade_line.proofs.Ranks.{best, not_among, rank_unlisted, rank_home}
-use Rattle.trade_line.proofs.Welfare.{HomesThere, homes_stay, start_homes, remains, reach_before, wish_there, gets_rational, gets_assignment, gets_apart}
+use Rattle.trade_line.proofs.Ranks.{wish_is_best, not_among, rank_unlisted, rank_home}
+use Rattle.trade_line.proofs.Welfare.{HomesThere, homes_stay, start_homes, start_has_person, reach_before, wish_there, gets_rational, gets_assignment, gets_apart}
 
 module _ (m : Market) (ok : IsMarket m) where
   -- the wish is no worse than anything that is to be had
   wish_least : (s : Stage) (p : ℕ) → p < m.people → (x : Option ℕ) → ((r : ℕ) → x ≡ Some r → s.rooms r ≡ true) → rank m p (wish m s p) ≤ rank m p x
   wish_least s p l x can =
       elim (cases_lt (rank m p x) (rank m p (wish m s p))) [
-        | inl lt ↦ subst (λ z. rank m p z ≤ rank m p x) (best m ok s p l x can (omega arith)) (le_refl (rank m p x))
+        | inl lt ↦ subst (λ z. rank m p z ≤ rank m p x) (wish_is_best m ok s p l x can (omega arith)) (le_refl (rank m p x))
         | inr ge ↦ ge
       ]
 
@@ -49,8 +49,8 @@ module _ (m : Market) (ok : IsMarket m) where
   rank_apart : (p : ℕ) → p < m.people → (x y : Option ℕ) → rank m p x ≡ rank m p y → rank m p x ≤ rank m p (home m p) → x ≡ y
   unfolding wish
   rank_apart p l x y e le =
-      best m ok pair p l x (λ r ex. or_left (is_room r x) (is_room r y) (is_room_from r x ex)) is_x
-      ∙ sym (best m ok pair p l y (λ r ey. or_right (is_room r x) (is_room r y) (is_room_from r y ey)) (omega (arith, is_x, e)))
+      wish_is_best m ok pair p l x (λ r ex. or_left (is_room r x) (is_room r y) (is_room_from r x ex)) is_x
+      ∙ sym (wish_is_best m ok pair p l y (λ r ey. or_right (is_room r x) (is_room r y) (is_room_from r y ey)) (omega (arith, is_x, e)))
     where
       pair : Stage
       pair = record { people = λ _. true; rooms = λ r. is_room r x || is_room r y }
@@ -202,7 +202,7 @@ module _ (m : Market) (ok : IsMarket m) where
           ]
 
     start_held : HomesHeld (start m)
-    start_held t h gt e there = remains m ok t (tr.people t gt)
+    start_held t h gt e there = start_has_person m ok t (tr.people t gt)
 
   start_there : (f : ℕ → Option ℕ) → IsAssignment m f → (p r : ℕ) → p < m.people → f p ≡ Some r → (start m).rooms r ≡ true
   unfolding start
@@ -211,7 +211,7 @@ module _ (m : Market) (ok : IsMarket m) where
   pub of_groups : KeepsSelfContained m (gets m)
   of_groups group c f ia core p gp =
       group_from (gets m) group c.apart c.above f ia core (gets_leads m) (start_known m) (start_homes m ok) (start_held (gets m) group c.apart)
-      (λ q gq h. inl (λ r e. start_there f ia q r (c.apart.people q gq) e)) p gp (remains m ok p (c.apart.people p gp))
+      (λ q gq h. inl (λ r e. start_there f ia q r (c.apart.people q gq) e)) p gp (start_has_person m ok p (c.apart.people p gp))
 
   core_gets : IsInStrictCore m (gets m)
   core_gets = apart_core (gets m) (gets_apart m ok)
@@ -286,7 +286,7 @@ module _ (m : Market) (ok : IsMarket m) where
     newcomer_none f ia core p l n =
         let never : (r : ℕ) → f p ≡ Some r → ⊥ = λ r e.
         let t : (t : ℕ) × (housed t ≡ true) × (home m t ≡ Some r) = room_of r (ia.known p r l e) in
-        let z : (z : ℕ) × (housed z ≡ true) × (gets m z ≡ home m t.0) = given_out (gets m) housed all_tenants.apart (gets_leads m) (start_known m) (start_homes m ok) (start_held (gets m) housed all_tenants.apart) t.0 t.1 (remains m ok t.0 (housed_parts t.0 t.1).0) in
+        let z : (z : ℕ) × (housed z ≡ true) × (gets m z ≡ home m t.0) = given_out (gets m) housed all_tenants.apart (gets_leads m) (start_known m) (start_homes m ok) (start_held (gets m) housed all_tenants.apart) t.0 t.1 (start_has_person m ok t.0 (housed_parts t.0 t.1).0) in
         let b : (z.0 < m.people) × (is_tenant m z.0 ≡ true) = housed_parts z.0 z.1 in
         let same : p ≡ z.0 = ia.differ p z.0 r l b.0 e (of_groups housed all_tenants f ia core z.0 z.1 ∙ z.2 ∙ t.2) in
         both_ways (is_tenant m p) n (subst (λ z. is_tenant m z ≡ true) (sym same) b.1) in

@@ -14,10 +14,11 @@ use Rattle.trade_line.specs.Inner.Loop.{Closed}
 use Rattle.trade_line.specs.Inner.Reads.{skipped}
 use Rattle.trade_line.specs.Inner.Looks.{cursor, StandsAt, StaysAt, StayBehind, StayInLine, AreCursors, KeepsCursors}
 use Rattle.trade_line.proofs.Looks.{skipped_gone, place_is, among_at}
-use Rattle.trade_line.proofs.Lines.{among_self, among_more, among-append, among_left, among_right, among-without, without-append, waits_front}
+use Rattle.trade_line.proofs.Lines.{among_self, among_more, among-append, among_left, among_right, among-without, waits_front}
 use Rattle.trade_line.proofs.Loops.{ring_line}
 use Rattle.trade_line.proofs.Ranks.{rank_listed}
 use Rattle.trade_line.proofs.Search.{clash}
+use Rattle.trade_line.proofs.Brought.{line_without}
 use Rattle.trade_line.proofs.Turns.{granted, marked, brought, tenant_home}
 use Rattle.trade_line.proofs.States.{same_state}
 
@@ -160,7 +161,7 @@ module _ (m : Market) where
     cursors_len = tr.cursors_len;
     within = tr.within;
     gone = tr.gone;
-    waiting = subst (StayBehind m (set s.asked t true) c t) (sym rest) (
+    waiting = subst (StayBehind m (set s.asked t true) c t) (sym (line_without m s a t ask new)) (
       λ h. subst (StaysAt m c a) (sym (tenant_home m room t e).1) enough,
       behind_join (set s.asked t true) c a ask.behind (without t ask.fresh)
           (behind_same s.asked (set s.asked t true) c c a ask.behind (λ p j h. ask.waiting_asked p (among_more a ask.behind p j)) (λ p j. refl)
@@ -169,9 +170,6 @@ module _ (m : Market) where
     served = λ p l h. tr.served p l (left p h);
   }
     where
-      rest : without t s.line ≡ (a ∷ ask.behind) ++ without t ask.fresh
-      rest = ap (without t) ask.split ∙ without-append t (a ∷ ask.behind) ask.fresh (false_from_ne_true (among (a ∷ ask.behind) t) (λ y. both_ways (has_asked s t) new (ask.waiting_asked t y)))
-
       fresh : (p : ℕ) → among (without t ask.fresh) p ≡ true → get_or (set s.asked t true) p false ≡ false
       fresh p h =
           let b : (among ask.fresh p ≡ true) × (not (t == p) ≡ true) = and_parts (among ask.fresh p) (not (t == p)) (sym (among-without t ask.fresh p) ∙ h) in

@@ -12,7 +12,7 @@ use Rattle.trade_line.specs.Member.{among}
 use Rattle.trade_line.specs.TopTradingCycles.{Stage, first, tenant_or_first, holder, successor, remaining_count, on_cycle, leave}
 use Rattle.trade_line.proofs.Chain.{reach_trans, home_holder}
 use Rattle.trade_line.proofs.Count.{pigeonhole, reach_times, times_after, times_stays, times_sum}
-use Rattle.trade_line.proofs.Exchange.{minus, exchange, successor_at, successor_keeps, wish_keeps}
+use Rattle.trade_line.proofs.Exchange.{minus, trade_left_over, successor_at, successor_keeps, wish_keeps}
 use Rattle.trade_line.proofs.Search.{some_from}
 use Rattle.trade_line.proofs.Steps.{cycles_trade, leave_known, successor_remains}
 
@@ -67,7 +67,7 @@ others_stay m s group known c =
       wishes = wish_keeps m s group (on_cycle m s) gone all;
       pointing = successor_keeps m s group (on_cycle m s) gone all;
       cycles = λ p o n.
-          let left : IsTrade m (leave m s group) (minus group (on_cycle m s)) = exchange m s group (on_cycle m s) gone all in
+          let left : IsTrade m (leave m s group) (minus group (on_cycle m s)) = trade_left_over m s group (on_cycle m s) gone all in
           let is_left : minus group (on_cycle m s) p ≡ true = and_from (on_cycle m s p) (not (group p)) o (not_from_false (group p) n) in
           cycle_from m (leave m s group) (leave_known m s group known) p (left.remain p is_left) (left.cycle p is_left);
     }

@@ -24,8 +24,8 @@ read_list lists xs p v d e l is de =
     list_at lists p v at ∙ ap items_of (sym (is ∙ ap (λ z. get_or z p v) e)) ∙ sym de
 
 -- a slice of a whole vector that was written back
-pub written : (n : ℕ) (new old : List ℕ) → length new ≡ n → length old ≡ n → take n (new ++ drop (length new) old) ≡ new
-written n new old e f =
+pub slice_written_back : (n : ℕ) (new old : List ℕ) → length new ≡ n → length old ≡ n → take n (new ++ drop (length new) old) ≡ new
+slice_written_back n new old e f =
     ap (λ z. take n (new ++ z)) (drop_all (length new) old (omega arith)) ∙ ap (take n) (append-nil new) ∙ take_all n new (omega arith)
 
 some_within : (o : Option ℕ) (P : ℕ → Type 0) (r : ℕ) → IfSome o P → o ≡ Some r → P r

@@ -87,9 +87,9 @@ module _ (m : Market) where
           let past : k (holder m s r) ≡ false = subst (λ z. k z ≡ false) w (points_past s k l tk tl p h f) in
           holder_keeps s k r past ∙ sym w
 
-  pub exchange : (s : Stage) (k l : ℕ → Bool) → IsTrade m s k → IsTrade m s l → IsTrade m (leave m s k) (minus k l)
+  pub trade_left_over : (s : Stage) (k l : ℕ → Bool) → IsTrade m s k → IsTrade m s l → IsTrade m (leave m s k) (minus k l)
   unfolding leave
-  exchange s k l tk tl = record {
+  trade_left_over s k l tk tl = record {
     known = λ p h. tl.known p (parts p h).0;
     remain = λ p h. and_from (s.people p) (not (k p)) (tl.remain p (parts p h).0) (parts p h).1;
     closed = λ p h. subst (λ z. minus k l z ≡ true) (sym (same p h)) (stay p h);

@@ -17,10 +17,10 @@ use Rattle.trade_line.specs.OtherList.{with_lists, with_list}
 use Rattle.trade_line.specs.Groups.{OthersKeep, NoneLoses, IsGroupStrategyproof, IsNonbossy}
 use Rattle.trade_line.proofs.Search.{clash, find_passes, is_room_gives, is_room_from}
 use Rattle.trade_line.proofs.Exchange.{reach_same, taken_gives}
-use Rattle.trade_line.proofs.Unique.{same_stage, taken_from, removal}
+use Rattle.trade_line.proofs.Unique.{same_stage, taken_from, trade_removed}
 use Rattle.trade_line.proofs.Steps.{leave_known, start_known, gets_leads}
-use Rattle.trade_line.proofs.Ranks.{best}
-use Rattle.trade_line.proofs.Welfare.{HomesThere, homes_stay, there_from, start_homes, remains, gets_assignment}
+use Rattle.trade_line.proofs.Ranks.{wish_is_best}
+use Rattle.trade_line.proofs.Welfare.{HomesThere, homes_stay, there_from, start_homes, start_has_person, gets_assignment}
 
 -- the list of somebody with the home h who asks for x alone
 abbrev pub aim : Option ℕ → Option ℕ → List ℕ
@@ -113,12 +113,12 @@ module _ (m : Market) (ok : IsMarket m) (lists : List (List ℕ)) (ok2 : IsMarke
       let same : (q : ℕ) → k q ≡ true → wish (with_lists m lists) s q ≡ wish m s q = λ q h. elim (each q (tk.known q h)) [
         | inl kept ↦ wish_kept m lists s q kept
         | inr b ↦
-            let got : x q ≡ wish m s q = best m ok s q (tk.known q h) (x q) (λ r er. there_from (with_lists m lists) ok2 x e known homes q r (tk.remain q h) er)
+            let got : x q ≡ wish m s q = wish_is_best m ok s q (tk.known q h) (x q) (λ r er. there_from (with_lists m lists) ok2 x e known homes q r (tk.remain q h) er)
             (subst (λ z. rank m q (x q) ≤ rank m q z) (fk q h) b.1) in
             wish_aimed m lists s q (b.0 ∙ ap (aim (home m q)) got)
       ] in
       let r : ((p : ℕ) → k p ≡ true → x p ≡ wish (with_lists m lists) s p) × Leads (with_lists m lists) x (leave (with_lists m lists) s k) =
-      removal (with_lists m lists) x e k (trade_same m lists s k same tk) in
+      trade_removed (with_lists m lists) x e k (trade_same m lists s k same tk) in
       elim (cases_Bool (k p)) [
         | inl y ↦ r.0 p y ∙ same p y ∙ sym (fk p y)
         | inr n ↦ same_from d (leave_known m s k known) (homes_stay m ok s k tk known homes)
@@ -177,17 +177,17 @@ module _ (m : Market) (ok : IsMarket m) (group : ℕ → Bool) (lists : List (Li
   all_same p l =
       same_from m ok aimed aimed_market (gets m) (gets (with_lists m lists))
       (λ q l. elim (cases_Bool (group q)) [ inl y ↦ inr (in_group q l y, none q l y) | inr n ↦ inl (outside q l n) ])
-      (gets_leads m) (start_known m) (start_homes m ok) new_leads p (remains m ok p l)
+      (gets_leads m) (start_known m) (start_homes m ok) new_leads p (start_has_person m ok p l)
 
 pub group_strategyproof : (m : Market) → IsMarket m → IsGroupStrategyproof m
 group_strategyproof m ok group lists ok2 keep none p l = all_same m ok group lists ok2 keep none p l
 
 -- one person is a group
-pub alone : (m : Market) → IsMarket m → (p : ℕ) (l : List ℕ) → IsMarket (with_list m p l) → rank m p (gets (with_list m p l) p) ≤ rank m p (gets m p) → (q : ℕ) → q < m.people → gets (with_list m p l) q ≡ gets m q
-alone m ok p l ok2 le =
+pub one_is_a_group : (m : Market) → IsMarket m → (p : ℕ) (l : List ℕ) → IsMarket (with_list m p l) → rank m p (gets (with_list m p l) p) ≤ rank m p (gets m p) → (q : ℕ) → q < m.people → gets (with_list m p l) q ≡ gets m q
+one_is_a_group m ok p l ok2 le =
     all_same m ok (λ z. z == p) (slice_set m.lists p l) ok2
     (λ z hz n. get_or-set_other m.lists p z l [] (λ zp. both_ways (z == p) n (eq-eqb z p zp)))
     (λ z hz y. subst (λ v. rank m v (gets (with_list m p l) v) ≤ rank m v (gets m v)) (sym (eqb-true z p y)) le)
 
-pub nonbossy : (m : Market) → IsMarket m → IsNonbossy m
-nonbossy m ok p l h ok2 e = alone m ok p l ok2 (subst (λ v. rank m p v ≤ rank m p (gets m p)) (sym e) (le_refl (rank m p (gets m p))))
+pub trade_is_nonbossy : (m : Market) → IsMarket m → IsNonbossy m
+trade_is_nonbossy m ok p l h ok2 e = one_is_a_group m ok p l ok2 (subst (λ v. rank m p v ≤ rank m p (gets m p)) (sym e) (le_refl (rank m p (gets m p))))

@@ -52,12 +52,12 @@ apart_from : (xs : List ℕ) (a b : ℕ) → among xs a ≡ false → among xs b
 apart_from xs a b h i e = both_ways (among xs a) h (subst (λ z. among xs z ≡ true) e i)
 
 -- x is cut out
-pub cut : (next previous : List ℕ) (a : ℕ) (xs : List ℕ) (x : ℕ) (ys : List ℕ) (z before behind : ℕ)
+pub link_cut_out : (next previous : List ℕ) (a : ℕ) (xs : List ℕ) (x : ℕ) (ys : List ℕ) (z before behind : ℕ)
     → before ≡ get_or previous x 0 → behind ≡ get_or next x 0 → before < length next
     → behind < length previous → Once (xs ++ (x ∷ ys)) → among (xs ++ (x ∷ ys)) a ≡ false
     → among (xs ++ (x ∷ ys)) z ≡ false
     → Links next previous a (xs ++ (x ∷ ys)) z → Links (set next before behind) (set previous behind before) a (xs ++ ys) z
-cut next previous a [] x ys z before behind eb eh lb lh once na nz l = by_rest ys once na nz l.2 (eh ∙ next_is next previous x ys z l.2)
+link_cut_out next previous a [] x ys z before behind eb eh lb lh once na nz l = by_rest ys once na nz l.2 (eh ∙ next_is next previous x ys z l.2)
   where
     at_a : before ≡ a
     at_a = eb ∙ l.1
@@ -83,13 +83,13 @@ cut next previous a [] x ys z before behind eb eh lb lh once na nz l = by_rest y
           ]))
           l.2,
     )
-cut next previous a (w ∷ xs) x ys z before behind eb eh lb lh once na nz l =
+link_cut_out next previous a (w ∷ xs) x ys z before behind eb eh lb lh once na nz l =
     let ends : (get_or previous x 0 ≡ last_of w xs) × (get_or next x 0 ≡ first_or z ys) = links_left next previous w xs x ys z l.2 in
     let nw : among (xs ++ (x ∷ ys)) w ≡ false = once.0 in
     let nza : ((w == z) ≡ false) × (among (xs ++ (x ∷ ys)) z ≡ false) = or_parts (w == z) (among (xs ++ (x ∷ ys)) z) nz in (
       get_or-set_other next before a behind 0 (λ k. apart_from (w ∷ (xs ++ (x ∷ ys))) a before na (in_front (eb ∙ ends.0)) (sym k)) ∙ l.0,
       get_or-set_other previous behind w before 0 (λ k. apart w nw nza.0 (sym (k ∙ eh ∙ ends.1))) ∙ l.1,
-      cut next previous w xs x ys z before behind eb eh lb lh once.1 nw nza.1 l.2,
+      link_cut_out next previous w xs x ys z before behind eb eh lb lh once.1 nw nza.1 l.2,
     )
   where
     in_front : before ≡ last_of w xs → among (w ∷ (xs ++ (x ∷ ys))) before ≡ true
@@ -103,11 +103,11 @@ cut next previous a (w ∷ xs) x ys z before behind eb eh lb lh once na nz l =
     apart w n nz e = by_first ys w (false_from_ne_true (among ys w) (λ y. both_ways (among (xs ++ (x ∷ ys)) w) n (among_right xs (x ∷ ys) w (among_more x ys w y)))) nz e
 
 -- x is put between the end and the first
-pub put : (next previous : List ℕ) (x : ℕ) (ys : List ℕ) (end first : ℕ) → first ≡ get_or next end 0
+pub link_put_in : (next previous : List ℕ) (x : ℕ) (ys : List ℕ) (end first : ℕ) → first ≡ get_or next end 0
     → x < length next → end < length next → x < length previous → first < length previous → among ys x ≡ false
     → (x ≡ end → ⊥) → Once ys → among ys end ≡ false
     → Links next previous end ys end → Links (set (set next x first) end x) (set (set previous first x) x end) end (x ∷ ys) end
-put next previous x ys end first ef lx le px pf nx ne once nend l = (
+link_put_in next previous x ys end first ef lx le px pf nx ne once nend l = (
   get_or-set_same (set next x first) end x 0 (omega (arith, length-set next x first)),
   get_or-set_same (set previous first x) x end 0 (omega (arith, length-set previous first x)),
   by_rest ys nx once nend l (ef ∙ next_is next previous end ys end l),
@@ -229,7 +229,7 @@ module _ (next previous : List ℕ) (waits : List Bool) (xs : List ℕ) (ring : 
       let o : Once (s.0 ++ (p ∷ s.1)) = subst Once s.2 ring.once in
       let n : among (s.0 ++ (p ∷ s.1)) (length waits) ≡ false = subst (λ z. among z (length waits) ≡ false) s.2 end_out in
       subst (λ z. Links (set next before behind) (set previous behind before) (length waits) z (length waits)) (sym (without_is s.0 s.1 p s.2))
-      (cut next previous (length waits) s.0 p s.1 (length waits) before behind
+      (link_cut_out next previous (length waits) s.0 p s.1 (length waits) before behind
       (eb ∙ read_same previous p before 0 (omega (arith, ring.previous_len))) (eh ∙ read_same next p behind 0 (omega (arith, ring.next_len)))
       (before_known p before i eb) (behind_known p behind i eh) o n n (links_at s.0 s.1 p s.2))
 
@@ -269,7 +269,7 @@ module _ (next previous : List ℕ) (waits : List Bool) (xs : List ℕ) (ring : 
     front_ring = subst (λ z. IsLinkedRing (set (set (set next before behind) p first) z p) (set (set (set previous behind before) first p) p z) waits (p ∷ without p xs)) (sym ee) record {
       next_len = length-set (set (set next before behind) p first) (length waits) p ∙ length-set (set next before behind) p first ∙ length-set next before behind ∙ ring.next_len;
       previous_len = length-set (set (set previous behind before) first p) p (length waits) ∙ length-set (set previous behind before) first p ∙ length-set previous behind before ∙ ring.previous_len;
-      links = put (set next before behind) (set previous behind before) p (without p xs) (length waits) first ef2
+      links = link_put_in (set next before behind) (set previous behind before) p (without p xs) (length waits) first ef2
           (omega (arith, length-set next before behind, ring.next_len, l)) (omega (arith, length-set next before behind, ring.next_len)) (omega (arith, length-set previous behind before, ring.previous_len, l)) (omega (arith, length-set previous behind before, first_known))
           gone (λ e. omega (arith, l)) (once_without p xs ring.once) out (cut_links p before behind i eb eh);
       once = (gone, once_without p xs ring.once);

@@ -86,9 +86,9 @@ module _ (m : Market) (ok : IsMarket m) where
           ∙ cond-true (is_room h (home m p)) (length (list_of m p)) (length (list_of m p) + 1) (is_room_from h (home m p) e)
 
   -- nothing that is to be had ranks better than the wish
-  pub best : (s : Stage) (p : ℕ) → p < m.people → (x : Option ℕ) → ((r : ℕ) → x ≡ Some r → s.rooms r ≡ true) → rank m p x ≤ rank m p (wish m s p) → x ≡ wish m s p
+  pub wish_is_best : (s : Stage) (p : ℕ) → p < m.people → (x : Option ℕ) → ((r : ℕ) → x ≡ Some r → s.rooms r ≡ true) → rank m p x ≤ rank m p (wish m s p) → x ≡ wish m s p
   unfolding wish
-  best s p l x can le = by_found (find s.rooms (list_of m p)) refl le
+  wish_is_best s p l x can le = by_found (find s.rooms (list_of m p)) refl le
     where
       listed : (r : ℕ) → x ≡ Some r → (y : ℕ) → find s.rooms (list_of m p) ≡ Some y → rank m p x ≤ rank m p (Some y) → among (list_of m p) r ≡ true → x ≡ Some y
       listed r e y f le i =

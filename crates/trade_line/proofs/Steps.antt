@@ -11,7 +11,7 @@ use Rattle.trade_line.specs.Inner.Removal.{IsTrade, Leads}
 use Rattle.trade_line.specs.Inner.Removal.Leads.{done, trade}
 use Rattle.trade_line.proofs.Search.{some_gives, some_from, first_finds, first_passes}
 use Rattle.trade_line.proofs.Count.{count_le, count_most, count_some, count_less, pigeonhole, times_reach, times_after, times_sum, times_stays}
-use Rattle.trade_line.proofs.Unique.{unique}
+use Rattle.trade_line.proofs.Unique.{wishes_lead_to_one}
 
 module _ (m : Market) where
   first_remains : (s : Stage) → IsStageOf m s → (p : ℕ) → s.people p ≡ true → s.people (first m s) ≡ true
@@ -80,11 +80,11 @@ module _ (m : Market) where
             (some_from (remaining_count m s) (λ k. iterate (successor m s) (suc k) q == q) d (omega (arith, r.2, r.3)) (eq-eqb (iterate (successor m s) (suc d) q) q e)),
       )
 
-  pub agree : (f g : ℕ → Option ℕ) {s : Stage} → Leads m f s → ((p : ℕ) → s.people p ≡ true → f p ≡ g p) → Leads m g s
+  pub leads_where_same : (f g : ℕ → Option ℕ) {s : Stage} → Leads m f s → ((p : ℕ) → s.people p ≡ true → f p ≡ g p) → Leads m g s
   unfolding leave
-  agree f g (done none) e = done none
-  agree f g {s} (trade k tk fk d) e =
-      trade k tk (λ p h. sym (e p (tk.remain p h)) ∙ fk p h) (agree f g d (λ p h. e p (and_parts (s.people p) (not (k p)) h).0))
+  leads_where_same f g (done none) e = done none
+  leads_where_same f g {s} (trade k tk fk d) e =
+      trade k tk (λ p h. sym (e p (tk.remain p h)) ∙ fk p h) (leads_where_same f g d (λ p h. e p (and_parts (s.people p) (not (k p)) h).0))
 
   pub leave_known : (s : Stage) (k : ℕ → Bool) → IsStageOf m s → IsStageOf m (leave m s k)
   unfolding leave
@@ -119,7 +119,7 @@ module _ (m : Market) where
       let d : Leads m (gets_within m k (step m s)) (step m s) = within_leads k (step m s) (leave_known s (on_cycle m s) known) (step_fewer s known k few) in
       trade (on_cycle m s) t
       (λ p h. cond-true (on_cycle m s p) (wish m s p) (gets_within m k (step m s) p) h)
-      (agree (gets_within m k (step m s)) (gets_within m (suc k) s) d
+      (leads_where_same (gets_within m k (step m s)) (gets_within m (suc k) s) d
       (λ p h. sym (cond-false (on_cycle m s p) (wish m s p) (gets_within m k (step m s) p) (not-true (on_cycle m s p) (and_parts (s.people p) (not (on_cycle m s p)) h).1))))
 
   pub start_known : IsStageOf m (start m)
@@ -133,4 +133,4 @@ module _ (m : Market) where
   -- whatever leads from the start is what the simultaneous steps give
   pub leads_gets : (f : ℕ → Option ℕ) → Leads m f (start m) → (p : ℕ) → p < m.people → f p ≡ gets m p
   unfolding start
-  leads_gets f d p h = unique m f (gets m) d gets_leads p (lt-ltb p m.people h)
+  leads_gets f d p h = wishes_lead_to_one m f (gets m) d gets_leads p (lt-ltb p m.people h)

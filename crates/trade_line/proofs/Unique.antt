@@ -8,7 +8,7 @@ use Rattle.trade_line.specs.TopTradingCycles.{Stage, wish, taken, leave}
 use Rattle.trade_line.specs.Inner.Removal.{IsTrade, Leads}
 use Rattle.trade_line.specs.Inner.Removal.Leads.{done, trade}
 use Rattle.trade_line.proofs.Search.{clash, some_from, is_room_from}
-use Rattle.trade_line.proofs.Exchange.{minus, exchange, wish_keeps, taken_gives}
+use Rattle.trade_line.proofs.Exchange.{minus, trade_left_over, wish_keeps, taken_gives}
 
 -- two stages with the same people and rooms are one
 pub same_stage : (s t : Stage) → ((p : ℕ) → s.people p ≡ t.people p) → ((r : ℕ) → s.rooms r ≡ t.rooms r) → s ≡ t
@@ -57,26 +57,26 @@ module _ (m : Market) where
       (λ r. one_truth ((leave m (leave m s k) (minus k l)).rooms r) ((leave m (leave m s l) (minus l k)).rooms r) (room_order s k l tk tl r) (room_order s l k tl tk r))
 
   -- what leads from a stage gives each trade its wishes, and leads from the stage after it
-  pub removal : (f : ℕ → Option ℕ) {s : Stage} → Leads m f s → (k : ℕ → Bool) → IsTrade m s k → ((p : ℕ) → k p ≡ true → f p ≡ wish m s p) × Leads m f (leave m s k)
+  pub trade_removed : (f : ℕ → Option ℕ) {s : Stage} → Leads m f s → (k : ℕ → Bool) → IsTrade m s k → ((p : ℕ) → k p ≡ true → f p ≡ wish m s p) × Leads m f (leave m s k)
   unfolding leave
-  removal f {s} (done none) k tk = (λ p h. clash (s.people p) (tk.remain p h) (none p), done (λ p. ap (λ b. b && not (k p)) (none p)))
-  removal f {s} (trade l tl fl d) k tk =
-      let ih : ((p : ℕ) → minus l k p ≡ true → f p ≡ wish m (leave m s l) p) × Leads m f (leave m (leave m s l) (minus l k)) = removal f d (minus l k) (exchange m s l k tl tk) in (
+  trade_removed f {s} (done none) k tk = (λ p h. clash (s.people p) (tk.remain p h) (none p), done (λ p. ap (λ b. b && not (k p)) (none p)))
+  trade_removed f {s} (trade l tl fl d) k tk =
+      let ih : ((p : ℕ) → minus l k p ≡ true → f p ≡ wish m (leave m s l) p) × Leads m f (leave m (leave m s l) (minus l k)) = trade_removed f d (minus l k) (trade_left_over m s l k tl tk) in (
         λ p h. elim (cases_Bool (l p)) [
           | inl y ↦ fl p y
           | inr n ↦ ih.0 p (and_from (k p) (not (l p)) h (not_from_false (l p) n)) ∙ wish_keeps m s l k tl tk p h n
         ],
-        trade (minus k l) (exchange m s k l tk tl)
+        trade (minus k l) (trade_left_over m s k l tk tl)
             (λ p h. let b : (l p ≡ true) × (not (k p) ≡ true) = and_parts (l p) (not (k p)) h in fl p b.0 ∙ sym (wish_keeps m s k l tk tl p b.0 (not-true (k p) b.1)))
             (subst (λ t. Leads m f t) (leave_order s l k tl tk) ih.1),
       )
 
-  pub unique : (f g : ℕ → Option ℕ) {s : Stage} → Leads m f s → Leads m g s → (p : ℕ) → s.people p ≡ true → f p ≡ g p
+  pub wishes_lead_to_one : (f g : ℕ → Option ℕ) {s : Stage} → Leads m f s → Leads m g s → (p : ℕ) → s.people p ≡ true → f p ≡ g p
   unfolding leave
-  unique f g {s} (done none) e p h = clash (s.people p) h (none p)
-  unique f g {s} (trade k tk fk d) e p h =
-      let r : ((p : ℕ) → k p ≡ true → g p ≡ wish m s p) × Leads m g (leave m s k) = removal g e k tk in
+  wishes_lead_to_one f g {s} (done none) e p h = clash (s.people p) h (none p)
+  wishes_lead_to_one f g {s} (trade k tk fk d) e p h =
+      let r : ((p : ℕ) → k p ≡ true → g p ≡ wish m s p) × Leads m g (leave m s k) = trade_removed g e k tk in
       elim (cases_Bool (k p)) [
         | inl y ↦ fk p y ∙ sym (r.0 p y)
-        | inr n ↦ unique f g d r.1 p (and_from (s.people p) (not (k p)) h (not_from_false (k p) n))
+        | inr n ↦ wishes_lead_to_one f g d r.1 p (and_from (s.people p) (not (k p)) h (not_from_false (k p) n))
       ]

@@ -37,14 +37,6 @@ pub first_of : (o : Option Refusal) → first_refusal (check_of o) ≡ o
 first_of None = refl
 first_of (Some refusal) = refl
 
--- the refusal of a list that has no bad record is that of its records
-pub by_records : (command : EntryCommand) (office : Office) (bytes : List ℕ)
-    → list_fault command.form (records_of bytes) ≡ None
-    → list_refusal command office bytes ≡ first_denied command office 1 (entries_in command bytes)
-by_records command office bytes good =
-    ap (λ o. option_map_or (λ fault. Some (bad_list fault)) o
-    (first_denied command office 1 (entries_in command bytes))) good
-
 pub few_told : {X : Type 0} (form : ListForm X) (bytes : List ℕ) (entries : List X)
     → Tells form bytes entries → length entries ≤ record_limit
 few_told form bytes entries told =

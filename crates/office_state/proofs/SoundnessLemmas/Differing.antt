@@ -15,7 +15,7 @@ use Rattle.room_types.specs.TextMaps.{exact_texts, contains_key-put, contains_ke
 use Rattle.office_state.specs.Office.Invariants.{Unshared}
 use Rattle.office_state.specs.Inner.Soundness.{differ_from}
 use Rattle.office_state.specs.declared.office.person.Person.{Person}
-use Rattle.room_types.proofs.MapEntries.{each_weaker, entries_found, each-find, later}
+use Rattle.room_types.proofs.MapEntries.{each_weaker, entries_found, each-find, key_after}
 use Rattle.office_state.proofs.OfficeLemmas.People.{found_above}
 use Rattle.office_state.proofs.Truths.{then_some}
 
@@ -126,7 +126,7 @@ module _ (which : Person → Option Text) where
   Apart es = (p q text : Text) (v w : Person) → find text_cmp p es ≡ Some v → find text_cmp q es ≡ Some w → which v ≡ Some text → which w ≡ Some text → p ≡ q
 
   later_found : (e : Text × Person) (es : List (Text × Person)) → T (below_all text_cmp e.0 es) → (k : Text) (x : Person) → find text_cmp k es ≡ Some x → find text_cmp k (e ∷ es) ≡ Some x
-  later_found e es below k x f = ap (λ b. cond b (Some e.1) (find text_cmp k es)) (later nat_list_cmp_total e.0 k (found_above e.0 k es x below f)) ∙ f
+  later_found e es below k x f = ap (λ b. cond b (Some e.1) (find text_cmp k es)) (key_after nat_list_cmp_total e.0 k (found_above e.0 k es x below f)) ∙ f
 
   without : (e : Text × Person) (es fs : List (Text × Person)) → T (below_all text_cmp e.0 es) → Apart (e ∷ es) → (text : Text) → which e.1 ≡ Some text
       → T (below_all text_cmp e.0 fs) → AllByRecursion (λ f. find text_cmp f.0 es ≡ Some f.1) fs → Without text fs
@@ -135,7 +135,7 @@ module _ (which : Person → Option Text) where
     λ other.
         let here : find text_cmp e.0 (e ∷ es) ≡ Some e.1 = ap (λ t. cond (is_eq t) (Some e.1) (find text_cmp e.0 es)) (tied_itself nat_list_cmp_total e.0) in
         let same : f.0 ≡ e.0 = apart f.0 e.0 text f.1 e.1 (later_found e es below f.0 f.1 found.0) here other has in
-        differ f.0 e.0 same (later nat_list_cmp_total e.0 f.0 (less_from_test _ (first_holds _ _ under))),
+        differ f.0 e.0 same (key_after nat_list_cmp_total e.0 f.0 (less_from_test _ (first_holds _ _ under))),
     without e es fs below apart text has (second_holds _ _ under) found.1,
   )
 

@@ -1,6 +1,6 @@
 use Rattle.std.proofs.Common.{◌≡◌, ◌∙◌, sym, subst, arith, [], length, ℕ}
 use Rattle.csv.specs.Records.{fields_of}
-use Rattle.office_lists.proofs.Headers.{SameFrom, differs_at, finished, missing, other_length, same_at}
+use Rattle.office_lists.proofs.Headers.{SameFrom, differs_at, header_same_at_end, field_missing, other_length, same_at}
 use Rattle.office_lists.proofs.fields.has_fields.Goals as goal
 
 pub returns-then-len-names : goal.returns-then-len-names
@@ -12,7 +12,7 @@ returns-then-ne c = differs_at c.args.names.now (fields_of c.args.row.now) c.loo
 
 pub returns-in-None : goal.returns-in-None
 returns-in-None c =
-    let m = missing (fields_of c.args.row.now) c.loop-i.i c.in-None.ensures.value in
+    let m = field_missing (fields_of c.args.row.now) c.loop-i.i c.in-None.ensures.value in
     absurd (omega (arith, m))
 
 pub loop-i-preserved : goal.loop-i-preserved
@@ -22,4 +22,4 @@ loop-i-preserved c = same_at c.args.names.now (fields_of c.args.row.now) c.loop-
 pub returns : goal.returns
 returns c =
     let all : c.loop-i.i ≡ length c.args.names.now = omega arith in
-    sym (finished c.args.names.now (fields_of c.args.row.now) (sym c.len.ensures ∙ c.if-len-names.false) (subst (λ (k : ℕ). SameFrom c.args.names.now (fields_of c.args.row.now) k) all c.loop-i.invariant))
+    sym (header_same_at_end c.args.names.now (fields_of c.args.row.now) (sym c.len.ensures ∙ c.if-len-names.false) (subst (λ (k : ℕ). SameFrom c.args.names.now (fields_of c.args.row.now) k) all c.loop-i.invariant))

@@ -2,7 +2,7 @@ use Rattle.std.proofs.Common.{◌≡◌, ◌∙◌, ◌<◌, ◌+◌, ◌++◌, 
 use Rattle.std.specs.Result.{is_ok}
 use Rattle.csv.specs.Records.{fields_of}
 use Rattle.office_lists.specs.Records.{Fails, fault_at}
-use Rattle.office_lists.proofs.RecordLemmas.{HasGiven, IsReadTo, all_read, fails_for_memory, gives, no_bytes, no_header, no_records, none_read, one_fails, one_read, one_too_many, same_width, some_bytes, started}
+use Rattle.office_lists.proofs.RecordLemmas.{HasGiven, IsReadTo, all_read, fails_for_memory, reader_gives, no_bytes, no_header, no_records, none_read, one_fails, one_read, one_too_many, same_width, some_bytes, reader_started}
 use Rattle.office_lists.proofs.reading.read_list.Goals as goal
 
 pub returns-then-is_empty-clause-fault : goal.returns-then-is_empty-clause-fault
@@ -13,7 +13,7 @@ returns-in_default-clause-fault g c =
     let bytes = c.args.bytes.now in
     let are = c.records-records.ensures in
     let begun : HasGiven bytes [] c.records-records.result.rdr =
-    started bytes c.records-records.result.rdr are.trim are.header_is_record are.headers are.flexible are.config are.source are.state in
+    reader_started bytes c.records-records.result.rdr are.trim are.header_is_record are.headers are.flexible are.config are.source are.state in
     let s = rw c.in_default.is at ((c.next.ensures.steps c.records-records.ensures.left begun.trims).0 begun.ready) in
     no_records g.E.ListEntry.form bytes c.records-records.result.rdr c.next.new.self.rdr begun s
 
@@ -22,10 +22,10 @@ returns-then-not-is_header-clause-fault g c =
     let bytes = c.args.bytes.now in
     let are = c.records-records.ensures in
     let begun : HasGiven bytes [] c.records-records.result.rdr =
-    started bytes c.records-records.result.rdr are.trim are.header_is_record are.headers are.flexible are.config are.source are.state in
+    reader_started bytes c.records-records.result.rdr are.trim are.header_is_record are.headers are.flexible are.config are.source are.state in
     let steps = rw (c.in-Some.is, c.in-Ok.is) at (c.next.ensures.steps c.records-records.ensures.left begun.trims) in
     let s = steps.0 begun.ready in
-    let has = gives bytes [] c.records-records.result.rdr c.next.new.self.rdr c.in-Ok.header begun s.0 s.1 steps.3 in
+    let has = reader_gives bytes [] c.records-records.result.rdr c.next.new.self.rdr c.in-Ok.header begun s.0 s.1 steps.3 in
     no_header g.E.ListEntry.form bytes (fields_of c.in-Ok.header) c.next.new.self.rdr has (sym c.if-not-is_header.ensures)
 
 pub loop-row-init : goal.loop-row-init
@@ -33,10 +33,10 @@ loop-row-init g c =
     let bytes = c.args.bytes.now in
     let are = c.records-records.ensures in
     let begun : HasGiven bytes [] c.records-records.result.rdr =
-    started bytes c.records-records.result.rdr are.trim are.header_is_record are.headers are.flexible are.config are.source are.state in
+    reader_started bytes c.records-records.result.rdr are.trim are.header_is_record are.headers are.flexible are.config are.source are.state in
     let steps = rw (c.in-Some.is, c.in-Ok.is) at (c.next.ensures.steps c.records-records.ensures.left begun.trims) in
     let s = steps.0 begun.ready in
-    let has = gives bytes [] c.records-records.result.rdr c.next.new.self.rdr c.in-Ok.header begun s.0 s.1 steps.3 in
+    let has = reader_gives bytes [] c.records-records.result.rdr c.next.new.self.rdr c.in-Ok.header begun s.0 s.1 steps.3 in
     rw (c.into_iter-row-iterator.ensures.into_iter_gives, c.new-entries.ensures.items)
     (none_read g.E.ListEntry.form bytes (fields_of c.in-Ok.header) c.next.new.self.rdr has (sym c.if-not-is_header.ensures), s.2)
 
@@ -93,7 +93,7 @@ memory_fault-requires g c =
     let bytes = c.args.bytes.now in
     let are = c.records-records.ensures in
     let begun : HasGiven bytes [] c.records-records.result.rdr =
-    started bytes c.records-records.result.rdr are.trim are.header_is_record are.headers are.flexible are.config are.source are.state in
+    reader_started bytes c.records-records.result.rdr are.trim are.header_is_record are.headers are.flexible are.config are.source are.state in
     let s = rw (c.in-Some.is, c.in-Err.is) at ((c.next.ensures.steps c.records-records.ensures.left begun.trims).0 begun.ready) in
     fails_for_memory bytes [] c.records-records.result.rdr c.next.new.self.rdr c.in-Err.error begun s
 
