@@ -43,7 +43,7 @@ use Rattle.office_export.specs.Queries.{moves_query, moves_text, up}
 use Rattle.office_export.specs.Shown.{move_record, move_shown}
 use Rattle.office_export.proofs.Meanings.{moves_meant, move_names}
 use Rattle.office_export.proofs.Ordering.{Rises, answer_is, one_table, text_before}
-use Rattle.office_export.proofs.Rising.{all_above, entries_rise, rises}
+use Rattle.office_export.proofs.Rising.{all_above, entries_rise, sorted_entries_ascend}
 
 -- the key of a move's row, and what is shown of it
 abbrev out : Move → Output

@@ -14,9 +14,9 @@ module _ {K X : Type 0} (R : K → K → Ordering) where
   all_above k [] below = tt
   all_above k (e ∷ es) below = (less_from_test (R k e.0) (first_holds _ _ below), all_above k es (second_holds _ _ below))
 
-  pub rises : (es : List (K × X)) → T (is_sorted R es) → IsAscending (λ a b. R a.0 b.0 ≡ Less) es
-  rises [] sorted = tt
-  rises (e ∷ es) sorted = (all_above e.0 es (first_holds _ _ sorted), rises es (second_holds _ _ sorted))
+  pub sorted_entries_ascend : (es : List (K × X)) → T (is_sorted R es) → IsAscending (λ a b. R a.0 b.0 ≡ Less) es
+  sorted_entries_ascend [] sorted = tt
+  sorted_entries_ascend (e ∷ es) sorted = (all_above e.0 es (first_holds _ _ sorted), sorted_entries_ascend es (second_holds _ _ sorted))
 
   pub entries_rise : (m : FinMap R X) → IsAscending (λ a b. R a.0 b.0 ≡ Less) (map.entries m)
-  entries_rise m = rises (map.entries m) (entries_sorted m)
+  entries_rise m = sorted_entries_ascend (map.entries m) (entries_sorted m)

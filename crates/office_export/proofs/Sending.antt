@@ -1,25 +1,18 @@
 -- Sending the records of an export one after another.
-use Rattle.std.proofs.Common.{◌≡◌, ◌<◌, ◌≤◌, ◌+◌, ℕ, List, [], ◌∷◌, ◌++◌, length, map, take, refl, sym, ap, ◌∙◌, subst, arith, append-nil, append_assoc, length-append}
+use Rattle.std.proofs.Common.{◌≡◌, ◌<◌, ◌+◌, ℕ, List, [], ◌∷◌, ◌++◌, length, map, take, sym, ap, ◌∙◌, subst, arith, append-nil, append_assoc, length-append}
 use Rattle.std.proofs.lemmas.Grind.{flat_map-append}
 use Rattle.std.proofs.lemmas.List.{take-append-le, length-take, map-append}
 use Rattle.std.proofs.Math.Seq.{take-append-add, take-append_seam}
 use Rattle.room_types.specs.Streams.{Output, Puts}
-use Rattle.room_types.proofs.StreamLemmas.{Puts-nil, Puts-trans}
-use Rattle.office_state.specs.declared.office.Office.{Office}
-use Rattle.office_lists.specs.Exports.{export_bytes, header_of, record_bytes}
+use Rattle.room_types.proofs.StreamLemmas.{Puts-trans}
+use Rattle.office_lists.specs.Exports.{export_bytes, record_bytes}
 use Rattle.office_lists.specs.Records.{Record}
-use Rattle.office_lists.specs.declared.exports.ExportKind.{ExportKind}
-use Rattle.office_lists.specs.declared.exports.ExportKind.TheVariants.{Rooms, People, Moves}
 use Rattle.office_export.specs.Ending.{PutsCount, PutsFront}
-use Rattle.office_export.specs.Exports.{exported}
 
 -- these records went out, in so many bytes
 pub record AreSent (records : List Record) (sent : ℕ) (before after : Output) : Type 0 where
   pub size : sent ≡ length (export_bytes records)
   pub written : Puts before after (export_bytes records)
-
-pub none_sent : (output : Output) → AreSent [] 0 output output
-none_sent output = record { size = refl; written = Puts-nil output }
 
 -- one record more
 pub more_sent : (records : List Record) (one : Record) (sent : ℕ) (before middle after : Output) (bytes : List ℕ) → bytes ≡ record_bytes one → Puts middle after bytes
@@ -83,12 +76,6 @@ module _ (records : List Record) (sent part : ℕ) (before middle after : Output
         ap (take (sent + part)) parts ∙ ap (λ (k : ℕ). take (k + part) (first ++ (bytes ++ tail))) so_far.size
         ∙ take-append-add first (bytes ++ tail) part ∙ ap (λ (b : List ℕ). first ++ b) (take-append-le part bytes tail (omega (arith, short))) in
         record { written = subst (λ (b : List ℕ). Puts before after b) (sym front) went; within = omega (arith, cut_short) }
-
--- each export begins with its header
-pub begins_with_header : (kind : ExportKind) (office : Office) → (rest : List Record) × (header_of kind ∷ rest ≡ exported kind office)
-begins_with_header Rooms office = (_, refl)
-begins_with_header People office = (_, refl)
-begins_with_header Moves office = (_, refl)
 
 -- the records of some rows, and of more
 pub with_more : {Row : Type 0} (header : Record) (fields : Row → Record) (given tail : List Row) → (header ∷ map fields given) ++ map fields tail ≡ header ∷ map fields (given ++ tail)

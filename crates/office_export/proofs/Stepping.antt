@@ -1,5 +1,5 @@
 -- Reading the rows of a query one at a time.
-use Rattle.std.proofs.Common.{◌≡◌, ◌⊎◌, ◌<◌, ◌+◌, ℕ, List, [], ◌∷◌, ◌++◌, length, map, refl, take, Option, Some, None, IsTrue, sym, ap, ◌∙◌, subst, inl, inr, arith}
+use Rattle.std.proofs.Common.{◌≡◌, ◌<◌, ◌+◌, ℕ, List, [], ◌∷◌, ◌++◌, length, map, refl, take, Option, Some, None, IsTrue, sym, ap, ◌∙◌, subst, inl, inr, arith}
 use Rattle.sqlite_trees.specs.Tree.{Trees}
 use Rattle.sqlite_trees.specs.declared.store.Store.{Ghosts}
 use Rattle.sqlite_value.specs.Order.{Row}
@@ -11,7 +11,7 @@ use Rattle.sqlite.specs.Effect.{Answers, Database}
 use Rattle.sqlite.specs.Given.{Advances, HasBegun, HasGiven, IsPlain}
 use Rattle.sqlite.specs.Held.{Held, state}
 use Rattle.sqlite.specs.Listing.{understood}
-use Rattle.sqlite.specs.State.{State, HasCleanDisk, Survives, Shown, ShowsRows, IsUnchanged, Fails, FailsToQuery, FailsToShow, IsNotRun, IsRolledBack}
+use Rattle.sqlite.specs.State.{State, HasCleanDisk, Survives, Shown, ShowsRows, IsUnchanged, FailsToQuery, FailsToShow, IsNotRun, IsRolledBack}
 use Rattle.sqlite.proofs.Callers.{begins_as, begun_plain, given_begin, reads_as, unchanged_then}
 use Rattle.sqlite.proofs.StateLemmas.{survives_then}
 use Rattle.room_types.specs.Streams.{Output, Puts}
@@ -20,7 +20,7 @@ use Rattle.office_lists.specs.Exports.{export_bytes, header_of, record_bytes}
 use Rattle.office_lists.specs.Records.{Record}
 use Rattle.office_lists.specs.declared.exports.ExportKind.{ExportKind}
 use Rattle.office_tables.specs.Schema.{office_schema}
-use Rattle.office_tables.specs.Steps.{Follows, IsHonest}
+use Rattle.office_tables.specs.Steps.{Follows}
 use Rattle.office_tables.specs.Tables.{HoldsOffice}
 use Rattle.office_tables.specs.Texts.{alone}
 use Rattle.office_tables.proofs.StepLemmas.{follows_then}
@@ -29,7 +29,7 @@ use Rattle.office_export.specs.Asking.{AsksForExport}
 use Rattle.office_export.specs.Ending.{PutsCount, PutsExport, PutsFront}
 use Rattle.office_export.specs.Exports.{exported}
 use Rattle.office_export.specs.Stepping.{IsAskedOf, KeepsTables, StandsOn}
-use Rattle.office_export.proofs.Sending.{AreSent, begins_with_header, cut_counted, cut_front, cut_short, front_sent, more_sent, none_sent, one_record, one_then, sent_counted, with_more, with_one}
+use Rattle.office_export.proofs.Sending.{AreSent, cut_counted, cut_front, cut_short, front_sent, more_sent, one_record, one_then, sent_counted, with_more, with_one}
 
 -- ---- what is kept
 
@@ -49,11 +49,6 @@ keeps_then a b c p q o =
           let next = later.1 (first.0 ∙ same ∙ sym first.1) in
           (next.0 ∙ first.0, next.1 ∙ first.1),
     )
-
--- after a step that failed
-pub keeps_either : (a b : State) (e : Error) → Fails a b ⊥ e ⊎ IsUnchanged a b → KeepsTables a b
-keeps_either a b e (inl fails) = keeps_undone a b fails.3
-keeps_either a b e (inr same) = keeps_unchanged a b same
 
 -- after a query that did not begin
 pub keeps_failed : (sql : List ℕ) (params : Row) (a b : State) (e : Error) → FailsToQuery sql params a b e → KeepsTables a b
@@ -75,8 +70,8 @@ shown_was_open sql params a b rows h = go h.0.returning h.2
     go None it = it.3.0.was_open
     go (Some what) it = it.1.shown.was_open
 
-pub follows : (a b : State) (Commits : Trees → Type 0) → Survives a b Commits → (HasCleanDisk b → IsTrue b.is_open → IsTrue a.is_open) → Follows a b
-follows a b Commits survives was_open = record {
+pub export_follows : (a b : State) (Commits : Trees → Type 0) → Survives a b Commits → (HasCleanDisk b → IsTrue b.is_open → IsTrue a.is_open) → Follows a b
+export_follows a b Commits survives was_open = record {
   clean = λ h. omega (arith, h, survives.clean);
   was_open = was_open;
   counts = survives.counts;
@@ -88,7 +83,7 @@ follows a b Commits survives was_open = record {
 pub reads_refused : (sql : List ℕ) (params : Row) (a b : State) (Commits : Trees → Type 0) (e : Error) → Survives a b Commits → (IsTrue a.is_open → a.now ≡ a.committed)
     → (HasCleanDisk b → FailsToQuery sql params a b e) → OnlyReads a b
 reads_refused sql params a b Commits e survives settled h = record {
-  follows = follows a b Commits survives (λ clean o. (keeps_failed sql params a b e (h clean) o).0);
+  follows = export_follows a b Commits survives (λ clean o. (keeps_failed sql params a b e (h clean) o).0);
   same = λ honest has. let keeps = keeps_failed sql params a b e (h honest.0) honest.1 in (keeps.1 (settled keeps.0)).0;
 }
 
@@ -101,8 +96,8 @@ reads_through g sql params a b c Commits plain first begun settled next keeps =
     let before : HasCleanDisk (state g c) → HasCleanDisk (state g b) = λ clean. omega (arith, clean, next.clean) in
     record {
       follows = follows_then (state g a) (state g b) (state g c)
-          (follows (state g a) (state g b) Commits first (λ clean o. was_open (begun clean)))
-          (follows (state g b) (state g c) (λ _. ⊥) next (λ clean o. (keeps clean o).0));
+          (export_follows (state g a) (state g b) Commits first (λ clean o. was_open (begun clean)))
+          (export_follows (state g b) (state g c) (λ _. ⊥) next (λ clean o. (keeps clean o).0));
       same = λ honest has.
           let same = (begun_plain g sql params a b (subst (λ s. IsPlain (understood s sql)) (sym has) plain) (begun (before honest.0))).1 in
           let kept = keeps_then (state g a) (state g b) (state g c) (keeps_unchanged _ _ same) (keeps honest.0) honest.1 in
@@ -245,30 +240,3 @@ module _ {S : Type 0} (g : Ghosts S) (kind : ExportKind) (text : List ℕ) (fiel
     one_record (header_of kind) before after bytes is puts,
     λ clean begun. (begun, unchanged_still (state g first) (given_open g text [] first [] begun)),
   )
-
--- no byte was sent
-pub front_none : (kind : ExportKind) (before : Output) (office : Office) → PutsFront before before 0 (export_bytes (exported kind office))
-front_none kind before office = front_sent [] (exported kind office) (exported kind office) 0 before before refl (none_sent before)
-
-pub counted_none : (before : Output) → PutsCount before before 0
-counted_none before = sent_counted [] 0 before before (none_sent before)
-
--- a write failed within the header
-module _ (kind : ExportKind) (before after : Output) (bytes : List ℕ) (part : ℕ) (is : bytes ≡ record_bytes (header_of kind)) (short : part < length bytes) (puts : Puts before after (take part bytes)) where
-  none_more : 0 + part ≡ part
-  none_more = omega arith
-
-  pub front_head : (office : Office) → PutsFront before after part (export_bytes (exported kind office))
-  front_head office =
-      let rest = begins_with_header kind office in
-      subst (λ (n : ℕ). PutsFront before after n (export_bytes (exported kind office))) none_more
-      (cut_front [] 0 part before before after bytes short puts (none_sent before) (header_of kind) rest.0 (exported kind office) is rest.1)
-
-  pub short_head : (office : Office) → part < length (export_bytes (exported kind office))
-  short_head office =
-      let rest = begins_with_header kind office in
-      subst (λ (n : ℕ). n < length (export_bytes (exported kind office))) none_more
-      (cut_short [] 0 part before before after bytes short puts (none_sent before) (header_of kind) rest.0 (exported kind office) is rest.1)
-
-  pub counted_head : PutsCount before after part
-  counted_head = subst (λ (n : ℕ). PutsCount before after n) none_more (cut_counted [] 0 part before before after bytes short puts (none_sent before))

@@ -1,5 +1,5 @@
 -- Words that a desk hears are heard by the office that it stands for, and a list that comes in comes in there.
-use Rattle.std.proofs.Common.{◌≡◌, ℕ, true, false, List, length, take, Option, inl, inr, refl, sym, subst, arith}
+use Rattle.std.proofs.Common.{◌≡◌, ℕ, true, List, length, take, Option, inl, inr, refl, sym, subst, arith}
 use Rattle.std.specs.Io.KnownBytes.{Keeps}
 use Rattle.std.proofs.lemmas.List.{take_all}
 use Rattle.sqlite.specs.Held.{state}
@@ -23,7 +23,6 @@ use Rattle.office_tables.specs.Steps.{Follows}
 use Rattle.room_types.proofs.StreamLemmas.{Puts-kept}
 use Rattle.room_types.specs.Streams.{Output, Puts}
 use Rattle.room_types.specs.Texts.{Text}
-use Rattle.room_types.specs.Watched.{counted}
 use Rattle.room_types.specs.declared.kinds.ListKind.{ListKind}
 use Rattle.room_types.specs.declared.watched.Watched.{Watched}
 
@@ -35,9 +34,9 @@ module _ {S : Type 0} (g : Ghosts S) where
       (words_shown {K = Unit {0}} (HandlesAt g) (λ _ _ _ _. Unit {0}) (λ desk _. Follows (state g old.conn) (state g desk.conn)) old new
       (λ request answer h k s. (tt, tt, h.follows)) words status out out' heard tt (follows-refl (state g old.conn))).2
 
-  pub hears : (old new : DeskState S) (words : List Text) (status : ℕ) (out out' : Output) → DoesWords (HandlesAt g) old words status new out out'
+  pub hears_words : (old new : DeskState S) (words : List Text) (status : ℕ) (out out' : Output) → DoesWords (HandlesAt g) old words status new out out'
       → HearsWords g old new words status out out'
-  hears old new words status out out' heard = record {
+  hears_words old new words status out out' heard = record {
     follows = words_follow old new words status out out' heard;
     heard = heard;
     done = λ clean office stands.
@@ -91,14 +90,9 @@ module _ {S : Type 0} (g : Ghosts S) where
     done = λ clean office stands. (office, inr (fails, refl, says), stands);
   }
 
--- the bytes went out, and then a flush succeeded
-pub flushed : (bytes : List ℕ) (out mid out' : Output) → Puts out mid bytes → Keeps mid.contents out'.contents → out'.taken ≡ mid.taken → out'.flushes ≡ counted out.flushes 1
-    → out'.pending ≡ false → out'.failed ≡ out.failed → Says bytes 0 0 out out'
-flushed bytes out mid out' puts keeps taken flushes pending failed = inl (refl, Puts-kept _ _ _ _ puts keeps taken, flushes, pending, failed)
-
 -- the bytes went out, and then a flush failed
-pub unflushed : (bytes : List ℕ) (out mid out' : Output) → Puts out mid bytes → Keeps mid.contents out'.contents → out'.taken ≡ mid.taken → out'.failed ≡ true → Says bytes 0 3 out out'
-unflushed bytes out mid out' puts keeps taken failed =
+pub said_not_flushed : (bytes : List ℕ) (out mid out' : Output) → Puts out mid bytes → Keeps mid.contents out'.contents → out'.taken ≡ mid.taken → out'.failed ≡ true → Says bytes 0 3 out out'
+said_not_flushed bytes out mid out' puts keeps taken failed =
     let whole : take (length bytes) bytes ≡ bytes = take_all (length bytes) bytes (omega arith) in
     inr (refl, failed, length bytes, rw whole (Puts-kept _ _ _ _ puts keeps taken))
 

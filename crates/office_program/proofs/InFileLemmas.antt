@@ -15,10 +15,10 @@ use Rattle.office_store.specs.declared.desk.faults.DeskFault.{DeskFault}
 use Rattle.room_types.specs.Streams.{Output}
 
 module _ {D : Type 0} (g : Ghosts D) (contents : Image) where
-  pub makes : (made : Result (DeskState (FileStore D g)) DeskFault) (status : ℕ) (out out' : Output) → IfOk made (λ desk. HasCleanDisk (file_state desk.conn) → Shows over_files desk empty_office)
+  pub file_desk_made : (made : Result (DeskState (FileStore D g)) DeskFault) (status : ℕ) (out out' : Output) → IfOk made (λ desk. HasCleanDisk (file_state desk.conn) → Shows over_files desk empty_office)
       → IfOk made (BeginsBlank contents) → IsCreateFault contents made → TellsMade made status out out' → MakesInFile g contents status out out'
-  makes (Ok desk) status out out' shows begins cause tells = inl (record { desk = desk; begins = begins; shows = shows; says = tells })
-  makes (Err fault) status out out' shows begins cause tells = inr (fault, cause, tells)
+  file_desk_made (Ok desk) status out out' shows begins cause tells = inl (record { desk = desk; begins = begins; shows = shows; says = tells })
+  file_desk_made (Err fault) status out out' shows begins cause tells = inr (fault, cause, tells)
 
   -- what was done at the desk that an opening found is done in the file
   pub done_at_found : (IsDone : DeskState (FileStore D g) → DeskState (FileStore D g) → Type 0) (found last : Result (DeskState (FileStore D g)) DeskFault) (status : ℕ) (out out' : Output)

@@ -92,10 +92,10 @@ keeps_after None mid request answer next kept keeps = tt
 keeps_after (Some o) mid request answer next kept keeps = subst (λ k. IfSome k (λ office. KeepsOn office request answer next)) kept keeps
 
 -- what is done where an office is kept is done where the same one is kept next
-pub through : (old mid : Option Office) (A B C : Type 0) → IfSome old (λ kept. mid ≡ Some kept) → IfSome old (λ kept. A) → IfSome mid (λ kept. B) → (A → B → C)
+pub kept_office_through : (old mid : Option Office) (A B C : Type 0) → IfSome old (λ kept. mid ≡ Some kept) → IfSome old (λ kept. A) → IfSome mid (λ kept. B) → (A → B → C)
     → IfSome old (λ kept. C)
-through None mid A B C kept a b both = tt
-through (Some o) mid A B C kept a b both = both a (subst (λ k. IfSome k (λ o. B)) kept b)
+kept_office_through None mid A B C kept a b both = tt
+kept_office_through (Some o) mid A B C kept a b both = both a (subst (λ k. IfSome k (λ o. B)) kept b)
 
 -- nothing is kept, so nothing is said
 none_said : (kept : Option Office) (A : Type 0) → kept ≡ None → IfSome kept (λ o. A)
@@ -166,24 +166,13 @@ module _ {S : Type 0} (g : Ghosts S) where
     kept = stands.kept;
   }
 
-  -- the tables are as they were, and the office that they hold is read
-  pub stands_read : (old new : Held S) (kept : Option Office) (office found : Office) → HasCleanDisk (state g new) → Follows (state g old) (state g new)
-      → (IsHonest (state g new) → (state g old).now.schema ≡ office_schema → (state g new).now ≡ (state g old).now)
-      → StandsFor g (record { conn = old; kept = kept }) office → found ≡ office → StandsFor g (record { conn = new; kept = Some found }) office
-  stands_read old new kept office found clean follows same stands is = record {
-    tables = held_still old new kept office clean follows same stands;
-    spelled = stands.spelled;
-    lawful = stands.lawful;
-    kept = is;
-  }
-
   -- nothing is changed
-  pub unavailable : (old new : DeskState S) (request : Request) → OnlyReads (state g old.conn) (state g new.conn)
+  pub unavailable_keeps_desk : (old new : DeskState S) (request : Request) → OnlyReads (state g old.conn) (state g new.conn)
       → (IsSome old.kept → IsHonest (state g new.conn) → (state g new.conn).now ≡ (state g old.conn).now)
       → IfSome old.kept (λ office. KeepsOn office request Unavailable new.kept)
       → IfSome old.kept (λ office. reaches_tables request Unavailable ≡ false → new.conn ≡ old.conn)
       → (HasCleanDisk (state g new.conn) → (office : Office) → StandsFor g old office → StandsFor g new office) → HandlesAt g old request Unavailable new
-  unavailable old new request reads undone keeps untouched still = record {
+  unavailable_keeps_desk old new request reads undone keeps untouched still = record {
     follows = reads.follows;
     told = inr refl;
     keeps = keeps;
@@ -200,13 +189,13 @@ module _ {S : Type 0} (g : Ghosts S) where
   pub unavailable_unkept : (old new : DeskState S) (request : Request) → old.kept ≡ None → OnlyReads (state g old.conn) (state g new.conn)
       → (HasCleanDisk (state g new.conn) → (office : Office) → StandsFor g old office → StandsFor g new office) → HandlesAt g old request Unavailable new
   unavailable_unkept old new request none reads still =
-      unavailable old new request reads (λ some honest. absurd (none_is_not_some old.kept none some)) (none_keeps old.kept request Unavailable new.kept none)
+      unavailable_keeps_desk old new request reads (λ some honest. absurd (none_is_not_some old.kept none some)) (none_keeps old.kept request Unavailable new.kept none)
       (none_said old.kept (reaches_tables request Unavailable ≡ false → new.conn ≡ old.conn) none) still
 
   -- what is answered by the office that is kept, and changes nothing
-  pub answered : (desk : DeskState S) (kept : Office) (request : Request) (answer : Answer) → desk.kept ≡ Some kept → IsLawful kept → Handles kept request answer kept
+  pub kept_office_answers : (desk : DeskState S) (kept : Office) (request : Request) (answer : Answer) → desk.kept ≡ Some kept → IsLawful kept → Handles kept request answer kept
       → (is_certain kept request ≡ true → answer ≡ answer_to kept request) → ¬ IsAccepted request answer → HandlesAt g desk request answer desk
-  answered desk kept request answer is lawful handled certain none = record {
+  kept_office_answers desk kept request answer is lawful handled certain none = record {
     follows = follows-refl (state g desk.conn);
     told = elim handled [
       | inl done ↦ inl (kept, lawful, subst (λ k. IfSome k (λ o. o ≡ kept)) (sym is) refl, done.0)
@@ -231,7 +220,7 @@ module _ {S : Type 0} (g : Ghosts S) where
     told = told_after old.kept mid.kept request answer kept h.told;
     keeps = keeps_after old.kept mid.kept request answer new.kept kept h.keeps;
     untouched =
-        through old.kept mid.kept (mid.conn ≡ old.conn) (reaches_tables request answer ≡ false → new.conn ≡ mid.conn)
+        kept_office_through old.kept mid.kept (mid.conn ≡ old.conn) (reaches_tables request answer ≡ false → new.conn ≡ mid.conn)
         (reaches_tables request answer ≡ false → new.conn ≡ old.conn) kept same h.untouched (λ first then none. then none ∙ first);
     reads = λ refused. reads_then _ _ _ reads (h.reads refused);
     undone = λ refused some honest.

@@ -19,9 +19,9 @@ use Rattle.office_rows.specs.Tables.{rows_of}
 none : {E : Type 0} (P : Row → Type 0) (rows : List E → List Row) (entries : List E) → entries ≡ [] → rows [] ≡ [] → All P (rows entries)
 none P rows entries empty is = subst (λ es. All P (rows es)) (sym empty) (subst (All P) (sym is) (All-nil P))
 
-pub spelled : IsSpelled (rows_of empty_office)
+pub empty_office_spelled : IsSpelled (rows_of empty_office)
 unfolding rows_of
-spelled = record {
+empty_office_spelled = record {
   rooms = none IsRoomRow (list_map room_columns) (maps.entries empty_office.rooms) (entries-empty nat_list_cmp_total) refl;
   people = none IsPersonRow (λ es. list_map person_columns (list_map (person_row empty_office.withdrawn) es)) (maps.entries empty_office.people) (entries-empty nat_list_cmp_total) refl;
   rounds = All-cons IsRoundRow (round_shown (record { number = 0; phase = Idle })) [] (refl, (0, refl, omega arith), (Idle, refl)) (All-nil IsRoundRow);

@@ -1,24 +1,15 @@
 -- What texts say that are not blank.
-use Rattle.std.proofs.Common.{◌≡◌, ℕ, Bool, true, false, cond, List, [], ◌∷◌, Option, Some, None, refl, sym, ap, ◌∙◌}
+use Rattle.std.proofs.Common.{◌≡◌, ℕ, Bool, true, false, cond, List, [], ◌∷◌, Option, Some, refl, sym, ap, ◌∙◌}
 use Rattle.std.specs.Prelude.{◌&&◌, OnErr, Result, Ok, Err, filter, is_some, option_and_then}
 use Rattle.std.specs.List.{find, slice_split}
 use Rattle.std.specs.Str.{is_utf8, IsUtf8}
 use Rattle.std.proofs.lemmas.Str.{IsUtf8-from_is_utf8, is_utf8-from_IsUtf8}
 use Rattle.std.proofs.lemmas.Bool.{false_from_ne_true}
 use Rattle.office_words.specs.Verbs.{verb_of}
-use Rattle.office_words.specs.Words.{names_request, request_of}
-use Rattle.office_words.specs.Sentences.{asked, has_bytes, is_space, sentence_of_words, sentence_of_text, is_silent, is_blank, words_of}
+use Rattle.office_words.specs.Words.{names_request}
+use Rattle.office_words.specs.Sentences.{has_bytes, is_space, sentence_of_words, sentence_of_text, is_blank, words_of}
 use Rattle.office_words.specs.declared.verbs.Verb.{Verb}
-use Rattle.office_store.specs.declared.requests.Request.{Request}
 use Rattle.office_words.specs.declared.sentences.Sentence.TheVariants.{Unclear}
-
-is_silent-asked : (request : Option Request) → is_silent (asked request) ≡ false
-is_silent-asked (Some request) = refl
-is_silent-asked None = refl
-
--- words are not silent
-pub is_silent-words : (words : List (List ℕ)) → is_silent (sentence_of_words words) ≡ false
-is_silent-words words = is_silent-asked (request_of words)
 
 -- what is no text is not understood
 pub sentence_of_bytes : (text : List ℕ) → is_blank text ≡ false → (IsUtf8 text → ⊥) → sentence_of_text text ≡ Unclear
@@ -54,12 +45,3 @@ first_found (part ∷ parts) = found-cond (has_bytes part) part parts (first_fou
 -- the words name a request where the first of them does
 pub names_first : (text : List ℕ) (first : Option (List ℕ)) → first ≡ find has_bytes (slice_split is_space text) → names_request (words_of text) ≡ is_some (asked_first first)
 names_first text first e = first_found (slice_split is_space text) ∙ ap (λ o. is_some (asked_first o)) (sym e)
-
-unasked : (o : Option Verb) (then : Verb → Option Request) → is_some o ≡ false → option_and_then then o ≡ None
-unasked None then h = refl
-unasked (Some verb) then h = cc
-
--- words that name no request are not understood
-pub unnamed_words : (words : List (List ℕ)) → names_request words ≡ false → sentence_of_words words ≡ Unclear
-unnamed_words [] h = refl
-unnamed_words (first ∷ rest) h = ap asked (unasked (verb_of first) _ h)

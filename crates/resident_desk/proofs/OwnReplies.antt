@@ -42,7 +42,7 @@ use Rattle.resident_http.specs.declared.routes.Route.{Route}
 use Rattle.resident_http.specs.declared.routes.Route.TheVariants as route
 use Rattle.resident_desk.specs.Dues.{command_answer, rooms_answer, unavailable_answer}
 use Rattle.resident_desk.specs.OwnReply.{AgreeOnKey, AgreeOnPerson, KeepsWhereUnavailable, RepliesByOwnRecord}
-use Rattle.resident_desk.specs.Serving.{Admits, AnswersWanted, Commands, Does, Greets, ListsRooms, Records, Tells}
+use Rattle.resident_desk.specs.Serving.{Admits, AnswersWanted, Commands, Does, Greets, ListsRooms, Records}
 
 -- ---- what the owner of a key sees
 
@@ -147,9 +147,6 @@ withdrawing_same a b person phase agree =
 -- the other office has some office after it
 abbrev Also : (Office → Type 0) → Type 0
 Also P = (other : Office) × P other
-
-tells_same : (a b next : Office) (due answer : Answer) → Tells due a answer next → Also (λ other. Tells due b answer other)
-tells_same a b next due answer h = (b, (h.0, refl))
 
 commands_same : (a b next : Office) (command : Command) (success : List ℕ) (answer : Answer) → accepts a command ≡ accepts b command → reply_to a command ≡ reply_to b command
     → Commands Handles command success a answer next → Also (λ other. Commands Handles command success b answer other)

@@ -21,21 +21,21 @@ codes_from items i item lt is =
     at_drop_more (λ l. codes_in (items_view l)) items i item lt ∙ ap (λ y. option_and_then (λ code. code_before code (codes_in (items_view (drop (i + 1) items)))) (code_in (view y))) (sym is)
 
 -- one code more
-pub step : (items : List Value) (i : ℕ) (item : Value) (codes : List Text) (code : Text) (all : Option (List Text)) → i < length items → item ≡ get_or items i item → code_in (view item) ≡ Some code
+pub code_list_step : (items : List Value) (i : ℕ) (item : Value) (codes : List Text) (code : Text) (all : Option (List Text)) → i < length items → item ≡ get_or items i item → code_in (view item) ≡ Some code
     → codes_before codes (codes_in (items_view (drop i items))) ≡ all → codes_before (codes ++ code ∷ []) (codes_in (items_view (drop (i + 1) items))) ≡ all
-step items i item codes code all lt is told h =
+code_list_step items i item codes code all lt is told h =
     let rest = codes_in (items_view (drop (i + 1) items)) in
     one_before codes code rest ∙ ap (λ o. codes_before codes (option_and_then (λ c. code_before c rest) o)) (sym told)
     ∙ ap (codes_before codes) (sym (codes_from items i item lt is)) ∙ h
 
 -- an item that is no code
-pub stop : (items : List Value) (i : ℕ) (item : Value) (codes : List Text) (all : Option (List Text)) → i < length items → item ≡ get_or items i item → code_in (view item) ≡ None
+pub code_list_stopped : (items : List Value) (i : ℕ) (item : Value) (codes : List Text) (all : Option (List Text)) → i < length items → item ≡ get_or items i item → code_in (view item) ≡ None
     → codes_before codes (codes_in (items_view (drop i items))) ≡ all → all ≡ None
-stop items i item codes all lt is told h =
+code_list_stopped items i item codes all lt is told h =
     let rest = codes_in (items_view (drop (i + 1) items)) in
     sym h ∙ ap (codes_before codes) (codes_from items i item lt is) ∙ ap (λ o. codes_before codes (option_and_then (λ c. code_before c rest) o)) told
 
 -- all items are read
-pub finish : (items : List Value) (i : ℕ) (codes : List Text) (all : Option (List Text)) → length items ≤ i → codes_before codes (codes_in (items_view (drop i items))) ≡ all → all ≡ Some codes
-finish items i codes all past h =
+pub code_list_finished : (items : List Value) (i : ℕ) (codes : List Text) (all : Option (List Text)) → length items ≤ i → codes_before codes (codes_in (items_view (drop i items))) ≡ all → all ≡ Some codes
+code_list_finished items i codes all past h =
     sym h ∙ ap (λ l. codes_before codes (codes_in (items_view l))) (drop_all i items past) ∙ ap (λ l. Some l) (append-nil codes)

@@ -27,7 +27,7 @@ use Rattle.office_state.proofs.OfficeLemmas.Untouched.{results_undrawn, undrawn}
 use Rattle.office_core.specs.Command.Import.{EntryCommand, bad_list, changes_by, changes_of, changes_where}
 use Rattle.office_core.specs.Command.Import.{checks, checks_where, choices_command, entries_in}
 use Rattle.office_core.specs.Command.Import.{new_label_changes, new_label_checks, first_denied, keeping}
-use Rattle.office_core.specs.Command.Import.{list_refusal, may_come, next, next_where, office_after}
+use Rattle.office_core.specs.Command.Import.{list_refusal, may_import, next, next_where, office_after}
 use Rattle.office_core.specs.Command.Import.{office_with, person_command, record_count, refusal_of}
 use Rattle.office_core.specs.Command.Import.{room_command}
 use Rattle.office_core.specs.Refusal.{number_of}
@@ -235,7 +235,7 @@ each_any : {A : Type 0} (list : List A) → Each (λ x. Unit {0}) list
 each_any [] = tt
 each_any (x ∷ rest) = (tt, each_any rest)
 
-comes_before : (kind : ListKind) (office : Office) → may_come kind office.phase ≡ true
+comes_before : (kind : ListKind) (office : Office) → may_import kind office.phase ≡ true
     → is_preparing office.phase ≡ true
 comes_before Rooms office h = h
 comes_before People office h = h
@@ -248,7 +248,7 @@ new-leads : (office : Office) (label : Text) (kind : ListKind) (bytes : List ℕ
     (new_label_changes label kind bytes)
 new-leads office label kind bytes l new h =
     let n = none_applies (new_label_checks office kind bytes) h in
-    let may = not-false (may_come kind office.phase) n.0 in
+    let may = not-false (may_import kind office.phase) n.0 in
     let good : refusal_of kind office bytes ≡ None =
     sym (first_of_list office kind bytes may n.1.0 n.1.1.0) ∙ h in
     by kind n.1.0 n.1.1.0 (comes_before kind office may) good

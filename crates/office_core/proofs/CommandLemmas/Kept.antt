@@ -13,7 +13,7 @@ use Rattle.office_state.specs.declared.office.Office.{Office}
 use Rattle.office_core.specs.Laws.{ends_round, KeepsResults}
 use Rattle.office_core.specs.Refusal.Checks.{Check, first_refusal}
 use Rattle.office_core.specs.Command.{accepts, checks, next}
-use Rattle.office_core.specs.Command.Import.{checks_where, new_label_checks, may_come, next_where}
+use Rattle.office_core.specs.Command.Import.{checks_where, new_label_checks, may_import, next_where}
 use Rattle.office_core.specs.declared.command.Command.{Command}
 use Rattle.office_core.specs.declared.command.Command.TheVariants as command
 
@@ -52,61 +52,61 @@ stops : (may : Bool) → may ≡ false → not may ≡ false → ⊥
 stops may e h = let z : not may ≡ true = ap not e in cc
 
 -- and no list may come under a new label
-comes_too_late : (kind : ListKind) (phase : Phase) → IsPast phase → may_come kind phase ≡ false
+comes_too_late : (kind : ListKind) (phase : Phase) → IsPast phase → may_import kind phase ≡ false
 comes_too_late Rooms phase p = p.preparing
 comes_too_late People phase p = p.preparing
 comes_too_late Choices phase p = p.opened
 
-pub kept : (office : Office) (c : Command) → has_results office.phase ≡ true
+pub results_kept : (office : Office) (c : Command) → has_results office.phase ≡ true
     → accepts office c ≡ None → ends_round c ≡ false → KeepsResults office (next office c)
-kept office (command.AddRoom room) there ok goes_on =
+results_kept office (command.AddRoom room) there ok goes_on =
     absurd (stops (is_preparing office.phase) (past office.phase there).preparing
     (passes (checks office (command.AddRoom room)) ok))
-kept office (command.AddPerson person name key home) there ok goes_on =
+results_kept office (command.AddPerson person name key home) there ok goes_on =
     absurd (stops (is_preparing office.phase) (past office.phase there).preparing
     (passes (checks office (command.AddPerson person name key home)) ok))
-kept office (command.SetHome person room) there ok goes_on =
+results_kept office (command.SetHome person room) there ok goes_on =
     absurd (stops (is_idle office.phase) (past office.phase there).idle
     (passes (checks office (command.SetHome person room)) ok))
-kept office (command.Leave person) there ok goes_on =
+results_kept office (command.Leave person) there ok goes_on =
     absurd (stops (is_idle office.phase) (past office.phase there).idle
     (passes (checks office (command.Leave person)) ok))
-kept office (command.Remove person) there ok goes_on =
+results_kept office (command.Remove person) there ok goes_on =
     absurd (stops (is_idle office.phase) (past office.phase there).idle
     (passes (checks office (command.Remove person)) ok))
-kept office (command.Shut room) there ok goes_on =
+results_kept office (command.Shut room) there ok goes_on =
     absurd (stops (is_preparing office.phase) (past office.phase there).preparing
     (passes (checks office (command.Shut room)) ok))
-kept office (command.Reopen room) there ok goes_on =
+results_kept office (command.Reopen room) there ok goes_on =
     absurd (stops (is_preparing office.phase) (past office.phase there).preparing
     (passes (checks office (command.Reopen room)) ok))
-kept office command.OpenRound there ok goes_on =
+results_kept office command.OpenRound there ok goes_on =
     absurd (stops (is_idle office.phase) (past office.phase there).idle
     (passes (checks office command.OpenRound) ok))
-kept office (command.SetChoices person choices) there ok goes_on =
+results_kept office (command.SetChoices person choices) there ok goes_on =
     absurd (stops (is_open office.phase) (past office.phase there).opened
     (passes (checks office (command.SetChoices person choices)) ok))
-kept office (command.Withdraw person) there ok goes_on =
+results_kept office (command.Withdraw person) there ok goes_on =
     absurd (stops (is_open office.phase) (past office.phase there).opened
     (passes (checks office (command.Withdraw person)) ok))
-kept office command.CloseRound there ok goes_on =
+results_kept office command.CloseRound there ok goes_on =
     absurd (stops (is_open office.phase) (past office.phase there).opened
     (passes (checks office command.CloseRound) ok))
-kept office (command.Draw words) there ok goes_on =
+results_kept office (command.Draw words) there ok goes_on =
     absurd (stops (is_closed office.phase) (past office.phase there).closed
     (passes (checks office (command.Draw words)) ok))
-kept office command.Run there ok goes_on =
+results_kept office command.Run there ok goes_on =
     absurd (stops (is_drawn office.phase) (past office.phase there).drawn
     (passes (checks office command.Run) ok))
-kept office command.Publish there ok goes_on = record {
+results_kept office command.Publish there ok goes_on = record {
   entries = record { rooms = refl; people = refl; choices = refl; withdrawn = refl; words = refl };
   number = refl;
   results = refl;
   still = refl;
 }
-kept office command.Settle there ok goes_on = absurd (cc)
-kept office command.Cancel there ok goes_on = absurd (cc)
-kept office (command.Import label kind bytes) there ok goes_on =
+results_kept office command.Settle there ok goes_on = absurd (cc)
+results_kept office command.Cancel there ok goes_on = absurd (cc)
+results_kept office (command.Import label kind bytes) there ok goes_on =
     elim (map.get office.lists label) as
     (λ o. first_refusal (checks_where o office kind bytes) ≡ None
     → KeepsResults office (next_where o office label kind bytes)) [
@@ -122,7 +122,7 @@ kept office (command.Import label kind bytes) there ok goes_on =
         results = refl;
         still = there;
       }
-      | None ↦ λ first. absurd (stops (may_come kind office.phase)
+      | None ↦ λ first. absurd (stops (may_import kind office.phase)
           (comes_too_late kind office.phase (past office.phase there))
           (passes (new_label_checks office kind bytes) first))
     ] ok

@@ -23,7 +23,7 @@ use Rattle.office_state.specs.declared.office.Office.{Office}
 use Rattle.office_core.specs.Command.Decision.{IsRefusal, refusal_takes_memory}
 use Rattle.office_core.specs.Command.Import.{EntryCommand, bad_list, check_of, entries_in, first_denied}
 use Rattle.office_core.specs.Command.Import.{choices_command, list_refusal, record_count, refusal_of}
-use Rattle.office_core.specs.Command.Import.{new_label_changes, new_label_checks, may_come, person_command}
+use Rattle.office_core.specs.Command.Import.{new_label_changes, new_label_checks, may_import, person_command}
 use Rattle.office_core.specs.Command.Import.{record_changes, room_command}
 use Rattle.office_core.specs.Inner.Tries.{AreAdded, AreAllowed, IsOrMemory}
 use Rattle.office_core.specs.Refusal.{number_of}
@@ -60,12 +60,12 @@ as_many command office bytes changes are =
     ∙ length-map (data_records (records_of bytes)) command.form.entry
 
 -- a record that is allowed leaves the refusal to those after it
-pub passed : (command : EntryCommand) (office : Office) (at : ℕ) (entry : command.Entry)
+pub record_passed : (command : EntryCommand) (office : Office) (at : ℕ) (entry : command.Entry)
     (entries : List command.Entry)
     → first_refusal (command.checks office entry) ≡ None
     → first_denied command office at (entry ∷ entries)
     ≡ first_denied command (command.next office entry) (at + 1) entries
-passed command office at entry entries none =
+record_passed command office at entry entries none =
     ap (λ o. option_map_or (λ refusal. Some (refused.BadRecord at (Denied (number_of refusal)))) o
     (first_denied command (command.next office entry) (at + 1) entries)) none
 
@@ -154,7 +154,7 @@ list_refused changes checks (Some r) refusal some first tells (inr memory) =
 
 -- the refusals of a list that may come, where there is room for it
 pub first_of_list : (office : Office) (kind : ListKind) (bytes : List ℕ)
-    → may_come kind office.phase ≡ true → nat_le label_limit (map_len office.lists) ≡ false
+    → may_import kind office.phase ≡ true → nat_le label_limit (map_len office.lists) ≡ false
     → nat_lt byte_limit (length bytes) ≡ false
     → first_refusal (new_label_checks office kind bytes) ≡ refusal_of kind office bytes
 first_of_list office kind bytes may few short =
@@ -162,7 +162,7 @@ first_of_list office kind bytes may few short =
 
 pub list_is_refused : (office : Office) (label : Text) (kind : ListKind) (bytes : List ℕ)
     (refusal : Refusal)
-    → may_come kind office.phase ≡ true → nat_le label_limit (map_len office.lists) ≡ false
+    → may_import kind office.phase ≡ true → nat_le label_limit (map_len office.lists) ≡ false
     → nat_lt byte_limit (length bytes) ≡ false
     → IsOrMemory (refusal_of kind office bytes) refusal
     → IsRefusal (new_label_changes label kind bytes) (new_label_checks office kind bytes) refusal

@@ -39,10 +39,10 @@ one_of false b n h = cc
 
 -- a query that is refused by such a list of refusals is told the first that applies, or out of
 -- memory for the room that it names
-pub asked : (list : List Check) (given : Reply) (refusal : Refusal) → AreSilent list
+pub silent_refusal_asked : (list : List Check) (given : Reply) (refusal : Refusal) → AreSilent list
     → IsRefusal [] list refusal → Tells (told_unless (first_refusal list) given) (Err refusal)
-asked list given refusal all (inl is) = inl (ap (λ o. told_unless o given) is)
-asked list given refusal all (inr memory) =
+silent_refusal_asked list given refusal all (inl is) = inl (ap (λ o. told_unless o given) is)
+silent_refusal_asked list given refusal all (inr memory) =
     elim (first_refusal list) as
     (λ o. first_refusal list ≡ o → refusal_takes_memory [] o ≡ true
     → (told_unless o given ≡ Err refusal)

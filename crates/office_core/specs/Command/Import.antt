@@ -128,10 +128,10 @@ abbrev pub record_count : List ℕ → ℕ
 record_count bytes = length (data_records (records_of bytes))
 
 -- the phases in which a list of this kind may come
-abbrev pub may_come : ListKind → Phase → Bool
-may_come Rooms phase = is_preparing phase
-may_come People phase = is_preparing phase
-may_come Choices phase = is_open phase
+abbrev pub may_import : ListKind → Phase → Bool
+may_import Rooms phase = is_preparing phase
+may_import People phase = is_preparing phase
+may_import Choices phase = is_open phase
 
 abbrev pub is_same_kind : ListKind → ListKind → Bool
 is_same_kind Rooms Rooms = true
@@ -140,8 +140,8 @@ is_same_kind Choices Choices = true
 is_same_kind _ _ = false
 
 -- whether this is the list that is kept
-abbrev pub is_same : KeptList → ListKind → List ℕ → Bool
-is_same kept kind bytes = is_same_kind kept.kind kind && text_eq kept.bytes bytes
+abbrev pub is_same_import : KeptList → ListKind → List ℕ → Bool
+is_same_import kept kind bytes = is_same_kind kept.kind kind && text_eq kept.bytes bytes
 
 -- a refusal that applies, if any
 abbrev pub check_of : Option Refusal → List Check
@@ -150,12 +150,12 @@ check_of (Some refusal) = (true, refusal) ∷ []
 
 -- the refusal of a list under a label that is known
 abbrev pub known_label_checks : KeptList → ListKind → List ℕ → List Check
-known_label_checks kept kind bytes = (not (is_same kept kind bytes), ListDiffers) ∷ []
+known_label_checks kept kind bytes = (not (is_same_import kept kind bytes), ListDiffers) ∷ []
 
 -- the refusals of a list under a label that is not known
 abbrev pub new_label_checks : Office → ListKind → List ℕ → List Check
 new_label_checks office kind bytes =
-    (not (may_come kind office.phase), BadPhase office.phase)
+    (not (may_import kind office.phase), BadPhase office.phase)
     ∷ (nat_le label_limit (map.len office.lists), LimitReached)
     ∷ (nat_lt byte_limit (length bytes), LimitReached)
     ∷ check_of (refusal_of kind office bytes)

@@ -3,7 +3,7 @@ ghost use Rattle.office_core.specs.Command.Decision.{IsDecided};
 ghost use Rattle.office_core.specs.Command.AddRoom.{checks, reply_to, changes_of};
 ghost use Rattle.office_core.specs.Inner.Passes.{Passes};
 
-use crate::command::decision::{Decision, one_change};
+use crate::command::decision::{Decision, decision_with_change};
 use crate::refusal::Refusal;
 use crate::reply::Reply;
 use office_state::phases::is_preparing;
@@ -18,13 +18,13 @@ pub fn add_room(alloc: Global, office: &Office, room: &RoomCode) -> Result<Decis
     ensures { IsDecided (checks office.now room.now) (reply_to office.now room.now)
         (changes_of office.now room.now) result }
 {
-    may_add(office, &office.rooms, room)?;
+    may_add_room(office, &office.rooms, room)?;
     let room = room.copy()?;
-    one_change(alloc, Reply::Done, Change::PutRoom { room, shut: false })
+    decision_with_change(alloc, Reply::Done, Change::PutRoom { room, shut: false })
 }
 
 /// Passes a room that may be added to an office with these rooms.
-pub(crate) fn may_add(
+pub(crate) fn may_add_room(
     office: &Office,
     rooms: &Table<RoomCodes, bool>,
     room: &RoomCode,

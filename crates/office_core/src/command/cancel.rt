@@ -2,7 +2,7 @@
 ghost use Rattle.office_core.specs.Command.Decision.{IsDecided};
 ghost use Rattle.office_core.specs.Command.Cancel.{checks, reply_to, changes_of};
 
-use crate::command::decision::{Decision, two_changes};
+use crate::command::decision::{Decision, decision_with_changes};
 use crate::refusal::Refusal;
 use crate::reply::Reply;
 use office_state::phases::may_cancel;
@@ -22,5 +22,5 @@ pub fn cancel(alloc: Global, office: &Office) -> Result<Decision, Refusal>
         number: office.number,
         phase: Phase::Idle,
     };
-    two_changes(alloc, Reply::Cancelled, Change::ClearRound, over)
+    decision_with_changes(alloc, Reply::Cancelled, Change::ClearRound, over)
 }

@@ -14,7 +14,11 @@ pub struct Decision {
 }
 
 /// The decision of one change.
-pub(crate) fn one_change(alloc: Global, reply: Reply, change: Change) -> Result<Decision, Refusal>
+pub(crate) fn decision_with_change(
+    alloc: Global,
+    reply: Reply,
+    change: Change,
+) -> Result<Decision, Refusal>
     ensures ok { IfOk result (λ d. (d.reply ≡ reply) × (d.changes.items ≡ change ∷ [])) }
     ensures err { IfErr result (λ refusal. refusal ≡ Refusal.OutOfMemory) }
 {
@@ -24,7 +28,7 @@ pub(crate) fn one_change(alloc: Global, reply: Reply, change: Change) -> Result<
 }
 
 /// The decision of two changes.
-pub(crate) fn two_changes(
+pub(crate) fn decision_with_changes(
     alloc: Global,
     reply: Reply,
     first: Change,

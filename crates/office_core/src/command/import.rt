@@ -4,7 +4,7 @@ ghost use Rattle.office_lists.specs.Records.{record_limit};
 ghost use Rattle.office_core.specs.Command.Decision.{IsDecided};
 ghost use Rattle.office_core.specs.Command.Import.{checks, reply_to, changes_of};
 ghost use Rattle.office_core.specs.Command.Import.{known_label_checks, new_label_checks, new_label_changes};
-ghost use Rattle.office_core.specs.Command.Import.{may_come, is_same, record_changes};
+ghost use Rattle.office_core.specs.Command.Import.{may_import, is_same_import, record_changes};
 ghost use Rattle.office_core.specs.Command.Import.{record_count, refusal_of};
 ghost use Rattle.office_core.specs.Inner.Tries.{IsOrMemory};
 
@@ -58,7 +58,7 @@ fn import_known(
     ensures { IsDecided (known_label_checks kept.now kind bytes.now) (Reply.Added kept.now.count) []
         result }
 {
-    if !is_same(kept, kind, bytes) {
+    if !is_same_import(kept, kind, bytes) {
         return Err(Refusal::ListDiffers);
     }
     Ok(Decision {
@@ -68,8 +68,8 @@ fn import_known(
 }
 
 // Whether this is the list that is kept.
-fn is_same(kept: &KeptList, kind: ListKind, bytes: &Listing<u8>) -> bool
-    ensures { result ≡ is_same kept.now kind bytes.now }
+fn is_same_import(kept: &KeptList, kind: ListKind, bytes: &Listing<u8>) -> bool
+    ensures { result ≡ is_same_import kept.now kind bytes.now }
 {
     kept.kind == kind && kept.bytes.as_slice() == bytes.as_slice()
 }
@@ -86,7 +86,7 @@ fn import_new(
         (Reply.Added (record_count bytes.now)) (new_label_changes label.now kind bytes.now)
         result }
 {
-    if !may_come(kind, office.phase) {
+    if !may_import(kind, office.phase) {
         return Err(Refusal::BadPhase(office.phase));
     }
     if office.lists.len() >= LABEL_LIMIT {
@@ -110,8 +110,8 @@ fn import_new(
 }
 
 // Whether a list of this kind may come in this phase.
-fn may_come(kind: ListKind, phase: Phase) -> bool
-    ensures { result ≡ may_come kind phase }
+fn may_import(kind: ListKind, phase: Phase) -> bool
+    ensures { result ≡ may_import kind phase }
 {
     match kind {
         ListKind::Rooms | ListKind::People => is_preparing(phase),

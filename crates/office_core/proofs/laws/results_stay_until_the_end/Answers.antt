@@ -1,5 +1,5 @@
-use Rattle.office_core.proofs.CommandLemmas.Kept.{kept}
+use Rattle.office_core.proofs.CommandLemmas.Kept.{results_kept}
 use Rattle.office_core.proofs.laws.results_stay_until_the_end.Goals as goal
 
 pub returns : goal.returns
-returns c = kept
+returns c = results_kept

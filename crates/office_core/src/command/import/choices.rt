@@ -22,11 +22,15 @@ pub fn choices_added(alloc: Global, office: &Office, bytes: &[u8]) -> Result<Vec
         (IsOrMemory (list_refusal choices_command office.now bytes.now)) }
 {
     let entries = read_choices(alloc, bytes)?;
-    each_added(alloc, office, entries.as_slice())
+    each_choices_added(alloc, office, entries.as_slice())
 }
 
 // A change for each of the lists. No list changes what another is refused for, so the office stays as it is.
-fn each_added(alloc: Global, office: &Office, list: &[ChoicesEntry]) -> Result<Vec<Change>, Refusal>
+fn each_choices_added(
+    alloc: Global,
+    office: &Office,
+    list: &[ChoicesEntry],
+) -> Result<Vec<Change>, Refusal>
     requires { length list.now ≤ record_limit }
     ensures allowed { IfOk result
         (λ changes. AreAllowed choices_command office.now list.now changes.items) }
@@ -38,13 +42,13 @@ fn each_added(alloc: Global, office: &Office, list: &[ChoicesEntry]) -> Result<V
         if let Err(refusal) = may_choose(office, &entry.person, &entry.choices) {
             return Err(denial(i, &refusal));
         }
-        let change = change_of(entry)?;
+        let change = choices_change(entry)?;
         changes.push(change)?;
     }
     Ok(changes)
 }
 
-fn change_of(entry: &ChoicesEntry) -> Result<Change, OutOfMemory>
+fn choices_change(entry: &ChoicesEntry) -> Result<Change, OutOfMemory>
     ensures { IfOk result (λ change. change ≡ choices_command.change entry.now) }
 {
     Ok(Change::PutChoices {

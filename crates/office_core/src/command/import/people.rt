@@ -26,11 +26,15 @@ pub fn people_added(alloc: Global, office: &Office, bytes: &[u8]) -> Result<Vec<
     ensures refused { IfErr result (IsOrMemory (list_refusal person_command office.now bytes.now)) }
 {
     let people = read_people(alloc, bytes)?;
-    each_added(alloc, office, people.as_slice())
+    each_person_added(alloc, office, people.as_slice())
 }
 
 // A change for each of the people, who come one after the other.
-fn each_added(alloc: Global, office: &Office, list: &[PersonEntry]) -> Result<Vec<Change>, Refusal>
+fn each_person_added(
+    alloc: Global,
+    office: &Office,
+    list: &[PersonEntry],
+) -> Result<Vec<Change>, Refusal>
     requires { length list.now ≤ record_limit }
     ensures allowed { IfOk result
         (λ changes. AreAllowed person_command office.now list.now changes.items) }
@@ -39,18 +43,18 @@ fn each_added(alloc: Global, office: &Office, list: &[PersonEntry]) -> Result<Ve
     let mut register = Register::of(alloc, office)?;
     let mut changes = Vec::new(alloc);
     for (i, entry) in list.iter().enumerate() {
-        if let Err(refusal) = may_add(office, &register, entry) {
+        if let Err(refusal) = may_add_person(office, &register, entry) {
             return Err(denial(i, &refusal));
         }
         register.add(entry)?;
-        let change = change_of(entry)?;
+        let change = person_change(entry)?;
         changes.push(change)?;
     }
     Ok(changes)
 }
 
 // Passes a person who may be added to an office with the people of the register.
-fn may_add(office: &Office, register: &Register, entry: &PersonEntry) -> Result<(), Refusal>
+fn may_add_person(office: &Office, register: &Register, entry: &PersonEntry) -> Result<(), Refusal>
     requires { IsIndexed register.now }
     ensures { Passes
         (person_command.checks (record office.now { people = register.now.people }) entry.now)
@@ -93,7 +97,7 @@ fn may_live_if_any(
     Ok(())
 }
 
-fn change_of(entry: &PersonEntry) -> Result<Change, OutOfMemory>
+fn person_change(entry: &PersonEntry) -> Result<Change, OutOfMemory>
     ensures { IfOk result (λ change. change ≡ person_command.change entry.now) }
 {
     Ok(Change::PutPerson {

@@ -4,7 +4,7 @@ ghost use Rattle.office_lists.specs.Records.{record_limit};
 ghost use Rattle.office_core.specs.Command.Import.{first_denied, list_refusal, room_command};
 ghost use Rattle.office_core.specs.Inner.Tries.{AreAdded, AreAllowed, IsOrMemory};
 
-use crate::command::add_room::may_add;
+use crate::command::add_room::may_add_room;
 use crate::command::import::denial::denial;
 use crate::refusal::Refusal;
 use office_lists::read_rooms;
@@ -21,11 +21,15 @@ pub fn rooms_added(alloc: Global, office: &Office, bytes: &[u8]) -> Result<Vec<C
     ensures refused { IfErr result (IsOrMemory (list_refusal room_command office.now bytes.now)) }
 {
     let rooms = read_rooms(alloc, bytes)?;
-    each_added(alloc, office, rooms.as_slice())
+    each_room_added(alloc, office, rooms.as_slice())
 }
 
 // A change for each of the rooms, which come one after the other.
-fn each_added(alloc: Global, office: &Office, list: &[RoomCode]) -> Result<Vec<Change>, Refusal>
+fn each_room_added(
+    alloc: Global,
+    office: &Office,
+    list: &[RoomCode],
+) -> Result<Vec<Change>, Refusal>
     requires { length list.now ≤ record_limit }
     ensures allowed { IfOk result
         (λ changes. AreAllowed room_command office.now list.now changes.items) }
@@ -34,17 +38,17 @@ fn each_added(alloc: Global, office: &Office, list: &[RoomCode]) -> Result<Vec<C
     let mut rooms = office.rooms.copy()?;
     let mut changes = Vec::new(alloc);
     for (i, room) in list.iter().enumerate() {
-        if let Err(refusal) = may_add(office, &rooms, room) {
+        if let Err(refusal) = may_add_room(office, &rooms, room) {
             return Err(denial(i, &refusal));
         }
         rooms.insert(room.copy()?, false)?;
-        let change = change_of(room)?;
+        let change = room_change(room)?;
         changes.push(change)?;
     }
     Ok(changes)
 }
 
-fn change_of(room: &RoomCode) -> Result<Change, OutOfMemory>
+fn room_change(room: &RoomCode) -> Result<Change, OutOfMemory>
     ensures { IfOk result (λ change. change ≡ room_command.change room.now) }
 {
     Ok(Change::PutRoom {

@@ -1,6 +1,6 @@
 use Rattle.std.proofs.Common.{◌∙◌, inl, inr, refl}
 use Rattle.std.proofs.Math.Bool.{or-true}
-use Rattle.office_program.proofs.AtDeskLemmas.{ends_early, unflushed}
+use Rattle.office_program.proofs.AtDeskLemmas.{ends_early, said_not_flushed}
 use Rattle.office_program.proofs.at_desk.export_desk.Goals as goal
 
 pub returns-in-Err-flush-clause-exports : goal.returns-in-Err-flush-clause-exports
@@ -10,9 +10,9 @@ returns-in-Err-flush-clause-exports g c =
     let formed = sent.formed in
     record {
       reads = sent.reads;
-      told = inl (formed.0, unflushed _ _ _ _ formed.1 flush.bytes flush.taken (flush.failed ∙ or-true _));
+      told = inl (formed.0, said_not_flushed _ _ _ _ formed.1 flush.bytes flush.taken (flush.failed ∙ or-true _));
       done = λ clean office stands. (
-        inl (unflushed _ _ _ _ (sent.whole clean office stands) flush.bytes flush.taken (flush.failed ∙ or-true _)),
+        inl (said_not_flushed _ _ _ _ (sent.whole clean office stands) flush.bytes flush.taken (flush.failed ∙ or-true _)),
         sent.same clean office stands,
       );
     }

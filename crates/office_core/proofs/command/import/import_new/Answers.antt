@@ -12,7 +12,7 @@ returns-in_err-changes c =
     let p = err_from_is_err_and c.from_residual.result c.from_residual.ensures.1 in
     rw (p.1, p.2) (list_is_refused c.args.office.now c.args.label.now c.args.kind c.args.bytes.now
     c.in_err-changes.field-0.0
-    (cc c.if-not-may_come.ensures)
+    (cc c.if-not-may_import.ensures)
     (lt-leb label_limit (map.len c.args.office.now.lists)
     (rw c.len.ensures at c.if-len-ge-LABEL_LIMIT.false))
     (le-ltb byte_limit (length c.args.bytes.now)
@@ -25,7 +25,7 @@ returns-in_err-push c =
     c.from_residual-in_err-push.ensures.1 in
     rw (p.1, p.2) (list_is_refused c.args.office.now c.args.label.now c.args.kind c.args.bytes.now
     refused.OutOfMemory
-    (cc c.if-not-may_come.ensures)
+    (cc c.if-not-may_import.ensures)
     (lt-leb label_limit (map.len c.args.office.now.lists)
     (rw c.len.ensures at c.if-len-ge-LABEL_LIMIT.false))
     (le-ltb byte_limit (length c.args.bytes.now)

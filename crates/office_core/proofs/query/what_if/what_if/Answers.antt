@@ -7,7 +7,7 @@ use Rattle.office_core.proofs.RefusalLemmas.Checks.{none_applies}
 use Rattle.std.proofs.lemmas.Result.{err_from_is_err_and}
 use Rattle.office_state.specs.Round.{result_by}
 use Rattle.office_core.specs.declared.reply.Reply.TheVariants as reply
-use Rattle.office_core.proofs.RefusalLemmas.Silent.{asked, rooms_are_silent}
+use Rattle.office_core.proofs.RefusalLemmas.Silent.{silent_refusal_asked, rooms_are_silent}
 use Rattle.office_core.proofs.query.what_if.what_if.Goals as goal
 
 pub returns-clause-no_gain : goal.returns-clause-no_gain
@@ -27,6 +27,6 @@ returns-in_err-may_ask-clause-told c =
     let person = c.args.person.now in
     let choices = c.args.choices.now in
     let p = err_from_is_err_and c.from_residual.result c.from_residual.ensures.1 in
-    rw (p.1, p.2) (asked (checks office person choices)
+    rw (p.1, p.2) (silent_refusal_asked (checks office person choices)
     (reply.WouldGet (result_by office person choices)) c.in_err-may_ask.field-0.0
     (refl, (refl, (refl, rooms_are_silent office choices))) c.in_err-may_ask.ensures)

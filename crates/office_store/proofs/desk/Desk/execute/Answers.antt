@@ -5,7 +5,7 @@ use Rattle.office_store.specs.Desk.{HandlesAt, KeepsOn}
 use Rattle.office_store.specs.declared.requests.Answer.TheVariants.{Reply, Unavailable}
 use Rattle.office_store.specs.declared.requests.Request.TheVariants.{Office as Request-Office}
 use Rattle.office_store.proofs.CertainLemmas.{accepted_is_stored}
-use Rattle.office_store.proofs.DeskLemmas.{answered, carried_out, reads-refl, stands_still, stays_kept, unavailable, unavailable_unkept}
+use Rattle.office_store.proofs.DeskLemmas.{kept_office_answers, carried_out, reads-refl, stands_still, stays_kept, unavailable_keeps_desk, unavailable_unkept}
 use Rattle.office_store.proofs.desk.Desk.execute.Goals as goal
 
 pub returns-in_default-clause-handles : goal.returns-in_default-clause-handles
@@ -15,7 +15,7 @@ returns-in_default-clause-handles g c =
 
 pub returns-in-Err-clause-handles : goal.returns-in-Err-clause-handles
 returns-in-Err-clause-handles g c =
-    answered g.S.Store c.args.self.now c.in-Some.office (Request-Office c.args.command.now) c.in-Err.answer
+    kept_office_answers g.S.Store c.args.self.now c.in-Some.office (Request-Office c.args.command.now) c.in-Err.answer
     (sym (ap (λ desk. desk.kept) c.self.view_is) ∙ c.in-Some.is) (subst (λ kept. IfSome kept (λ o. IsLawful o)) c.in-Some.is c.self.invariant.lawful) c.in-Err.ensures.refused c.in-Err.ensures.certain c.in-Err.ensures.no_reply
 
 pub returns-in_default-store_all-clause-handles : goal.returns-in_default-store_all-clause-handles
@@ -24,7 +24,7 @@ returns-in_default-store_all-clause-handles g c =
     let new = c.store_all.new.conn in
     let kept = c.self.inside.kept in
     subst (λ desk. HandlesAt g.S.Store desk (Request-Office c.args.command.now) Unavailable (record { conn = new; kept = kept })) c.self.view_is
-    (unavailable g.S.Store (record { conn = old; kept = kept }) (record { conn = new; kept = kept }) (Request-Office c.args.command.now)
+    (unavailable_keeps_desk g.S.Store (record { conn = old; kept = kept }) (record { conn = new; kept = kept }) (Request-Office c.args.command.now)
     (record { follows = c.store_all.ensures.follows; same = λ honest has. c.in_default-store_all.ensures.undone honest }) (λ some honest. c.in_default-store_all.ensures.undone honest)
     (subst (λ k. IfSome k (λ office. KeepsOn office (Request-Office c.args.command.now) Unavailable k)) (sym c.in-Some.is)
     (stays_kept c.in-Some.office (Request-Office c.args.command.now) Unavailable (inr (refl, refl)) (accepted_is_stored c.in-Some.office c.args.command.now Unavailable c.in-Ok.ensures.decides.accepted)))

@@ -3,7 +3,7 @@ use Rattle.office_state.specs.Office.Invariants.{IsLawful}
 use Rattle.office_store.specs.Desk.{HandlesAt}
 use Rattle.office_store.specs.Certain.{is_certain}
 use Rattle.office_store.specs.Requests.{Handles, IsAccepted, answer_to}
-use Rattle.office_store.proofs.DeskLemmas.{answered, handles_after, none_before, unavailable_unkept}
+use Rattle.office_store.proofs.DeskLemmas.{kept_office_answers, handles_after, none_before, unavailable_unkept}
 use Rattle.office_store.proofs.desk.DeskHandler.handle.Goals as goal
 
 pub returns-then-not-recall-clause-handles : goal.returns-then-not-recall-clause-handles
@@ -23,7 +23,7 @@ returns-in-Office-clause-handles g c =
 pub returns-in-Some-clause-handles : goal.returns-in-Some-clause-handles
 returns-in-Some-clause-handles g c =
     handles_after g.S.Store c.args.self.now c.recall.new.self c.recall.new.self c.args.request.now c.answer_query.result c.recall.ensures.reads c.recall.ensures.kept c.recall.ensures.untouched c.recall.ensures.stands
-    (answered g.S.Store c.recall.new.self c.in-Some.office c.args.request.now c.answer_query.result
+    (kept_office_answers g.S.Store c.recall.new.self c.in-Some.office c.args.request.now c.answer_query.result
     (sym (ap (λ desk. desk.kept) c.self.view_is) ∙ c.in-Some.is) (subst (λ kept. IfSome kept (λ o. IsLawful o)) c.in-Some.is c.self.invariant.lawful)
     (subst (λ request. Handles c.in-Some.office request c.answer_query.result c.in-Some.office) (sym c.in-Ask.is) c.answer_query.ensures.handles)
     (subst (λ request. is_certain c.in-Some.office request ≡ true → c.answer_query.result ≡ answer_to c.in-Some.office request) (sym c.in-Ask.is) c.answer_query.ensures.certain)

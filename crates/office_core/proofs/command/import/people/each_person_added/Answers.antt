@@ -1,6 +1,6 @@
 use Rattle.std.proofs.Common.{◌++◌, ap}
 use Rattle.office_core.specs.Command.Import.{changes_by, first_denied, person_command}
-use Rattle.office_core.proofs.command.import.people.each_added.Goals as goal
+use Rattle.office_core.proofs.command.import.people.each_person_added.Goals as goal
 
 pub loop-i-init : goal.loop-i-init
 loop-i-init c = record {

@@ -1,7 +1,7 @@
 use Rattle.std.proofs.Common.{◌≡◌, ◌+◌, ◌++◌, drop}
 use Rattle.office_core.specs.Command.Import.{changes_by, first_denied, person_command}
 use Rattle.office_core.specs.Inner.Tries.{IsIndexed}
-use Rattle.office_core.proofs.command.import.people.each_added.Given as goal
+use Rattle.office_core.proofs.command.import.people.each_person_added.Given as goal
 
 -- the first refusal is that of the records that are left, by the office as it is then, and the
 -- changes so far and those for who is left are all

@@ -1,6 +1,6 @@
 use Rattle.std.proofs.Common.{◌≡◌, ◌+◌, ◌++◌, drop}
 use Rattle.office_core.specs.Command.Import.{changes_by, first_denied, choices_command}
-use Rattle.office_core.proofs.command.import.choices.each_added.Given as goal
+use Rattle.office_core.proofs.command.import.choices.each_choices_added.Given as goal
 
 -- the first refusal is that of the records that are left, by the office as it is then, and the
 -- changes so far and those for who is left are all
