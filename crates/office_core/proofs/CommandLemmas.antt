@@ -56,27 +56,27 @@ use Rattle.office_core.proofs.CommandLemmas.SetHome.{set_home-leads}
 use Rattle.office_core.proofs.CommandLemmas.Shut.{shut-leads}
 use Rattle.office_core.proofs.CommandLemmas.Withdraw.{withdraw-leads}
 
-pub leads_on : (office : Office) (given : Command) → IsFormed given → IsLawful office
+pub accepted_command_leads : (office : Office) (given : Command) → IsFormed given → IsLawful office
     → accepts office given ≡ None → LeadsOn office (next office given) (changes_of office given)
-leads_on office (command.AddRoom room) f l h = add_room-leads office room l h
-leads_on office (command.AddPerson person name key home) f l h =
+accepted_command_leads office (command.AddRoom room) f l h = add_room-leads office room l h
+accepted_command_leads office (command.AddPerson person name key home) f l h =
     add_person-leads office person name key home l h
-leads_on office (command.SetHome person room) f l h = set_home-leads office person room l h
-leads_on office (command.Leave person) f l h = leave-leads office person l h
-leads_on office (command.Remove person) f l h = remove-leads office person l h
-leads_on office (command.Shut room) f l h = shut-leads office room l h
-leads_on office (command.Reopen room) f l h = reopen-leads office room l h
-leads_on office command.OpenRound f l h = open_round-leads office l h
-leads_on office (command.SetChoices person choices) f l h =
+accepted_command_leads office (command.SetHome person room) f l h = set_home-leads office person room l h
+accepted_command_leads office (command.Leave person) f l h = leave-leads office person l h
+accepted_command_leads office (command.Remove person) f l h = remove-leads office person l h
+accepted_command_leads office (command.Shut room) f l h = shut-leads office room l h
+accepted_command_leads office (command.Reopen room) f l h = reopen-leads office room l h
+accepted_command_leads office command.OpenRound f l h = open_round-leads office l h
+accepted_command_leads office (command.SetChoices person choices) f l h =
     set_choices-leads office person choices f l h
-leads_on office (command.Withdraw person) f l h = withdraw-leads office person l h
-leads_on office command.CloseRound f l h = close_round-leads office l h
-leads_on office (command.Draw words) f l h = draw-leads office words l h
-leads_on office command.Run f l h = run-leads office l h
-leads_on office command.Publish f l h = publish-leads office l h
-leads_on office command.Settle f l h = settle-leads office l h
-leads_on office command.Cancel f l h = cancel-leads office l h
-leads_on office (command.Import label kind bytes) f l h =
+accepted_command_leads office (command.Withdraw person) f l h = withdraw-leads office person l h
+accepted_command_leads office command.CloseRound f l h = close_round-leads office l h
+accepted_command_leads office (command.Draw words) f l h = draw-leads office words l h
+accepted_command_leads office command.Run f l h = run-leads office l h
+accepted_command_leads office command.Publish f l h = publish-leads office l h
+accepted_command_leads office command.Settle f l h = settle-leads office l h
+accepted_command_leads office command.Cancel f l h = cancel-leads office l h
+accepted_command_leads office (command.Import label kind bytes) f l h =
     import-leads office label kind bytes l h
 
 pub decision_leads : (office : Office) (given : Command) (result : Result Decision Refusal)
@@ -85,5 +85,5 @@ pub decision_leads : (office : Office) (given : Command) (result : Result Decisi
     → IfOk result (λ decision. LeadsOn office (next office given) decision.changes.items)
 decision_leads office given (Ok decision) l f d =
     subst (λ changes. LeadsOn office (next office given) changes) (sym d.changed)
-    (leads_on office given f l d.accepted)
+    (accepted_command_leads office given f l d.accepted)
 decision_leads office given (Err refusal) l f d = tt

@@ -135,8 +135,8 @@ answers db office rows holds lawful h =
     ∙ map-map move_record move_columns records
     ∙ map_same (λ x. move_record (move_columns x)) move_fields move_again records)
 
-pub moves_asked : AsksForExport Moves moves_text move_record
-moves_asked = record {
+pub moves_exported_by_query : AsksForExport Moves moves_text move_record
+moves_exported_by_query = record {
   query = moves_query;
   names = move_names;
   is = moves_meant.is;

@@ -76,8 +76,8 @@ answers db office rows holds lawful h =
     ∙ map_same _ (λ e. person_fields (people.person_row e)) (shown_again office.withdrawn) (maps.entries office.people)
     ∙ sym (map-map person_fields people.person_row (maps.entries office.people)))
 
-pub people_asked : AsksForExport People people_text person_record
-people_asked = record {
+pub people_exported_by_query : AsksForExport People people_text person_record
+people_exported_by_query = record {
   query = people_query;
   names = person_names;
   is = people_meant.is;

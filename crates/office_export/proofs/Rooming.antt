@@ -87,8 +87,8 @@ answers db office rows holds lawful h =
     ∙ map_same _ (λ e. room_fields (room_row office e)) (shown_again office) entries
     ∙ sym (map-map room_fields (room_row office) entries))
 
-pub rooms_asked : AsksForExport Rooms rooms_text room_record
-rooms_asked = record {
+pub rooms_exported_by_query : AsksForExport Rooms rooms_text room_record
+rooms_exported_by_query = record {
   query = rooms_query;
   names = room_names;
   is = rooms_meant.is;

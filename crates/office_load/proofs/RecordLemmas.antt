@@ -101,8 +101,8 @@ same_room a b e =
     let shut = same_flag a.1 b.1 shown in
     λ i. (code i, shut i)
 
-pub rooms_told : TellsRecords room_columns room_columns IsRoomRow two (col 1 1 ∷ col 1 2 ∷ [])
-rooms_told = record { projected = λ e. refl; fronted = λ x. refl; whole = λ row. refl; by_front = λ row h. h; apart = λ a b form e. same_room a b e }
+pub rooms_loaded : TellsRecords room_columns room_columns IsRoomRow two (col 1 1 ∷ col 1 2 ∷ [])
+rooms_loaded = record { projected = λ e. refl; fronted = λ x. refl; whole = λ row. refl; by_front = λ row h. h; apart = λ a b form e. same_room a b e }
 
 same_person : (a b : PersonRecord) → person_columns a ≡ person_columns b → a ≡ b
 same_person a b e =
@@ -115,8 +115,8 @@ same_person a b e =
     let withdrawn = same_flag a.withdrawn b.withdrawn left in
     λ i. record { id = id i; person = record { name = name i; key = key i; home = home i }; withdrawn = withdrawn i }
 
-pub people_told : TellsRecords person_columns person_columns IsPersonRow five (col 1 1 ∷ col 1 2 ∷ col 1 3 ∷ col 1 4 ∷ col 1 5 ∷ [])
-people_told = record { projected = λ e. refl; fronted = λ x. refl; whole = λ row. refl; by_front = λ row h. h; apart = λ a b form e. same_person a b e }
+pub people_loaded : TellsRecords person_columns person_columns IsPersonRow five (col 1 1 ∷ col 1 2 ∷ col 1 3 ∷ col 1 4 ∷ col 1 5 ∷ [])
+people_loaded = record { projected = λ e. refl; fronted = λ x. refl; whole = λ row. refl; by_front = λ row h. h; apart = λ a b form e. same_person a b e }
 
 same_round : (a b : RoundRecord) → round_shown a ≡ round_shown b → a ≡ b
 same_round a b e =
@@ -125,8 +125,8 @@ same_round a b e =
     let phase = same_phase a.phase b.phase text in
     λ i. record { number = number i; phase = phase i }
 
-pub rounds_told : TellsRecords round_columns round_shown IsRoundRow three (col 1 2 ∷ col 1 3 ∷ col 1 4 ∷ [])
-rounds_told = record { projected = λ e. refl; fronted = λ x. refl; whole = λ row. refl; by_front = λ row h. h; apart = λ a b form e. same_round a b e }
+pub rounds_loaded : TellsRecords round_columns round_shown IsRoundRow three (col 1 2 ∷ col 1 3 ∷ col 1 4 ∷ [])
+rounds_loaded = record { projected = λ e. refl; fronted = λ x. refl; whole = λ row. refl; by_front = λ row h. h; apart = λ a b form e. same_round a b e }
 
 same_choice : (a b : ChoiceRecord) → choice_columns a ≡ choice_columns b → a ≡ b
 same_choice a b e =
@@ -135,8 +135,8 @@ same_choice a b e =
     let room : a.room ≡ b.room = cc in
     λ i. record { person = person i; place = place i; room = room i }
 
-pub choices_told : TellsRecords choice_columns choice_columns IsChoiceRow three (col 1 1 ∷ col 1 2 ∷ col 1 3 ∷ [])
-choices_told = record { projected = λ e. refl; fronted = λ x. refl; whole = λ row. refl; by_front = λ row h. h; apart = λ a b form e. same_choice a b e }
+pub choices_loaded : TellsRecords choice_columns choice_columns IsChoiceRow three (col 1 1 ∷ col 1 2 ∷ col 1 3 ∷ [])
+choices_loaded = record { projected = λ e. refl; fronted = λ x. refl; whole = λ row. refl; by_front = λ row h. h; apart = λ a b form e. same_choice a b e }
 
 same_draw : (a b : Bytes × ℕ) → IsWord (Text (word_text a.1)) → word_columns a ≡ word_columns b → a ≡ b
 same_draw a b form e =
@@ -145,8 +145,8 @@ same_draw a b form e =
     let word = same_word a.1 b.1 form text in
     λ i. (person i, word i)
 
-pub words_told : TellsRecords word_columns word_columns IsWordRow two (col 1 1 ∷ col 1 2 ∷ [])
-words_told = record { projected = λ e. refl; fronted = λ x. refl; whole = λ row. refl; by_front = λ row h. h; apart = λ a b form e. same_draw a b form.1 e }
+pub words_loaded : TellsRecords word_columns word_columns IsWordRow two (col 1 1 ∷ col 1 2 ∷ [])
+words_loaded = record { projected = λ e. refl; fronted = λ x. refl; whole = λ row. refl; by_front = λ row h. h; apart = λ a b form e. same_draw a b form.1 e }
 
 same_result : (a b : Bytes × Assigned) → result_columns a ≡ result_columns b → a ≡ b
 same_result a b e =
@@ -155,8 +155,8 @@ same_result a b e =
     let room = same_text_or_null a.1.room b.1.room gets in
     λ i. (person i, record { room = room i })
 
-pub results_told : TellsRecords result_columns result_columns IsResultRow two (col 1 1 ∷ col 1 2 ∷ [])
-results_told = record { projected = λ e. refl; fronted = λ x. refl; whole = λ row. refl; by_front = λ row h. h; apart = λ a b form e. same_result a b e }
+pub results_loaded : TellsRecords result_columns result_columns IsResultRow two (col 1 1 ∷ col 1 2 ∷ [])
+results_loaded = record { projected = λ e. refl; fronted = λ x. refl; whole = λ row. refl; by_front = λ row h. h; apart = λ a b form e. same_result a b e }
 
 same_move : (a b : Move) → move_columns a ≡ move_columns b → a ≡ b
 same_move a b e =
@@ -170,8 +170,8 @@ same_move a b e =
     let wave = same_wave a.wave b.wave turn in
     λ i. record { round = round i; person = person i; from = from i; to = to i; wave = wave i }
 
-pub moves_told : TellsRecords move_columns move_columns IsMoveRow five (col 1 1 ∷ col 1 2 ∷ col 1 3 ∷ col 1 4 ∷ col 1 5 ∷ [])
-moves_told = record { projected = λ e. refl; fronted = λ x. refl; whole = λ row. refl; by_front = λ row h. h; apart = λ a b form e. same_move a b e }
+pub moves_loaded : TellsRecords move_columns move_columns IsMoveRow five (col 1 1 ∷ col 1 2 ∷ col 1 3 ∷ col 1 4 ∷ col 1 5 ∷ [])
+moves_loaded = record { projected = λ e. refl; fronted = λ x. refl; whole = λ row. refl; by_front = λ row h. h; apart = λ a b form e. same_move a b e }
 
 same_list : (a b : Bytes × KeptList) → list_columns a ≡ list_columns b → a ≡ b
 same_list a b e =
@@ -182,5 +182,5 @@ same_list a b e =
     let kind = same_kind a.1.kind b.1.kind text in
     λ i. (label i, record { kind = kind i; bytes = bytes i; count = count i })
 
-pub lists_told : TellsRecords list_columns list_columns IsListRow four (col 1 1 ∷ col 1 2 ∷ col 1 3 ∷ col 1 4 ∷ [])
-lists_told = record { projected = λ e. refl; fronted = λ x. refl; whole = λ row. refl; by_front = λ row h. h; apart = λ a b form e. same_list a b e }
+pub lists_loaded : TellsRecords list_columns list_columns IsListRow four (col 1 1 ∷ col 1 2 ∷ col 1 3 ∷ col 1 4 ∷ [])
+lists_loaded = record { projected = λ e. refl; fronted = λ x. refl; whole = λ row. refl; by_front = λ row h. h; apart = λ a b form e. same_list a b e }

@@ -25,7 +25,7 @@ pub record Stands (before after kept : ℕ) (old new : State) : Type 0 where
   pub mode : HasCleanDisk new → new.in_transaction ≡ old.in_transaction
 
 -- Of the tables of a round, which are an office's last three, some are declared no more: one, two or all are dropped, or then
--- one or two are made anew. Of other tables nothing is said.
+-- one or two are made anew. The other five hold the rows that they held. Of tables that are no office's nothing is said.
 abbrev pub LacksTables : State → State → Type 0
 LacksTables old new =
     Stands 8 7 7 old new

@@ -82,12 +82,12 @@ fn answer_routed<H: Handler>(
         Routed::Unknown => one_fault_letter(alloc, StatusCode::NOT_FOUND),
         Routed::WrongMethod { allow } => wrong_method_letter(alloc, allow),
         Routed::Forbidden => one_fault_letter(alloc, StatusCode::FORBIDDEN),
-        Routed::To { route, key } => admit(alloc, handler, route, key, body),
+        Routed::To { route, key } => admit_resident(alloc, handler, route, key, body),
     }
 }
 
 // The letter to whoever has this key: the desk is asked first whose it is.
-fn admit<H: Handler>(
+fn admit_resident<H: Handler>(
     alloc: Global,
     handler: &mut H,
     route: Route,
@@ -104,11 +104,11 @@ fn admit<H: Handler>(
         return Err(NoLetter);
     };
     let me = handler.handle(alloc, &Request::Ask(Query::Me(key)));
-    greet(alloc, handler, route, &me, body)
+    greet_resident(alloc, handler, route, &me, body)
 }
 
 // The letter, once the desk has told whose the key is.
-fn greet<H: Handler>(
+fn greet_resident<H: Handler>(
     alloc: Global,
     handler: &mut H,
     route: Route,
@@ -121,14 +121,16 @@ fn greet<H: Handler>(
     ensures ready { H.is_ready handler.new }
 {
     match me {
-        Answer::Reply(Reply::Me(standing)) => answer_owner(alloc, handler, route, standing, body),
+        Answer::Reply(Reply::Me(standing)) => answer_resident(
+            alloc, handler, route, standing, body,
+        ),
         Answer::Refused(Refusal::UnknownPerson) => one_fault_letter(alloc, StatusCode::FORBIDDEN),
         _ => Err(NoLetter),
     }
 }
 
 // The letter to the owner of the key.
-fn answer_owner<H: Handler>(
+fn answer_resident<H: Handler>(
     alloc: Global,
     handler: &mut H,
     route: Route,
@@ -141,22 +143,22 @@ fn answer_owner<H: Handler>(
     ensures ready { H.is_ready handler.new }
 {
     match route {
-        Route::Standing => tell_standing(alloc, standing),
-        Route::Rooms => tell_rooms(alloc, handler),
-        Route::Withdrawal => withdraw(alloc, handler, &standing.person),
-        Route::Choices => record_choices(alloc, handler, &standing.person, body),
+        Route::Standing => answer_standing(alloc, standing),
+        Route::Rooms => answer_rooms(alloc, handler),
+        Route::Withdrawal => withdraw_resident(alloc, handler, &standing.person),
+        Route::Choices => record_resident_choices(alloc, handler, &standing.person, body),
     }
 }
 
 // The letter that tells the person's own record.
-fn tell_standing(alloc: Global, standing: &Standing) -> Result<Letter, NoLetter>
+fn answer_standing(alloc: Global, standing: &Standing) -> Result<Letter, NoLetter>
     ensures { WithAnswer result (IsDue (standing_answer standing.now)) }
 {
     success_letter(alloc, standing_body(alloc, standing)?)
 }
 
 // The letter that tells the rooms.
-fn tell_rooms<H: Handler>(alloc: Global, handler: &mut H) -> Result<Letter, NoLetter>
+fn answer_rooms<H: Handler>(alloc: Global, handler: &mut H) -> Result<Letter, NoLetter>
     requires ready { H.is_ready handler.old }
     ensures answers { WithAnswer result (λ answer.
         ListsRooms H.handles handler.old answer handler.new) }
@@ -176,7 +178,7 @@ fn rooms_letter(alloc: Global, rows: &[RoomRow]) -> Result<Letter, NoLetter>
 }
 
 // The letter to a withdrawal from the round.
-fn withdraw<H: Handler>(
+fn withdraw_resident<H: Handler>(
     alloc: Global,
     handler: &mut H,
     person: &PersonId,
@@ -188,11 +190,11 @@ fn withdraw<H: Handler>(
 {
     let body = withdrawn_body(alloc)?;
     let person = person.copy()?;
-    carry_out(alloc, handler, Command::Withdraw { person }, body)
+    carry_out_for_resident(alloc, handler, Command::Withdraw { person }, body)
 }
 
 // The letter to a list that is handed in.
-fn record_choices<H: Handler>(
+fn record_resident_choices<H: Handler>(
     alloc: Global,
     handler: &mut H,
     person: &PersonId,
@@ -207,7 +209,7 @@ fn record_choices<H: Handler>(
         Ok(choices) => {
             let told = choices_body(alloc, choices.as_slice())?;
             let person = person.copy()?;
-            carry_out(
+            carry_out_for_resident(
                 alloc,
                 handler,
                 Command::SetChoices { person, choices },
@@ -235,7 +237,7 @@ fn list_fault_letter(alloc: Global, fault: &TypeFault) -> Result<Letter, NoLette
 }
 
 // Hands a command to the desk, once each of its answers is made.
-fn carry_out<H: Handler>(
+fn carry_out_for_resident<H: Handler>(
     alloc: Global,
     handler: &mut H,
     command: Command,

@@ -1,5 +1,5 @@
-use Rattle.office_export.proofs.Moving.{moves_asked}
+use Rattle.office_export.proofs.Moving.{moves_exported_by_query}
 use Rattle.office_export.proofs.kinds.MoveExported.query.Goals as goal
 
 pub returns-clause-asks : goal.returns-clause-asks
-returns-clause-asks c = moves_asked
+returns-clause-asks c = moves_exported_by_query

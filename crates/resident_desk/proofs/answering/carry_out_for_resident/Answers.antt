@@ -1,7 +1,7 @@
 use Rattle.std.proofs.Common.{◌≡◌, inl}
 use Rattle.resident_desk.specs.Dues.{command_answer}
 use Rattle.resident_desk.proofs.LetterLemmas.{WithAnswer-weaker}
-use Rattle.resident_desk.proofs.answering.carry_out.Goals as goal
+use Rattle.resident_desk.proofs.answering.carry_out_for_resident.Goals as goal
 
 pub returns-clause-answers : goal.returns-clause-answers
 returns-clause-answers g c =
