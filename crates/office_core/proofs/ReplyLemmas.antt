@@ -55,22 +55,22 @@ owner_ascends office None = tt
 owner_ascends office (Some person) = person_ascends office person (maps.get office.people person)
 
 -- in the reply to a query
-told_ascends : (office : Office) (asked : Query) → IfOk (told office asked) RowsAscend
-told_ascends office query.Rooms =
+reply_rows_ascend : (office : Office) (asked : Query) → IfOk (told office asked) RowsAscend
+reply_rows_ascend office query.Rooms =
     rows_ascend (room_row office) (λ row. row.room) (λ e. refl) office.rooms
-told_ascends office query.People =
+reply_rows_ascend office query.People =
     rows_ascend person_row (λ row. row.person) (λ e. refl) office.people
-told_ascends office query.Round = tt
-told_ascends office query.Order =
+reply_rows_ascend office query.Round = tt
+reply_rows_ascend office query.Order =
     if_ascends (has_words office.phase) (reply.Order (order_rows office)) (BadPhase office.phase) tt
-told_ascends office query.Results =
+reply_rows_ascend office query.Results =
     if_ascends (has_results office.phase) (reply.Results (result_rows office))
     (BadPhase office.phase)
     (rows_ascend result_row (λ row. row.person) (λ e. refl) office.results)
-told_ascends office (query.Moves number) =
+reply_rows_ascend office (query.Moves number) =
     if_ascends (is_over office number) (reply.Moves (move_rows office number)) NoSuchRound tt
-told_ascends office (query.Me key) = owner_ascends office (owner office key)
-told_ascends office (query.WhatIf person choices) =
+reply_rows_ascend office (query.Me key) = owner_ascends office (owner office key)
+reply_rows_ascend office (query.WhatIf person choices) =
     unless_ascends (first_refusal (list_checks office person choices))
     (reply.WouldGet (result_by office person choices)) tt
 
@@ -103,7 +103,7 @@ reply_ascends office (command.Import label kind bytes) =
 pub answer_ascends : (office : Office) (asked : Query) (result : Result Reply Refusal)
     → Tells (told office asked) result → IfOk result RowsAscend
 answer_ascends office asked (Ok reply) t =
-    subst (λ r. IfOk r RowsAscend) t (told_ascends office asked)
+    subst (λ r. IfOk r RowsAscend) t (reply_rows_ascend office asked)
 answer_ascends office asked (Err refusal) t = tt
 
 pub decision_ascends : (office : Office) (given : Command) (result : Result Decision Refusal)

@@ -31,9 +31,6 @@ field_dropped (x ∷ fs) (suc i) f e = field_dropped fs i f e
 abbrev pub SameFrom : List (Bor Text) → Record → ℕ → Type 0
 SameFrom names fs i = same_fields (texts names) fs ≡ same_fields (texts (drop i names)) (drop i fs)
 
-pub header_same_from_start : (names : List (Bor Text)) (fs : Record) → SameFrom names fs 0
-header_same_from_start names fs = refl
-
 pub at_field : (names : List (Bor Text)) (fs : Record) (i : ℕ) (d : Bor Text) (f : Text) → i < length names → field_at fs i ≡ Some f
     → SameFrom names fs i → same_fields (texts names) fs ≡ bytes_eq f (get_or names i d).now && same_fields (texts (drop (i + 1) names)) (drop (i + 1) fs)
 unfolding same_fields

@@ -1,7 +1,7 @@
 -- Sending an export record by record.
 use Rattle.std.proofs.Common.{◌≡◌, ◌∙◌, ◌<◌, ◌≤◌, ◌+◌, ◌*◌, ◌^◌, ◌++◌, ℕ, zero, suc, List, [], ◌∷◌, add-one, length, drop, take, map, get_or, refl, sym, ap, subst, arith, drop-cons, append-nil, length-append}
 use Rattle.std.proofs.lemmas.Grind.{flat_map-append}
-use Rattle.std.proofs.lemmas.List.{length-map, take-append-drop, take-append-le, take_all}
+use Rattle.std.proofs.lemmas.List.{length-map, take-append-drop, take-append-le}
 use Rattle.std.proofs.Math.Seq.{take-append-add, take-append_seam, take-suc}
 use Rattle.csv.specs.Writing.{default_writer, row_body}
 use Rattle.room_types.specs.Streams.{Output, Puts}
@@ -125,8 +125,3 @@ stopped_short records count sent before after low so_far =
     let some = has_byte (record_at records count) in
     let here = cut_short records count sent 0 before after (record_bytes (record_at records count)) low refl some so_far in
     omega arith
-
-pub writing_whole : (records : List Record) (count sent : ℕ) (before after : Output) → length records ≤ count
-    → IsWritten records count sent before after → Puts before after (export_bytes records)
-writing_whole records count sent before after all so_far =
-    subst (λ (rs : List Record). Puts before after (export_bytes rs)) (take_all count records all) so_far.written

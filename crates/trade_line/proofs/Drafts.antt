@@ -1,14 +1,13 @@
 -- The rules of a market that is handed in, as its vectors are looked through.
-use Rattle.std.proofs.Common.{◌≡◌, ◌≢◌, ℕ, ◌+◌, ◌<◌, ◌≤◌, ◌⊎◌, Bool, true, false, List, [], ◌∷◌, Option, Some, None, is_some, Vec, Global, length, map, replicate, get_or, set, take, drop, ◌++◌, All, AllPairs, IfSome, refl, sym, ap, ◌∙◌, subst, inl, inr, arith, add-one, ne_eqb, get_or-set_same, get_or-set_other, length-set}
+use Rattle.std.proofs.Common.{◌≡◌, ◌≢◌, ℕ, ◌+◌, ◌<◌, ◌⊎◌, Bool, true, false, List, [], ◌∷◌, Option, Some, None, is_some, Vec, Global, length, map, get_or, set, take, drop, ◌++◌, All, AllPairs, IfSome, refl, sym, ap, ◌∙◌, subst, inl, inr, arith, add-one, ne_eqb, get_or-set_same, get_or-set_other, length-set}
 use Rattle.std.proofs.lemmas.Bool.{cases_eq, cases_lt, both_ways}
-use Rattle.std.proofs.lemmas.List.{get_or-map, get_or-replicate, length-map, length-replicate, append-nil, drop_all, take_all}
+use Rattle.std.proofs.lemmas.List.{get_or-map, length-map, append-nil, drop_all, take_all}
 use Rattle.trade_line.specs.Below.{first_below, or_else}
 use Rattle.trade_line.specs.Market.{Market, IsIndexed, list_of, is_room}
 use Rattle.trade_line.specs.Problem.{market_of}
-use Rattle.trade_line.specs.Inner.Tenants.{IsTenants, AreHoused}
+use Rattle.trade_line.specs.Inner.Tenants.{AreHoused}
 use Rattle.trade_line.specs.Inner.Marks.{AreDistinct}
 use Rattle.trade_line.proofs.Search.{first_finds, first_passes, is_room_from, is_room_gives}
-use Rattle.trade_line.proofs.Whole.{all_same}
 use Rattle.trade_line.proofs.States.{if_some, read_same}
 
 abbrev pub items_of : Vec ℕ Global → List ℕ
@@ -61,12 +60,6 @@ module _ (people rooms : ℕ) (homes : List (Option ℕ)) (lists : List (Vec ℕ
 module _ (homes : List (Option ℕ)) where
   abbrev lives : ℕ → ℕ → Bool
   lives r p = is_room r (get_or homes p None)
-
-  pub housed_start : (n : ℕ) → AreHoused homes (replicate n None) 0
-  housed_start n = record {
-    housed = λ r l. all_same n None r;
-    differ = λ p q r lp lq ep eq. absurd (omega arith);
-  }
 
   none_twice : (x : Option ℕ) → or_else x None ≡ x
   none_twice None = refl
@@ -125,19 +118,6 @@ module _ (homes : List (Option ℕ)) where
           (y, was.1, is_room_gives room (get_or homes y None) was.0)
 
 module _ (m : Market) where
-  pub tenants_all : (tenants : List (Option ℕ)) → AreHoused m.homes tenants m.people → length tenants ≡ m.rooms → IsTenants m tenants
-  tenants_all tenants h l = record {
-    tenants_len = l;
-    tenants_are = λ r rl. h.housed r (omega arith);
-  }
-
-  pub distinct_start : (n : ℕ) → m.people ≤ n → AreDistinct m (replicate m.rooms n) 0
-  distinct_start n h = record {
-    same_len = length-replicate m.rooms n;
-    distinct = λ p l. absurd (omega arith);
-    unmarked = λ q a b k d l. λ e. let z : get_or (replicate m.rooms n) k d ≡ n = get_or-replicate m.rooms k n d (let y : length (replicate m.rooms n) ≡ m.rooms = length-replicate m.rooms n in omega arith) in omega arith;
-  }
-
   pub distinct_more : (last new : List ℕ) (n : ℕ) → AreDistinct m last n → AllPairs ◌≢◌ (list_of m n) → length new ≡ length last → ((r : ℕ) → r < length last → (get_or new r 0 ≡ get_or last r 0) ⊎ (get_or new r 0 ≡ n)) → AreDistinct m new (n + 1)
   distinct_more last new n a pairs same kept = record {
     same_len = same ∙ a.same_len;

@@ -14,15 +14,6 @@ module _ (entries starts : List ℕ) (lists : List (List ℕ)) (flat : AreFlat e
       ap (λ k. map (piece entries starts) (range_with_len 0 k)) n
       ∙ sym (fill_by_all (piece entries starts) lists (length lists) [] refl (λ k l. sym (flat.lists_are k l)))
 
-pub flat_none : AreFlat [] (0 ∷ []) []
-flat_none = record {
-  starts_len = refl;
-  ordered = λ p l. absurd (omega arith);
-  inside = λ p l. absurd (omega arith);
-  lists_are = λ p l. absurd (omega arith);
-  end = refl;
-}
-
 -- one list more
 pub flat_more : (entries starts : List ℕ) (lists : List (List ℕ)) (l : List ℕ) → AreFlat entries starts lists
     → AreFlat (entries ++ l) (starts ++ length (entries ++ l) ∷ []) (lists ++ l ∷ [])

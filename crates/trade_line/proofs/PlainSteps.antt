@@ -85,18 +85,6 @@ module _ (m : Market) where
       (some_from (remaining_count m s) (λ k. iterate (successor m s) (suc k) p == p) k l (eq-eqb (iterate (successor m s) (suc k) p) p (times_after (successor m s) k p ∙ back)))
 
 module _ (m : Market) (s : Stage) (old : List (Option ℕ)) where
-  pub stepping_start : (people rooms : List Bool) → length people ≡ m.people → length rooms ≡ m.rooms → length old ≡ m.people → ((p : ℕ) → get_or people p false ≡ s.people p) → ((r : ℕ) → get_or rooms r false ≡ s.rooms r) → Stepping m s old old people rooms 0
-  stepping_start people rooms pl rl gl ps rs = record {
-    people_len = pl;
-    rooms_len = rl;
-    given_len = gl;
-    stayed = λ p l. absurd (omega arith);
-    waiting = λ p l. ps p;
-    rooms_left = λ r. rs r ∙ sym (and-true (s.rooms r));
-    gave = λ p l. absurd (omega arith);
-    kept = λ p l. refl;
-  }
-
   module _ (given : List (Option ℕ)) (people rooms : List Bool) (n : ℕ) (t : Stepping m s old given people rooms n) where
     pub stepping_stays : on_cycle m s n ≡ false → Stepping m s old given people rooms (n + 1)
     stepping_stays off = record {

@@ -52,9 +52,6 @@ module _ (m : Market) where
   closing_all t room s u v next c p e eq a b d f =
       subst (λ z. Closed m t room s z) (sym (same_state v (granted u p next) a b d f)) (close_all m t room s u next c p e eq)
 
-  pub closing_some : (t room : ℕ) (s u : State) (next : Option ℕ) → Closing m t room s u next → front_of u.line ≡ None → ⊥
-  closing_some t room s u next c e = let z : Some c.here ≡ None = sym (ap front_of c.line_split) ∙ e in cc
-
   pub ring_from : (a room t : ℕ) (s : State) → Asks m a s → wish m (stage_at s) a ≡ Some room → among s.line t ≡ true → get_or s.asked t true ≡ true → Ring m t room s
   ring_from a room t s k w i h =
       let l : t < m.people = k.known t i in

@@ -195,9 +195,6 @@ module _ (n : ℕ) (ms : List Mover) (differ : NewRoomsDiffer ms) (before now : 
   abbrev wave : ℕ → Wave
   wave = wave_of (end_numbers ms) (leavers ms)
 
-  many : length (waves_of ms) ≡ length ms
-  many = as_many_waves ms
-
   wave_is : (k : ℕ) → k < length ms → get_or (waves_of ms) k Swap ≡ wave k
   wave_is k within = get_or-map-range_with_len wave 0 (length ms) k k Swap within (omega arith)
 
@@ -221,7 +218,7 @@ module _ (n : ℕ) (ms : List Mover) (differ : NewRoomsDiffer ms) (before now : 
       )
 
   pub all_cleared : All (IsCleared now moves) moves
-  all_cleared = all_moves (IsCleared now moves) n ms (waves_of ms) many (λ i within q room goes lives.
+  all_cleared = all_moves (IsCleared now moves) n ms (waves_of ms) (as_many_waves ms) (λ i within q room goes lives.
       let lived = kept q room lives in
       elim (known i q room within goes lived.0) as
       (λ _. (q ≡ (get_or ms i nobody).0) ⊎ ((b : Move) × Contains moves b × (b.person ≡ q)
@@ -231,8 +228,8 @@ module _ (n : ℕ) (ms : List Mover) (differ : NewRoomsDiffer ms) (before now : 
             let one = one_wave_each ms differ in
             let h = holder i q room within goes lived.0 mover in
             let b : Move = move_at n ms (waves_of ms) h.0 in
-            let is : get_or moves h.0 b ≡ b = moves_with-at n ms (waves_of ms) h.0 b many h.1 in
-            let in' : h.0 < length moves = omega (arith, h.1, length-moves_with n ms (waves_of ms) many) in
+            let is : get_or moves h.0 b ≡ b = moves_with-at n ms (waves_of ms) h.0 b (as_many_waves ms) h.1 in
+            let in' : h.0 < length moves = omega (arith, h.1, length-moves_with n ms (waves_of ms) (as_many_waves ms)) in
             inr (
               b,
               (h.0, in', is),

@@ -73,9 +73,6 @@ module _ (office : Office) (l : IsLawful office) (h : first_refusal (checks offi
   abbrev left : TextMap Person
   left = left_people office.people gone
 
-  many : length (waves_of ms) ≡ length ms
-  many = as_many_waves ms
-
   published : is_published office.phase ≡ true
   published = not-false _ (none_applies (checks office) h).0
 
@@ -94,7 +91,7 @@ module _ (office : Office) (l : IsLawful office) (h : first_refusal (checks offi
 
   order_gets : All (λ (m : Move). m.to ≡ recorded_result office m.person) order
   order_gets = in_order (λ m. m.to ≡ recorded_result office m.person)
-      (all_moves (λ m. m.to ≡ recorded_result office m.person) office.number ms (waves_of ms) many
+      (all_moves (λ m. m.to ≡ recorded_result office m.person) office.number ms (waves_of ms) (as_many_waves ms)
       (λ k within. each_mover office (λ m. m.2 ≡ recorded_result office m.0) (λ p. refl) k
       ([], None, None) within))
 
@@ -102,7 +99,7 @@ module _ (office : Office) (l : IsLawful office) (h : first_refusal (checks offi
   same_movers : (q : Text) → is_mover (map_list mover_of order) q ≡ is_mover ms q
   same_movers q =
       is_mover-ascending moves q
-      ∙ ap (λ each. is_mover each q) (movers_of office.number ms (waves_of ms) many)
+      ∙ ap (λ each. is_mover each q) (movers_of office.number ms (waves_of ms) (as_many_waves ms))
 
   same_rooms : (q : Text) → mover_to (map_list mover_of order) q ≡ mover_to ms q
   same_rooms q =
@@ -127,7 +124,7 @@ module _ (office : Office) (l : IsLawful office) (h : first_refusal (checks offi
       movers_lead office l.register (lawful-IsMarket office l) given k ([], None, None) within
 
   moves_lead : All (Leads (settled_people office)) moves
-  moves_lead = all_moves (Leads (settled_people office)) office.number ms (waves_of ms) many mover_leads
+  moves_lead = all_moves (Leads (settled_people office)) office.number ms (waves_of ms) (as_many_waves ms) mover_leads
 
   -- who lives where a mover comes to is that mover or another
   known : (k : ℕ) (q room : Text) → k < length ms → (get_or ms k ([], None, None)).2 ≡ Some room
