@@ -52,7 +52,7 @@ range_ascends : (a n : ℕ) → Ascends (range_with_len a n)
 range_ascends a zero = tt
 range_ascends a (suc n) = range_ascends_from a (a + 1) n (omega arith)
 
-all_same : {A : Type 0} (n : ℕ) (x : A) (i : ℕ) → get_or (replicate n x) i x ≡ x
+pub all_same : {A : Type 0} (n : ℕ) (x : A) (i : ℕ) → get_or (replicate n x) i x ≡ x
 all_same zero x i = refl
 all_same (suc n) x zero = refl
 all_same (suc n) x (suc i) = all_same n x i
