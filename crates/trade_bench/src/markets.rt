@@ -129,7 +129,7 @@ impl Shape {
 
 // All numbers below the count.
 fn numbers(alloc: Global, count: usize) -> Result<Vec<usize>, AllocError> {
-    let mut numbers = Vec::with_capacity(alloc, count)?;
+    let mut numbers = Vec::new(alloc);
     for number in 0..count {
         numbers.push(number)?;
     }
