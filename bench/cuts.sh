@@ -1,8 +1,8 @@
 #!/usr/bin/env bash
 # Cuts what comes and goes at each place: a resident's request in two pieces at each byte, a byte a read, and at its end too early;
 # each read and each write failing in turn, of a conversation, of a rehearsed register, and of exports. These are tests of
-# `resident_tests`, `program_tests` and `trade_tests`, which tell how often they did it. It proves the tests first, which takes some
-# minutes.
+# `resident_tests`, `program_tests` and `trade_tests`, which tell how often they did it; the last line has the sums. It proves the
+# tests first, which takes some minutes.
 #
 #     bench/cuts.sh
 set -euo pipefail
@@ -18,6 +18,14 @@ tell() {
     done
 }
 
-tell resident_tests desk::faults cuts_do_not_matter fronts_are_refused stops_where_a_read_fails stops_where_a_write_fails
-tell program_tests streams stops_where_a_read_fails stops_where_a_write_takes_nothing stops_where_a_write_fails
-tell trade_tests lists::exports a_device_that_is_full each_write_failing_in_turn
+# Its input, with the sums of what its lines tell.
+with_sums() {
+    awk '{ print } / cuts$/ { cuts += $(NF - 1) } / faults$/ { faults += $(NF - 1) }
+        END { print cuts " cuts and " faults " faults in all" }'
+}
+
+{
+    tell resident_tests desk::faults cuts_do_not_matter fronts_are_refused stops_where_a_read_fails stops_where_a_write_fails
+    tell program_tests streams stops_where_a_read_fails stops_where_a_write_takes_nothing stops_where_a_write_fails
+    tell trade_tests lists::exports a_device_that_is_full each_write_failing_in_turn
+} | with_sums

@@ -8,8 +8,8 @@ Each line of some scripts is told to copies of an office's file, and each of the
 
 Then the file is opened again where nothing fails: `sqlite3` has to find it whole, and what the program tells of it has to be
 the office before the line or the one after it, and the one after it where the line's whole answer had come. The script goes on
-with a copy that met no fault. A line `import KIND LABEL PATH` brings a list. Without `sqlite3` the file is opened by the program
-alone; the rows of its tables are read by Python's own `sqlite3` each time.
+with a copy that met no fault. A line `import KIND LABEL PATH` brings a list. The rows of its tables are read by Python's own
+`sqlite3` each time. The last line has the sum of the runs that met a fault.
 """
 
 import random
@@ -156,8 +156,6 @@ class Trial:
 
     def is_whole(self, office):
         """Whether `sqlite3` finds nothing wrong with a copy of the file and its log."""
-        if not shutil.which("sqlite3"):
-            return True
         copy = self.folder / "whole.db"
         copy_office(office, copy)
         asked = "PRAGMA integrity_check; PRAGMA foreign_key_check;"
@@ -217,10 +215,15 @@ def tried_so(way, program, script, times):
 
 
 def main(way, program, times, *scripts):
-    """Prints what was seen, a line for each script."""
+    """Prints what was seen, a line for each script, and how many runs met the fault in all."""
+    if not shutil.which("sqlite3"):
+        sys.exit("sqlite3 is not there, which has to find each file whole")
+    runs = 0
     for script in scripts:
         seen = tried_so(way, program, script, int(times))
-        print(f"{way}, {script}: " + ", ".join(f"{what} {count}" for what, count in seen.items()))
+        runs += seen["runs"]
+        print(f"{way}, {script}: " + ", ".join(f"{what} {count}" for what, count in seen.items()), flush=True)
+    print(f"{way}: {runs} runs in all")
 
 
 if __name__ == "__main__":

@@ -108,12 +108,13 @@ def rehearsals(program, script):
 
     fronts = [said(lines[:length]) for length in range(len(lines) + 1)]
     assert UNAVAILABLE not in fronts[-1], fronts[-1]
-    # what is said where one line is answered `unavailable`, and so does not count
+    # what is said where one line is answered `unavailable`, and so does not count: then the status is 3
     others = {fronts[i] + UNAVAILABLE + said(lines[:i] + lines[i + 1:])[len(fronts[i]):] for i in range(len(lines))}
 
     def attempt(number):
         ran = program.run(["rehearse"], number, "".join(line + "\n" for line in lines))
-        is_known = ran.text in others or ran.text == fronts[-1] or ran.status == 3 and ran.text in (*fronts, UNAVAILABLE)
+        is_cut = ran.text in others or ran.text in (*fronts, UNAVAILABLE)
+        is_known = ran.status == 3 and is_cut or ran.status == 0 and ran.text == fronts[-1]
         what = f"rehearsal of {script} without allocation {number}"
         expect(is_known, what, ran)
         expect_ample(ran, what, ran.text == fronts[-1] and ran.status == 0)
@@ -227,6 +228,7 @@ def calls_of_desk(tests, name):
 
 
 def tell(what, refused, began):
+    assert all(refused), f"{what}: nothing was refused to one of these: {refused}"
     print(f"{what}: {sum(refused)} allocations refused, {time.monotonic() - began:.0f} s", flush=True)
     return sum(refused)
 
