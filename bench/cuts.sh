@@ -27,5 +27,5 @@ with_sums() {
 {
     tell resident_tests desk::faults cuts_do_not_matter fronts_are_refused stops_where_a_read_fails stops_where_a_write_fails
     tell program_tests streams stops_where_a_read_fails stops_where_a_write_takes_nothing stops_where_a_write_fails
-    tell trade_tests lists::exports a_device_that_is_full each_write_failing_in_turn
+    tell trade_tests lists::exports a_device_that_is_full each_write_failing_in_turn people_to_a_device_that_fails
 } | with_sums

@@ -1,5 +1,5 @@
 //! What no line of input asks for, a home from the start and as many people as there may be, and a small round by
-//! the calls themselves.
+//! the calls themselves, with a copy of what it leaves.
 ghost use Rattle.std.specs.Prelude.{◌≡◌, IfOk};
 ghost use Rattle.office_state.specs.Change.{applied_all};
 ghost use Rattle.office_state.specs.Office.Invariants.{IsLawful};
@@ -7,7 +7,7 @@ ghost use Rattle.office_state.specs.Office.Invariants.{IsLawful};
 use crate::building::{choices, text};
 use office_core::{Command, Query, Refusal, Reply, answer, decide};
 use office_state::{Change, Office, apply, sound};
-use room_types::{Listing, OutOfMemory, Word};
+use room_types::{ListKind, Listing, OutOfMemory, Phase, RoomCode, Wave, Word};
 use std::alloc::{AllocError, Global};
 use std::process::Abort;
 
@@ -139,6 +139,113 @@ fn moves_into_a_vacant_room(rt: HostRuntime) {
     assert!(rt; matches!(move_count(alloc, &office), Ok(1)));
 }
 
+// The list under a label, which adds a room.
+const LIST: &[u8] = b"room\nW\n";
+
+// The list comes in.
+fn import(rt: &impl Abort, alloc: Global, office: &mut Office)
+    requires { IsLawful office.old }
+    ensures { IsLawful office.new }
+{
+    let list = Vec::from_slice(alloc, LIST).expect(rt, "memory");
+    let command = Command::Import {
+        label: text(rt, alloc, "r-1"),
+        kind: ListKind::Rooms,
+        bytes: Listing::new(list),
+    };
+    carry_out_all(rt, alloc, office, &[command]);
+}
+
+// Whether there are three rooms, none of them shut.
+fn has_rooms(rt: &impl Abort, alloc: Global, office: &Office) -> bool {
+    for code in ["H", "V", "W"] {
+        let room = text(rt, alloc, code);
+        if office.rooms.get(&room).copied().unwrap_or(true) {
+            return false;
+        }
+    }
+    office.rooms.len() == 3
+}
+
+fn is_room(found: &Option<RoomCode>, room: &str) -> bool {
+    match found {
+        Some(code) => code.as_str() == room,
+        None => false,
+    }
+}
+
+// Whether the tenant is there alone, and lives in V.
+fn has_tenant(rt: &impl Abort, alloc: Global, office: &Office) -> bool {
+    let id = text(rt, alloc, "T");
+    match office.people.get(&id) {
+        Some(person) => {
+            office.people.len() == 1
+                && person.name.as_str() == "Tim Tan"
+                && person.key.as_str() == "key000000000000t"
+                && is_room(&person.home, "V")
+        }
+        None => false,
+    }
+}
+
+// Whether the tenant alone has moved in the round, from H to V.
+fn has_move(rt: &impl Abort, alloc: Global, office: &Office) -> bool {
+    let id = text(rt, alloc, "T");
+    let Some(moves) = office.moves.get(1) else {
+        return false;
+    };
+    match moves.by_person.get(&id) {
+        Some(moved) => {
+            moves.by_person.len() == 1
+                && moved.wave == Wave::Nth(1)
+                && is_room(&moved.from, "H")
+                && is_room(&moved.to, "V")
+        }
+        None => false,
+    }
+}
+
+// Whether the list is kept alone, as it came.
+fn has_list(rt: &impl Abort, alloc: Global, office: &Office) -> bool {
+    let label = text(rt, alloc, "r-1");
+    match office.lists.get(&label) {
+        Some(kept) => {
+            office.lists.len() == 1
+                && kept.kind == ListKind::Rooms
+                && kept.bytes.as_slice() == LIST
+                && kept.count == 1
+        }
+        None => false,
+    }
+}
+
+// Whether the first round is over, and nothing is left of it but its move.
+fn is_over(office: &Office) -> bool {
+    let lists = office.choices.len() == 0 && office.withdrawn.len() == 0;
+    let draw = office.words.len() == 0 && office.results.len() == 0;
+    lists && draw && office.number == 1 && office.phase == Phase::Idle
+}
+
+// Whether all this is so, which leaves nothing of the office open.
+fn is_settled(rt: &impl Abort, alloc: Global, office: &Office) -> bool {
+    let register = has_rooms(rt, alloc, office) && has_tenant(rt, alloc, office);
+    let records = has_move(rt, alloc, office) && has_list(rt, alloc, office);
+    register && records && is_over(office)
+}
+
+// The copy is the office: each of its parts is what it has to be in both.
+#[test]
+fn copies_lists_and_moves(rt: HostRuntime) {
+    let alloc = rt.alloc();
+    let mut office = Office::empty(alloc);
+    furnish(&rt, alloc, &mut office);
+    import(&rt, alloc, &mut office);
+    hold_round(&rt, alloc, &mut office);
+    let copy = office.copy().expect(&rt, "memory");
+    assert!(rt; is_settled(&rt, alloc, &office));
+    assert!(rt; is_settled(&rt, alloc, &copy));
+}
+
 // Puts a person without a home, whose identifier and key end in this number.
 fn put_person(
     rt: &impl Abort,
@@ -158,27 +265,43 @@ fn put_person(
     Ok(())
 }
 
-// The number of the refusal of one person more, or 0 for none or where the office is not lawful.
-fn refused_person(rt: &impl Abort, alloc: Global, office: &Office) -> u8 {
-    let newcomer = Command::AddPerson {
-        person: text(rt, alloc, "Q"),
+// A person without a home.
+fn newcomer(rt: &impl Abort, alloc: Global, id: &str, key: &str) -> Command {
+    Command::AddPerson {
+        person: text(rt, alloc, id),
         name: text(rt, alloc, "Pat"),
-        key: text(rt, alloc, "key000000000000q"),
+        key: text(rt, alloc, key),
         home: None,
-    };
+    }
+}
+
+// The number of the refusal of the person after one more, who must be accepted, or 0 for none.
+fn refused_next(rt: &impl Abort, alloc: Global, office: &mut Office) -> u8
+    requires { IsLawful office.old }
+{
+    let last = newcomer(rt, alloc, "Q", "key000000000000q");
+    carry_out_all(rt, alloc, office, &[last]);
+    let next = newcomer(rt, alloc, "R", "key000000000000r");
+    refused(alloc, office, &next)
+}
+
+// The same, or 0 where the office is not lawful.
+fn refused_person(rt: &impl Abort, alloc: Global, office: &mut Office) -> u8 {
     if sound(alloc, office).expect(rt, "memory") {
-        refused(alloc, office, &newcomer)
+        refused_next(rt, alloc, office)
     } else {
         0
     }
 }
 
+// All people but the last that there may be come by changes, that one by a command.
 #[test]
 fn refuses_one_person_too_many(rt: HostRuntime) {
     let alloc = rt.alloc();
     let mut office = Office::empty(alloc);
-    for number in 0..2000 {
+    for number in 0..1_999 {
         put_person(&rt, alloc, &mut office, number).expect(&rt, "memory");
     }
-    assert!(rt; refused_person(&rt, alloc, &office) == 13);
+    assert!(rt; refused_person(&rt, alloc, &mut office) == 13);
+    assert!(rt; office.people.len() == 2_000);
 }

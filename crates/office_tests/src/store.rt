@@ -3,22 +3,31 @@ mod adopting;
 mod exporting;
 mod importing;
 
+use crate::asserting::assert_same;
 use crate::building::{add_room, answers, new_desk};
 use office_core::{Command, Query, Refusal, Reply};
-use office_store::{Answer, Back, Desk, DeskFault, Request, handle_all, handle_all_in_memory};
-use sqlite::MemStore;
+use office_store::{
+    Answer, Back, Desk, DeskFault, Handler, Request, handle_all, handle_all_in_memory,
+};
+use room_types::State;
+use sqlite::{Connection, MemStore};
 use std::alloc::Global;
 use std::process::Abort;
+
+// A room is added twice, and the rooms are asked for.
+fn about_one_room(rt: &impl Abort, alloc: Global) -> Vec<Request> {
+    vec![in alloc;
+        add_room(rt, alloc, "H1"),
+        add_room(rt, alloc, "H1"),
+        Request::Ask(Query::Rooms),
+    ]
+    .expect(rt, "memory")
+}
 
 #[test]
 fn handles_requests_in_turn(rt: HostRuntime) {
     let alloc = rt.alloc();
-    let requests = vec![in alloc;
-        add_room(&rt, alloc, "H1"),
-        add_room(&rt, alloc, "H1"),
-        Request::Ask(Query::Rooms),
-    ]
-    .expect(&rt, "memory");
+    let requests = about_one_room(&rt, alloc);
     let mut desk = new_desk(&rt, alloc);
     let answers = handle_all(alloc, &mut desk, &requests).expect(&rt, "memory");
     assert!(rt; are_of_one_room(&answers));
@@ -26,14 +35,23 @@ fn handles_requests_in_turn(rt: HostRuntime) {
 
 // The room is added, is there already, and is shown.
 fn are_of_one_room(answers: &[Answer]) -> bool {
-    matches!(
-        answers,
+    match answers {
         [
             Answer::Reply(Reply::Done),
             Answer::Refused(Refusal::DuplicateRoom),
-            Answer::Reply(Reply::Rooms(_))
-        ]
-    )
+            rooms,
+        ] => is_one_room(rooms),
+        _ => false,
+    }
+}
+
+// The room is shown alone, and is free.
+fn is_one_room(answer: &Answer) -> bool {
+    match answer {
+        Answer::Reply(Reply::Rooms(rows)) => matches!(rows.as_slice(), [row]
+            if row.room.as_str() == "H1" && row.state == State::Free && row.tenant.is_none()),
+        _ => false,
+    }
 }
 
 #[test]
@@ -68,21 +86,35 @@ fn round_number(rt: &impl Abort, alloc: Global, desk: &mut Desk<MemStore>) -> u1
         .number
 }
 
+// Tables are made once: the connection that comes back still holds the office.
 #[test]
 fn makes_tables_once(rt: HostRuntime) {
     let alloc = rt.alloc();
+    let requests = about_one_room(&rt, alloc);
     let mut desk = new_desk(&rt, alloc);
-    let asked = handle_all_in_memory(&mut desk, alloc, &[Request::Ask(Query::Round)]);
-    assert!(rt; matches!(&asked, Ok(answers) if answers.len() == 1));
-    assert!(rt; is_there_already(Desk::create(alloc, desk.release())));
+    let answers = handle_all_in_memory(&mut desk, alloc, &requests).expect(&rt, "memory");
+    assert!(rt; are_of_one_room(&answers));
+    let (fault, conn) = made(alloc, desk);
+    assert_same!(rt; fault, Some(DeskFault::AlreadyThere));
+    assert!(rt; holds_one_room(alloc, conn));
 }
 
-fn is_there_already(created: Result<Desk<MemStore>, Back<MemStore>>) -> bool {
-    matches!(
-        created,
-        Err(Back {
-            fault: DeskFault::AlreadyThere,
-            ..
-        })
-    )
+// Why no new office is made where this desk has its own, or none if one is, and the connection.
+fn made(alloc: Global, desk: Desk<MemStore>) -> (Option<DeskFault>, Connection<MemStore>) {
+    match Desk::create(alloc, desk.release()) {
+        Ok(desk) => (None, desk.release()),
+        Err(Back { fault, connection }) => (Some(fault), connection),
+    }
+}
+
+// Whether a desk adopts the database, and shows one room.
+fn holds_one_room(alloc: Global, conn: Connection<MemStore>) -> bool {
+    let outside = conn.is_autocommit();
+    if !outside {
+        return false;
+    }
+    match Desk::adopt(alloc, conn) {
+        Ok(mut desk) => is_one_room(&desk.handle(alloc, &Request::Ask(Query::Rooms))),
+        Err(_) => false,
+    }
 }

@@ -51,12 +51,12 @@ pub fn shown(alloc: Global, desk: &mut Desk<MemStore>) -> Vec<u8> {
     output.into_inner()
 }
 
-/// Whether a rehearsal of the lines tells this of its office at the end.
+/// Whether a rehearsal of the lines tells this, which is something, of its office at the end.
 pub fn is_told_after(alloc: Global, lines: &str, kept: &[u8]) -> Result<bool, Fail> {
     let mut all = String::from_str(alloc, lines)?;
     all.push_str(SHOWS)?;
     let (_, told) = rehearsed(alloc, all.as_bytes());
-    Ok(told.as_slice().ends_with(kept))
+    Ok(!kept.is_empty() && told.as_slice().ends_with(kept))
 }
 
 // How many lines of the text are refusals.

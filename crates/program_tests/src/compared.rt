@@ -1,4 +1,5 @@
 //! A round of 200 people with drawn lists, compared with the plain program of the definition.
+use crate::asserting::assert_same;
 use crate::scripts::rehearsed;
 use office_lines::Ending;
 use std::alloc::{AllocError, Global};
@@ -165,8 +166,8 @@ fn a_round_of_200_agrees_with_the_plain_program(rt: HostRuntime) -> Result<(), F
     let order = drawn_order(alloc, &words)?;
     let lines = script(alloc, &lists, &words)?;
     let (how, text) = rehearsed(alloc, lines.as_bytes());
-    assert_eq!(rt; how.ending, Ending::Ended);
-    assert_eq!(rt; how.status, 0);
+    assert_same!(rt; how.ending, Ending::Ended);
+    assert_same!(rt; how.status, 0);
     match expected(alloc, &lists, &order)? {
         Some(table) => assert!(rt; text.as_slice().ends_with(table.as_bytes())),
         None => assert!(rt; false),

@@ -1,4 +1,5 @@
 //! Exports of an office that has heard lines, at a desk in memory.
+use crate::asserting::assert_same;
 use crate::failing::FailingWriter;
 use office_lines::rehearse::rehearse;
 use office_lists::ExportKind;
@@ -47,8 +48,8 @@ fn exports_a_year(rt: HostRuntime) -> Result<(), Fail> {
     let alloc = rt.alloc();
     let mut found = Ok(desk_after(alloc, YEAR)?);
     let (status, bytes) = exported(alloc, &mut found, ExportKind::Moves);
-    assert_eq!(rt; status, 0);
-    assert_eq!(rt; bytes.as_slice(), b"round,wave,person,from,to\n".as_slice());
+    assert_same!(rt; status, 0);
+    assert_same!(rt; bytes.as_slice(), b"round,wave,person,from,to\n".as_slice());
     if let Ok(desk) = &mut found {
         hear(alloc, desk, "publish\nsettle\n");
     }
@@ -64,8 +65,8 @@ fn exports_a_year(rt: HostRuntime) -> Result<(), Fail> {
         ),
     ] {
         let (status, bytes) = exported(alloc, &mut found, kind);
-        assert_eq!(rt; status, 0);
-        assert_eq!(rt; bytes.as_slice(), text.as_bytes());
+        assert_same!(rt; status, 0);
+        assert_same!(rt; bytes.as_slice(), text.as_bytes());
     }
     Ok(())
 }
@@ -85,11 +86,8 @@ fn tells_an_export_that_is_cut_off(rt: HostRuntime) -> Result<(), Fail> {
             room,
             flushes,
         });
-        assert_eq!(rt;
-            export_at(alloc, &mut found, ExportKind::Rooms, &mut output),
-            3
-        );
-        assert_eq!(rt; output.into_inner().written.as_slice(), written.as_bytes());
+        assert_same!(rt; export_at(alloc, &mut found, ExportKind::Rooms, &mut output), 3);
+        assert_same!(rt; output.into_inner().written.as_slice(), written.as_bytes());
     }
     Ok(())
 }
@@ -99,7 +97,7 @@ fn tells_why_there_is_no_office_to_export(rt: HostRuntime) -> Result<(), Fail> {
     let alloc = rt.alloc();
     let mut found = Err(DeskFault::NotAnOffice);
     let (status, bytes) = exported(alloc, &mut found, ExportKind::Rooms);
-    assert_eq!(rt; status, 1);
-    assert_eq!(rt; bytes.as_slice(), b"refused 21 NotAnOffice\n".as_slice());
+    assert_same!(rt; status, 1);
+    assert_same!(rt; bytes.as_slice(), b"refused 21 NotAnOffice\n".as_slice());
     Ok(())
 }

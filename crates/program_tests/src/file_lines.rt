@@ -1,4 +1,5 @@
 //! Lines of the program over an office in a file. Each is carried out by itself, as the program does.
+use crate::asserting::assert_same;
 use office_program::carry_out::carry_out;
 use room_types::Watched;
 use sqlite::Connection;
@@ -72,12 +73,12 @@ fn makes_an_office_once(rt: HostRuntime) -> Result<(), Fail> {
     make_folder(&rt, "lines_once")?;
     let words = ["new", "--db", "lines_once/office.db"];
     let (status, printed, told) = carried(&rt, &words);
-    assert_eq!(rt; status, 0);
-    assert_eq!(rt; printed.as_slice(), b"ok\n".as_slice());
+    assert_same!(rt; status, 0);
+    assert_same!(rt; printed.as_slice(), b"ok\n".as_slice());
     assert!(rt; told.is_empty());
     let (status, printed, told) = carried(&rt, &words);
-    assert_eq!(rt; status, 1);
-    assert_eq!(rt; printed.as_slice(), b"refused 23 AlreadyThere\n".as_slice());
+    assert_same!(rt; status, 1);
+    assert_same!(rt; printed.as_slice(), b"refused 23 AlreadyThere\n".as_slice());
     assert!(rt; told.is_empty());
     fs::remove_dir_all(&rt, "lines_once")?;
     Ok(())
@@ -90,8 +91,8 @@ fn keeps_a_year_in_a_file(rt: HostRuntime) -> Result<(), Fail> {
     carried(&rt, &["new", "--db", path]);
     for (line, answer) in &YEAR {
         let (status, printed, told) = carried(&rt, &doing(&rt, path, line)?);
-        assert_eq!(rt; status, 0, "{line}");
-        assert_eq!(rt; printed.as_slice(), answer.as_bytes(), "{line}");
+        assert_same!(rt; status, 0, line);
+        assert_same!(rt; printed.as_slice(), answer.as_bytes(), line);
         assert!(rt; told.is_empty());
     }
     for (kind, text) in [
@@ -109,8 +110,8 @@ fn keeps_a_year_in_a_file(rt: HostRuntime) -> Result<(), Fail> {
         ),
     ] {
         let (status, printed, told) = carried(&rt, &["export", "--db", path, kind]);
-        assert_eq!(rt; status, 0, "{kind}");
-        assert_eq!(rt; printed.as_slice(), text.as_bytes(), "{kind}");
+        assert_same!(rt; status, 0, kind);
+        assert_same!(rt; printed.as_slice(), text.as_bytes(), kind);
         assert!(rt; told.is_empty());
     }
     fs::remove_dir_all(&rt, "lines_year")?;
@@ -156,9 +157,9 @@ fn tells_why_there_is_no_export(rt: HostRuntime) -> Result<(), Fail> {
         ),
     ] {
         let (ended, text, told) = carried(&rt, words);
-        assert_eq!(rt; ended, status);
-        assert_eq!(rt; text.as_slice(), printed.as_bytes());
-        assert_eq!(rt; told.as_slice(), error.as_bytes());
+        assert_same!(rt; ended, status);
+        assert_same!(rt; text.as_slice(), printed.as_bytes());
+        assert_same!(rt; told.as_slice(), error.as_bytes());
     }
     fs::remove_dir_all(&rt, "lines_export")?;
     Ok(())
@@ -181,15 +182,15 @@ fn tells_why_there_is_no_office(rt: HostRuntime) -> Result<(), Fail> {
     ] {
         for word in ["rooms", "help", "\n"] {
             let (ended, text, told) = carried(&rt, &["do", "--db", path, word]);
-            assert_eq!(rt; ended, status, "{path}");
-            assert_eq!(rt; text.as_slice(), printed.as_bytes(), "{path}");
+            assert_same!(rt; ended, status, path);
+            assert_same!(rt; text.as_slice(), printed.as_bytes(), path);
             assert!(rt; told.is_empty());
         }
     }
     assert!(rt; !fs::exists(&rt, "lines_none/missing")?);
     let (status, printed, _told) = carried(&rt, &["new", "--db", "lines_none/none/office.db"]);
-    assert_eq!(rt; status, 3);
-    assert_eq!(rt; printed.as_slice(), b"unavailable\n".as_slice());
+    assert_same!(rt; status, 3);
+    assert_same!(rt; printed.as_slice(), b"unavailable\n".as_slice());
     fs::remove_dir_all(&rt, "lines_none")?;
     Ok(())
 }
@@ -268,8 +269,8 @@ fn hears_the_words_as_one_line(rt: HostRuntime) -> Result<(), Fail> {
     carried(&rt, &["new", "--db", "lines_words/office.db"]);
     for (words, status, printed) in LINES {
         let (ended, text, told) = carried(&rt, words);
-        assert_eq!(rt; ended, status, "{printed}");
-        assert_eq!(rt; text.as_slice(), printed.as_bytes());
+        assert_same!(rt; ended, status, printed);
+        assert_same!(rt; text.as_slice(), printed.as_bytes());
         assert!(rt; told.is_empty());
     }
     fs::remove_dir_all(&rt, "lines_words")?;
@@ -314,9 +315,9 @@ fn refuses_other_program_lines(rt: HostRuntime) -> Result<(), Fail> {
         ["do", "--db", "lines_other/office.db", "rooms", "--help"].as_slice(),
     ] {
         let (status, printed, told) = carried(&rt, words);
-        assert_eq!(rt; status, 2);
+        assert_same!(rt; status, 2);
         assert!(rt; printed.is_empty());
-        assert_eq!(rt; told.as_slice(), NOT_A_LINE.as_bytes());
+        assert_same!(rt; told.as_slice(), NOT_A_LINE.as_bytes());
     }
     assert!(rt; !fs::exists(&rt, "lines_other/office.db")?);
     fs::remove_dir_all(&rt, "lines_other")?;

@@ -1,4 +1,5 @@
 //! Which words are a line `rooms import`.
+use crate::asserting::assert_same;
 use crate::file_lines::{carried, make_folder};
 use office_program::program::program;
 use office_program::usage::Program;
@@ -71,10 +72,10 @@ fn reads_import_lines(rt: HostRuntime) {
                     list,
                 },
             ) => {
-                assert_eq!(rt; *database, "o");
-                assert_eq!(rt; *list, "a list");
-                assert_eq!(rt; *kind, ListKind::People);
-                assert_eq!(rt; label.as_str(), "p-1");
+                assert_same!(rt; *database, "o");
+                assert_same!(rt; *list, "a list");
+                assert_same!(rt; *kind, ListKind::People);
+                assert_same!(rt; label.as_str(), "p-1");
             }
             _ => panic!(rt; "it is no line"),
         }

@@ -1,4 +1,5 @@
 //! Lists that come in: from files, by lines of the program, and from readers, at a desk in memory.
+use crate::asserting::assert_same;
 use crate::failing::{FailingReader, FailingWriter};
 use crate::file_lines::{carried, make_folder};
 use office_program::importing::import_list;
@@ -80,20 +81,20 @@ fn brings_lists_in_once(rt: HostRuntime) -> Result<(), Fail> {
         ),
     ] {
         let (ended, text) = import(&rt, "imports_once", kind, label, list)?;
-        assert_eq!(rt; text.as_slice(), answer.as_bytes(), "{label}");
-        assert_eq!(rt; ended, status, "{label}");
+        assert_same!(rt; text.as_slice(), answer.as_bytes(), label);
+        assert_same!(rt; ended, status, label);
     }
     carried(&rt, &["do", "--db", "imports_once/office.db", "open"]);
     let (status, text) = import(&rt, "imports_once", "choices", "c-1", "choices.csv")?;
-    assert_eq!(rt; status, 0);
-    assert_eq!(rt; text.as_slice(), b"added 4\n".as_slice());
+    assert_same!(rt; status, 0);
+    assert_same!(rt; text.as_slice(), b"added 4\n".as_slice());
     carried(&rt, &["do", "--db", "imports_once/office.db", "close"]);
     let (status, text) = import(&rt, "imports_once", "choices", "c-1", "choices.csv")?;
-    assert_eq!(rt; status, 0);
-    assert_eq!(rt; text.as_slice(), b"added 4\n".as_slice());
+    assert_same!(rt; status, 0);
+    assert_same!(rt; text.as_slice(), b"added 4\n".as_slice());
     let (status, text) = import(&rt, "imports_once", "choices", "c-2", "choices.csv")?;
-    assert_eq!(rt; status, 1);
-    assert_eq!(rt; text.as_slice(), b"refused 1 BadPhase closed\n".as_slice());
+    assert_same!(rt; status, 1);
+    assert_same!(rt; text.as_slice(), b"refused 1 BadPhase closed\n".as_slice());
     let (_, text, _) = carried(
         &rt,
         &[
@@ -105,10 +106,10 @@ fn brings_lists_in_once(rt: HostRuntime) -> Result<(), Fail> {
     );
     let told =
         "person T2\nname Tao \"Tom\" T.\nhome H2\nround 1 closed\nchoices V H1\nwithdrawn no\nresult hidden\n";
-    assert_eq!(rt; text.as_slice(), told.as_bytes());
+    assert_same!(rt; text.as_slice(), told.as_bytes());
     let (_, text, _) = carried(&rt, &["export", "--db", "imports_once/office.db", "people"]);
     let told = "person,name,home\nN,Nöé Ng,\nT1,\"Tan, Tim\",H1\nT2,\"Tao \"\"Tom\"\" T.\",H2\n";
-    assert_eq!(rt; text.as_slice(), told.as_bytes());
+    assert_same!(rt; text.as_slice(), told.as_bytes());
     fs::remove_dir_all(&rt, "imports_once")?;
     Ok(())
 }
@@ -158,14 +159,14 @@ fn tells_the_first_bad_record(rt: HostRuntime) -> Result<(), Fail> {
         fs::write(&rt, "imports_bad/list.csv", bytes)?;
         let (status, text) = import(&rt, "imports_bad", kind, "new", "list.csv")?;
         let answer = format!(in rt.alloc(); "refused 15 BadRecord {cause}\n")?;
-        assert_eq!(rt; text.as_slice(), answer.as_bytes());
-        assert_eq!(rt; status, 1, "{cause}");
+        assert_same!(rt; text.as_slice(), answer.as_bytes());
+        assert_same!(rt; status, 1, cause);
     }
     let (_, text, _) = carried(&rt, &["export", "--db", "imports_bad/office.db", "rooms"]);
-    assert_eq!(rt; text.as_slice(), b"room,state,tenant\n".as_slice());
+    assert_same!(rt; text.as_slice(), b"room,state,tenant\n".as_slice());
     fs::write(&rt, "imports_bad/list.csv", ROOMS)?;
     let (_, text) = import(&rt, "imports_bad", "rooms", "new", "list.csv")?;
-    assert_eq!(rt; text.as_slice(), b"added 3\n".as_slice());
+    assert_same!(rt; text.as_slice(), b"added 3\n".as_slice());
     fs::remove_dir_all(&rt, "imports_bad")?;
     Ok(())
 }
@@ -187,7 +188,7 @@ fn tells_lists_that_are_too_long(rt: HostRuntime) -> Result<(), Fail> {
     let whole = rooms_of(&rt, "\n", 262_139)?;
     let long = rooms_of(&rt, "\n", 262_140)?;
     let longer = rooms_of(&rt, "\n", 300_000)?;
-    assert_eq!(rt; (whole.len(), long.len()), (262_144, 262_145));
+    assert_same!(rt; (whole.len(), long.len()), (262_144, 262_145));
     for (text, kind, label, answer) in [
         (&many, "rooms", "m", "refused 15 BadRecord 10001 many\n"),
         (&whole, "rooms", "w", "added 0\n"),
@@ -199,8 +200,8 @@ fn tells_lists_that_are_too_long(rt: HostRuntime) -> Result<(), Fail> {
     ] {
         fs::write(&rt, "imports_long/list.csv", text.as_str())?;
         let (status, told) = import(&rt, "imports_long", kind, label, "list.csv")?;
-        assert_eq!(rt; told.as_slice(), answer.as_bytes(), "{label}");
-        assert_eq!(rt; status == 0, answer == "added 0\n", "{label}");
+        assert_same!(rt; told.as_slice(), answer.as_bytes(), label);
+        assert_same!(rt; status == 0, answer == "added 0\n", label);
     }
     let words = [
         "import",
@@ -211,8 +212,8 @@ fn tells_lists_that_are_too_long(rt: HostRuntime) -> Result<(), Fail> {
         "/dev/zero",
     ];
     let (status, told, _) = carried(&rt, &words);
-    assert_eq!(rt; status, 1);
-    assert_eq!(rt; told.as_slice(), b"refused 13 LimitReached\n".as_slice());
+    assert_same!(rt; status, 1);
+    assert_same!(rt; told.as_slice(), b"refused 13 LimitReached\n".as_slice());
     fs::remove_dir_all(&rt, "imports_long")?;
     Ok(())
 }
@@ -245,13 +246,13 @@ fn tells_why_no_list_came_in(rt: HostRuntime) -> Result<(), Fail> {
                 list.as_str(),
             ],
         );
-        assert_eq!(rt; ended, status, "{list}");
-        assert_eq!(rt; text.as_slice(), printed.as_bytes(), "{list}");
+        assert_same!(rt; ended, status, list.as_str());
+        assert_same!(rt; text.as_slice(), printed.as_bytes(), list.as_str());
         assert!(rt; told.is_empty());
     }
     assert!(rt; !fs::exists(&rt, "imports_none/missing")?);
     let (_, text, _) = carried(&rt, &["export", "--db", "imports_none/office.db", "rooms"]);
-    assert_eq!(rt; text.as_slice(), b"room,state,tenant\n".as_slice());
+    assert_same!(rt; text.as_slice(), b"room,state,tenant\n".as_slice());
     fs::remove_dir_all(&rt, "imports_none")?;
     Ok(())
 }
@@ -311,8 +312,8 @@ fn reads_lists_from_readers(rt: HostRuntime) -> Result<(), Fail> {
             flushes: true,
         };
         let (ended, text) = import_from(&rt, &mut desk, label, reader, writer)?;
-        assert_eq!(rt; ended, status);
-        assert_eq!(rt; text.as_slice(), answer.as_bytes());
+        assert_same!(rt; ended, status);
+        assert_same!(rt; text.as_slice(), answer.as_bytes());
     }
     Ok(())
 }

@@ -1,4 +1,5 @@
 //! Each command and each query with each of its refusals, as far as a line can ask for it.
+use crate::asserting::assert_same;
 use crate::register::hears;
 use crate::scripts::rehearsed;
 use office_lines::Ending;
@@ -112,7 +113,7 @@ fn refuses_one_round_too_many(rt: HostRuntime) -> Result<(), Fail> {
     }
     lines.push_str("open\n")?;
     let (how, text) = rehearsed(rt.alloc(), lines.as_bytes());
-    assert_eq!(rt; how.ending, Ending::Ended);
+    assert_same!(rt; how.ending, Ending::Ended);
     assert!(rt;
         text.as_slice()
             .ends_with(b"round 9999 open\ncancelled\nrefused 13 LimitReached\n")

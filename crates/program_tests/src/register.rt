@@ -1,4 +1,5 @@
 //! The register of rooms and people: a worked script, what a person sees, and lists that are too long.
+use crate::asserting::assert_same;
 use crate::at_desks::is_kept;
 use crate::scripts::{answers_of_script, lines_of_script, rehearsed};
 use office_lines::Ending;
@@ -107,12 +108,12 @@ fn choosing(alloc: Global, count: u32) -> Result<String, Fail> {
 fn takes_forty_rooms(rt: HostRuntime) -> Result<(), Fail> {
     let forty = choosing(rt.alloc(), 40)?;
     let (how, text) = rehearsed(rt.alloc(), forty.as_bytes());
-    assert_eq!(rt; how.status, 1);
-    assert_eq!(rt; text.as_slice(), b"refused 1 BadPhase idle\n".as_slice());
+    assert_same!(rt; how.status, 1);
+    assert_same!(rt; text.as_slice(), b"refused 1 BadPhase idle\n".as_slice());
     let more = choosing(rt.alloc(), 41)?;
     let (how, text) = rehearsed(rt.alloc(), more.as_bytes());
-    assert_eq!(rt; how.status, 2);
-    assert_eq!(rt; text.as_slice(), b"not understood\n".as_slice());
+    assert_same!(rt; how.status, 2);
+    assert_same!(rt; text.as_slice(), b"not understood\n".as_slice());
     Ok(())
 }
 
@@ -139,7 +140,7 @@ fn understands_no_other_words(rt: HostRuntime) {
         "rooms 1",
     ] {
         let (how, text) = rehearsed(rt.alloc(), line.as_bytes());
-        assert_eq!(rt; how.status, 2, "{line}");
-        assert_eq!(rt; text.as_slice(), b"not understood\n".as_slice(), "{line}");
+        assert_same!(rt; how.status, 2, line);
+        assert_same!(rt; text.as_slice(), b"not understood\n".as_slice(), line);
     }
 }

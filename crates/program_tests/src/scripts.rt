@@ -1,4 +1,5 @@
 //! Worked scripts.
+use crate::asserting::assert_same;
 use office_lines::rehearse::rehearse;
 use office_lines::{Ending, Rehearsed};
 use office_store::Desk;
@@ -65,11 +66,8 @@ const fn ended(status: u8) -> Rehearsed {
 #[test]
 fn hears_the_first_script(rt: HostRuntime) {
     let (how, text) = rehearsed(rt.alloc(), b"room H1\nrooms\n");
-    assert_eq!(rt; how, ended(0));
-    assert_eq!(rt;
-        text.as_slice(),
-        b"ok\nroom      state     tenant\nH1        free      none\n".as_slice()
-    );
+    assert_same!(rt; how, ended(0));
+    assert_same!(rt; text.as_slice(), b"ok\nroom      state     tenant\nH1        free      none\n".as_slice());
 }
 
 #[test]
@@ -77,16 +75,16 @@ fn hears_the_second_script(rt: HostRuntime) -> Result<(), Fail> {
     let lines = lines_of_script(rt.alloc(), &SECOND_SCRIPT)?;
     let answers = answers_of_script(rt.alloc(), &SECOND_SCRIPT, 5)?;
     let (how, text) = rehearsed(rt.alloc(), lines.as_bytes());
-    assert_eq!(rt; how, ended(2));
-    assert_eq!(rt; text.as_slice(), answers.as_bytes());
+    assert_same!(rt; how, ended(2));
+    assert_same!(rt; text.as_slice(), answers.as_bytes());
     Ok(())
 }
 
 #[test]
 fn hears_nothing(rt: HostRuntime) {
     let (how, text) = rehearsed(rt.alloc(), b"");
-    assert_eq!(rt; how, ended(0));
-    assert_eq!(rt; text.len(), 0);
+    assert_same!(rt; how, ended(0));
+    assert_same!(rt; text.len(), 0);
 }
 
 #[test]
@@ -101,7 +99,7 @@ fn refuses_one_room_too_many(rt: HostRuntime) -> Result<(), Fail> {
     lines.push_str("room A\n")?;
     answers.push_str("refused 13 LimitReached\n")?;
     let (how, text) = rehearsed(rt.alloc(), lines.as_bytes());
-    assert_eq!(rt; how, ended(1));
-    assert_eq!(rt; text.as_slice(), answers.as_bytes());
+    assert_same!(rt; how, ended(1));
+    assert_same!(rt; text.as_slice(), answers.as_bytes());
     Ok(())
 }

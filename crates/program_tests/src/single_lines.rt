@@ -1,4 +1,5 @@
 //! Single lines at a desk in memory, as they stand among the words of the program.
+use crate::asserting::assert_same;
 use crate::failing::FailingWriter;
 use office_lines::do_line::{do_line, do_words};
 use office_program::desk_faults::refuse_desk;
@@ -47,8 +48,8 @@ fn does_lines_of_words(rt: HostRuntime) -> Result<(), Fail> {
         ),
     ] {
         let (ended, text) = done(rt.alloc(), &mut desk, words);
-        assert_eq!(rt; ended, status);
-        assert_eq!(rt; text.as_slice(), printed.as_bytes());
+        assert_same!(rt; ended, status);
+        assert_same!(rt; text.as_slice(), printed.as_bytes());
     }
     Ok(())
 }
@@ -62,16 +63,16 @@ fn hears_no_line_that_is_too_long(rt: HostRuntime) -> Result<(), Fail> {
     for _ in 0..65_535 {
         line.push_str("a")?;
     }
-    assert_eq!(rt; line.len(), 65_536);
+    assert_same!(rt; line.len(), 65_536);
     let (status, text) = done(rt.alloc(), &mut desk, &[line.as_str()]);
-    assert_eq!(rt; (status, text.len()), (0, 0));
+    assert_same!(rt; (status, text.len()), (0, 0));
     line.push_str("a")?;
     let (status, text) = done(rt.alloc(), &mut desk, &[line.as_str()]);
-    assert_eq!(rt; (status, text.len()), (3, 0));
+    assert_same!(rt; (status, text.len()), (3, 0));
     line.push_str("\n")?;
     let (status, text) = done(rt.alloc(), &mut desk, &[line.as_str()]);
-    assert_eq!(rt; status, 2);
-    assert_eq!(rt; text.as_slice(), b"not understood\n".as_slice());
+    assert_same!(rt; status, 2);
+    assert_same!(rt; text.as_slice(), b"not understood\n".as_slice());
     Ok(())
 }
 
@@ -90,16 +91,13 @@ fn does_lines_where_the_writer_fails(rt: HostRuntime) -> Result<(), Fail> {
             room,
             flushes,
         });
-        assert_eq!(rt;
-            do_line(rt.alloc(), &mut desk, line.as_bytes(), &mut output),
-            3
-        );
+        assert_same!(rt; do_line(rt.alloc(), &mut desk, line.as_bytes(), &mut output), 3);
         assert!(rt; output.failed());
-        assert_eq!(rt; output.into_inner().written.as_slice(), sent.as_bytes());
+        assert_same!(rt; output.into_inner().written.as_slice(), sent.as_bytes());
     }
     let (status, text) = done(rt.alloc(), &mut desk, &["rooms"]);
-    assert_eq!(rt; status, 0);
-    assert_eq!(rt; text.as_slice(), H1_ALONE.as_bytes());
+    assert_same!(rt; status, 0);
+    assert_same!(rt; text.as_slice(), H1_ALONE.as_bytes());
     Ok(())
 }
 
@@ -117,7 +115,7 @@ fn tells_why_there_is_no_desk(rt: HostRuntime) {
         (DeskFault::AlreadyThere, 1, "refused 23 AlreadyThere\n"),
     ] {
         let mut output = Watched::new(Vec::new(rt.alloc()));
-        assert_eq!(rt; refuse_desk(rt.alloc(), fault, &mut output), status);
-        assert_eq!(rt; output.into_inner().as_slice(), printed.as_bytes());
+        assert_same!(rt; refuse_desk(rt.alloc(), fault, &mut output), status);
+        assert_same!(rt; output.into_inner().as_slice(), printed.as_bytes());
     }
 }

@@ -1,4 +1,5 @@
 //! Streams that fail while a register is told: what was handled before stands.
+use crate::asserting::same_at;
 use crate::at_desks::{is_told_after, shown};
 use crate::failing::{FailingReader, FailingWriter};
 use crate::register::REGISTER;
@@ -31,22 +32,24 @@ fn good_reader<'a>(unread: &'a [u8]) -> FailingReader<'a> {
     }
 }
 
-// What a new desk in memory makes of the input, what it writes, and what it then tells of its office.
+// What a new desk in memory makes of the input, whether the reader and whether the writer failed, what was written, and what the
+// desk then tells of its office.
 fn rehearsed<'a>(
     alloc: Global,
     reader: FailingReader<'a>,
     writer: FailingWriter,
-) -> Result<(Rehearsed, Vec<u8>, Vec<u8>), Fail> {
+) -> Result<(Rehearsed, (bool, bool), Vec<u8>, Vec<u8>), Fail> {
     let mut desk = Desk::in_memory(alloc)?;
     let mut input = Watched::new(reader);
     let mut output = Watched::new(writer);
     let how = rehearse(alloc, &mut desk, &mut input, &mut output);
+    let failed = (input.failed(), output.failed());
     let kept = shown(alloc, &mut desk);
-    Ok((how, output.into_inner().written, kept))
+    Ok((how, failed, output.into_inner().written, kept))
 }
 
-// Whether a rehearsal of the register by this writer ends so, has written this front of the answers, and leaves the office of so
-// many lines.
+// Whether a rehearsal of the register by this writer, which alone fails, ends so, has written this front of the answers, and
+// leaves the office of so many lines.
 fn stops_at(
     alloc: Global,
     writer: FailingWriter,
@@ -55,10 +58,11 @@ fn stops_at(
 ) -> Result<bool, Fail> {
     let lines = lines_of_script(alloc, &REGISTER)?;
     let answers = answers_of_script(alloc, &REGISTER, REGISTER.len())?;
-    let (how, text, kept) = rehearsed(alloc, good_reader(lines.as_bytes()), writer)?;
+    let (how, failed, text, kept) = rehearsed(alloc, good_reader(lines.as_bytes()), writer)?;
     let ending = Ending::WriteFault { sent: sent as u128 };
-    let told = how.status == 3 && how.ending == ending && answers.as_bytes().starts_with(&text);
-    Ok(told && text.len() == sent && is_kept_after(alloc, handled, &kept)?)
+    let stopped = how.status == 3 && how.ending == ending && failed == (false, true);
+    let told = text.len() == sent && answers.as_bytes().starts_with(&text);
+    Ok(stopped && told && is_kept_after(alloc, handled, &kept)?)
 }
 
 // Whether this is told of the office after the first lines of the register.
@@ -85,22 +89,31 @@ fn stops_where_a_read_fails(rt: HostRuntime) -> Result<(), Fail> {
     let lines = lines_of_script(rt.alloc(), &REGISTER)?;
     let reads = lines.len().div_ceil(PIECE);
     for passed in 0..reads + 1 {
-        let mut reader = good_reader(lines.as_bytes());
-        reader.reads = passed;
-        let heard = lines
-            .as_bytes()
-            .iter()
-            .take(passed.saturating_mul(PIECE))
-            .filter(|byte| **byte == b'\n')
-            .count();
-        let answers = answers_of_script(rt.alloc(), &REGISTER, heard)?;
-        let (how, text, kept) = rehearsed(rt.alloc(), reader, good_writer(rt.alloc()))?;
-        assert_eq!(rt; (how.status, how.ending), (3, Ending::ReadFault));
-        assert_eq!(rt; text.as_slice(), answers.as_bytes(), "{passed}");
-        assert!(rt; is_kept_after(rt.alloc(), heard, &kept)?, "{passed}");
+        let stops = stops_at_read(rt.alloc(), lines.as_bytes(), passed)?;
+        same_at(&rt, &stops, &true, passed);
     }
     println!(rt; "a register whose reads fail: {} faults", reads + 1)?;
     Ok(())
+}
+
+// Whether a rehearsal of the register by a reader that alone fails, after so many reads, tells and leaves what came in time.
+fn stops_at_read(alloc: Global, lines: &[u8], passed: usize) -> Result<bool, Fail> {
+    let mut reader = good_reader(lines);
+    reader.reads = passed;
+    let heard = lines_before(lines, passed.saturating_mul(PIECE));
+    let answers = answers_of_script(alloc, &REGISTER, heard)?;
+    let (how, failed, text, kept) = rehearsed(alloc, reader, good_writer(alloc))?;
+    let stopped = how.status == 3 && how.ending == Ending::ReadFault && failed == (true, false);
+    let told = text.as_slice() == answers.as_bytes();
+    Ok(stopped && told && is_kept_after(alloc, heard, &kept)?)
+}
+
+// How many lines end in the first bytes of the text.
+fn lines_before(text: &[u8], length: usize) -> usize {
+    text.iter()
+        .take(length)
+        .filter(|byte| **byte == b'\n')
+        .count()
 }
 
 #[test]
@@ -109,10 +122,8 @@ fn stops_where_a_write_takes_nothing(rt: HostRuntime) -> Result<(), Fail> {
     for taken in 0..answers.len() {
         let mut writer = good_writer(rt.alloc());
         writer.room = taken;
-        assert!(rt;
-            stops_at(rt.alloc(), writer, taken, handled_for(taken))?,
-            "{taken}"
-        );
+        let stops = stops_at(rt.alloc(), writer, taken, handled_for(taken))?;
+        same_at(&rt, &stops, &true, taken);
     }
     println!(rt; "a register whose writer is full: {} faults", answers.len())?;
     Ok(())
@@ -124,7 +135,8 @@ fn stops_where_a_write_fails(rt: HostRuntime) -> Result<(), Fail> {
         let sent = answers_of_script(rt.alloc(), &REGISTER, passed)?.len();
         let mut writer = good_writer(rt.alloc());
         writer.writes = passed;
-        assert!(rt; stops_at(rt.alloc(), writer, sent, passed + 1)?, "{passed}");
+        let stops = stops_at(rt.alloc(), writer, sent, passed + 1)?;
+        same_at(&rt, &stops, &true, passed);
     }
     println!(rt; "a register whose writes fail: {} faults", REGISTER.len())?;
     Ok(())

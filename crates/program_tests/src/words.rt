@@ -1,4 +1,5 @@
 //! The words after the program's name.
+use crate::asserting::assert_same;
 use crate::failing::FailingReader;
 use office_core::{Command, Query};
 use office_program::carry_out::carry_out;
@@ -37,12 +38,9 @@ fn carries_out_lines(rt: HostRuntime) -> Result<(), Fail> {
         let mut input = Watched::new(b"room H1\n".as_slice());
         let mut output = Watched::new(Vec::new(rt.alloc()));
         let mut error = Watched::new(Vec::new(rt.alloc()));
-        assert_eq!(rt;
-            carry_out(&rt, words, &mut input, &mut output, &mut error),
-            status
-        );
-        assert_eq!(rt; output.into_inner().as_slice(), printed.as_bytes());
-        assert_eq!(rt; error.into_inner().as_slice(), told.as_bytes());
+        assert_same!(rt; carry_out(&rt, words, &mut input, &mut output, &mut error), status);
+        assert_same!(rt; output.into_inner().as_slice(), printed.as_bytes());
+        assert_same!(rt; error.into_inner().as_slice(), told.as_bytes());
     }
     Ok(())
 }
@@ -64,11 +62,8 @@ fn carries_out_rehearsals(rt: HostRuntime) -> Result<(), Fail> {
         let mut input = Watched::new(lines.as_bytes());
         let mut output = Watched::new(Vec::new(rt.alloc()));
         let mut error = Watched::new(Vec::new(rt.alloc()));
-        assert_eq!(rt;
-            carry_out(&rt, &["rehearse"], &mut input, &mut output, &mut error),
-            status
-        );
-        assert_eq!(rt; output.into_inner().as_slice(), printed.as_bytes());
+        assert_same!(rt; carry_out(&rt, &["rehearse"], &mut input, &mut output, &mut error), status);
+        assert_same!(rt; output.into_inner().as_slice(), printed.as_bytes());
         assert!(rt; error.into_inner().is_empty());
     }
     Ok(())
@@ -83,11 +78,8 @@ fn tells_where_standard_input_fails(rt: HostRuntime) {
     });
     let mut output = Watched::new(Vec::new(rt.alloc()));
     let mut error = Watched::new(Vec::new(rt.alloc()));
-    assert_eq!(rt; carry_out(&rt, &[], &mut input, &mut output, &mut error), 3);
-    assert_eq!(rt;
-        output.into_inner().as_slice(),
-        b"room      state     tenant\n".as_slice()
-    );
+    assert_same!(rt; carry_out(&rt, &[], &mut input, &mut output, &mut error), 3);
+    assert_same!(rt; output.into_inner().as_slice(), b"room      state     tenant\n".as_slice());
 }
 
 #[test]
@@ -96,10 +88,7 @@ fn tells_where_standard_error_fails(rt: HostRuntime) {
     let mut output = Watched::new(Vec::new(rt.alloc()));
     let mut closed = [0; 0];
     let mut error = Watched::new(closed.as_mut_slice());
-    assert_eq!(rt;
-        carry_out(&rt, &["help"], &mut input, &mut output, &mut error),
-        3
-    );
+    assert_same!(rt; carry_out(&rt, &["help"], &mut input, &mut output, &mut error), 3);
     assert!(rt; error.failed());
 }
 
@@ -113,7 +102,7 @@ fn reads_words(rt: HostRuntime) {
         )
     );
     match &words_to_command(rt.alloc(), &["room", "H1"]) {
-        Ok(Request::Office(Command::AddRoom { room })) => assert_eq!(rt; room.as_str(), "H1"),
+        Ok(Request::Office(Command::AddRoom { room })) => assert_same!(rt; room.as_str(), "H1"),
         _ => panic!(rt; "room H1 is no request"),
     }
     assert!(rt;

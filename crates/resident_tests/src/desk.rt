@@ -1,9 +1,13 @@
 //! Conversations over a desk in memory.
 mod failing;
 mod faults;
+mod lists;
 mod sockets;
 mod talks;
+mod told;
 
+use crate::asserting::{assert_same, holds};
+use crate::desk::failing::NarrowWriter;
 use http::StatusCode;
 use office_store::{Desk, Handler};
 use office_words::{Sentence, read_line};
@@ -48,10 +52,13 @@ const WELL: Served = Served::Answered {
     status: StatusCode::OK,
 };
 
-// How a conversation ended, and what was written.
+// How a conversation ended, whether its stream failed, how often it was read and flushed, and what was written.
 #[derive(Drop)]
 struct Talk {
     how: Served,
+    failed: bool,
+    reads: u64,
+    flushes: u64,
     written: Vec<u8>,
 }
 
@@ -83,23 +90,38 @@ fn handle_sentence(alloc: Global, desk: &mut Desk<MemStore>, sentence: Sentence)
 
 // The conversation with this reader.
 fn served<R: Read + Drop>(alloc: Global, desk: &mut Desk<MemStore>, reader: R) -> Talk {
-    let mut stream = Watched::new(Pair {
-        reader,
-        writer: Vec::new(alloc),
-    });
+    served_on(alloc, desk, reader, NarrowWriter::wide(alloc))
+}
+
+// The conversation with this reader and this writer.
+fn served_on<R: Read + Drop>(
+    alloc: Global,
+    desk: &mut Desk<MemStore>,
+    reader: R,
+    writer: NarrowWriter,
+) -> Talk {
+    let mut stream = Watched::new(Pair { reader, writer });
     let how = serve_one(alloc, desk, &mut stream);
     Talk {
         how,
-        written: stream.into_inner().writer,
+        failed: stream.failed(),
+        reads: stream.reads(),
+        flushes: stream.flushes(),
+        written: stream.into_inner().writer.written,
     }
 }
 
-// How many lists are recorded in the tables.
-fn list_count(rt: &impl Abort, alloc: Global, desk: &mut Desk<MemStore>) -> usize {
-    desk.load(alloc)
-        .expect(rt, "an office in the tables")
-        .choices
-        .len()
+// That this request has this answer to the byte.
+fn is_answered(
+    rt: &impl Abort,
+    alloc: Global,
+    desk: &mut Desk<MemStore>,
+    request: &str,
+    answer: &str,
+) {
+    let talk = served(alloc, desk, request.as_bytes());
+    holds(rt, !talk.failed, request);
+    assert_same!(rt; talk.written.as_slice(), answer.as_bytes(), request);
 }
 
 /// All that is left to read.

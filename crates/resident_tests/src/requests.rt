@@ -2,3 +2,5 @@
 mod answers;
 mod asks;
 mod routes;
+
+pub use crate::requests::answers::{fault_text, listed};

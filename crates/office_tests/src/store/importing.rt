@@ -276,6 +276,38 @@ fn refuses_records_as_their_commands_are_refused(rt: HostRuntime) {
     says(&rt, alloc, &mut desk, &requests, told);
 }
 
+// A list of so many people without a home.
+fn many_people(alloc: Global, count: u16) -> Result<Vec<u8>, AllocError> {
+    let mut many = Vec::from_slice(alloc, HEADER)?;
+    for number in 0..count {
+        let record = format!(in alloc; "P{number},Pat,key000000000{number:04},\n")?;
+        many.extend_from_slice(record.as_bytes())?;
+    }
+    Ok(many)
+}
+
+// Beside the three people a list of one too many is refused at its last record. It adds nobody, and is not kept: its first
+// record comes in under the same label.
+#[test]
+fn refuses_people_over_the_limit(rt: HostRuntime) {
+    let alloc = rt.alloc();
+    let mut desk = furnished(&rt, alloc);
+    for (count, told) in [
+        (
+            1_998,
+            "refused 15 BadRecord 1998 refusal 13\nround 0 idle people 3 withdrawn 0\n",
+        ),
+        (1, "added 1\nround 0 idle people 4 withdrawn 0\n"),
+    ] {
+        let list = many_people(alloc, count).expect(&rt, "memory");
+        let requests = [
+            import(&rt, alloc, "p-2", ListKind::People, &list),
+            Request::Ask(Query::Round),
+        ];
+        says(&rt, alloc, &mut desk, &requests, told);
+    }
+}
+
 // After the command, which is answered by `done`, a known label has its first answer, another list under it differs, and
 // a new list is answered by `late`.
 fn looks_at_labels(

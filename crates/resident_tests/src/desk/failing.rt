@@ -1,4 +1,5 @@
 //! Streams that come in pieces, and that fail.
+use std::alloc::Global;
 use std::io;
 use std::io::{Error, ErrorKind, Read, Write};
 
@@ -24,19 +25,41 @@ impl Read for PiecewiseReader<'_> {
     }
 }
 
-/// A writer that keeps what it takes, at most `piece` bytes a write and `room` bytes in all, and whose flushes may fail.
+/// A writer that keeps what it takes, at most `piece` bytes a write. After `room` bytes a write is refused: it fails, or it
+/// takes no byte. From then on there is room for `later` bytes. Its flushes may fail.
 #[derive(Drop)]
 pub struct NarrowWriter {
     pub written: Vec<u8>,
     pub piece: usize,
     pub room: usize,
+    pub fails: bool,
+    pub later: usize,
     pub flushes: bool,
+}
+
+impl NarrowWriter {
+    /// A writer that takes all.
+    pub fn wide(alloc: Global) -> Self {
+        NarrowWriter {
+            written: Vec::new(alloc),
+            piece: usize::MAX,
+            room: usize::MAX,
+            fails: true,
+            later: usize::MAX,
+            flushes: true,
+        }
+    }
 }
 
 impl Write for NarrowWriter {
     fn write(&mut self, buf: &[u8]) -> io::Result<usize> {
         if self.room == 0 && !buf.is_empty() {
-            return Err(Error::from(ErrorKind::Other));
+            self.room = self.later;
+            return if self.fails {
+                Err(Error::from(ErrorKind::Other))
+            } else {
+                Ok(0)
+            };
         }
         let len = self.room.min(self.piece).min(buf.len());
         self.room -= len;

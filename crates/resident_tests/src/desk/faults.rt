@@ -1,26 +1,45 @@
 //! Streams in pieces, at their end, and that fail.
 use super::failing::{NarrowWriter, PiecewiseReader};
-use super::{ANSWER, REQUEST, Talk, WELL, let_go, list_count, open_round, served};
-use crate::asserting::{assert_same, same, same_at};
+use super::told::{LISTS_H2, NO_LIST, is_told};
+use super::{ANSWER, REQUEST, Talk, WELL, let_go, open_round, served, served_on};
+use crate::asserting::{same, same_at};
 use http::StatusCode;
 use office_store::Desk;
-use resident_desk::{Served, serve_one};
-use room_types::Watched;
-use room_types::stream::Pair;
+use resident_desk::Served;
 use sqlite::MemStore;
 use std::alloc::Global;
 use std::io;
-use std::io::Read;
 use std::process::Abort;
 
 const REFUSED: Served = Served::Answered {
     status: StatusCode::BAD_REQUEST,
 };
 
-// That a conversation ended like this, with this written.
+// The answer to a request that is not whole.
+const BAD_REQUEST: &str = "HTTP/1.1 400 Bad Request\r\n\
+    Content-Type: application/json\r\n\
+    Content-Length: 22\r\n\
+    Connection: close\r\n\
+    \r\n\
+    {\"error\":\"BadRequest\"}";
+
+// How a device refuses a write, by failing or by taking nothing, and how much room it has afterwards.
+const REFUSALS: [(bool, usize); 4] = [
+    (true, 0),
+    (true, usize::MAX),
+    (false, 0),
+    (false, usize::MAX),
+];
+
+// That a conversation ended like this, with this written, on a stream that failed just where the ending is a fault.
 fn is_talk(rt: &impl Abort, talk: &Talk, how: Served, written: &[u8], case: usize) {
     same_at(rt, &talk.how, &how, case);
+    same_at(rt, &talk.failed, &is_fault(how), case);
     same_at(rt, &talk.written.as_slice(), &written, case);
+}
+
+fn is_fault(how: Served) -> bool {
+    matches!(how, Served::ReadFault | Served::WriteFault { .. })
 }
 
 // However the request is cut in two pieces, and where each read gives a byte, the answer is the same.
@@ -39,7 +58,7 @@ fn cut_does_not_matter(rt: &impl Abort, alloc: Global, cut: usize) {
     let mut desk = open_round(rt, alloc);
     let talk = served(alloc, &mut desk, reader_cut_at(cut));
     is_talk(rt, &talk, WELL, ANSWER.as_bytes(), cut);
-    same_at(rt, &list_count(rt, alloc, &mut desk), &2, cut);
+    is_told(rt, alloc, &mut desk, LISTS_H2, cut);
     let_go(desk);
 }
 
@@ -57,33 +76,33 @@ fn reader_cut_at(cut: usize) -> PiecewiseReader<'static> {
 #[test]
 fn fronts_are_refused(rt: HostRuntime) -> io::Result<()> {
     let mut desk = open_round(&rt, rt.alloc());
+    is_told(&rt, rt.alloc(), &mut desk, NO_LIST, 0);
     for len in 0..REQUEST.len() {
         front_is_refused(&rt, rt.alloc(), &mut desk, &REQUEST.as_bytes()[..len]);
     }
-    assert_same!(rt; list_count(&rt, rt.alloc(), &mut desk), 1);
     let_go(desk);
     println!(rt; "a request that ends too early: {} cuts", REQUEST.len())
 }
 
 fn front_is_refused(rt: &impl Abort, alloc: Global, desk: &mut Desk<MemStore>, front: &[u8]) {
-    let talk = served(alloc, desk, front);
-    let wanted = if front.is_empty() {
-        Served::Silent
+    let (how, written) = if front.is_empty() {
+        (Served::Silent, "")
     } else {
-        REFUSED
+        (REFUSED, BAD_REQUEST)
     };
-    same_at(rt, &talk.how, &wanted, front.len());
-    same_at(rt, &talk.written.is_empty(), &front.is_empty(), front.len());
+    let talk = served(alloc, desk, front);
+    is_talk(rt, &talk, how, written.as_bytes(), front.len());
+    is_told(rt, alloc, desk, NO_LIST, front.len());
 }
 
 // Where a read fails, nothing is written, and nothing changes.
 #[test]
 fn stops_where_a_read_fails(rt: HostRuntime) -> io::Result<()> {
     let mut desk = open_round(&rt, rt.alloc());
+    is_told(&rt, rt.alloc(), &mut desk, NO_LIST, 0);
     for passed in 0..REQUEST.len() {
         stops_at_read(&rt, rt.alloc(), &mut desk, passed);
     }
-    assert_same!(rt; list_count(&rt, rt.alloc(), &mut desk), 1);
     let_go(desk);
     println!(rt; "a request whose reads fail: {} faults", REQUEST.len())
 }
@@ -97,53 +116,55 @@ fn stops_at_read(rt: &impl Abort, alloc: Global, desk: &mut Desk<MemStore>, pass
     };
     let talk = served(alloc, desk, reader);
     is_talk(rt, &talk, Served::ReadFault, b"", passed);
+    is_told(rt, alloc, desk, NO_LIST, passed);
 }
 
-// Where a write fails, or the flush, a front of the answer was written, and the list stands.
+// Where a write fails or takes nothing, or the flush fails, a front of the answer was written, and the list stands; also
+// where the device would go on afterwards.
 #[test]
 fn stops_where_a_write_fails(rt: HostRuntime) -> io::Result<()> {
     for sent in 0..ANSWER.len() + 1 {
         stops_after(&rt, rt.alloc(), &ANSWER.as_bytes()[..sent]);
     }
     println!(rt;
-        "an answer whose writes or flush fail: {} faults",
-        ANSWER.len() + 1
+        "an answer whose writes or flush fail, on {} devices: {} faults",
+        REFUSALS.len(),
+        REFUSALS.len().saturating_mul(ANSWER.len() + 1)
     )
 }
 
-// That no more than this front is written where there is room for no more.
+// That no more than this front is written where there is room for no more, however a write is refused.
 fn stops_after(rt: &impl Abort, alloc: Global, front: &[u8]) {
-    let sent = front.len();
-    let mut desk = open_round(rt, alloc);
-    let talk = narrow_talk(alloc, &mut desk, sent);
-    is_talk(rt, &talk, Served::WriteFault { sent }, front, sent);
-    same_at(rt, &list_count(rt, alloc, &mut desk), &2, sent);
-    let_go(desk);
-}
-
-// The conversation on a stream that takes so many bytes, at most seven a write, and whose flush fails.
-fn narrow_talk(alloc: Global, desk: &mut Desk<MemStore>, room: usize) -> Talk {
-    let mut stream = Watched::new(Pair {
-        reader: REQUEST.as_bytes(),
-        writer: NarrowWriter {
+    for (fails, later) in REFUSALS {
+        let writer = NarrowWriter {
             written: Vec::new(alloc),
             piece: 7,
-            room,
+            room: front.len(),
+            fails,
+            later,
             flushes: false,
-        },
-    });
-    let how = serve_one(alloc, desk, &mut stream);
-    Talk {
-        how,
-        written: stream.into_inner().writer.written,
+        };
+        stops_on(rt, alloc, writer, front);
     }
 }
 
-// A head of 8,192 bytes without an end is refused by the read that brings its last byte.
+// That this front of the answer is written by a writer that takes no more.
+fn stops_on(rt: &impl Abort, alloc: Global, writer: NarrowWriter, front: &[u8]) {
+    let sent = front.len();
+    let mut desk = open_round(rt, alloc);
+    let talk = served_on(alloc, &mut desk, REQUEST.as_bytes(), writer);
+    is_talk(rt, &talk, Served::WriteFault { sent }, front, sent);
+    is_told(rt, alloc, &mut desk, LISTS_H2, sent);
+    let_go(desk);
+}
+
+// A head of 8,192 bytes without an end is refused by the read that brings its last byte. The longest request, a byte a read,
+// is answered after as many reads as it has bytes.
 #[test]
 fn reads_no_more_than_it_may(rt: HostRuntime) {
     let mut desk = open_round(&rt, rt.alloc());
     head_is_refused(&rt, rt.alloc(), &mut desk);
+    longest_is_answered(&rt, rt.alloc(), &mut desk);
     let_go(desk);
 }
 
@@ -157,20 +178,32 @@ fn head_is_refused(rt: &impl Abort, alloc: Global, desk: &mut Desk<MemStore>) {
         later: 1,
         reads: usize::MAX,
     };
-    let found = counted(alloc, desk, reader);
-    same(rt, &found, &(REFUSED, 2, 1), "a head without an end");
+    let talk = served(alloc, desk, reader);
+    is_talk(rt, &talk, REFUSED, BAD_REQUEST.as_bytes(), 8_192);
+    same(rt, &(talk.reads, talk.flushes), &(2, 1), "reads, flushes");
 }
 
-// How the conversation with this reader ended, and how many reads and flushes there were.
-fn counted<R: Read + Drop>(
-    alloc: Global,
-    desk: &mut Desk<MemStore>,
-    reader: R,
-) -> (Served, u64, u64) {
-    let mut stream = Watched::new(Pair {
-        reader,
-        writer: Vec::new(alloc),
-    });
-    let how = serve_one(alloc, desk, &mut stream);
-    (how, stream.reads(), stream.flushes())
+fn longest_is_answered(rt: &impl Abort, alloc: Global, desk: &mut Desk<MemStore>) {
+    let request = longest_request(rt, alloc);
+    let reader = PiecewiseReader {
+        unread: request.as_bytes(),
+        piece: 1,
+        later: 1,
+        reads: usize::MAX,
+    };
+    let talk = served(alloc, desk, reader);
+    is_talk(rt, &talk, WELL, ANSWER.as_bytes(), 9_216);
+    let counts = (request.len(), talk.reads, talk.flushes);
+    same(rt, &counts, &(9_216, 9_216, 1), "bytes, reads, flushes");
+}
+
+// T1 hands in a list by a head of 8,192 bytes and a body of 1,024.
+fn longest_request(rt: &impl Abort, alloc: Global) -> String {
+    let front = "PUT /me/choices HTTP/1.1\r\nHost: a\r\nRoom-Key: key00000000000t1\r\n\
+        Content-Length: 1024\r\nX: ";
+    let letters = "x"
+        .repeat(alloc, 8_188usize.saturating_sub(front.len()))
+        .expect(rt, "memory");
+    let spaces = " ".repeat(alloc, 1_018).expect(rt, "memory");
+    format!(in alloc; "{front}{letters}\r\n\r\n[\"H2\"]{spaces}").expect(rt, "memory")
 }

@@ -158,8 +158,8 @@ fn is_fault(rt: &impl Abort, alloc: Global, status: StatusCode, line: &str, name
     is_written(rt, alloc, &answer, wanted.as_bytes());
 }
 
-// The text of a fault's answer without the field `Allow`.
-fn fault_text(rt: &impl Abort, alloc: Global, line: &str, name: &str) -> String {
+/// The text of a fault's answer without the field `Allow`.
+pub fn fault_text(rt: &impl Abort, alloc: Global, line: &str, name: &str) -> String {
     let length = name.len() + 12;
     format!(in alloc;
         "HTTP/1.1 {line}\r\nContent-Type: application/json\r\nContent-Length: {length}\r\nConnection: close\r\n\r\n{{\"error\":\"{name}\"}}"
@@ -310,8 +310,8 @@ fn is_refused_with_rooms(rt: &impl Abort, alloc: Global, end: &str, wanted: &Typ
     is_refused(rt, alloc, body.as_bytes(), wanted);
 }
 
-// A body of so many different rooms, and then the end.
-fn listed(rt: &impl Abort, alloc: Global, count: usize, end: &str) -> String {
+/// A body of so many different rooms, and then the end.
+pub fn listed(rt: &impl Abort, alloc: Global, count: usize, end: &str) -> String {
     let mut body = String::from_str(alloc, "[\"A0\"").expect(rt, "memory");
     for i in 1..count {
         write!(body, ",\"A{i}\"").expect(rt, "memory");

@@ -238,10 +238,11 @@ fn rooms_listed(rt: &impl Abort, alloc: Global, bytes: &[u8]) -> usize {
     choices.as_slice().len()
 }
 
-// Heads up to their limits: how many bytes come before the end, the end, and what they ask.
-const HEADS: [(usize, &[u8], Asked); 5] = [
+// Heads up to their limits and beyond them: how many bytes come before the end, the end, and what they ask.
+const HEADS: [(usize, &[u8], Asked); 6] = [
     (HEAD_LIMIT - 4, b"", Asked::More),
     (HEAD_LIMIT - 4, b"\r\n\r\n", Asked::Whole(0)),
+    (HEAD_LIMIT - 3, b"\r\n\r\n", Asked::Refused(400)),
     (HEAD_LIMIT - 1, b"", Asked::More),
     (HEAD_LIMIT, b"", Asked::Refused(400)),
     (HEAD_LIMIT, b"\r\n\r\n", Asked::Refused(400)),

@@ -153,6 +153,29 @@ fn each_write_failing_in_turn(rt: HostRuntime) -> Result<(), Fail> {
     Ok(())
 }
 
+// The device is full after so many bytes, or it is the write after them that fails.
+#[test]
+fn people_to_a_device_that_fails(rt: HostRuntime) -> Result<(), Fail> {
+    let alloc = rt.alloc();
+    let rows = people(&rt, alloc)?;
+    for sent in 0..PEOPLE.len() {
+        for (writes, room) in [(usize::MAX, sent), (sent, usize::MAX)] {
+            let mut output = Watched::new(new_device(alloc, writes, room));
+            assert_same!(rt;
+                write_people(alloc, &rows, &mut output),
+                Err(WriteEnd::Fault { sent: sent as u128 })
+            );
+            assert!(rt; output.failed() && !output.late());
+            assert_same!(rt; output.into_inner().written.as_slice(), &PEOPLE[..sent]);
+        }
+    }
+    println!(rt;
+        "an export of people that fails in two ways: {} faults",
+        PEOPLE.len().saturating_mul(2)
+    )?;
+    Ok(())
+}
+
 // A device that takes at most a byte a write. So many writes pass, the next one fails, and it goes on after that; it
 // takes `room` bytes in all.
 #[derive(Drop)]

@@ -2,7 +2,7 @@
 use crate::asserting::assert_same;
 use office_lists::{Cause, ListFault, PersonEntry, read_choices, read_people, read_rooms};
 use room_types::RoomCode;
-use std::alloc::Global;
+use std::alloc::{AllocError, Global};
 use std::process::Abort;
 use std::test::Fail;
 
@@ -163,14 +163,38 @@ fn bad_choices(rt: HostRuntime) -> Result<(), Fail> {
     Ok(())
 }
 
+// A list of choices with one record, of so many rooms.
+fn list_of_choices(alloc: Global, rooms: u8) -> Result<Vec<u8>, AllocError> {
+    let mut list = Vec::from_slice(alloc, b"person,choices\nT1,R0")?;
+    for number in 1..rooms {
+        list.extend_from_slice(format!(in alloc; " R{number}")?.as_bytes())?;
+    }
+    Ok(list)
+}
+
+#[test]
+fn choices_up_to_the_limit(rt: HostRuntime) -> Result<(), Fail> {
+    let alloc = rt.alloc();
+    let choices = read(&rt, read_choices(alloc, &list_of_choices(alloc, 40)?));
+    assert!(rt; matches!(choices.as_slice(), [only] if only.choices.as_slice().len() == 40));
+    let long = list_of_choices(alloc, 41)?;
+    expect(&rt, read_choices(alloc, &long), 1, Cause::BadField(2));
+    Ok(())
+}
+
+// The header, and the record as often as there may be records.
+fn longest(alloc: Global, header: &[u8], record: &[u8]) -> Result<Vec<u8>, AllocError> {
+    let mut list = Vec::from_slice(alloc, header)?;
+    for _ in 0..10_000 {
+        list.extend_from_slice(record)?;
+    }
+    Ok(list)
+}
+
 #[test]
 fn long_lists(rt: HostRuntime) -> Result<(), Fail> {
     let alloc = rt.alloc();
-    let mut list = Vec::new(alloc);
-    list.extend_from_slice(b"room\n")?;
-    for _ in 0..10_000 {
-        list.extend_from_slice(b"A1\n")?;
-    }
+    let mut list = longest(alloc, b"room\n", b"A1\n")?;
     assert_same!(rt; read(&rt, read_rooms(alloc, &list)).len(), 10_000);
     list.extend_from_slice(b"A1")?;
     expect(&rt, read_rooms(alloc, &list), 10_001, Cause::TooMany);
@@ -180,6 +204,23 @@ fn long_lists(rt: HostRuntime) -> Result<(), Fail> {
         list.push(b'A')?;
     }
     expect(&rt, read_rooms(alloc, &list), 1, Cause::BadField(1));
+    Ok(())
+}
+
+// Also the longest of these lists has less than 262,144 bytes.
+#[test]
+fn long_lists_of_people_and_choices(rt: HostRuntime) -> Result<(), Fail> {
+    let alloc = rt.alloc();
+    let person = b"E1,Ann,key00000000000e1,\n";
+    let mut list = longest(alloc, b"person,name,key,home\n", person)?;
+    assert_same!(rt; read(&rt, read_people(alloc, &list)).len(), 10_000);
+    list.extend_from_slice(person)?;
+    assert!(rt; list.len() < 262_144);
+    expect(&rt, read_people(alloc, &list), 10_001, Cause::TooMany);
+    let mut list = longest(alloc, b"person,choices\n", b"T1,V\n")?;
+    assert_same!(rt; read(&rt, read_choices(alloc, &list)).len(), 10_000);
+    list.extend_from_slice(b"T1,V")?;
+    expect(&rt, read_choices(alloc, &list), 10_001, Cause::TooMany);
     Ok(())
 }
 

@@ -1,0 +1,59 @@
+//! All that the office tells of its open round.
+use crate::asserting::same_at;
+use office_lines::rehearse::rehearse;
+use office_store::Desk;
+use room_types::Watched;
+use sqlite::MemStore;
+use std::alloc::Global;
+use std::process::Abort;
+
+/// T1's line where no list of T1 is recorded.
+pub const NO_LIST: &str = "choices\n";
+
+/// T1's line where T1 lists H2.
+pub const LISTS_H2: &str = "choices H2\n";
+
+// Lines that tell all of the office: its rooms, its people, its round, and what each person is told.
+const ASKS: &str = "rooms\npeople\nround\nme key00000000000t1\nme key00000000000t2\n";
+
+// What they tell before T1's list.
+const FRONT: &str = "\
+room      state     tenant\n\
+H1        occupied  T1\n\
+H2        occupied  T2\n\
+V         free      none\n\
+person        home      name\n\
+T1            H1        Tim Tan\n\
+T2            H2        Tom Tao\n\
+round 1 open people 2 withdrawn 0\n\
+person T1\n\
+name Tim Tan\n\
+home H1\n\
+round 1 open\n";
+
+// What they tell after it.
+const REST: &str = "\
+withdrawn no\n\
+result hidden\n\
+person T2\n\
+name Tom Tao\n\
+home H2\n\
+round 1 open\n\
+choices H1\n\
+withdrawn no\n\
+result hidden\n";
+
+/// That the office tells just this of its open round, with this line for T1's list.
+pub fn is_told(rt: &impl Abort, alloc: Global, desk: &mut Desk<MemStore>, list: &str, case: usize) {
+    let wanted = format!(in alloc; "{FRONT}{list}{REST}").expect(rt, "memory");
+    let told = told(alloc, desk);
+    same_at(rt, &told.as_slice(), &wanted.as_bytes(), case);
+}
+
+// What the office tells.
+fn told(alloc: Global, desk: &mut Desk<MemStore>) -> Vec<u8> {
+    let mut input = Watched::new(ASKS.as_bytes());
+    let mut output = Watched::new(Vec::new(alloc));
+    let _how = rehearse(alloc, desk, &mut input, &mut output);
+    output.into_inner()
+}
