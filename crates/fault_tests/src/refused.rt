@@ -6,6 +6,7 @@ mod adopting;
 mod exporting;
 mod lists;
 mod loading;
+mod rehearsing;
 mod residents;
 mod told;
 mod writing;
@@ -15,7 +16,8 @@ use crate::refused::adopting::office_is_adopted;
 use crate::refused::exporting::exports_are_told;
 use crate::refused::lists::lists_are_read;
 use crate::refused::loading::office_is_read;
-use crate::refused::residents::resident_is_served;
+use crate::refused::rehearsing::is_rehearsed;
+use crate::refused::residents::{FAULTS, LIST, LIST_AGAIN, LONGEST_LIST, RESULTS, are_served};
 use crate::refused::told::are_as_accepted;
 use crate::refused::writing::rows_are_sent;
 use crate::texts::{CHOICES, PEOPLE, REGISTER, ROOMS, ROUND};
@@ -131,7 +133,32 @@ fn other_lists_are_tried(rt: HostRuntime) {
 
 #[test]
 fn a_resident_is_served(rt: HostRuntime) {
-    assert!(rt; ended_well(&rt, resident_is_served(rt.alloc())));
+    assert!(rt; ended_well(&rt, are_served(rt.alloc(), &LIST)));
+}
+
+#[test]
+fn a_list_comes_again(rt: HostRuntime) {
+    assert!(rt; ended_well(&rt, are_served(rt.alloc(), &LIST_AGAIN)));
+}
+
+#[test]
+fn a_long_list_comes(rt: HostRuntime) {
+    assert!(rt; ended_well(&rt, are_served(rt.alloc(), &LONGEST_LIST)));
+}
+
+#[test]
+fn residents_are_refused(rt: HostRuntime) {
+    assert!(rt; ended_well(&rt, are_served(rt.alloc(), &FAULTS)));
+}
+
+#[test]
+fn a_resident_is_told_of_the_results(rt: HostRuntime) {
+    assert!(rt; ended_well(&rt, are_served(rt.alloc(), &RESULTS)));
+}
+
+#[test]
+fn a_register_is_rehearsed(rt: HostRuntime) {
+    assert!(rt; ended_well(&rt, is_rehearsed(rt.alloc(), REGISTER)));
 }
 
 #[test]

@@ -1,15 +1,15 @@
-//! A resident hands in a list.
+//! What residents send, while memory is refused.
 use crate::asking::{furnish, let_go, lines_asked, office_after};
 use crate::refused::verdict;
 use crate::same::is_same_office;
 use http::StatusCode;
 use office_state::Office;
-use office_store::{Desk, Request};
+use office_store::Desk;
 use resident_desk::{Served, serve_one};
 use room_types::stream::Pair;
 use room_types::{OutOfMemory, Watched};
 use sqlite::MemStore;
-use std::alloc::Global;
+use std::alloc::{AllocError, Global};
 
 // A round is open: T1 lives in H1 and T2 in H2, V is vacant, and T2 lists H1.
 const OPEN_ROUND: &str = "\
@@ -23,22 +23,8 @@ home T2 H2\n\
 open\n\
 choose T2 H1\n";
 
-// What the office records of the request.
+// What the office records of a list that T1 hands in.
 const CHOOSES: &str = "choose T1 H2\n";
-
-const REQUEST: &str = "PUT /me/choices HTTP/1.1\r\n\
-    Host: a\r\n\
-    Room-Key: key00000000000t1\r\n\
-    Content-Length: 6\r\n\
-    \r\n\
-    [\"H2\"]";
-
-const ANSWER: &str = "HTTP/1.1 200 OK\r\n\
-    Content-Type: application/json\r\n\
-    Content-Length: 18\r\n\
-    Connection: close\r\n\
-    \r\n\
-    {\"choices\":[\"H2\"]}";
 
 const UNAVAILABLE: &str = "HTTP/1.1 503 Service Unavailable\r\n\
     Content-Type: application/json\r\n\
@@ -47,84 +33,238 @@ const UNAVAILABLE: &str = "HTTP/1.1 503 Service Unavailable\r\n\
     \r\n\
     {\"error\":\"Unavailable\"}";
 
-// How a conversation ended, what was written, and the office afterwards, if it could be read.
+/// What the office does, what then comes from a resident, with so many spaces behind it, the answer, and what the office records.
+#[derive(Clone, Copy)]
+pub struct Step {
+    lines: &'static str,
+    request: &'static str,
+    spaces: usize,
+    status: StatusCode,
+    reason: &'static str,
+    // a field of its own, with its end
+    allow: &'static str,
+    body: &'static str,
+    records: &'static str,
+}
+
+// A list is handed in and recorded.
+const RECORDED: Step = Step {
+    lines: "",
+    request: "PUT /me/choices HTTP/1.1\r\nHost: a\r\nRoom-Key: key00000000000t1\r\nContent-Length: 6\r\n\r\n[\"H2\"]",
+    spaces: 0,
+    status: StatusCode::OK,
+    reason: "OK",
+    allow: "",
+    body: "{\"choices\":[\"H2\"]}",
+    records: CHOOSES,
+};
+
+// A request that changes nothing.
+const REFUSED: Step = Step {
+    lines: "",
+    request: "",
+    spaces: 0,
+    status: StatusCode::BAD_REQUEST,
+    reason: "Bad Request",
+    allow: "",
+    body: "{\"error\":\"BadRequest\"}",
+    records: "",
+};
+
+/// T1 hands in a list.
+pub const LIST: [Step; 1] = [RECORDED];
+
+/// T1 hands in the list that is recorded already.
+pub const LIST_AGAIN: [Step; 1] = [Step {
+    lines: CHOOSES,
+    ..RECORDED
+}];
+
+/// T1 hands in a list in a body of 1,024 bytes.
+pub const LONGEST_LIST: [Step; 1] = [Step {
+    request: "PUT /me/choices HTTP/1.1\r\nHost: a\r\nRoom-Key: key00000000000t1\r\nContent-Length: 1024\r\n\r\n[\"H2\"]",
+    spaces: 1_018,
+    ..RECORDED
+}];
+
+/// Requests that are cut off, too long, or refused.
+pub const FAULTS: [Step; 5] = [
+    Step {
+        request: "PUT /me/choices HTTP/1.1\r\nHost: a\r\nRoom-Key: key00000000000t1\r\nContent-Length: 6\r\n\r\n[\"H2\"",
+        ..REFUSED
+    },
+    Step {
+        request: "PUT /me/choices HTTP/1.1\r\nHost: a\r\nRoom-Key: key00000000000t1\r\nContent-Length: 1025\r\n\r\n[\"H2\"]",
+        status: StatusCode::PAYLOAD_TOO_LARGE,
+        reason: "Payload Too Large",
+        body: "{\"error\":\"ContentTooLarge\"}",
+        ..REFUSED
+    },
+    Step {
+        request: "PUT /me/choices HTTP/1.1\r\nHost: a\r\nRoom-Key: key00000000000t1\r\nContent-Length: 11\r\n\r\n[\"H2\",\"H2\"]",
+        status: StatusCode::UNPROCESSABLE_ENTITY,
+        reason: "Unprocessable Entity",
+        body: "{\"error\":\"RoomRepeated\"}",
+        ..REFUSED
+    },
+    Step {
+        request: "PUT /me/choices HTTP/1.1\r\nHost: a\r\nRoom-Key: key00000000000t9\r\nContent-Length: 6\r\n\r\n[\"H2\"]",
+        status: StatusCode::FORBIDDEN,
+        reason: "Forbidden",
+        body: "{\"error\":\"Forbidden\"}",
+        ..REFUSED
+    },
+    Step {
+        request: "DELETE /me/choices HTTP/1.1\r\nHost: a\r\nRoom-Key: key00000000000t1\r\n\r\n",
+        status: StatusCode::METHOD_NOT_ALLOWED,
+        reason: "Method Not Allowed",
+        allow: "Allow: PUT\r\n",
+        body: "{\"error\":\"MethodNotAllowed\"}",
+        ..REFUSED
+    },
+];
+
+// T1 asks what the office knows of T1.
+const SHOWN: Step = Step {
+    lines: "choose T1 H2\nclose\ndraw 0000000000000001 0000000000000002\nrun\n",
+    request: "GET /me HTTP/1.1\r\nHost: a\r\nRoom-Key: key00000000000t1\r\n\r\n",
+    body: "{\"choices\":[\"H2\"],\"home\":\"H1\",\"name\":\"Tim Tan\",\"person\":\"T1\",\"phase\":\"ran\",\"result\":null,\"round\":1,\"shown\":false,\"withdrawn\":false}",
+    records: "",
+    ..RECORDED
+};
+
+/// T1 asks before the results are published, and after it.
+pub const RESULTS: [Step; 2] = [
+    SHOWN,
+    Step {
+        lines: "publish\n",
+        body: "{\"choices\":[\"H2\"],\"home\":\"H1\",\"name\":\"Tim Tan\",\"person\":\"T1\",\"phase\":\"published\",\"result\":\"H2\",\"round\":1,\"shown\":true,\"withdrawn\":false}",
+        ..SHOWN
+    },
+];
+
+// What the office did, how many answers were that the desk is unavailable, and the office afterwards, if it could be read.
 #[derive(Drop)]
-struct Talk {
-    how: Served,
-    written: Vec<u8>,
+struct Told {
+    lines: Vec<&'static str>,
+    wanting: usize,
     office: Option<Office>,
 }
 
-/// Whether the list is recorded and the resident told so, or neither: then the answer is that the desk is unavailable.
-pub fn resident_is_served(alloc: Global) -> Result<bool, OutOfMemory> {
-    let requests = lines_asked(alloc, &[OPEN_ROUND])?;
-    let talk = talk_with(alloc, &requests)?;
-    talk_judged(alloc, &talk)
+// How a resident was answered.
+#[derive(Clone, Copy, PartialEq, Eq)]
+enum Answered {
+    AsWorked,
+    Unavailable,
+    Otherwise,
 }
 
-fn talk_judged(alloc: Global, talk: &Talk) -> Result<bool, OutOfMemory> {
-    if is_answered(talk, StatusCode::OK, ANSWER) {
-        return office_judged(alloc, talk, CHOOSES, 0);
-    }
-    if is_answered(talk, StatusCode::SERVICE_UNAVAILABLE, UNAVAILABLE) {
-        return office_judged(alloc, talk, "", 1);
-    }
-    Ok(false)
-}
-
-// Whether the answer of this status went out, to the byte.
-fn is_answered(talk: &Talk, status: StatusCode, answer: &str) -> bool {
-    talk.how == Served::Answered { status } && talk.written.as_slice() == answer.as_bytes()
-}
-
-// Whether the office of the open round after these lines is read afterwards. `wanting` answers before were out of memory.
-fn office_judged(
-    alloc: Global,
-    talk: &Talk,
-    lines: &str,
-    wanting: usize,
-) -> Result<bool, OutOfMemory> {
-    let requests = lines_asked(alloc, &[OPEN_ROUND, lines])?;
-    let office = office_after(alloc, &requests)?;
-    match &talk.office {
-        Some(found) => {
-            if is_same_office(&office, found) {
-                verdict(wanting)
-            } else {
-                Ok(false)
-            }
-        }
-        None => verdict(wanting.saturating_add(1)),
-    }
-}
-
-fn talk_with(alloc: Global, requests: &[Request]) -> Result<Talk, OutOfMemory> {
+/// Whether each resident has the answer and the office the record of it, or neither: then the answer is that the desk is unavailable.
+pub fn are_served(alloc: Global, steps: &[Step]) -> Result<bool, OutOfMemory> {
     let Ok(mut desk) = Desk::in_memory(alloc) else {
         return Err(OutOfMemory {});
     };
-    let talk = talk_at(alloc, &mut desk, requests);
+    let told = told_in_turn(alloc, &mut desk, steps);
     let_go(desk);
-    talk
+    match told? {
+        Some(told) => office_judged(alloc, &told),
+        None => Ok(false),
+    }
 }
 
-fn talk_at(
+// None where an answer is neither of the two.
+fn told_in_turn(
     alloc: Global,
     desk: &mut Desk<MemStore>,
-    requests: &[Request],
-) -> Result<Talk, OutOfMemory> {
-    furnish(alloc, desk, requests)?;
+    steps: &[Step],
+) -> Result<Option<Told>, OutOfMemory> {
+    let mut lines = Vec::new(alloc);
+    let mut wanting = 0usize;
+    does(alloc, desk, &mut lines, OPEN_ROUND)?;
+    for step in steps {
+        does(alloc, desk, &mut lines, step.lines)?;
+        match answered(alloc, desk, step)? {
+            Answered::AsWorked => lines.push(step.records)?,
+            Answered::Unavailable => wanting = wanting.saturating_add(1),
+            Answered::Otherwise => return Ok(None),
+        }
+    }
+    let office = desk.load(alloc).ok();
+    Ok(Some(Told {
+        lines,
+        wanting,
+        office,
+    }))
+}
+
+// The office does this, which is noted.
+fn does(
+    alloc: Global,
+    desk: &mut Desk<MemStore>,
+    noted: &mut Vec<&'static str>,
+    lines: &'static str,
+) -> Result<(), OutOfMemory> {
+    let requests = lines_asked(alloc, &[lines])?;
+    furnish(alloc, desk, &requests)?;
+    noted.push(lines)?;
+    Ok(())
+}
+
+fn answered(
+    alloc: Global,
+    desk: &mut Desk<MemStore>,
+    step: &Step,
+) -> Result<Answered, OutOfMemory> {
+    let request = request_text(alloc, step)?;
+    let answer = answer_text(alloc, step)?;
     // No memory is taken for what is written.
     let writer = Vec::with_capacity(alloc, 1_024)?;
     let mut stream = Watched::new(Pair {
-        reader: REQUEST.as_bytes(),
+        reader: request.as_bytes(),
         writer,
     });
     let how = serve_one(alloc, desk, &mut stream);
     let written = stream.into_inner().writer;
-    let office = desk.load(alloc).ok();
-    Ok(Talk {
-        how,
-        written,
-        office,
+    Ok(if is_answer(&how, &written, step.status, answer.as_str()) {
+        Answered::AsWorked
+    } else if is_answer(&how, &written, StatusCode::SERVICE_UNAVAILABLE, UNAVAILABLE) {
+        Answered::Unavailable
+    } else {
+        Answered::Otherwise
     })
+}
+
+// Whether the answer of this status went out, to the byte.
+fn is_answer(how: &Served, written: &[u8], status: StatusCode, answer: &str) -> bool {
+    *how == Served::Answered { status } && written == answer.as_bytes()
+}
+
+fn request_text(alloc: Global, step: &Step) -> Result<String, AllocError> {
+    let mut text = " ".repeat(alloc, step.spaces)?;
+    text.insert_str(0, step.request)?;
+    Ok(text)
+}
+
+fn answer_text(alloc: Global, step: &Step) -> Result<String, AllocError> {
+    let (status, reason, allow, body) = (step.status.as_u16(), step.reason, step.allow, step.body);
+    let length = body.len();
+    format!(in alloc;
+        "HTTP/1.1 {status} {reason}\r\nContent-Type: application/json\r\nContent-Length: {length}\r\n{allow}Connection: close\r\n\r\n{body}"
+    )
+}
+
+// Whether the office after all that was done is read afterwards.
+fn office_judged(alloc: Global, told: &Told) -> Result<bool, OutOfMemory> {
+    let requests = lines_asked(alloc, &told.lines)?;
+    let office = office_after(alloc, &requests)?;
+    match &told.office {
+        Some(found) => {
+            if is_same_office(&office, found) {
+                verdict(told.wanting)
+            } else {
+                Ok(false)
+            }
+        }
+        None => verdict(told.wanting.saturating_add(1)),
+    }
 }
