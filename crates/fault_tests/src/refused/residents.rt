@@ -183,7 +183,7 @@ fn told_in_turn(
     does(alloc, desk, &mut lines, OPEN_ROUND)?;
     for step in steps {
         does(alloc, desk, &mut lines, step.lines)?;
-        match answered(alloc, desk, step)? {
+        match answer_of(alloc, desk, step)? {
             Answered::AsWorked => lines.push(step.records)?,
             Answered::Unavailable => wanting = wanting.saturating_add(1),
             Answered::Otherwise => return Ok(None),
@@ -210,7 +210,7 @@ fn does(
     Ok(())
 }
 
-fn answered(
+fn answer_of(
     alloc: Global,
     desk: &mut Desk<MemStore>,
     step: &Step,
