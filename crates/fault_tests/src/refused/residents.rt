@@ -1,10 +1,10 @@
 //! What residents send, while memory is refused.
-use crate::asking::{furnish, let_go, lines_asked, office_after};
+use crate::asking::{ask_lines, furnish, let_go, lines_asked, office_after};
 use crate::refused::verdict;
 use crate::same::is_same_office;
 use http::StatusCode;
 use office_state::Office;
-use office_store::Desk;
+use office_store::{Desk, Request};
 use resident_desk::{Served, serve_one};
 use room_types::stream::Pair;
 use room_types::{OutOfMemory, Watched};
@@ -143,10 +143,10 @@ pub const RESULTS: [Step; 2] = [
     },
 ];
 
-// What the office did, how many answers were that the desk is unavailable, and the office afterwards, if it could be read.
+// What the office was asked, how many answers were that the desk is unavailable, and the office afterwards, if it could be read.
 #[derive(Drop)]
 struct Told {
-    lines: Vec<&'static str>,
+    requests: Vec<Request>,
     wanting: usize,
     office: Option<Office>,
 }
@@ -178,36 +178,35 @@ fn told_in_turn(
     desk: &mut Desk<MemStore>,
     steps: &[Step],
 ) -> Result<Option<Told>, OutOfMemory> {
-    let mut lines = Vec::new(alloc);
+    let mut requests = Vec::new(alloc);
     let mut wanting = 0usize;
-    does(alloc, desk, &mut lines, OPEN_ROUND)?;
+    does(alloc, desk, &mut requests, OPEN_ROUND)?;
     for step in steps {
-        does(alloc, desk, &mut lines, step.lines)?;
+        does(alloc, desk, &mut requests, step.lines)?;
         match answer_of(alloc, desk, step)? {
-            Answered::AsWorked => lines.push(step.records)?,
+            Answered::AsWorked => ask_lines(alloc, &mut requests, step.records)?,
             Answered::Unavailable => wanting = wanting.saturating_add(1),
             Answered::Otherwise => return Ok(None),
         }
     }
     let office = desk.load(alloc).ok();
     Ok(Some(Told {
-        lines,
+        requests,
         wanting,
         office,
     }))
 }
 
-// The office does this, which is noted.
+// The office does what these lines ask, which is noted.
 fn does(
     alloc: Global,
     desk: &mut Desk<MemStore>,
-    noted: &mut Vec<&'static str>,
-    lines: &'static str,
+    noted: &mut Vec<Request>,
+    lines: &str,
 ) -> Result<(), OutOfMemory> {
     let requests = lines_asked(alloc, &[lines])?;
     furnish(alloc, desk, &requests)?;
-    noted.push(lines)?;
-    Ok(())
+    ask_lines(alloc, noted, lines)
 }
 
 fn answer_of(
@@ -255,8 +254,7 @@ fn answer_text(alloc: Global, step: &Step) -> Result<String, AllocError> {
 
 // Whether the office after all that was done is read afterwards.
 fn office_judged(alloc: Global, told: &Told) -> Result<bool, OutOfMemory> {
-    let requests = lines_asked(alloc, &told.lines)?;
-    let office = office_after(alloc, &requests)?;
+    let office = office_after(alloc, &told.requests)?;
     match &told.office {
         Some(found) => {
             if is_same_office(&office, found) {
