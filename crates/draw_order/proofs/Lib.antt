@@ -1,2 +1,1 @@
-pub mod DrawnOrders
-pub mod NextWords
+pub mod draws

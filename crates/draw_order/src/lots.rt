@@ -19,7 +19,7 @@ pub fn order(alloc: Global, lots: &[(PersonId, Word)]) -> Result<Vec<PersonId>, 
         return Ok(Vec::new(alloc));
     }
     let mut ascending = words_first(alloc, lots)?;
-    sort_pairs(&mut ascending);
+    sort_lot_pairs(&mut ascending);
     identifiers(alloc, &ascending)
 }
 
@@ -35,7 +35,7 @@ fn words_first(
 }
 
 // Ascending by word, and by identifier where words are equal.
-fn sort_pairs(pairs: &mut Vec<(Word, &PersonId)>)
+fn sort_lot_pairs(pairs: &mut Vec<(Word, &PersonId)>)
     ensures moved { IsPermutation pairs.old.items pairs.new.items }
     ensures ascending { IsSorted (on lot_of lot_cmp) pairs.new.items }
 {

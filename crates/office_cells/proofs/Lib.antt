@@ -1,1 +1,1 @@
-mod TextCells
+mod cell_texts

@@ -85,13 +85,13 @@ pub fn bytes_in(alloc: Global, row: &Row, at: usize) -> Result<Option<Listing<u8
     ensures memory { OnErr result (IsFilledBlob (column row.now at)) }
 {
     match row.get_ref(at) {
-        Ok(ValueRef::Blob(bytes)) => Ok(Some(kept(alloc, bytes)?)),
+        Ok(ValueRef::Blob(bytes)) => Ok(Some(kept_cell_bytes(alloc, bytes)?)),
         _ => Ok(None),
     }
 }
 
 // These bytes, kept. No bytes take no memory.
-fn kept(alloc: Global, bytes: &[u8]) -> Result<Listing<u8>, OutOfMemory>
+fn kept_cell_bytes(alloc: Global, bytes: &[u8]) -> Result<Listing<u8>, OutOfMemory>
     ensures same { IfOk result (λ kept. kept ≡ bytes.now) }
     ensures memory { OnErr result (0 < length bytes.now) }
 {

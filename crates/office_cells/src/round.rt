@@ -14,7 +14,7 @@ use sqlite::Row;
 use std::alloc::Global;
 
 // The phase that is printed so.
-fn phase_of(text: &str) -> Option<Phase>
+fn cell_phase_of(text: &str) -> Option<Phase>
     ensures { MatchOption result ((p : phase) → text.now ≡ phase_text p → ⊥)
         (λ p. text.now ≡ phase_text p) }
 {
@@ -48,7 +48,7 @@ fn phase_in(row: &Row, at: usize) -> Option<Phase>
     let Some(text) = str_in(row, at) else {
         return None;
     };
-    phase_of(text)
+    cell_phase_of(text)
 }
 
 impl Record for RoundRecord {

@@ -1,7 +1,2 @@
-pub mod AlikeLemmas
-pub mod CallLemmas
-pub mod CarryLemmas
-pub mod ChangeRows
-pub mod LoopLemmas
-pub mod RowsChanged
-pub mod SpelledLemmas
+pub mod alike_tables
+pub mod changed_rows

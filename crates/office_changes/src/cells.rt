@@ -10,36 +10,36 @@ use room_types::text::{Grammar, Text};
 use room_types::{Move, Wave, Word};
 
 // A text is UTF-8.
-fn know_utf8(text: &str)
+fn know_changed_row_utf8(text: &str)
     ensures { IsUtf8 text.now }
 {
     let _text = text;
 }
 
 /// A text is in its grammar.
-pub(crate) fn know_text<G: Grammar>(text: &Text<G>)
+pub(crate) fn know_changed_row_text<G: Grammar>(text: &Text<G>)
     ensures { IsTextOf G.is_text (value.Text text.now) }
 {
-    know_utf8(text.as_str());
+    know_changed_row_utf8(text.as_str());
 }
 
 /// And so is one that may be missing.
-pub(crate) fn know_optional<G: Grammar>(text: &Option<Text<G>>)
+pub(crate) fn know_changed_row_optional<G: Grammar>(text: &Option<Text<G>>)
     ensures { IsOptionalTextOf G.is_text (text_or_null text.now) }
 {
     if let Some(text) = text {
-        know_text(text);
+        know_changed_row_text(text);
     }
 }
 
 /// A word has 64 bits.
-pub(crate) fn know_word(word: Word)
+pub(crate) fn know_changed_row_word(word: Word)
     ensures { word < 2 ^ 64 }
 {
     let _value = word.value();
 }
 
-fn know_wave(wave: Wave)
+fn know_changed_row_wave(wave: Wave)
     ensures { IsWave (wave_value wave) }
 {
     match wave {
@@ -49,12 +49,12 @@ fn know_wave(wave: Wave)
 }
 
 /// The parts of a move have their forms.
-pub(crate) fn know_move(moved: &Move)
+pub(crate) fn know_changed_row_move(moved: &Move)
     ensures { IsMoveRow (move_columns moved.now) }
 {
     let _round = moved.round;
-    know_text(&moved.person);
-    know_optional(&moved.from);
-    know_optional(&moved.to);
-    know_wave(moved.wave);
+    know_changed_row_text(&moved.person);
+    know_changed_row_optional(&moved.from);
+    know_changed_row_optional(&moved.to);
+    know_changed_row_wave(moved.wave);
 }

@@ -6,7 +6,7 @@ ghost use Rattle.office_tables.specs.Steps.{StaysInside};
 ghost use Rattle.office_changes.specs.Carries.{CarriesAlways, Turns};
 ghost use Rattle.office_changes.specs.Choosing.{with_choices};
 
-use crate::cells::know_text;
+use crate::cells::know_changed_row_text;
 use office_tables::choices::{add_choice, drop_choices};
 use room_types::{Choices, PersonId};
 use sqlite::{Alter, Error, Transaction};
@@ -39,11 +39,11 @@ fn add_choices<S: Alter>(
         (with_choices person.now 0 choices.now)) }
     ensures inside { StaysInside (state S.Store tx.old.conn.now) (state S.Store tx.new.conn.now) }
 {
-    know_text(person);
+    know_changed_row_text(person);
     let rooms = choices.as_slice();
     let mut place = 0;
     for room in rooms {
-        know_text(room);
+        know_changed_row_text(room);
         add_choice(tx, person, place, room)?;
         place += 1;
     }

@@ -11,4 +11,4 @@ mod round;
 mod store;
 mod words;
 
-pub use crate::store::store_all;
+pub use crate::store::store_changes;

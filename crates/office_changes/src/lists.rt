@@ -5,7 +5,7 @@ ghost use Rattle.office_state.specs.declared.change.Change.TheVariants.{KeepList
 ghost use Rattle.office_tables.specs.Steps.{StaysInside};
 ghost use Rattle.office_changes.specs.Carries.{CarriesAlways};
 
-use crate::cells::know_text;
+use crate::cells::know_changed_row_text;
 use office_tables::lists::add_list;
 use room_types::{Label, ListKind, Listing};
 use sqlite::{Alter, Error, Transaction};
@@ -24,6 +24,6 @@ pub(crate) fn keep_list<S: Alter>(
         (KeepList label.now kind bytes.now count)) }
     ensures inside { StaysInside (state S.Store tx.old.conn.now) (state S.Store tx.new.conn.now) }
 {
-    know_text(label);
+    know_changed_row_text(label);
     add_list(tx, label, kind, bytes, count)
 }

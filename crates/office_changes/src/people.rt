@@ -5,7 +5,7 @@ ghost use Rattle.office_state.specs.declared.change.Change.TheVariants.{PutPerso
 ghost use Rattle.office_tables.specs.Steps.{StaysInside};
 ghost use Rattle.office_changes.specs.Carries.{CarriesAlways};
 
-use crate::cells::{know_optional, know_text};
+use crate::cells::{know_changed_row_optional, know_changed_row_text};
 use office_tables::people::{add_person, drop_person, set_home, set_withdrawn};
 use room_types::{Key, Name, PersonId, RoomCode};
 use sqlite::{Alter, Error, Transaction};
@@ -24,10 +24,10 @@ pub(crate) fn put_person<S: Alter>(
         (PutPerson person.now name.now key.now home.now)) }
     ensures inside { StaysInside (state S.Store tx.old.conn.now) (state S.Store tx.new.conn.now) }
 {
-    know_text(person);
-    know_text(name);
-    know_text(key);
-    know_optional(home);
+    know_changed_row_text(person);
+    know_changed_row_text(name);
+    know_changed_row_text(key);
+    know_changed_row_optional(home);
     add_person(tx, person, name, key, home)
 }
 
@@ -57,7 +57,7 @@ pub(crate) fn put_home<S: Alter>(
         (PutHome person.now home.now)) }
     ensures inside { StaysInside (state S.Store tx.old.conn.now) (state S.Store tx.new.conn.now) }
 {
-    know_optional(home);
+    know_changed_row_optional(home);
     set_home(tx, person, home)
 }
 

@@ -5,7 +5,7 @@ ghost use Rattle.office_state.specs.declared.change.Change.TheVariants.{PutResul
 ghost use Rattle.office_tables.specs.Steps.{StaysInside};
 ghost use Rattle.office_changes.specs.Carries.{CarriesAlways};
 
-use crate::cells::{know_move, know_optional, know_text};
+use crate::cells::{know_changed_row_move, know_changed_row_optional, know_changed_row_text};
 use office_tables::moves::add_move;
 use office_tables::results::add_result;
 use room_types::{Move, PersonId, RoomCode};
@@ -23,8 +23,8 @@ pub(crate) fn put_result<S: Alter>(
         (PutResult person.now room.now)) }
     ensures inside { StaysInside (state S.Store tx.old.conn.now) (state S.Store tx.new.conn.now) }
 {
-    know_text(person);
-    know_optional(room);
+    know_changed_row_text(person);
+    know_changed_row_optional(room);
     add_result(tx, person, room)
 }
 
@@ -36,6 +36,6 @@ pub(crate) fn record_move<S: Alter>(tx: &mut Transaction<'_, S>, moved: &Move) -
         (AddMove moved.now)) }
     ensures inside { StaysInside (state S.Store tx.old.conn.now) (state S.Store tx.new.conn.now) }
 {
-    know_move(moved);
+    know_changed_row_move(moved);
     add_move(tx, moved)
 }

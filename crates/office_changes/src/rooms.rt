@@ -5,7 +5,7 @@ ghost use Rattle.office_state.specs.declared.change.Change.TheVariants.{PutRoom}
 ghost use Rattle.office_tables.specs.Steps.{StaysInside};
 ghost use Rattle.office_changes.specs.Carries.{CarriesOne};
 
-use crate::cells::know_text;
+use crate::cells::know_changed_row_text;
 use office_state::Office;
 use office_tables::rooms::{add_room, set_shut};
 use room_types::RoomCode;
@@ -28,6 +28,6 @@ pub(crate) fn put_room<S: Alter>(
     if first.rooms.contains_key(room) {
         return set_shut(tx, room, shut);
     }
-    know_text(room);
+    know_changed_row_text(room);
     add_room(tx, room, shut)
 }

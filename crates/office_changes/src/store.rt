@@ -21,7 +21,7 @@ use std::alloc::Global;
 /// Where it succeeds, the connection is open, and the tables are the rows of the office after the changes, if these
 /// fit. Where it fails, for a fault of the disk, want of memory, or a change that the tables refuse, they are as they
 /// were, unless a fault shut the connection.
-pub fn store_all<S: Alter>(
+pub fn store_changes<S: Alter>(
     alloc: Global,
     conn: &mut Connection<S>,
     office: &Office,
@@ -60,13 +60,13 @@ fn make_all<S: Alter>(
     ensures inside { StaysInside (state S.Store tx.old.conn.now) (state S.Store tx.new.conn.now) }
 {
     for change in changes {
-        make(alloc, tx, first, change)?;
+        make_change(alloc, tx, first, change)?;
     }
     Ok(())
 }
 
 // Makes one change.
-fn make<S: Alter>(
+fn make_change<S: Alter>(
     alloc: Global,
     tx: &mut Transaction<'_, S>,
     first: &Office,

@@ -5,7 +5,7 @@ ghost use Rattle.office_state.specs.declared.change.Change.TheVariants.{PutWord}
 ghost use Rattle.office_tables.specs.Steps.{StaysInside};
 ghost use Rattle.office_changes.specs.Carries.{CarriesAlways};
 
-use crate::cells::{know_text, know_word};
+use crate::cells::{know_changed_row_text, know_changed_row_word};
 use office_tables::words::add_word;
 use room_types::{PersonId, Word};
 use sqlite::{Alter, Error, Transaction};
@@ -24,7 +24,7 @@ pub(crate) fn put_word<S: Alter>(
         (PutWord person.now word)) }
     ensures inside { StaysInside (state S.Store tx.old.conn.now) (state S.Store tx.new.conn.now) }
 {
-    know_text(person);
-    know_word(word);
+    know_changed_row_text(person);
+    know_changed_row_word(word);
     add_word(alloc, tx, person, word)
 }

@@ -14,7 +14,7 @@ fn main(rt: HostRuntime) -> ExitCode {
     let mut input = Watched::new(rt.reader());
     let mut output = Watched::new(io::writer(&rt));
     let mut error = Watched::new(rt.stderr());
-    let status = match words_of_system(&rt) {
+    let status = match words_of_main(&rt) {
         Ok(words) => match texts_after_name(rt.alloc(), &words) {
             Ok(texts) => carry_out(&rt, &texts, &mut input, &mut output, &mut error),
             Err(_) => refuse(WordFault::OutOfMemory, &mut output, &mut error),
@@ -25,7 +25,7 @@ fn main(rt: HostRuntime) -> ExitCode {
 }
 
 // The words that the system gives, the program's name first. Words that are not UTF-8 are not understood.
-fn words_of_system(rt: &HostRuntime) -> Result<Vec<String>, WordFault> {
+fn words_of_main(rt: &HostRuntime) -> Result<Vec<String>, WordFault> {
     match env::args(rt) {
         Ok(words) => {
             let words = words.collect(rt.alloc())?;

@@ -1,4 +1,5 @@
-pub mod CommandLemmas
-pub mod RefusalLemmas
-pub mod ReplyLemmas
-pub mod Rows
+pub mod commands
+pub mod imports
+pub mod refusals
+pub mod reply_rows
+pub mod settlements

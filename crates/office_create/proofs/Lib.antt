@@ -1,2 +1,1 @@
-mod CreateFacts
-mod EmptyLemmas
+mod created_tables

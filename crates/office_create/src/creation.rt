@@ -9,7 +9,7 @@ ghost use Rattle.office_tables.specs.Schema.{no_schema};
 ghost use Rattle.office_tables.specs.Steps.{Follows, IsHonest, StaysInside};
 ghost use Rattle.office_tables.specs.Tables.{HoldsOffice};
 
-use crate::names::{is_blank, is_taken};
+use crate::names::{is_blank_for_creation, is_created_table_blocked};
 use crate::tables::make_tables;
 use office_tables::rounds::add_round;
 use room_types::Phase;
@@ -50,10 +50,10 @@ pub fn create<S: Alter>(conn: &mut Connection<S>) -> Result<(), CreateFault>
         → (state S.Store conn.old).now.schema ≢ no_schema
         → (result ≡ Err CreateFault.Unavailable) × (conn.new ≡ conn.old) }
 {
-    if is_taken(conn.schema()) {
+    if is_created_table_blocked(conn.schema()) {
         return Err(CreateFault::AlreadyThere);
     }
-    if !is_blank(conn.schema()) {
+    if !is_blank_for_creation(conn.schema()) {
         return Err(CreateFault::Unavailable);
     }
     match start_office(conn) {

@@ -8,7 +8,7 @@ use sqlite_schema::schema::Schema;
 
 /// Whether a table, an index, a view or a trigger has the name of a table of an office. A trigger is listed among the views, as
 /// a table is that the engine does not understand.
-pub(crate) fn is_taken(schema: &Schema) -> bool
+pub(crate) fn is_created_table_blocked(schema: &Schema) -> bool
     ensures { result ≡ is_taken schema.now }
 {
     is_used(schema, b"room")
@@ -22,7 +22,7 @@ pub(crate) fn is_taken(schema: &Schema) -> bool
 }
 
 /// Whether nothing is declared.
-pub(crate) fn is_blank(schema: &Schema) -> bool
+pub(crate) fn is_blank_for_creation(schema: &Schema) -> bool
     ensures { Decides result (schema.now ≡ no_schema) }
 {
     schema.tables.as_slice().is_empty()

@@ -5,7 +5,7 @@ ghost use Rattle.office_create.specs.Created.{Declares};
 ghost use Rattle.office_create.specs.Stages.{table_text};
 ghost use Rattle.office_tables.specs.Steps.{StaysInside};
 
-use office_tables::round_tables::{choice_text, result_text, word_text};
+use office_tables::round_tables::{choice_table_text, result_table_text, word_table_text};
 use office_tables::running::run;
 use sqlite::{Alter, Error, Transaction};
 
@@ -17,14 +17,14 @@ pub(crate) fn make_tables<S: Alter>(tx: &mut Transaction<'_, S>) -> Result<(), E
     ensures inside { StaysInside (state S.Store tx.old.conn.now) (state S.Store tx.new.conn.now) }
 {
     for place in 0..8 {
-        run(tx, declaration(place), &[])?;
+        run(tx, created_table_declaration(place), &[])?;
     }
     Ok(())
 }
 
 // What declares the table at this place. A table comes after those that it refers to, and those of a round are the last,
 // since they are dropped and made anew.
-fn declaration(place: usize) -> &'static str
+fn created_table_declaration(place: usize) -> &'static str
     requires { place < 8 }
     ensures { result.now ≡ table_text place }
 {
@@ -40,8 +40,8 @@ fn declaration(place: usize) -> &'static str
   from_room TEXT, to_room TEXT, wave INTEGER, PRIMARY KEY(round, person)) STRICT",
         4 => "CREATE TABLE list(label TEXT PRIMARY KEY NOT NULL, kind TEXT NOT NULL,
   body BLOB NOT NULL, added INTEGER NOT NULL) STRICT",
-        5 => word_text(),
-        6 => result_text(),
-        _ => choice_text(),
+        5 => word_table_text(),
+        6 => result_table_text(),
+        _ => choice_table_text(),
     }
 }

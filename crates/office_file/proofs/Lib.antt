@@ -1,1 +1,1 @@
-mod FileLemmas
+mod file_desks

@@ -1,6 +1,2 @@
-pub mod LineLemmas
-pub mod RehearsalLemmas
-pub mod RunLemmas
-pub mod SessionLemmas
-pub mod SimulationLemmas
-pub mod StepLemmas
+pub mod heard
+pub mod rehearsals

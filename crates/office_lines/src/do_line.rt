@@ -51,7 +51,7 @@ pub fn do_line<H: Handler, W: Write>(
         (output_of W.contents output.old) (output_of W.contents output.new) }
     ensures ready { H.is_ready handler.new }
 {
-    if is_broken(line) {
+    if is_heard_line_broken(line) {
         return say(output, "not understood\n", NOT_UNDERSTOOD);
     }
     if line.len() > LINE_LIMIT {
@@ -62,7 +62,7 @@ pub fn do_line<H: Handler, W: Write>(
 }
 
 // Whether it holds a line feed.
-fn is_broken(text: &[u8]) -> bool
+fn is_heard_line_broken(text: &[u8]) -> bool
     ensures { result ≡ is_broken text.now }
 {
     text.iter().any(|byte| *byte == b'\n')

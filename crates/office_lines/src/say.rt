@@ -24,7 +24,7 @@ pub fn say<W: Write>(output: &mut Watched<W>, text: &str, status: u8) -> u8
 }
 
 /// Says that memory or the database did not serve, and flushes. The exit status is 3.
-pub fn say_unavailable<W: Write>(output: &mut Watched<W>) -> u8
+pub fn say_line_unavailable<W: Write>(output: &mut Watched<W>) -> u8
     ensures no_late_write { StopsAtFailure output.old output.new }
     ensures says { SaysUnavailable result (output_of W.contents output.old)
         (output_of W.contents output.new) }

@@ -1,11 +1,3 @@
-pub mod Cells
-pub mod Chains
-pub mod FieldLemmas
-pub mod Following
-pub mod Headers
-pub mod Leavers
-pub mod MoveDays
-pub mod Reaching
-pub mod ReadBack
-pub mod RecordLemmas
-pub mod Sending
+pub mod csv
+pub mod move_days
+pub mod padded_columns

@@ -32,18 +32,18 @@ header_of People = codes "person" ∷ codes "name" ∷ codes "home" ∷ []
 header_of Moves = codes "round" ∷ codes "wave" ∷ codes "person" ∷ codes "from" ∷ codes "to" ∷ []
 
 -- the text, or an empty field
-abbrev pub or_empty : Option Text → Text
-or_empty text = unwrap_or text []
+abbrev pub field_or_empty : Option Text → Text
+field_or_empty text = unwrap_or text []
 
 abbrev pub room_fields : RoomRow → Record
-room_fields row = row.room ∷ state_text row.state ∷ or_empty row.tenant ∷ []
+room_fields row = row.room ∷ state_text row.state ∷ field_or_empty row.tenant ∷ []
 
 abbrev pub person_fields : PersonRow → Record
-person_fields row = row.person ∷ row.name ∷ or_empty row.home ∷ []
+person_fields row = row.person ∷ row.name ∷ field_or_empty row.home ∷ []
 
 abbrev pub move_fields : Move → Record
 move_fields row =
-    decimal row.round ∷ wave_text row.wave ∷ row.person ∷ or_empty row.from ∷ or_empty row.to ∷ []
+    decimal row.round ∷ wave_text row.wave ∷ row.person ∷ field_or_empty row.from ∷ field_or_empty row.to ∷ []
 
 -- an export: the header, and a record for each row
 abbrev pub export : {Row : Type 0} → ExportKind → (Row → Record) → List Row → List Record

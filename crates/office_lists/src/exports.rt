@@ -1,7 +1,7 @@
 //! The bytes of the records of exports.
 ghost use Rattle.std.specs.Prelude.{◌≡◌, IfOk, map};
 ghost use Rattle.room_types.specs.Rows.{state_text};
-ghost use Rattle.office_lists.specs.Exports.{header_of, move_fields, or_empty, person_fields};
+ghost use Rattle.office_lists.specs.Exports.{header_of, move_fields, field_or_empty, person_fields};
 ghost use Rattle.office_lists.specs.Exports.{record_bytes, room_fields};
 ghost use Rattle.office_lists.specs.Records.{Record};
 
@@ -44,7 +44,11 @@ pub fn head_bytes(alloc: Global, kind: ExportKind) -> Result<Vec<u8>, OutOfMemor
 pub fn room_row_bytes(alloc: Global, row: &RoomRow) -> Result<Vec<u8>, OutOfMemory>
     ensures { IfOk result (λ bytes. bytes.items ≡ record_bytes (room_fields row.now)) }
 {
-    let fields = [row.room.as_str(), state(row), or_empty(&row.tenant)];
+    let fields = [
+        row.room.as_str(),
+        room_state_text(row),
+        field_or_empty(&row.tenant),
+    ];
     record_bytes(alloc, &fields)
 }
 
@@ -56,7 +60,11 @@ pub fn room_row_bytes(alloc: Global, row: &RoomRow) -> Result<Vec<u8>, OutOfMemo
 pub fn person_row_bytes(alloc: Global, row: &PersonRow) -> Result<Vec<u8>, OutOfMemory>
     ensures { IfOk result (λ bytes. bytes.items ≡ record_bytes (person_fields row.now)) }
 {
-    let fields = [row.person.as_str(), row.name.as_str(), or_empty(&row.home)];
+    let fields = [
+        row.person.as_str(),
+        row.name.as_str(),
+        field_or_empty(&row.home),
+    ];
     record_bytes(alloc, &fields)
 }
 
@@ -75,8 +83,8 @@ pub fn move_row_bytes(alloc: Global, row: &Move) -> Result<Vec<u8>, OutOfMemory>
         round.as_str(),
         wave.as_str(),
         row.person.as_str(),
-        or_empty(&row.from),
-        or_empty(&row.to),
+        field_or_empty(&row.from),
+        field_or_empty(&row.to),
     ];
     record_bytes(alloc, &fields)
 }
@@ -133,15 +141,15 @@ pub fn record_bytes(alloc: Global, fields: &[&str]) -> Result<Vec<u8>, OutOfMemo
 }
 
 // The state of a room as it is printed, lent for as long as the other fields of its row.
-fn state(row: &RoomRow) -> &str
+fn room_state_text(row: &RoomRow) -> &str
     ensures { result.now ≡ state_text row.now.state }
 {
     row.state.as_str()
 }
 
 // The text, or the empty one.
-fn or_empty<G: Grammar>(text: &Option<Text<G>>) -> &str
-    ensures { result.now ≡ or_empty text.now }
+fn field_or_empty<G: Grammar>(text: &Option<Text<G>>) -> &str
+    ensures { result.now ≡ field_or_empty text.now }
 {
     match text {
         Some(text) => text.as_str(),

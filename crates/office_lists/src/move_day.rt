@@ -42,11 +42,11 @@ pub fn in_moving_order(alloc: Global, moves: &[Move]) -> Result<Vec<&Move>, OutO
         return Ok(Vec::new(alloc));
     }
     let mut rows: Vec<&Move> = moves.iter().collect(alloc)?;
-    rows.sort_by(|a, b| compare(a, b))?;
+    rows.sort_by(|a, b| compare_moves(a, b))?;
     Ok(rows)
 }
 
-fn compare(a: &Move, b: &Move) -> Ordering
+fn compare_moves(a: &Move, b: &Move) -> Ordering
     ensures { result ≡ move_cmp a.now b.now }
 {
     turn(a).cmp(&turn(b))

@@ -74,13 +74,13 @@ fn read_list<E: ListEntry>(alloc: Global, bytes: &[u8]) -> Result<Vec<E>, ListFa
     if bytes.is_empty() {
         return Err(NO_HEADER);
     }
-    let mut records = records(alloc, bytes);
+    let mut records = csv_records(alloc, bytes);
     let Some(header) = records.next() else {
         return Err(NO_HEADER);
     };
     let header = match header {
         Ok(header) => header,
-        Err(error) => return Err(memory_fault(error)),
+        Err(error) => return Err(list_memory_fault(error)),
     };
     if !E::is_header(&header) {
         return Err(NO_HEADER);
@@ -90,7 +90,7 @@ fn read_list<E: ListEntry>(alloc: Global, bytes: &[u8]) -> Result<Vec<E>, ListFa
     for row in records {
         let row = match row {
             Ok(row) => row,
-            Err(error) => return Err(memory_fault(error)),
+            Err(error) => return Err(list_memory_fault(error)),
         };
         if entries.len() >= RECORD_LIMIT {
             return Err(TOO_MANY);
@@ -108,7 +108,7 @@ fn read_list<E: ListEntry>(alloc: Global, bytes: &[u8]) -> Result<Vec<E>, ListFa
 }
 
 // The records of a list, one after the other. The header is one of them, and they may have any number of fields.
-fn records(alloc: Global, bytes: &[u8]) -> ByteRecordsIntoIter<&[u8]>
+fn csv_records(alloc: Global, bytes: &[u8]) -> ByteRecordsIntoIter<&[u8]>
     ensures config { reader_config (owned_rows_reader result) ≡ default_config }
     ensures trim { reader_trim (owned_rows_reader result) ≡ trim.None }
     ensures header_is_record { names_headers (owned_rows_reader result) ≡ false }
@@ -128,7 +128,7 @@ fn records(alloc: Global, bytes: &[u8]) -> ByteRecordsIntoIter<&[u8]>
 
 // The fault of a reader that failed: a reader over memory fails for memory alone. An error that tells of a record, as
 // that it has more fields than the one before, is none of these.
-fn memory_fault(error: csv::Error) -> ListFault
+fn list_memory_fault(error: csv::Error) -> ListFault
     requires { stops_reader (error_kind error) ≡ true }
     ensures { result ≡ ListFault.OutOfMemory }
 {

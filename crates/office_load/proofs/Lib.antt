@@ -1,13 +1,2 @@
-mod FindLemmas
-pub mod FollowLemmas
-mod LayoutLemmas
-mod Layouts
-mod Listings
-mod Numbering
-mod OnlyRows
-mod QueryMeanings
-mod RecordLemmas
-mod StateLemmas
-mod VersionLemmas
-mod VersionMeanings
-mod WholeRows
+pub mod found_offices
+mod loaded

@@ -16,7 +16,7 @@ ghost use Rattle.office_load.specs.Layout.{is_laid_out};
 ghost use Rattle.office_load.specs.Reading.{OnlyReads};
 
 use crate::holding::held;
-use crate::layout::{is_laid_out, names_round};
+use crate::layout::{is_laid_out, layout_names_round};
 use crate::versions::other_version;
 use office_state::Office;
 use sqlite::{Alter, Connection};
@@ -72,7 +72,7 @@ pub fn find<S: Alter>(alloc: Global, conn: &mut Connection<S>) -> Result<Office,
         → IsSpelled (rows_of office) → HoldsOffice (state S.Store conn.old).now office
         → MatchResult result (λ found. found ≡ office) (λ fault. fault ≡ FindFault.Unavailable) }
 {
-    if !names_round(conn.schema()) {
+    if !layout_names_round(conn.schema()) {
         return Err(FindFault::NotAnOffice);
     }
     if !is_laid_out(conn.schema()) {

@@ -6,7 +6,7 @@ use Rattle.clap.specs.ValueTests.{is_unsigned_in}
 use Rattle.clap.specs.Words.{Kinds, Row, all_of, fault_of, first_of, one_of, subcommand_of}
 use Rattle.office_program.specs.declared.usage.Program.{Program}
 use Rattle.office_program.specs.declared.usage.Program.TheVariants as program
-use Rattle.office_program.specs.Seeds.{seed_of}
+use Rattle.office_program.specs.Seeds.{program_seed_of}
 use Rattle.office_program.specs.Usage.{usage}
 use Rattle.office_lists.specs.declared.exports.ExportKind.{ExportKind}
 use Rattle.office_lists.specs.declared.exports.ExportKind.TheVariants.{Rooms, People, Moves}
@@ -58,7 +58,7 @@ do_program rows = option_and_then (λ path. option_map (does path) (all_of (code
 
 -- `words --seed HEX --count N`
 abbrev pub words_program : List Row → Option Line
-words_program rows = option_and_then (λ seed. option_map (prints seed) (number_of 0 2000 (codes "count") rows)) (option_and_then seed_of (first_of (codes "seed") rows))
+words_program rows = option_and_then (λ seed. option_map (prints seed) (number_of 0 2000 (codes "count") rows)) (option_and_then program_seed_of (first_of (codes "seed") rows))
 
 -- the kind of lists of this name
 abbrev pub list_kind_named : Text → Option ListKind
@@ -82,8 +82,8 @@ import_program rows =
     (list_kind_given rows)) (first_of (codes "path") rows)) (first_of (codes "db") rows)
 
 -- the export of this name
-abbrev pub kind_named : Text → Option ExportKind
-kind_named name =
+abbrev pub list_kind_named : Text → Option ExportKind
+list_kind_named name =
     if bytes_eq name (codes "rooms") then Some Rooms
     else if bytes_eq name (codes "people") then Some People
     else if bytes_eq name (codes "moves") then Some Moves
@@ -92,7 +92,7 @@ kind_named name =
 -- `export --db FILE KIND`
 abbrev pub export_program : List Row → Option Line
 export_program rows =
-    option_and_then (λ path. option_map (exports path) (option_and_then kind_named (first_of (codes "kind") rows)))
+    option_and_then (λ path. option_map (exports path) (option_and_then list_kind_named (first_of (codes "kind") rows)))
     (first_of (codes "db") rows)
 
 -- `serve --db FILE --port N --count K`
@@ -101,8 +101,8 @@ serve_program rows = option_and_then (λ path. option_and_then (λ port. option_
     (number_of 1 65535 (codes "port") rows)) (first_of (codes "db") rows)
 
 -- the line of a subcommand with its entries
-abbrev pub entered_line : Text × List Row → Option Line
-entered_line (name, rows) = if bytes_eq name (codes "new") then new_program rows
+abbrev pub entered_program_line : Text × List Row → Option Line
+entered_program_line (name, rows) = if bytes_eq name (codes "new") then new_program rows
     else if bytes_eq name (codes "do") then do_program rows
     else if bytes_eq name (codes "rehearse") then Some rehearses
     else if bytes_eq name (codes "words") then words_program rows
@@ -127,4 +127,4 @@ entered words = subcommand_of usage words
 abbrev pub program_of : List Text → Option Line
 program_of [] = Some rehearses
 program_of (word ∷ rest) =
-    if is_taken (word ∷ rest) then option_and_then entered_line (entered (word ∷ rest)) else None
+    if is_taken (word ∷ rest) then option_and_then entered_program_line (entered (word ∷ rest)) else None

@@ -8,5 +8,5 @@ abbrev pub seed_bytes : ℕ
 seed_bytes = 32
 
 -- the bytes of exactly 64 digits of either case, two digits for each byte in order
-abbrev pub seed_of : Text → Option (List ℕ)
-seed_of text = elim (decode_sized text seed_bytes) [ Ok bytes ↦ Some bytes | Err fault ↦ None ]
+abbrev pub program_seed_of : Text → Option (List ℕ)
+program_seed_of text = elim (decode_sized text seed_bytes) [ Ok bytes ↦ Some bytes | Err fault ↦ None ]

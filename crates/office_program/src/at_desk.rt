@@ -10,7 +10,7 @@ use crate::desk_faults::refuse_desk;
 use crate::importing::import_list;
 use crate::lists::Lists;
 use office_lines::do_line::do_words;
-use office_lines::say::{say, say_unavailable};
+use office_lines::say::{say, say_line_unavailable};
 use office_lists::ExportKind;
 use office_store::{Desk, DeskFault, Unavailable};
 use office_texts::{ACCEPTED, UNAVAILABLE};
@@ -100,7 +100,7 @@ fn import_desk<S: Alter, L: Lists, W: Write>(
             let mut source = Watched::new(reader);
             import_list(alloc, desk, kind, label, &mut source, output)
         }
-        Err(Unavailable) => say_unavailable(output),
+        Err(Unavailable) => say_line_unavailable(output),
     }
 }
 

@@ -14,7 +14,7 @@ use crate::program::program;
 use crate::usage::Program;
 use crate::word_lines::words_text;
 use office_lines::rehearse::rehearse;
-use office_lines::say::{say, say_unavailable};
+use office_lines::say::{say, say_line_unavailable};
 use office_store::Desk;
 use office_texts::{ACCEPTED, NOT_UNDERSTOOD};
 use office_words::WordFault;
@@ -82,7 +82,7 @@ pub fn carry_out_from<'a, S: Start, L: Lists, R: Read, W: Write, E: Write>(
         Ok(Program::Rehearse) => rehearse_anew(rt.alloc(), input, output),
         Ok(Program::Words { seed, count }) => match words_text(rt.alloc(), seed, count as usize) {
             Ok(text) => say(output, text.as_str(), ACCEPTED),
-            Err(_) => refuse(WordFault::OutOfMemory, output, error),
+            Err(_) => refuse_program_line(WordFault::OutOfMemory, output, error),
         },
         Ok(
             Program::Import {
@@ -102,7 +102,7 @@ pub fn carry_out_from<'a, S: Start, L: Lists, R: Read, W: Write, E: Write>(
                 count,
             },
         ) => serve_in_file(rt, database, start, port, count, output),
-        Err(fault) => refuse(fault, output, error),
+        Err(fault) => refuse_program_line(fault, output, error),
     }
 }
 
@@ -123,12 +123,12 @@ fn rehearse_anew<R: Read, W: Write>(
 {
     match Desk::in_memory(alloc) {
         Ok(mut desk) => rehearse(alloc, &mut desk, input, output).status,
-        Err(_) => say_unavailable(output),
+        Err(_) => say_line_unavailable(output),
     }
 }
 
 /// Says that the words were not understood, on standard error, or that memory was refused, on standard output. Gives the exit status.
-pub fn refuse<W: Write, E: Write>(
+pub fn refuse_program_line<W: Write, E: Write>(
     fault: WordFault,
     output: &mut Watched<W>,
     error: &mut Watched<E>,
@@ -143,6 +143,6 @@ pub fn refuse<W: Write, E: Write>(
 {
     match fault {
         WordFault::NotUnderstood => say(error, "rooms: not understood\n", NOT_UNDERSTOOD),
-        WordFault::OutOfMemory => say_unavailable(output),
+        WordFault::OutOfMemory => say_line_unavailable(output),
     }
 }

@@ -1,11 +1,11 @@
 //! The words after the program's name.
 ghost use Rattle.std.specs.Prelude.{◌≡◌, ◌≢◌, ◌<◌, ◌≤◌, IfErr, IfSome, length, map, option_map};
 ghost use Rattle.clap.specs.Words.{all_of, first_of, found_of, kind_of, rows_of};
-ghost use Rattle.office_program.specs.Programs.{do_program, entered_line, export_program, import_program, kind_named, label_given, line_of};
+ghost use Rattle.office_program.specs.Programs.{do_program, entered_program_line, export_program, import_program, list_kind_named, label_given, line_of};
 ghost use Rattle.office_program.specs.Programs.{list_kind_given, new_program, number_of, program_of, serve_program, words_program};
 ghost use Rattle.office_words.specs.Understanding.{Understands, UnderstandsAs};
 
-use crate::seeds::seed_of;
+use crate::seeds::program_seed_of;
 use crate::usage::{CONNECTIONS_LIMIT, PORT_LIMIT, Program, WORDS_LIMIT, rooms_command};
 use clap::error::ErrorKind;
 use clap::{ArgMatches, Error};
@@ -28,7 +28,7 @@ pub fn program<'a>(alloc: Global, words: &'a [&'a str]) -> Result<Program<'a>, W
     let command = rooms_command(alloc)?;
     match command.try_get_matches_from(words) {
         Ok(matches) => match matches.subcommand() {
-            Some((name, entries)) => entered_line(alloc, name, entries),
+            Some((name, entries)) => entered_program_line(alloc, name, entries),
             None => Err(WordFault::NotUnderstood),
         },
         Err(error) => Err(fault_of(&error)),
@@ -36,28 +36,28 @@ pub fn program<'a>(alloc: Global, words: &'a [&'a str]) -> Result<Program<'a>, W
 }
 
 // The line of this subcommand with its entries.
-fn entered_line<'a>(
+fn entered_program_line<'a>(
     alloc: Global,
     name: &str,
     entries: &ArgMatches<'a>,
 ) -> Result<Program<'a>, WordFault>
     ensures { UnderstandsAs line_of
-        (entered_line (name.now, rows_of (found_of entries.now))) result }
+        (entered_program_line (name.now, rows_of (found_of entries.now))) result }
 {
     match name {
-        "new" => understood(new_program(entries)),
+        "new" => program_understood(new_program(entries)),
         "do" => do_program(alloc, entries),
         "rehearse" => Ok(Program::Rehearse),
-        "words" => understood(words_program(entries)),
+        "words" => program_understood(words_program(entries)),
         "import" => import_program(alloc, entries),
-        "export" => understood(export_program(entries)),
-        "serve" => understood(serve_program(entries)),
+        "export" => program_understood(export_program(entries)),
+        "serve" => program_understood(serve_program(entries)),
         _ => Err(WordFault::NotUnderstood),
     }
 }
 
 // What is no line is not understood.
-fn understood<'a>(line: Option<Program<'a>>) -> Result<Program<'a>, WordFault>
+fn program_understood<'a>(line: Option<Program<'a>>) -> Result<Program<'a>, WordFault>
     ensures { UnderstandsAs line_of (option_map line_of line.entry) result }
 {
     line.ok_or(WordFault::NotUnderstood)
@@ -87,7 +87,7 @@ fn do_program<'a>(alloc: Global, entries: &ArgMatches<'a>) -> Result<Program<'a>
 fn words_program<'a>(entries: &ArgMatches<'a>) -> Option<Program<'a>>
     ensures { option_map line_of result ≡ words_program (rows_of (found_of entries.now)) }
 {
-    let seed = seed_of(text(entries, "seed")?)?;
+    let seed = program_seed_of(text(entries, "seed")?)?;
     let count = number(entries, "count", 0, WORDS_LIMIT)?;
     Some(Program::Words { seed, count })
 }
@@ -137,13 +137,13 @@ fn export_program<'a>(entries: &ArgMatches<'a>) -> Option<Program<'a>>
     ensures { option_map line_of result ≡ export_program (rows_of (found_of entries.now)) }
 {
     let database = text(entries, "db")?;
-    let kind = kind_named(text(entries, "kind")?)?;
+    let kind = list_kind_named(text(entries, "kind")?)?;
     Some(Program::Export { database, kind })
 }
 
 // The export of this name.
-fn kind_named(name: &str) -> Option<ExportKind>
-    ensures { result ≡ kind_named name.now }
+fn list_kind_named(name: &str) -> Option<ExportKind>
+    ensures { result ≡ list_kind_named name.now }
 {
     match name {
         "rooms" => Some(ExportKind::Rooms),

@@ -1,6 +1,6 @@
 //! The seed of a generator, in hexadecimal digits.
 ghost use Rattle.std.specs.Prelude.{◌≡◌};
-ghost use Rattle.office_program.specs.Seeds.{seed_of};
+ghost use Rattle.office_program.specs.Seeds.{program_seed_of};
 
 use hex::FromHex;
 
@@ -11,8 +11,8 @@ pub const SEED_BYTES: usize = 32;
 pub type Seed = [u8; SEED_BYTES];
 
 /// The seed of exactly 64 hexadecimal digits of either case, two for each byte in order.
-pub fn seed_of(text: &str) -> Option<Seed>
-    ensures { result ≡ seed_of text.now }
+pub fn program_seed_of(text: &str) -> Option<Seed>
+    ensures { result ≡ program_seed_of text.now }
 {
     match <Seed as FromHex>::from_hex(text) {
         Ok(seed) => Some(seed),

@@ -22,7 +22,7 @@ pub fn read_choices(
     ensures memory { OnErr result (0 < length rows.items) }
 {
     let mut rows = rows;
-    sort_rows(&mut rows);
+    sort_choice_rows(&mut rows);
     let Some(lists) = gather(alloc, rows.as_slice())? else {
         return Ok(None);
     };
@@ -30,7 +30,7 @@ pub fn read_choices(
 }
 
 // Ascending by person, and then by place, and then by room.
-fn sort_rows(rows: &mut Vec<ChoiceRecord>)
+fn sort_choice_rows(rows: &mut Vec<ChoiceRecord>)
     ensures moved { IsPermutation rows.old.items rows.new.items }
     ensures ascending { IsSorted row_cmp rows.new.items }
 {

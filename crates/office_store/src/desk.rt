@@ -27,7 +27,7 @@ pub use crate::desk::runs::handle_all_in_memory;
 use crate::handler::Handler;
 use crate::queries::answer_query;
 use crate::requests::{Answer, Request};
-use office_changes::store_all;
+use office_changes::store_changes;
 use office_core::{Command, Decision, decide};
 use office_load::load;
 use office_state::Office;
@@ -134,7 +134,7 @@ impl<S: Alter> Desk<S> {
             Err(answer) => return answer,
         };
         let changes = decision.changes.as_slice();
-        let Ok(()) = store_all(alloc, &mut self.conn, office, changes) else {
+        let Ok(()) = store_changes(alloc, &mut self.conn, office, changes) else {
             return Answer::Unavailable;
         };
         self.kept = office_kept(self.kept.take(), changes);

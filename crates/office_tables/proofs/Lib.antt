@@ -1,11 +1,1 @@
-pub mod ClearLemmas
-pub mod CommandLemmas
-pub mod EffectLemmas
-pub mod Facts
-pub mod HoldLemmas
-pub mod ListLemmas
-pub mod MakeLemmas
-pub mod OneTable
-pub mod StatementLemmas
-pub mod StepLemmas
-pub mod ValueLemmas
+pub mod statements

@@ -7,7 +7,7 @@ ghost use Rattle.office_cells.specs.Cells.{text_or_null, wave_value};
 use room_types::{RoomCode, Wave};
 
 /// The code of the room, or none for NULL.
-pub(crate) fn code_of(room: &Option<RoomCode>) -> Option<&str>
+pub(crate) fn code_for_statement(room: &Option<RoomCode>) -> Option<&str>
     ensures { bound_value (or_null (λ code. Text code.now) result) ≡ text_or_null room.now }
 {
     match room {

@@ -5,7 +5,7 @@ ghost use Rattle.office_tables.specs.Edits.{with_move};
 ghost use Rattle.office_tables.specs.Makes.{Makes};
 ghost use Rattle.office_tables.specs.Steps.{IsUndone, StaysInside};
 
-use crate::cells::{code_of, number_of};
+use crate::cells::{code_for_statement, number_of};
 use crate::running::run;
 use room_types::Move;
 use sqlite::{Alter, Error, Transaction, params};
@@ -26,8 +26,8 @@ pub fn add_move<S: Alter>(tx: &mut Transaction<'_, S>, row: &Move) -> Result<(),
         params![
             u32::from(row.round),
             row.person.as_str(),
-            code_of(&row.from),
-            code_of(&row.to),
+            code_for_statement(&row.from),
+            code_for_statement(&row.to),
             number_of(row.wave)
         ],
     )

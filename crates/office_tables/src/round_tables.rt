@@ -27,7 +27,7 @@ pub fn clear_round_tables<S: Alter>(tx: &mut Transaction<'_, S>) -> Result<(), E
 }
 
 /// The text that declares the table of words.
-pub fn word_text() -> &'static str
+pub fn word_table_text() -> &'static str
     ensures text { result.now ≡ word_text }
 {
     "CREATE TABLE word(person TEXT PRIMARY KEY NOT NULL REFERENCES person(id),
@@ -35,7 +35,7 @@ pub fn word_text() -> &'static str
 }
 
 /// The text that declares the table of results.
-pub fn result_text() -> &'static str
+pub fn result_table_text() -> &'static str
     ensures text { result.now ≡ result_text }
 {
     "CREATE TABLE result(person TEXT PRIMARY KEY NOT NULL REFERENCES person(id),
@@ -43,7 +43,7 @@ pub fn result_text() -> &'static str
 }
 
 /// The text that declares the table of choices.
-pub fn choice_text() -> &'static str
+pub fn choice_table_text() -> &'static str
     ensures text { result.now ≡ choice_text }
 {
     "CREATE TABLE choice(person TEXT NOT NULL REFERENCES person(id),
@@ -74,7 +74,7 @@ fn make_tables<S: Alter>(tx: &mut Transaction<'_, S>) -> Result<(), Error>
         (MakesTooFew (state S.Store tx.old.conn.now) (state S.Store tx.new.conn.now)) }
     ensures inside { StaysInside (state S.Store tx.old.conn.now) (state S.Store tx.new.conn.now) }
 {
-    run(tx, word_text(), &[])?;
-    run(tx, result_text(), &[])?;
-    run(tx, choice_text(), &[])
+    run(tx, word_table_text(), &[])?;
+    run(tx, result_table_text(), &[])?;
+    run(tx, choice_table_text(), &[])
 }

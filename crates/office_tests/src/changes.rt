@@ -1,7 +1,7 @@
 //! The changes of two commands, stored in a database in memory, with ample memory.
 use crate::asserting::assert_same;
 use crate::building::{choices, text};
-use office_changes::store_all;
+use office_changes::store_changes;
 use office_create::create;
 use office_state::{Change, Office, apply};
 use room_types::{Move, Phase, Wave, Word};
@@ -61,7 +61,7 @@ fn store(
 ) {
     let outside = conn.is_autocommit();
     assert!(rt; outside);
-    store_all(alloc, conn, office, changes).expect(rt, "changes are stored");
+    store_changes(alloc, conn, office, changes).expect(rt, "changes are stored");
 }
 
 // The number that the query counts.

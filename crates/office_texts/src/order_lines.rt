@@ -18,13 +18,18 @@ pub fn text_of_order(alloc: Global, rows: &[OrderRow]) -> Result<String, OutOfMe
     let mut text = String::new(alloc);
     let mut place = 1u64;
     for row in rows {
-        push_row(alloc, &mut text, place, row)?;
+        push_order_row(alloc, &mut text, place, row)?;
         place += 1;
     }
     Ok(text)
 }
 
-fn push_row(alloc: Global, text: &mut String, place: u64, row: &OrderRow) -> Result<(), AllocError>
+fn push_order_row(
+    alloc: Global,
+    text: &mut String,
+    place: u64,
+    row: &OrderRow,
+) -> Result<(), AllocError>
     ensures { OnOk result
         (string_bytes text.new ≡ string_bytes text.old ++ order_line place row.now) }
 {

@@ -14,13 +14,13 @@ pub fn text_of_refusal(alloc: Global, refusal: &Refusal) -> Result<String, OutOf
     let number = refusal.number();
     let name = refusal.name();
     let mut text = format!(in alloc; "refused {number} {name}")?;
-    push_values(&mut text, refusal)?;
+    push_refused_values(&mut text, refusal)?;
     text.push_str("\n")?;
     Ok(text)
 }
 
 // Adds the values that the refusal has, after a space.
-fn push_values(text: &mut String, refusal: &Refusal) -> Result<(), AllocError>
+fn push_refused_values(text: &mut String, refusal: &Refusal) -> Result<(), AllocError>
     ensures { OnOk result
         (string_bytes text.new ≡ string_bytes text.old ++ refusal_values refusal.now) }
 {

@@ -5,7 +5,7 @@ ghost use Rattle.office_texts.specs.OutputLines.{line_of};
 ghost use Rattle.office_texts.specs.Replies.{reply_text, result_text, spaced, standing_text, yes_or_no};
 
 use crate::order_lines::text_of_order;
-use crate::output_lines::line;
+use crate::output_lines::output_line;
 use office_core::{Reply, Standing};
 use office_lists::{move_day_text, or_none, people_text, results_text, rooms_text};
 use room_types::{OutOfMemory, PersonId, RoomCode};
@@ -19,17 +19,17 @@ pub fn text_of_reply(alloc: Global, reply: &Reply) -> Result<String, OutOfMemory
     ensures memory { OnErr result (0 < length (reply_text reply.now)) }
 {
     match reply {
-        Reply::Done => line(alloc, "ok\n"),
+        Reply::Done => output_line(alloc, "ok\n"),
         Reply::Shut { displaced } => text_of_shut(alloc, displaced),
         Reply::Opened { round } => Ok(format!(in alloc; "round {round} open\n")?),
         Reply::Chosen { choices } => text_of_chosen(alloc, choices.as_slice()),
-        Reply::Withdrawn => line(alloc, "withdrawn\n"),
+        Reply::Withdrawn => output_line(alloc, "withdrawn\n"),
         Reply::Closed { participants } => Ok(format!(in alloc; "closed {participants}\n")?),
         Reply::Drawn { participants } => Ok(format!(in alloc; "drawn {participants}\n")?),
         Reply::Ran { participants } => Ok(format!(in alloc; "ran {participants}\n")?),
         Reply::Published { participants } => Ok(format!(in alloc; "published {participants}\n")?),
         Reply::Settled { moves } => Ok(format!(in alloc; "settled {moves}\n")?),
-        Reply::Cancelled => line(alloc, "cancelled\n"),
+        Reply::Cancelled => output_line(alloc, "cancelled\n"),
         Reply::Added { count } => Ok(format!(in alloc; "added {count}\n")?),
         Reply::Rooms(rows) => rooms_text(alloc, rows.as_slice()),
         Reply::People(rows) => people_text(alloc, rows.as_slice()),
@@ -54,7 +54,7 @@ fn text_of_shut(alloc: Global, displaced: &Option<PersonId>) -> Result<String, O
 {
     match displaced {
         Some(person) => Ok(format!(in alloc; "shut displaced {person}\n")?),
-        None => line(alloc, "shut\n"),
+        None => output_line(alloc, "shut\n"),
     }
 }
 
@@ -86,12 +86,12 @@ fn text_of_standing(alloc: Global, standing: &Standing) -> Result<String, OutOfM
     push_line(&mut text, "home ", or_none(&standing.home))?;
     writeln!(text, "round {round} {phase}")?;
     push_rooms(&mut text, "choices", standing.choices.as_slice())?;
-    push_line(&mut text, "withdrawn ", yes_or_no(standing.withdrawn))?;
+    push_line(&mut text, "withdrawn ", reply_yes_or_no(standing.withdrawn))?;
     push_line(&mut text, "result ", shown_result(standing))?;
     Ok(text)
 }
 
-fn yes_or_no(answer: bool) -> &'static str
+fn reply_yes_or_no(answer: bool) -> &'static str
     ensures { result.now ≡ yes_or_no answer }
 {
     if answer { "yes" } else { "no" }

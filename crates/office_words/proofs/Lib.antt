@@ -1,4 +1,1 @@
-pub mod CodeLemmas
-pub mod NameLemmas
-pub mod RoundLemmas
-pub mod SentenceLemmas
+pub mod request_words

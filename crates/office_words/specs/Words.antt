@@ -78,31 +78,31 @@ alone request [] = Some request
 alone request (word ∷ rest) = None
 
 -- the request of the words after a first one
-abbrev pub request_after : Verb → List Text → Option Request
-request_after verb.Room rest = add_room rest
-request_after verb.Person rest = add_person rest
-request_after verb.Home rest = set_home rest
-request_after verb.Leave rest = leave rest
-request_after verb.Remove rest = remove rest
-request_after verb.Shut rest = shut rest
-request_after verb.Reopen rest = reopen rest
-request_after verb.Open rest = alone (Office OpenRound) rest
-request_after verb.Close rest = alone (Office CloseRound) rest
-request_after verb.Run rest = alone (Office Run) rest
-request_after verb.Publish rest = alone (Office Publish) rest
-request_after verb.Settle rest = alone (Office Settle) rest
-request_after verb.Cancel rest = alone (Office Cancel) rest
-request_after verb.Choose rest = set_choices rest
-request_after verb.Withdraw rest = withdraw rest
-request_after verb.Draw rest = draw rest
-request_after verb.Rooms rest = alone (Ask Rooms) rest
-request_after verb.People rest = alone (Ask People) rest
-request_after verb.Round rest = alone (Ask Round) rest
-request_after verb.Order rest = alone (Ask Order) rest
-request_after verb.Results rest = alone (Ask Results) rest
-request_after verb.Moves rest = ask_moves rest
-request_after verb.Me rest = ask_me rest
-request_after verb.WhatIf rest = ask_what_if rest
+abbrev pub request_after_word : Verb → List Text → Option Request
+request_after_word verb.Room rest = add_room rest
+request_after_word verb.Person rest = add_person rest
+request_after_word verb.Home rest = set_home rest
+request_after_word verb.Leave rest = leave rest
+request_after_word verb.Remove rest = remove rest
+request_after_word verb.Shut rest = shut rest
+request_after_word verb.Reopen rest = reopen rest
+request_after_word verb.Open rest = alone (Office OpenRound) rest
+request_after_word verb.Close rest = alone (Office CloseRound) rest
+request_after_word verb.Run rest = alone (Office Run) rest
+request_after_word verb.Publish rest = alone (Office Publish) rest
+request_after_word verb.Settle rest = alone (Office Settle) rest
+request_after_word verb.Cancel rest = alone (Office Cancel) rest
+request_after_word verb.Choose rest = set_choices rest
+request_after_word verb.Withdraw rest = withdraw rest
+request_after_word verb.Draw rest = draw rest
+request_after_word verb.Rooms rest = alone (Ask Rooms) rest
+request_after_word verb.People rest = alone (Ask People) rest
+request_after_word verb.Round rest = alone (Ask Round) rest
+request_after_word verb.Order rest = alone (Ask Order) rest
+request_after_word verb.Results rest = alone (Ask Results) rest
+request_after_word verb.Moves rest = ask_moves rest
+request_after_word verb.Me rest = ask_me rest
+request_after_word verb.WhatIf rest = ask_what_if rest
 
 -- the first word is in the grammar
 abbrev pub first_in : (Text → Bool) → List Text → Bool
@@ -154,7 +154,7 @@ takes_memory (first ∷ rest) = takes_memory_after (verb_of first) rest
 -- the request, if the words are one
 abbrev pub request_of : List Text → Option Request
 request_of [] = None
-request_of (first ∷ rest) = option_and_then (λ verb. request_after verb rest) (verb_of first)
+request_of (first ∷ rest) = option_and_then (λ verb. request_after_word verb rest) (verb_of first)
 
 -- the first word is that of a request
 abbrev pub names_request : List Text → Bool

@@ -33,10 +33,10 @@ pub fn read_line(alloc: Global, line: &[u8]) -> Result<Sentence, OutOfMemory>
     if !line.is_empty() && line[0] == b'#' {
         return Ok(Sentence::Silent);
     }
-    read_text(alloc, without_return(line))
+    read_text(alloc, request_words_without_return(line))
 }
 
-fn without_return(line: &[u8]) -> &[u8]
+fn request_words_without_return(line: &[u8]) -> &[u8]
     ensures { result.now ≡ strip_carriage_return line.now }
 {
     if !line.is_empty() && line[line.len() - 1] == b'\r' {
@@ -51,7 +51,7 @@ fn read_text(alloc: Global, text: &[u8]) -> Result<Sentence, OutOfMemory>
     ensures not_silent { OnErr result (is_silent (sentence_of_text text.now) ≡ false) }
     ensures named { OnErr result ((is_utf8 text.now && names_request (words_of text.now)) ≡ true) }
 {
-    if is_blank_text(text) {
+    if is_blank_request_text(text) {
         return Ok(Sentence::Silent);
     }
     match str::from_utf8(text) {
@@ -60,7 +60,7 @@ fn read_text(alloc: Global, text: &[u8]) -> Result<Sentence, OutOfMemory>
     }
 }
 
-fn is_blank_text(text: &[u8]) -> bool
+fn is_blank_request_text(text: &[u8]) -> bool
     ensures { result ≡ is_blank text.now }
 {
     text.iter().all(|b| *b == b' ')
@@ -75,7 +75,7 @@ fn read_request(alloc: Global, text: &str) -> Result<Sentence, OutOfMemory>
         return Ok(Sentence::Unclear);
     }
     let words = cut_at_spaces(alloc, text)?;
-    read_words(alloc, &words)
+    read_request_words(alloc, &words)
 }
 
 // Whether the first word is that of a request.
@@ -96,7 +96,7 @@ fn cut_at_spaces(alloc: Global, text: &str) -> Result<Vec<&str>, AllocError>
         .collect(alloc)
 }
 
-fn read_words(alloc: Global, words: &[&str]) -> Result<Sentence, OutOfMemory>
+fn read_request_words(alloc: Global, words: &[&str]) -> Result<Sentence, OutOfMemory>
     ensures { IfOk result
         (λ sentence. sentence ≡ sentence_of_words (map (λ word. word.now) words.now)) }
 {

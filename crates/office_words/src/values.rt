@@ -5,7 +5,7 @@ ghost use Rattle.std.specs.Int.{is_in_range};
 ghost use Rattle.std.specs.List.{list_all};
 ghost use Rattle.office_words.specs.Understanding.{Understands, UnderstandsAs, WantsMemoryOnlyIf};
 ghost use Rattle.room_types.specs.Words.{word_of};
-ghost use Rattle.office_words.specs.Values.{all_of, choices_in, codes_of, in_grammar, is_round_number, joined, only, round_number};
+ghost use Rattle.office_words.specs.Values.{all_of, choices_in, codes_of, in_grammar, is_round_number_word, joined, only, round_number};
 ghost use Rattle.office_words.specs.Words.{first_in, is_drawn_word};
 ghost use Rattle.room_types.specs.Grammars.{is_name};
 
@@ -17,7 +17,7 @@ use std::alloc::Global;
 pub const ROUND_DIGITS: usize = 4;
 
 /// The value that a word is in its grammar. Memory is taken for such a word alone.
-pub(crate) fn value_of<G: Grammar>(alloc: Global, word: &str) -> Result<Text<G>, WordFault>
+pub(crate) fn request_value_of<G: Grammar>(alloc: Global, word: &str) -> Result<Text<G>, WordFault>
     ensures understands { Understands (in_grammar G.is_text word.now) result }
     ensures memory { WantsMemoryOnlyIf (G.is_text word.now) result }
 {
@@ -29,14 +29,17 @@ pub(crate) fn value_of<G: Grammar>(alloc: Global, word: &str) -> Result<Text<G>,
 }
 
 /// The value that the only word is in its grammar. Memory is taken for such a word alone.
-pub(crate) fn only_value<G: Grammar>(alloc: Global, words: &[&str]) -> Result<Text<G>, WordFault>
+pub(crate) fn only_value_in_words<G: Grammar>(
+    alloc: Global,
+    words: &[&str],
+) -> Result<Text<G>, WordFault>
     ensures understands { Understands
         (only G.is_text (map (λ word. word.now) words.now)) result }
     ensures memory { WantsMemoryOnlyIf
         (is_some (only G.is_text (map (λ word. word.now) words.now))) result }
 {
     match words {
-        [word] => value_of(alloc, word),
+        [word] => request_value_of(alloc, word),
         _ => Err(WordFault::NotUnderstood),
     }
 }
@@ -46,11 +49,11 @@ pub(crate) fn name_of(alloc: Global, words: &[&str]) -> Result<Name, WordFault>
     ensures { Understands (in_grammar is_name (joined (map (λ word. word.now) words.now))) result }
 {
     let name = words.join(alloc, " ")?;
-    value_of(alloc, name.as_str())
+    request_value_of(alloc, name.as_str())
 }
 
 /// The list of rooms that the words are.
-pub(crate) fn choices_of(alloc: Global, words: &[&str]) -> Result<Choices, WordFault>
+pub(crate) fn request_choices_of(alloc: Global, words: &[&str]) -> Result<Choices, WordFault>
     ensures { Understands (choices_in (map (λ word. word.now) words.now)) result }
 {
     let codes = all_codes(alloc, words)?;
@@ -67,7 +70,7 @@ fn all_codes(alloc: Global, words: &[&str]) -> Result<Vec<RoomCode>, WordFault>
 {
     let mut codes = Vec::new(alloc);
     for word in words {
-        codes.push(value_of(alloc, word)?)?;
+        codes.push(request_value_of(alloc, word)?)?;
     }
     Ok(codes)
 }
@@ -80,12 +83,12 @@ pub(crate) fn drawn_words(alloc: Global, words: &[&str]) -> Result<Listing<Word>
 {
     let mut drawn = Vec::new(alloc);
     for word in words {
-        drawn.push(drawn_word(word)?)?;
+        drawn.push(drawn_request_word(word)?)?;
     }
     Ok(Listing::new(drawn))
 }
 
-fn drawn_word(word: &str) -> Result<Word, WordFault>
+fn drawn_request_word(word: &str) -> Result<Word, WordFault>
     ensures understands { Understands (word_of word.now) result }
     ensures memory { WantsMemoryOnlyIf false result }
 {
@@ -100,7 +103,7 @@ pub(crate) fn round_of(word: &str) -> Result<u16, WordFault>
     ensures understands { Understands (round_number word.now) result }
     ensures memory { WantsMemoryOnlyIf false result }
 {
-    if !is_round_number(word) {
+    if !is_round_number_word(word) {
         return Err(WordFault::NotUnderstood);
     }
     match word.parse::<u16>() {
@@ -110,13 +113,13 @@ pub(crate) fn round_of(word: &str) -> Result<u16, WordFault>
 }
 
 // Whether a word is 1 to 4 decimal digits.
-fn is_round_number(word: &str) -> bool
-    ensures { result ≡ is_round_number word.now }
+fn is_round_number_word(word: &str) -> bool
+    ensures { result ≡ is_round_number_word word.now }
 {
-    has_round_length(word) && has_digits_alone(word)
+    has_round_word_length(word) && has_digits_alone(word)
 }
 
-fn has_round_length(word: &str) -> bool
+fn has_round_word_length(word: &str) -> bool
     ensures { result ≡ is_in_range 1 4 (length word.now) }
 {
     1 <= word.len() && word.len() <= ROUND_DIGITS

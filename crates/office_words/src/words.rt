@@ -1,11 +1,13 @@
 //! The request that the words of a line are.
 ghost use Rattle.std.specs.Prelude.{false, map};
 ghost use Rattle.office_words.specs.Understanding.{Understands, WantsMemoryOnlyIf};
-ghost use Rattle.office_words.specs.Words.{add_person, add_room, alone, ask_me, ask_moves, ask_what_if, draw, leave, remove, reopen, request_after, request_of, set_choices, set_home, shut, withdraw};
+ghost use Rattle.office_words.specs.Words.{add_person, add_room, alone, ask_me, ask_moves, ask_what_if, draw, leave, remove, reopen, request_after_word, request_of, set_choices, set_home, shut, withdraw};
 ghost use Rattle.office_words.specs.Words.{copies, takes_memory};
 ghost use Rattle.office_words.specs.declared.verbs.Verb.TheVariants as verb;
 
-use crate::values::{choices_of, drawn_words, name_of, only_value, round_of, value_of};
+use crate::values::{
+    drawn_words, name_of, only_value_in_words, request_choices_of, request_value_of, round_of,
+};
 use crate::verbs::{Verb, verb_of};
 use crate::word_fault::WordFault;
 use office_core::{Command, Query};
@@ -22,15 +24,15 @@ pub fn words_to_command(alloc: Global, words: &[&str]) -> Result<Request, WordFa
         return Err(WordFault::NotUnderstood);
     };
     match verb_of(first) {
-        Some(verb) => request_after(alloc, verb, rest),
+        Some(verb) => request_after_word(alloc, verb, rest),
         None => Err(WordFault::NotUnderstood),
     }
 }
 
 // The request of the words after a first word.
-fn request_after(alloc: Global, verb: Verb, rest: &[&str]) -> Result<Request, WordFault>
+fn request_after_word(alloc: Global, verb: Verb, rest: &[&str]) -> Result<Request, WordFault>
     ensures understands { Understands
-        (request_after verb (map (λ word. word.now) rest.now)) result }
+        (request_after_word verb (map (λ word. word.now) rest.now)) result }
     ensures memory { WantsMemoryOnlyIf (copies verb (map (λ word. word.now) rest.now)) result }
 {
     match verb {
@@ -41,20 +43,20 @@ fn request_after(alloc: Global, verb: Verb, rest: &[&str]) -> Result<Request, Wo
         Verb::Remove => words_to_remove(alloc, rest),
         Verb::Shut => words_to_shut(alloc, rest),
         Verb::Reopen => words_to_reopen(alloc, rest),
-        Verb::Open => alone(rest, Request::Office(Command::OpenRound)),
-        Verb::Close => alone(rest, Request::Office(Command::CloseRound)),
-        Verb::Run => alone(rest, Request::Office(Command::Run)),
-        Verb::Publish => alone(rest, Request::Office(Command::Publish)),
-        Verb::Settle => alone(rest, Request::Office(Command::Settle)),
-        Verb::Cancel => alone(rest, Request::Office(Command::Cancel)),
+        Verb::Open => request_alone(rest, Request::Office(Command::OpenRound)),
+        Verb::Close => request_alone(rest, Request::Office(Command::CloseRound)),
+        Verb::Run => request_alone(rest, Request::Office(Command::Run)),
+        Verb::Publish => request_alone(rest, Request::Office(Command::Publish)),
+        Verb::Settle => request_alone(rest, Request::Office(Command::Settle)),
+        Verb::Cancel => request_alone(rest, Request::Office(Command::Cancel)),
         Verb::Choose => words_to_set_choices(alloc, rest),
         Verb::Withdraw => words_to_withdraw(alloc, rest),
         Verb::Draw => words_to_draw(alloc, rest),
-        Verb::Rooms => alone(rest, Request::Ask(Query::Rooms)),
-        Verb::People => alone(rest, Request::Ask(Query::People)),
-        Verb::Round => alone(rest, Request::Ask(Query::Round)),
-        Verb::Order => alone(rest, Request::Ask(Query::Order)),
-        Verb::Results => alone(rest, Request::Ask(Query::Results)),
+        Verb::Rooms => request_alone(rest, Request::Ask(Query::Rooms)),
+        Verb::People => request_alone(rest, Request::Ask(Query::People)),
+        Verb::Round => request_alone(rest, Request::Ask(Query::Round)),
+        Verb::Order => request_alone(rest, Request::Ask(Query::Order)),
+        Verb::Results => request_alone(rest, Request::Ask(Query::Results)),
         Verb::Moves => words_to_ask_moves(rest),
         Verb::Me => words_to_ask_me(alloc, rest),
         Verb::WhatIf => words_to_ask_what_if(alloc, rest),
@@ -66,7 +68,7 @@ fn words_to_add_room(alloc: Global, words: &[&str]) -> Result<Request, WordFault
     ensures memory { WantsMemoryOnlyIf (copies verb.Room (map (λ word. word.now) words.now))
         result }
 {
-    let room = only_value(alloc, words)?;
+    let room = only_value_in_words(alloc, words)?;
     Ok(Request::Office(Command::AddRoom { room }))
 }
 
@@ -78,8 +80,8 @@ fn words_to_add_person(alloc: Global, words: &[&str]) -> Result<Request, WordFau
 {
     match words {
         [person, key, name @ ..] if !name.is_empty() => {
-            let person = value_of(alloc, person)?;
-            let key = value_of(alloc, key)?;
+            let person = request_value_of(alloc, person)?;
+            let key = request_value_of(alloc, key)?;
             let name = name_of(alloc, name)?;
             Ok(Request::Office(Command::AddPerson {
                 person,
@@ -99,8 +101,8 @@ fn words_to_set_home(alloc: Global, words: &[&str]) -> Result<Request, WordFault
 {
     match words {
         [person, room] => {
-            let person = value_of(alloc, person)?;
-            let room = value_of(alloc, room)?;
+            let person = request_value_of(alloc, person)?;
+            let room = request_value_of(alloc, room)?;
             Ok(Request::Office(Command::SetHome { person, room }))
         }
         _ => Err(WordFault::NotUnderstood),
@@ -112,7 +114,7 @@ fn words_to_leave(alloc: Global, words: &[&str]) -> Result<Request, WordFault>
     ensures memory { WantsMemoryOnlyIf (copies verb.Leave (map (λ word. word.now) words.now))
         result }
 {
-    let person = only_value(alloc, words)?;
+    let person = only_value_in_words(alloc, words)?;
     Ok(Request::Office(Command::Leave { person }))
 }
 
@@ -121,7 +123,7 @@ fn words_to_remove(alloc: Global, words: &[&str]) -> Result<Request, WordFault>
     ensures memory { WantsMemoryOnlyIf (copies verb.Remove (map (λ word. word.now) words.now))
         result }
 {
-    let person = only_value(alloc, words)?;
+    let person = only_value_in_words(alloc, words)?;
     Ok(Request::Office(Command::Remove { person }))
 }
 
@@ -130,7 +132,7 @@ fn words_to_shut(alloc: Global, words: &[&str]) -> Result<Request, WordFault>
     ensures memory { WantsMemoryOnlyIf (copies verb.Shut (map (λ word. word.now) words.now))
         result }
 {
-    let room = only_value(alloc, words)?;
+    let room = only_value_in_words(alloc, words)?;
     Ok(Request::Office(Command::Shut { room }))
 }
 
@@ -139,7 +141,7 @@ fn words_to_reopen(alloc: Global, words: &[&str]) -> Result<Request, WordFault>
     ensures memory { WantsMemoryOnlyIf (copies verb.Reopen (map (λ word. word.now) words.now))
         result }
 {
-    let room = only_value(alloc, words)?;
+    let room = only_value_in_words(alloc, words)?;
     Ok(Request::Office(Command::Reopen { room }))
 }
 
@@ -150,8 +152,8 @@ fn words_to_set_choices(alloc: Global, words: &[&str]) -> Result<Request, WordFa
 {
     match words {
         [person, rooms @ ..] => {
-            let person = value_of(alloc, person)?;
-            let choices = choices_of(alloc, rooms)?;
+            let person = request_value_of(alloc, person)?;
+            let choices = request_choices_of(alloc, rooms)?;
             Ok(Request::Office(Command::SetChoices { person, choices }))
         }
         [] => Err(WordFault::NotUnderstood),
@@ -163,7 +165,7 @@ fn words_to_withdraw(alloc: Global, words: &[&str]) -> Result<Request, WordFault
     ensures memory { WantsMemoryOnlyIf (copies verb.Withdraw (map (λ word. word.now) words.now))
         result }
 {
-    let person = only_value(alloc, words)?;
+    let person = only_value_in_words(alloc, words)?;
     Ok(Request::Office(Command::Withdraw { person }))
 }
 
@@ -194,7 +196,7 @@ fn words_to_ask_me(alloc: Global, words: &[&str]) -> Result<Request, WordFault>
     ensures understands { Understands (ask_me (map (λ word. word.now) words.now)) result }
     ensures memory { WantsMemoryOnlyIf (copies verb.Me (map (λ word. word.now) words.now)) result }
 {
-    let key = only_value(alloc, words)?;
+    let key = only_value_in_words(alloc, words)?;
     Ok(Request::Ask(Query::Me(key)))
 }
 
@@ -205,8 +207,8 @@ fn words_to_ask_what_if(alloc: Global, words: &[&str]) -> Result<Request, WordFa
 {
     match words {
         [person, rooms @ ..] => {
-            let person = value_of(alloc, person)?;
-            let choices = choices_of(alloc, rooms)?;
+            let person = request_value_of(alloc, person)?;
+            let choices = request_choices_of(alloc, rooms)?;
             Ok(Request::Ask(Query::WhatIf(person, choices)))
         }
         [] => Err(WordFault::NotUnderstood),
@@ -214,7 +216,7 @@ fn words_to_ask_what_if(alloc: Global, words: &[&str]) -> Result<Request, WordFa
 }
 
 // The request of a word after which none may stand.
-fn alone(words: &[&str], request: Request) -> Result<Request, WordFault>
+fn request_alone(words: &[&str], request: Request) -> Result<Request, WordFault>
     ensures understands { Understands (alone request (map (λ word. word.now) words.now)) result }
     ensures memory { WantsMemoryOnlyIf false result }
 {

@@ -1,5 +1,3 @@
-mod Carried
-mod DeskConversations
-mod LetterLemmas
-mod OwnReplies
-mod Streams
+mod conversations
+mod own_replies
+mod desk_letters

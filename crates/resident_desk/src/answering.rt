@@ -63,11 +63,11 @@ fn answer_request<H: Handler>(
     ensures ready { H.is_ready handler.new }
 {
     let routed = route_request(alloc, method, path, key)?;
-    answer_routed(alloc, handler, routed, body)
+    answer_routed_resident(alloc, handler, routed, body)
 }
 
 // The letter to what is wanted by a path, a method and a key.
-fn answer_routed<H: Handler>(
+fn answer_routed_resident<H: Handler>(
     alloc: Global,
     handler: &mut H,
     routed: Routed<'_>,
@@ -144,7 +144,7 @@ fn answer_resident<H: Handler>(
 {
     match route {
         Route::Standing => answer_standing(alloc, standing),
-        Route::Rooms => answer_rooms(alloc, handler),
+        Route::Rooms => answer_resident_rooms(alloc, handler),
         Route::Withdrawal => withdraw_resident(alloc, handler, &standing.person),
         Route::Choices => record_resident_choices(alloc, handler, &standing.person, body),
     }
@@ -158,7 +158,7 @@ fn answer_standing(alloc: Global, standing: &Standing) -> Result<Letter, NoLette
 }
 
 // The letter that tells the rooms.
-fn answer_rooms<H: Handler>(alloc: Global, handler: &mut H) -> Result<Letter, NoLetter>
+fn answer_resident_rooms<H: Handler>(alloc: Global, handler: &mut H) -> Result<Letter, NoLetter>
     requires ready { H.is_ready handler.old }
     ensures answers { WithAnswer result (λ answer.
         ListsRooms H.handles handler.old answer handler.new) }

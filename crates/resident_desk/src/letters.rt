@@ -6,7 +6,7 @@ ghost use Rattle.resident_desk.specs.Dues.{one_fault};
 ghost use Rattle.resident_desk.specs.Letters.{IsLetter};
 
 use http::StatusCode;
-use resident_http::{HttpAnswer, Method, answer_bytes, fault_name};
+use resident_http::{HttpAnswer, Method, answer_bytes, http_fault_name};
 use room_types::{Listing, OutOfMemory};
 use std::alloc::Global;
 
@@ -60,7 +60,7 @@ pub fn one_fault_letter(alloc: Global, status: StatusCode) -> Result<Letter, NoL
     requires one { is_one_fault status ≡ true }
     ensures { IfOk result (λ letter. IsLetter letter (one_fault status)) }
 {
-    fault_letter(alloc, status, fault_name(status))
+    fault_letter(alloc, status, http_fault_name(status))
 }
 
 /// The letter that names the method to use.

@@ -1,11 +1,3 @@
-mod CodeLists
-mod Continuations
-mod FieldLemmas
-mod Floats
-mod JsonBodies
-mod Keys
-mod LiteralRoutes
-mod Requests
-mod RoutesFound
-mod Targets
-mod Windows
+mod http_requests
+mod http_routes
+mod json

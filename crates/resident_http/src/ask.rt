@@ -8,7 +8,7 @@ ghost use Rattle.resident_http.specs.Asks.{HasEarlyStatus, is_early_status};
 ghost use Rattle.resident_http.specs.Asks.{window, is_more};
 ghost use Rattle.resident_http.specs.Fields.{values_of};
 
-use crate::fields::{Found, find_fields, is_decimal, number_up_to};
+use crate::fields::{Found, find_fields, is_decimal_field, number_up_to};
 use http::StatusCode;
 use httparse::Status;
 use httparse::spans::{EMPTY_HEADER_SPAN, HeaderSpan, RequestSpans, parse_request};
@@ -106,10 +106,10 @@ fn read_head<'b>(
     if has_bad_host(window, headers, head.version) {
         return AskState::Fault(StatusCode::BAD_REQUEST);
     }
-    if has_field(window, headers, b"expect") {
+    if has_head_field(window, headers, b"expect") {
         return AskState::Fault(StatusCode::EXPECTATION_FAILED);
     }
-    if has_field(window, headers, b"transfer-encoding") {
+    if has_head_field(window, headers, b"transfer-encoding") {
         return AskState::Fault(StatusCode::NOT_IMPLEMENTED);
     }
     let rest = &bytes[head.len..];
@@ -119,7 +119,7 @@ fn read_head<'b>(
         Ok(length) => AskState::Ask {
             method: head.method.of(window),
             path: path_of(text_of(head.path.of(window))),
-            key: room_key(window, headers),
+            key: room_key_header(window, headers),
             body: &rest[..length],
             used: head.len + length,
         },
@@ -139,7 +139,7 @@ fn has_bad_host(window: &[u8], headers: &[HeaderSpan], minor: u8) -> bool
     }
 }
 
-fn has_field(window: &[u8], headers: &[HeaderSpan], name: &[u8]) -> bool
+fn has_head_field(window: &[u8], headers: &[HeaderSpan], name: &[u8]) -> bool
     requires { All (IsHeaderWithin (length window.now)) headers.now }
     ensures { result ≡ is_there (values_of name.now (map (header_bytes window.now) headers.now)) }
 {
@@ -151,7 +151,7 @@ fn has_field(window: &[u8], headers: &[HeaderSpan], name: &[u8]) -> bool
 }
 
 // The key of the resident, where there is exactly one and it is in its grammar.
-fn room_key<'b>(window: &'b [u8], headers: &[HeaderSpan]) -> Option<&'b str>
+fn room_key_header<'b>(window: &'b [u8], headers: &[HeaderSpan]) -> Option<&'b str>
     requires { All (IsHeaderWithin (length window.now)) headers.now }
     ensures { let fields = map (header_bytes window.now) headers.now in
         option_map (λ k. k.now) result ≡ key_of (values_of (codes "room-key") fields) }
@@ -173,18 +173,18 @@ fn body_length(window: &[u8], headers: &[HeaderSpan]) -> Result<usize, StatusCod
 {
     match find_fields(window, headers, b"content-length") {
         Found::Nothing => Ok(0),
-        Found::One(span) => length_in(span.of(window)),
+        Found::One(span) => body_length_in(span.of(window)),
         Found::Several => Err(StatusCode::BAD_REQUEST),
     }
 }
 
 // The length that the value of a field tells.
-fn length_in(text: &[u8]) -> Result<usize, StatusCode>
+fn body_length_in(text: &[u8]) -> Result<usize, StatusCode>
     ensures value { result ≡ length_of (text.now ∷ []) }
     ensures early { IfErr result (λ status. is_early_status status ≡ true) }
     ensures bound { IfOk result (λ n. n ≤ 1024) }
 {
-    if !is_decimal(text) {
+    if !is_decimal_field(text) {
         return Err(StatusCode::BAD_REQUEST);
     }
     let length = number_up_to(text, BODY_LIMIT + 1);

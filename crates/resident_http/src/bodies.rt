@@ -20,7 +20,7 @@ pub fn choices_body(alloc: Global, choices: &[RoomCode]) -> Result<Listing<u8>, 
     ensures { IfOk result (λ body. body ≡ compact_text (choices_data choices.now)) }
 {
     let value = choices_value(alloc, choices)?;
-    written(alloc, &value)
+    written_json(alloc, &value)
 }
 
 /// The body that tells a resident's own record.
@@ -28,7 +28,7 @@ pub fn standing_body(alloc: Global, standing: &Standing) -> Result<Listing<u8>, 
     ensures { IfOk result (λ body. body ≡ compact_text (standing_data standing.now)) }
 {
     let value = standing_value(alloc, standing)?;
-    written(alloc, &value)
+    written_json(alloc, &value)
 }
 
 /// The body that tells the rooms and their states, in the order of the rows.
@@ -36,7 +36,7 @@ pub fn rooms_body(alloc: Global, rows: &[RoomRow]) -> Result<Listing<u8>, OutOfM
     ensures { IfOk result (λ body. body ≡ compact_text (rooms_data rows.now)) }
 {
     let value = rooms_value(alloc, rows)?;
-    written(alloc, &value)
+    written_json(alloc, &value)
 }
 
 /// The body that tells that the person has withdrawn.
@@ -44,7 +44,7 @@ pub fn withdrawn_body(alloc: Global) -> Result<Listing<u8>, OutOfMemory>
     ensures { IfOk result (λ body. body ≡ compact_text withdrawn_data) }
 {
     let value = withdrawn_value(alloc)?;
-    written(alloc, &value)
+    written_json(alloc, &value)
 }
 
 /// The body that tells the name of a fault.
@@ -52,11 +52,11 @@ pub fn fault_body(alloc: Global, name: &str) -> Result<Listing<u8>, OutOfMemory>
     ensures { IfOk result (λ body. body ≡ compact_text (fault_data name.now)) }
 {
     let value = fault_value(alloc, name)?;
-    written(alloc, &value)
+    written_json(alloc, &value)
 }
 
 // The value as it is written, compact.
-fn written(alloc: Global, value: &Value) -> Result<Listing<u8>, OutOfMemory>
+fn written_json(alloc: Global, value: &Value) -> Result<Listing<u8>, OutOfMemory>
     requires { has_float (view value.now) ≡ false }
     ensures { IfOk result (λ body. body ≡ compact_text (view value.now)) }
 {
@@ -75,11 +75,11 @@ fn standing_value(alloc: Global, standing: &Standing) -> Result<Value, AllocErro
     ensures { IfOk result (λ value. view value ≡ standing_data standing.now) }
 {
     let choices = text_array(alloc, standing.choices.as_slice())?;
-    let home = text_or_null(alloc, &standing.home)?;
+    let home = json_text_or_null(alloc, &standing.home)?;
     let name = standing.name.as_str();
     let person = standing.person.as_str();
     let phase = standing.phase.as_str();
-    let result = text_or_null(alloc, &standing.result)?;
+    let result = json_text_or_null(alloc, &standing.result)?;
     let round = u64::from(standing.round);
     let shown = standing.shown;
     let withdrawn = standing.withdrawn;
@@ -136,7 +136,7 @@ fn text_array(alloc: Global, codes: &[RoomCode]) -> Result<Value, AllocError>
     Ok(Value::Array(values))
 }
 
-fn text_or_null(alloc: Global, text: &Option<RoomCode>) -> Result<Value, AllocError>
+fn json_text_or_null(alloc: Global, text: &Option<RoomCode>) -> Result<Value, AllocError>
     ensures { IfOk result (λ value. view value ≡ text_or_null text.now) }
 {
     match text {

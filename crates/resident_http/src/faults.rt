@@ -48,7 +48,7 @@ impl HttpAnswer {
     pub fn wrong_method(alloc: Global, allow: Method) -> Result<Self, OutOfMemory>
         ensures { IfOk result (λ answer. answer ≡ wrong_method_answer allow) }
     {
-        let body = fault_body(alloc, fault_name(StatusCode::METHOD_NOT_ALLOWED))?;
+        let body = fault_body(alloc, http_fault_name(StatusCode::METHOD_NOT_ALLOWED))?;
         Ok(HttpAnswer {
             status: StatusCode::METHOD_NOT_ALLOWED,
             allow: Some(allow),
@@ -58,7 +58,7 @@ impl HttpAnswer {
 }
 
 /// The name of the faults with this status, where they have one name: it is none of 200, 409 and 422.
-pub fn fault_name(status: StatusCode) -> &'static str
+pub fn http_fault_name(status: StatusCode) -> &'static str
     requires { is_one_fault status ≡ true }
     ensures { result.now ≡ name_of status }
 {

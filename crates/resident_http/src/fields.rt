@@ -25,13 +25,13 @@ pub fn find_fields(buf: &[u8], headers: &[HeaderSpan], name: &[u8]) -> Found
 {
     let mut found = Found::Nothing;
     for header in headers {
-        found = with_field(buf, found, *header, name);
+        found = with_head_field(buf, found, *header, name);
     }
     found
 }
 
 // What is found once this field is looked at too.
-fn with_field(buf: &[u8], found: Found, header: HeaderSpan, name: &[u8]) -> Found
+fn with_head_field(buf: &[u8], found: Found, header: HeaderSpan, name: &[u8]) -> Found
     requires { IsHeaderWithin (length buf.now) header }
     ensures { (values : List (List ℕ)) → Tells buf.now found values
         → Tells buf.now result (values
@@ -49,7 +49,7 @@ fn with_field(buf: &[u8], found: Found, header: HeaderSpan, name: &[u8]) -> Foun
 }
 
 /// Whether the text is one or more decimal digits.
-pub fn is_decimal(text: &[u8]) -> bool
+pub fn is_decimal_field(text: &[u8]) -> bool
     ensures { result ≡ is_decimal text.now }
 {
     !text.is_empty() && has_digits_alone(text)

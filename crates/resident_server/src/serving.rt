@@ -51,7 +51,7 @@ pub fn serve_listener<S: Alter, L: Listener, W: Write>(
         listener.old desk.old listener.new desk.new port count result
         (output_of W.contents output.old) (output_of W.contents output.new) }
 {
-    let Ok(lines) = make_lines(alloc, port, count) else {
+    let Ok(lines) = served_connection_lines(alloc, port, count) else {
         return say(output, "unavailable\n", UNAVAILABLE);
     };
     if say(output, lines.listening.as_str(), ACCEPTED) != ACCEPTED {
@@ -104,7 +104,7 @@ struct Lines {
     served: String,
 }
 
-fn make_lines(alloc: Global, port: u16, count: u32) -> Result<Lines, AllocError>
+fn served_connection_lines(alloc: Global, port: u16, count: u32) -> Result<Lines, AllocError>
     ensures listening { IfOk result (λ lines. string_bytes lines.listening ≡ listening_text port) }
     ensures served { IfOk result (λ lines. string_bytes lines.served ≡ served_text count) }
 {

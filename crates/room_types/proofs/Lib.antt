@@ -1,8 +1,6 @@
-pub mod Arrangements
-pub mod HexTexts
-pub mod MapEntries
-pub mod Options
-pub mod Repeats
-pub mod StreamLemmas
-pub mod Trees
-pub mod WordTexts
+pub mod arranged
+pub mod hex_words
+pub mod maps
+pub mod options
+pub mod repeats
+pub mod watched_bytes

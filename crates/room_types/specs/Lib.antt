@@ -7,7 +7,6 @@ pub mod Phases
 pub mod Repeats
 pub mod Rows
 pub mod Streams
-pub mod TextMaps
 pub mod Texts
 pub mod Watched
 pub mod Words

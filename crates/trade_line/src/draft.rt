@@ -20,7 +20,7 @@ pub(crate) struct Draft {
 }
 
 // Whether each home is below the number of rooms.
-fn are_homes_known(homes: &[Option<usize>], room_count: usize) -> bool
+fn are_draft_homes_known(homes: &[Option<usize>], room_count: usize) -> bool
     ensures { IsTrue result ↔ All (λ home. IfSome home (λ room. room < room_count)) homes.now }
 {
     homes.iter().all(|home| match home {
@@ -30,17 +30,19 @@ fn are_homes_known(homes: &[Option<usize>], room_count: usize) -> bool
 }
 
 // Whether each room of the list is below the number of rooms.
-pub(crate) fn is_list_known(list: &[usize], room_count: usize) -> bool
+pub(crate) fn is_draft_list_known(list: &[usize], room_count: usize) -> bool
     ensures { IsTrue result ↔ All (λ room. room < room_count) list.now }
 {
     list.iter().all(|room| *room < room_count)
 }
 
 // Whether this holds of each list.
-fn are_lists_known(lists: &[Vec<usize>], room_count: usize) -> bool
+fn are_draft_lists_known(lists: &[Vec<usize>], room_count: usize) -> bool
     ensures { IsTrue result ↔ All (λ list. All (λ room. room < room_count) list.items) lists.now }
 {
-    lists.iter().all(|list| is_list_known(list, room_count))
+    lists
+        .iter()
+        .all(|list| is_draft_list_known(list, room_count))
 }
 
 // Whether the list has no room twice. The last person who listed each room stands in `last`, and becomes this one.
@@ -78,8 +80,8 @@ impl Draft {
         if self.homes.len() != self.order_len || self.lists.len() != self.order_len {
             return false;
         }
-        are_homes_known(&self.homes, self.room_count)
-            && are_lists_known(&self.lists, self.room_count)
+        are_draft_homes_known(&self.homes, self.room_count)
+            && are_draft_lists_known(&self.lists, self.room_count)
     }
 
     // Who lives in each room.

@@ -6,7 +6,7 @@ ghost use Rattle.trade_line.specs.OtherList.{with_list, IsListFor, IsFirstListFa
 ghost use Rattle.trade_line.specs.Inner.Draft.{told_market};
 ghost use Rattle.trade_line.specs.Inner.Tenants.{IsTenants};
 
-use crate::draft::{Draft, is_distinct, is_list_known, lacks};
+use crate::draft::{Draft, is_distinct, is_draft_list_known, lacks};
 use crate::fault::TradeFault;
 use crate::lists::Lists;
 use std::alloc::Global;
@@ -111,11 +111,16 @@ impl Problem {
     }
 
     // Whether the person can hand in the list.
-    fn check_list(&self, alloc: Global, person: usize, list: &[usize]) -> Result<(), TradeFault>
+    fn check_problem_list(
+        &self,
+        alloc: Global,
+        person: usize,
+        list: &[usize],
+    ) -> Result<(), TradeFault>
         ensures fits { OnOk result (IsListFor self.now person list.now) }
         ensures first_fault { IfErr result (IsFirstListFault self.now person list.now) }
     {
-        if person >= self.order_len || !is_list_known(list, self.room_count) {
+        if person >= self.order_len || !is_draft_list_known(list, self.room_count) {
             return Err(TradeFault::BadIndex);
         }
         let nobody = self.order_len;
@@ -141,7 +146,7 @@ impl Problem {
         ensures fits { OnOk result (IsListFor self.now person list.items) }
         ensures first_fault { IfErr result (IsFirstListFault self.now person list.items) }
     {
-        self.check_list(alloc, person, &list)?;
+        self.check_problem_list(alloc, person, &list)?;
         let homes = Vec::from_slice(alloc, &self.homes)?;
         let tenants = Vec::from_slice(alloc, &self.tenants)?;
         let lists = self.lists.with_list(alloc, person, &list)?;

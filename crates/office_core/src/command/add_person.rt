@@ -2,7 +2,7 @@
 ghost use Rattle.office_core.specs.Command.Decision.{IsDecided};
 ghost use Rattle.office_core.specs.Command.AddPerson.{checks, reply_to, changes_of};
 
-use crate::command::decision::{Decision, decision_with_change};
+use crate::command::decision::{Decision, command_decision_with_change};
 use crate::refusal::Refusal;
 use crate::refusal::rooms::may_live_if_any;
 use crate::reply::Reply;
@@ -45,5 +45,5 @@ pub fn add_person(
         key: key.copy()?,
         home: copy_optional(home)?,
     };
-    decision_with_change(alloc, Reply::Done, change)
+    command_decision_with_change(alloc, Reply::Done, change)
 }

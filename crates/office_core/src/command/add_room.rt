@@ -3,7 +3,7 @@ ghost use Rattle.office_core.specs.Command.Decision.{IsDecided};
 ghost use Rattle.office_core.specs.Command.AddRoom.{checks, reply_to, changes_of};
 ghost use Rattle.office_core.specs.Inner.Passes.{Passes};
 
-use crate::command::decision::{Decision, decision_with_change};
+use crate::command::decision::{Decision, command_decision_with_change};
 use crate::refusal::Refusal;
 use crate::reply::Reply;
 use office_state::phases::is_preparing;
@@ -20,7 +20,7 @@ pub fn add_room(alloc: Global, office: &Office, room: &RoomCode) -> Result<Decis
 {
     may_add_room(office, &office.rooms, room)?;
     let room = room.copy()?;
-    decision_with_change(alloc, Reply::Done, Change::PutRoom { room, shut: false })
+    command_decision_with_change(alloc, Reply::Done, Change::PutRoom { room, shut: false })
 }
 
 /// Passes a room that may be added to an office with these rooms.

@@ -2,10 +2,10 @@
 ghost use Rattle.office_core.specs.Command.Decision.{IsDecided};
 ghost use Rattle.office_core.specs.Command.Cancel.{checks, reply_to, changes_of};
 
-use crate::command::decision::{Decision, decision_with_changes};
+use crate::command::decision::{Decision, command_decision_with_changes};
 use crate::refusal::Refusal;
 use crate::reply::Reply;
-use office_state::phases::may_cancel;
+use office_state::phases::phase_may_cancel;
 use office_state::{Change, Office};
 use room_types::Phase;
 use std::alloc::Global;
@@ -15,12 +15,12 @@ use std::alloc::Global;
 pub fn cancel(alloc: Global, office: &Office) -> Result<Decision, Refusal>
     ensures { IsDecided (checks office.now) (reply_to office.now) (changes_of office.now) result }
 {
-    if !may_cancel(office.phase) {
+    if !phase_may_cancel(office.phase) {
         return Err(Refusal::BadPhase(office.phase));
     }
     let over = Change::PutRound {
         number: office.number,
         phase: Phase::Idle,
     };
-    decision_with_changes(alloc, Reply::Cancelled, Change::ClearRound, over)
+    command_decision_with_changes(alloc, Reply::Cancelled, Change::ClearRound, over)
 }

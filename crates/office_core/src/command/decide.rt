@@ -47,11 +47,11 @@ pub fn decide(alloc: Global, office: &Office, command: &Command) -> Result<Decis
         (λ decision. LeadsOn office.now (next office.now command.now) decision.changes.items) }
     ensures ascending { IfOk result (λ decision. RowsAscend decision.reply) }
 {
-    decision_of(alloc, office, command)
+    command_decision(alloc, office, command)
 }
 
 // The command's own function.
-fn decision_of(alloc: Global, office: &Office, command: &Command) -> Result<Decision, Refusal>
+fn command_decision(alloc: Global, office: &Office, command: &Command) -> Result<Decision, Refusal>
     requires { IsLawful office.now }
     ensures formed { OnOk result (IsFormed command.now) }
     ensures decides { IsDecided (checks office.now command.now) (reply_to office.now command.now)

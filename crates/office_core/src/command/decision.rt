@@ -14,7 +14,7 @@ pub struct Decision {
 }
 
 /// The decision of one change.
-pub(crate) fn decision_with_change(
+pub(crate) fn command_decision_with_change(
     alloc: Global,
     reply: Reply,
     change: Change,
@@ -28,7 +28,7 @@ pub(crate) fn decision_with_change(
 }
 
 /// The decision of two changes.
-pub(crate) fn decision_with_changes(
+pub(crate) fn command_decision_with_changes(
     alloc: Global,
     reply: Reply,
     first: Change,

@@ -95,7 +95,7 @@ fn import_new(
     if bytes.len() > BYTE_LIMIT {
         return Err(Refusal::LimitReached);
     }
-    let mut changes = records_added(alloc, office, kind, bytes.as_slice())?;
+    let mut changes = import_records_added(alloc, office, kind, bytes.as_slice())?;
     let count = changes.len() as u16;
     changes.push(Change::KeepList {
         label: label.copy()?,
@@ -121,7 +121,7 @@ fn may_import(kind: ListKind, phase: Phase) -> bool
 
 // A change for each record of the list.
 #[tactic(auto, using(crate::proofs::CommandLemmas::ListChecks::as_many))]
-fn records_added(
+fn import_records_added(
     alloc: Global,
     office: &Office,
     kind: ListKind,

@@ -2,7 +2,7 @@
 ghost use Rattle.office_core.specs.Command.Decision.{IsDecided};
 ghost use Rattle.office_core.specs.Command.Publish.{checks, reply_to, changes_of};
 
-use crate::command::decision::{Decision, decision_with_change};
+use crate::command::decision::{Decision, command_decision_with_change};
 use crate::refusal::Refusal;
 use crate::reply::Reply;
 use office_state::phases::is_ran;
@@ -22,5 +22,5 @@ pub fn publish(alloc: Global, office: &Office) -> Result<Decision, Refusal>
         number: office.number,
         phase: Phase::Published,
     };
-    decision_with_change(alloc, Reply::Published { participants }, change)
+    command_decision_with_change(alloc, Reply::Published { participants }, change)
 }

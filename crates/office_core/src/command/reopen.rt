@@ -2,7 +2,7 @@
 ghost use Rattle.office_core.specs.Command.Decision.{IsDecided};
 ghost use Rattle.office_core.specs.Command.Reopen.{checks, reply_to, changes_of};
 
-use crate::command::decision::{Decision, decision_with_change};
+use crate::command::decision::{Decision, command_decision_with_change};
 use crate::refusal::{Refusal, unknown_room};
 use crate::reply::Reply;
 use office_state::phases::is_preparing;
@@ -26,5 +26,5 @@ pub fn reopen(alloc: Global, office: &Office, room: &RoomCode) -> Result<Decisio
         return Err(Refusal::NotShut);
     }
     let room = room.copy()?;
-    decision_with_change(alloc, Reply::Done, Change::PutRoom { room, shut: false })
+    command_decision_with_change(alloc, Reply::Done, Change::PutRoom { room, shut: false })
 }

@@ -5,7 +5,7 @@ ghost use Rattle.office_core.specs.Command.Decision.{IsDecided};
 ghost use Rattle.office_core.specs.Command.SetChoices.{checks, reply_to, changes_of};
 ghost use Rattle.office_core.specs.Inner.Passes.{Passes};
 
-use crate::command::decision::{Decision, decision_with_change};
+use crate::command::decision::{Decision, command_decision_with_change};
 use crate::refusal::Refusal;
 use crate::refusal::rooms::may_list_all;
 use crate::reply::Reply;
@@ -33,7 +33,7 @@ pub fn set_choices(
         choices: choices.copy()?,
     };
     let choices = choices.copy()?;
-    decision_with_change(alloc, Reply::Chosen { choices }, change)
+    command_decision_with_change(alloc, Reply::Chosen { choices }, change)
 }
 
 /// Passes a person whose list may be replaced by this one.

@@ -2,7 +2,9 @@
 ghost use Rattle.office_core.specs.Command.Decision.{IsDecided};
 ghost use Rattle.office_core.specs.Command.Shut.{checks, reply_to, changes_of};
 
-use crate::command::decision::{Decision, decision_with_change, decision_with_changes};
+use crate::command::decision::{
+    Decision, command_decision_with_change, command_decision_with_changes,
+};
 use crate::refusal::Refusal;
 use crate::refusal::rooms::may_list;
 use crate::reply::Reply;
@@ -33,8 +35,8 @@ pub fn shut(alloc: Global, office: &Office, room: &RoomCode) -> Result<Decision,
                 home: None,
             };
             let displaced = Some(tenant.copy()?);
-            decision_with_changes(alloc, Reply::Shut { displaced }, left, closed)
+            command_decision_with_changes(alloc, Reply::Shut { displaced }, left, closed)
         }
-        None => decision_with_change(alloc, Reply::Shut { displaced: None }, closed),
+        None => command_decision_with_change(alloc, Reply::Shut { displaced: None }, closed),
     }
 }

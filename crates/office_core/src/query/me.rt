@@ -6,7 +6,7 @@ ghost use Rattle.office_core.specs.Query.Me.{told, standing_of, shown_result};
 
 use crate::refusal::Refusal;
 use crate::reply::{Reply, Standing};
-use office_state::{Office, Person, copy_found};
+use office_state::{Office, Person, copy_found_in_office};
 use room_types::rows::copy_optional;
 use room_types::{Choices, Key, OutOfMemory, PersonId, RoomCode};
 use std::alloc::Global;
@@ -70,5 +70,5 @@ fn shown_result(office: &Office, person: &PersonId) -> Result<Option<RoomCode>, 
     if !office.is_shown(person) {
         return Ok(None);
     }
-    copy_found(office.recorded_result(person))
+    copy_found_in_office(office.recorded_result(person))
 }

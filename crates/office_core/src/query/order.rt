@@ -6,8 +6,8 @@ ghost use Rattle.office_core.specs.Query.Order.{told, order_row};
 use crate::refusal::Refusal;
 use crate::reply::{OrderRow, Reply};
 use office_state::Office;
-use office_state::phases::has_words;
-use office_state::round::{round_people, word_of};
+use office_state::phases::phase_has_words;
+use office_state::round::{round_people, round_word_of};
 use room_types::{Listing, OutOfMemory, PersonId};
 use std::alloc::Global;
 
@@ -16,7 +16,7 @@ use std::alloc::Global;
 pub fn order(alloc: Global, office: &Office) -> Result<Reply, Refusal>
     ensures { Tells (told office.now) result }
 {
-    if !has_words(office.phase) {
+    if !phase_has_words(office.phase) {
         return Err(Refusal::BadPhase(office.phase));
     }
     let people = round_people(alloc, office)?;
@@ -36,7 +36,7 @@ fn order_rows(
     let mut rows = Vec::new(alloc);
     for person in people {
         rows.push(OrderRow {
-            word: word_of(office, person),
+            word: round_word_of(office, person),
             person: person.copy()?,
         })?;
     }

@@ -5,7 +5,7 @@ ghost use Rattle.office_core.specs.Query.Rooms.{told, state_of};
 
 use crate::refusal::Refusal;
 use crate::reply::Reply;
-use office_state::{Office, copy_found};
+use office_state::{Office, copy_found_in_office};
 use room_types::{Listing, PersonId, RoomRow, State};
 use std::alloc::Global;
 
@@ -20,7 +20,7 @@ pub fn rooms(alloc: Global, office: &Office) -> Result<Reply, Refusal>
     let tenants = office.tenants(alloc)?;
     let mut rows = Vec::new(alloc);
     for (room, shut) in office.rooms.iter() {
-        let tenant = copy_found(tenants.get(room))?;
+        let tenant = copy_found_in_office(tenants.get(room))?;
         let state = state_of(*shut, &tenant);
         let room = room.copy()?;
         rows.push(RoomRow {

@@ -134,7 +134,9 @@ impl Office {
 }
 
 /// A copy of a text that was found, if any. It is refused only for memory; `None` takes none.
-pub fn copy_found<G: Grammar>(found: Option<&Text<G>>) -> Result<Option<Text<G>>, OutOfMemory>
+pub fn copy_found_in_office<G: Grammar>(
+    found: Option<&Text<G>>,
+) -> Result<Option<Text<G>>, OutOfMemory>
     ensures copy { IfOk result (λ copy. copy ≡ option_copied found.entry) }
     ensures memory { OnErr result (IsSome found.entry) }
 {

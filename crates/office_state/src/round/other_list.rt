@@ -5,8 +5,8 @@ ghost use Rattle.office_state.specs.Round.{is_participant, number_in, result_of,
 
 use crate::office::Office;
 use crate::round::lists::numbers_of;
-use crate::round::problem::{round_problem, want_of_memory};
-use crate::round::results::room_named;
+use crate::round::problem::{round_problem, round_problem_want_of_memory};
+use crate::round::results::round_room_named;
 use room_types::{Choices, OutOfMemory, PersonId, RoomCode};
 use std::alloc::Global;
 use trade_line::what_if::run_with_list;
@@ -37,8 +37,8 @@ pub fn result_by(
         choices.as_slice(),
     )?;
     match run_with_list(alloc, &round.problem, number, list) {
-        Ok(room) => room_named(&round.rooms, room),
-        Err(fault) => Err(want_of_memory(fault)),
+        Ok(room) => round_room_named(&round.rooms, room),
+        Err(fault) => Err(round_problem_want_of_memory(fault)),
     }
 }
 

@@ -26,14 +26,14 @@ fn lots(alloc: Global, office: &Office) -> Result<Vec<(PersonId, Word)>, OutOfMe
     let mut lots = Vec::new(alloc);
     for (id, _) in office.people.iter() {
         if !office.withdrawn.contains_key(id) {
-            lots.push((id.copy()?, word_of(office, id)))?;
+            lots.push((id.copy()?, round_word_of(office, id)))?;
         }
     }
     Ok(lots)
 }
 
 /// The word that a person drew, or word 0 where none is recorded. From the draw on each participant has one.
-pub fn word_of(office: &Office, person: &PersonId) -> Word
+pub fn round_word_of(office: &Office, person: &PersonId) -> Word
     ensures { result ≡ word_of office.now person.now }
 {
     office.words.get(person).copied().unwrap_or(Word::new(0))

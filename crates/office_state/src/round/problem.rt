@@ -47,12 +47,12 @@ pub(crate) fn round_problem(alloc: Global, office: &Office) -> Result<RoundProbl
             numbers,
             problem,
         }),
-        Err(fault) => Err(want_of_memory(fault)),
+        Err(fault) => Err(round_problem_want_of_memory(fault)),
     }
 }
 
 /// The one refusal of a problem that is well formed, and of a list that may be handed in.
-pub(crate) fn want_of_memory(fault: TradeFault) -> OutOfMemory
+pub(crate) fn round_problem_want_of_memory(fault: TradeFault) -> OutOfMemory
     requires { fault ≡ TradeFault.OutOfMemory }
 {
     match fault {

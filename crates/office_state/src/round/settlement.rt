@@ -4,7 +4,7 @@ ghost use Rattle.office_state.specs.Office.{participants};
 ghost use Rattle.office_state.specs.Round.Settlement.{movers};
 
 use crate::office::Office;
-use crate::office::look::{copy_found, is_same_room};
+use crate::office::look::{copy_found_in_office, is_same_room};
 use office_lists::Mover;
 use room_types::OutOfMemory;
 use std::alloc::Global;
@@ -19,8 +19,8 @@ pub fn movers(alloc: Global, office: &Office) -> Result<Vec<Mover>, OutOfMemory>
     let mut movers = Vec::new(alloc);
     for (id, _) in office.people.iter() {
         if !office.has_withdrawn(id) {
-            let from = copy_found(office.home_of(id))?;
-            let to = copy_found(office.recorded_result(id))?;
+            let from = copy_found_in_office(office.home_of(id))?;
+            let to = copy_found_in_office(office.recorded_result(id))?;
             if !is_same_room(&from, &to) {
                 movers.push((id.copy()?, from, to))?;
             }

@@ -18,17 +18,20 @@ pub(crate) fn are_kept(office: &Office) -> bool
     if office.lists.len() > LABEL_LIMIT {
         return false;
     }
-    are_short(office)
+    are_sound_labels_short(office)
 }
 
 // Whether no kept list is longer than a list may be.
-fn are_short(office: &Office) -> bool
+fn are_sound_labels_short(office: &Office) -> bool
     ensures { result ≡ list_all (λ e. is_short e.1) (map.entries office.now.lists) }
 {
-    office.lists.iter().all(|(_, kept)| is_short(kept))
+    office
+        .lists
+        .iter()
+        .all(|(_, kept)| is_sound_label_short(kept))
 }
 
-fn is_short(kept: &KeptList) -> bool
+fn is_sound_label_short(kept: &KeptList) -> bool
     ensures { result ≡ is_short kept.now }
 {
     kept.bytes.len() <= BYTE_LIMIT && usize::from(kept.count) <= RECORD_LIMIT

@@ -52,10 +52,10 @@ fn is_recorded_list(office: &Office, choices: &Choices) -> bool
     if codes.is_empty() {
         return false;
     }
-    are_rooms_known(office, codes)
+    are_sound_rooms_known(office, codes)
 }
 
-fn are_rooms_known(office: &Office, codes: &[RoomCode]) -> bool
+fn are_sound_rooms_known(office: &Office, codes: &[RoomCode]) -> bool
     ensures { result ≡ list_all (λ code. map.contains_key office.now.rooms code) codes.now }
 {
     codes.iter().all(|code| office.rooms.contains_key(code))

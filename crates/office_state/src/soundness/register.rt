@@ -43,10 +43,10 @@ fn are_homes_open(office: &Office) -> bool
     office
         .people
         .iter()
-        .all(|(_, person)| is_home_open(office, person))
+        .all(|(_, person)| is_sound_home_open(office, person))
 }
 
-fn is_home_open(office: &Office, person: &Person) -> bool
+fn is_sound_home_open(office: &Office, person: &Person) -> bool
     ensures { result ≡ is_home_open office.now.rooms person.now }
 {
     match &person.home {

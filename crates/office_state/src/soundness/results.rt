@@ -35,18 +35,20 @@ fn are_same(found: &Table<PersonIds, Assigned>, given: &Table<PersonIds, Assigne
     if !are_given(found, given) {
         return false;
     }
-    are_found(found, given)
+    are_sound_results_found(found, given)
 }
 
 fn are_given(found: &Table<PersonIds, Assigned>, given: &Table<PersonIds, Assigned>) -> bool
     ensures { result ≡ list_all (λ e. is_given given.now e.0 e.1) (map.entries found.now) }
 {
-    found
-        .iter()
-        .all(|(person, assigned)| is_given(given, person, assigned))
+    found.iter().all(|(person, assigned)| is_sound_result_given(given, person, assigned))
 }
 
-fn is_given(given: &Table<PersonIds, Assigned>, person: &PersonId, found: &Assigned) -> bool
+fn is_sound_result_given(
+    given: &Table<PersonIds, Assigned>,
+    person: &PersonId,
+    found: &Assigned,
+) -> bool
     ensures { result ≡ is_given given.now person.now found.now }
 {
     match given.get(person) {
@@ -55,7 +57,10 @@ fn is_given(given: &Table<PersonIds, Assigned>, person: &PersonId, found: &Assig
     }
 }
 
-fn are_found(found: &Table<PersonIds, Assigned>, given: &Table<PersonIds, Assigned>) -> bool
+fn are_sound_results_found(
+    found: &Table<PersonIds, Assigned>,
+    given: &Table<PersonIds, Assigned>,
+) -> bool
     ensures { result ≡ list_all (λ e. map.contains_key found.now e.0) (map.entries given.now) }
 {
     given.iter().all(|(person, _)| found.contains_key(person))

@@ -74,7 +74,7 @@ impl<S: Alter> Desk<S> {
                 kept: Some(office),
             }),
             Err(fault) => Err(Back {
-                fault: desk_fault(fault),
+                fault: adopting_desk_fault(fault),
                 connection: conn,
             }),
         }
@@ -82,7 +82,7 @@ impl<S: Alter> Desk<S> {
 }
 
 // Why there is no desk, where no office was found.
-fn desk_fault(fault: FindFault) -> DeskFault
+fn adopting_desk_fault(fault: FindFault) -> DeskFault
     ensures { result ≡ desk_fault fault }
 {
     match fault {

@@ -8,7 +8,7 @@ use office_core::Standing;
 use resident_http::answer::{HttpAnswer, UNAVAILABLE, answer_bytes};
 use resident_http::bodies::{choices_body, rooms_body, standing_body, withdrawn_body};
 use resident_http::choices::choices_of_body;
-use resident_http::faults::fault_name;
+use resident_http::faults::http_fault_name;
 use resident_http::method::Method;
 use room_types::{
     Choices, Grammar, Listing, OutOfMemory, Phase, RoomCode, RoomRow, State, Text, TypeFault,
@@ -135,7 +135,7 @@ fn a_wrong_method_to_the_byte(rt: HostRuntime) {
 fn faults_with_their_reasons_and_names(rt: HostRuntime) {
     let alloc = rt.alloc();
     for (status, line, name) in FAULTS {
-        let told = fault_name(status);
+        let told = http_fault_name(status);
         assert_same!(rt; told, name);
         is_fault(&rt, alloc, status, line, told);
     }

@@ -3,17 +3,17 @@ use Rattle.std.proofs.lemmas.Result.{IfOk-weaker}
 use Rattle.std.proofs.lemmas.List.{nil_from_length}
 use Rattle.std.proofs.lemmas.Bool.{eqb-true}
 use Rattle.draw_order.specs.Draw.{IsDrawnOrder, drawn_order}
-use Rattle.draw_order.proofs.DrawnOrders.{drawn_by_sort, one_drawn_order}
+use Rattle.draw_order.proofs.draws.Orders.{draws-drawn_by_sort, draws-one_drawn_order}
 use Rattle.draw_order.proofs.lots.order.Goals as goal
 
 pub returns-clause-drawn : goal.returns-clause-drawn
 returns-clause-drawn c =
-    let drawn = drawn_by_sort c.args.lots.now _ _ c.in_ok-ascending.ensures c.sort_pairs.ensures.moved c.sort_pairs.ensures.ascending in
+    let drawn = draws-drawn_by_sort c.args.lots.now _ _ c.in_ok-ascending.ensures c.sort_lot_pairs.ensures.moved c.sort_lot_pairs.ensures.ascending in
     IfOk-weaker c.identifiers.result _ _ (λ people listed. subst (λ ps. IsDrawnOrder c.args.lots.now ps) (sym (listed ∙ ap (map (λ pair. pair.1.now)) c.deref.ensures.value)) drawn) c.identifiers.ensures
 
 pub returns-clause-computed : goal.returns-clause-computed
 returns-clause-computed c =
-    IfOk-weaker c.identifiers.result _ _ (λ people drawn. (one_drawn_order c.args.lots.now).one people.items drawn) (returns-clause-drawn c)
+    IfOk-weaker c.identifiers.result _ _ (λ people drawn. (draws-one_drawn_order c.args.lots.now).one people.items drawn) (returns-clause-drawn c)
 
 pub returns-then-is_empty-clause-computed : goal.returns-then-is_empty-clause-computed
 returns-then-is_empty-clause-computed c =
@@ -23,4 +23,4 @@ returns-then-is_empty-clause-computed c =
 pub returns-then-is_empty-clause-drawn : goal.returns-then-is_empty-clause-drawn
 returns-then-is_empty-clause-drawn c =
     subst (λ people. IsDrawnOrder c.args.lots.now people)
-    (sym (returns-then-is_empty-clause-computed c)) (one_drawn_order c.args.lots.now).some
+    (sym (returns-then-is_empty-clause-computed c)) (draws-one_drawn_order c.args.lots.now).some

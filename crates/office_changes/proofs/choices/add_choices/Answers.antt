@@ -4,11 +4,11 @@ use Rattle.sqlite.specs.Held.{state}
 use Rattle.office_cells.specs.Spelled.{IsSpelled}
 use Rattle.office_tables.specs.Edits.{with_choice}
 use Rattle.office_tables.specs.Tables.{HasTables}
-use Rattle.office_tables.proofs.StepLemmas.{inside_then, inside_none}
+use Rattle.office_tables.proofs.statements.Steps.{statements-inside_then, statements-inside_none}
 use Rattle.office_changes.specs.Choosing.{with_choices}
-use Rattle.office_changes.proofs.SpelledLemmas.{choice_spelled}
+use Rattle.office_changes.proofs.alike_tables.Spelled.{alike_tables-choice_spelled}
 use Rattle.office_changes.proofs.choices.add_choices.Goals as goal
-use Rattle.office_changes.proofs.LoopLemmas.{next_of}
+use Rattle.office_changes.proofs.changed_rows.Turns.{changed_rows-next_of}
 
 pub loop-room-init : goal.loop-room-init
 loop-room-init g c = record {
@@ -16,7 +16,7 @@ loop-room-init g c = record {
   same_reference = refl;
   made = λ tables clean spelled was. (tables, was, spelled, refl);
   mode = λ clean. refl;
-  inside = inside_none (state g.S.Store c.args.tx.now.conn.now);
+  inside = statements-inside_none (state g.S.Store c.args.tx.now.conn.now);
 }
 
 pub loop-room-preserved : goal.loop-room-preserved
@@ -26,7 +26,7 @@ loop-room-preserved g c =
     let low : i < length xs = omega arith in
     let room = c.room-item.result in
     let person = c.args.person.now in
-    let here : drop i xs ≡ room ∷ drop (i + 1) xs = next_of xs i room low c.room-item.is in
+    let here : drop i xs ≡ room ∷ drop (i + 1) xs = changed_rows-next_of xs i room low c.room-item.is in
     record {
       counted = ap (λ n. n + 1) c.loop-room.invariant.counted;
       same_reference = c.in_ok-add_choice.ensures.same_reference ∙ c.loop-room.invariant.same_reference;
@@ -36,12 +36,12 @@ loop-room-preserved g c =
           let shown = c.in_ok-add_choice.ensures.made.shown m.0 clean m.1 in (
             with_choice person i room m.0,
             rw c.loop-room.invariant.counted at shown,
-            choice_spelled m.0 m.2 person i room c.know_text.ensures c.know_text-in-loop-room.ensures,
+            alike_tables-choice_spelled m.0 m.2 person i room c.know_changed_row_text.ensures c.know_changed_row_text-in-loop-room.ensures,
             ap (λ l. with_choices person i l m.0) (sym here) ∙ m.3,
           );
       mode = λ clean. c.in_ok-add_choice.ensures.made.mode clean
           ∙ c.loop-room.invariant.mode (omega (arith, c.add_choice.ensures.inside.survives.clean));
-      inside = inside_then _ _ _ c.loop-room.invariant.inside c.add_choice.ensures.inside;
+      inside = statements-inside_then _ _ _ c.loop-room.invariant.inside c.add_choice.ensures.inside;
     }
 
 pub returns-clause-made : goal.returns-clause-made

@@ -1,10 +1,10 @@
 use Rattle.std.proofs.lemmas.Result.{on_ok_weaker}
 use Rattle.sqlite.specs.Held.{state}
-use Rattle.office_changes.proofs.CallLemmas.{carries_gone}
+use Rattle.office_changes.proofs.changed_rows.Calls.{changed_rows-carries_gone}
 use Rattle.office_changes.proofs.people.remove_person.Goals as goal
 
 pub returns-clause-made : goal.returns-clause-made
 returns-clause-made g c =
     let old = state g.S.Store c.args.tx.now.conn.now in
     let new = state g.S.Store c.drop_person.new.tx.conn.now in
-    on_ok_weaker c.drop_person.result (carries_gone old new c.args.person.now) c.drop_person.ensures.made
+    on_ok_weaker c.drop_person.result (changed_rows-carries_gone old new c.args.person.now) c.drop_person.ensures.made

@@ -1,6 +1,6 @@
 use Rattle.std.proofs.lemmas.Result.{on_ok_weaker}
 use Rattle.sqlite.specs.Held.{state}
-use Rattle.office_changes.proofs.CallLemmas.{carries_result}
+use Rattle.office_changes.proofs.changed_rows.Calls.{changed_rows-carries_result}
 use Rattle.office_changes.proofs.results.put_result.Goals as goal
 
 pub returns-clause-made : goal.returns-clause-made
@@ -8,5 +8,5 @@ returns-clause-made g c =
     let old = state g.S.Store c.args.tx.now.conn.now in
     let new = state g.S.Store c.add_result.new.tx.conn.now in
     on_ok_weaker c.add_result.result
-    (carries_result old new c.args.person.now c.args.room.now c.know_text.ensures c.know_optional.ensures)
+    (changed_rows-carries_result old new c.args.person.now c.args.room.now c.know_changed_row_text.ensures c.know_changed_row_optional.ensures)
     c.add_result.ensures.made

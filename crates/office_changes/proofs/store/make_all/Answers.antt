@@ -5,16 +5,16 @@ use Rattle.office_state.specs.Change.{applied, applied_all, AllFit}
 use Rattle.office_cells.specs.Spelled.{IsSpelled}
 use Rattle.office_rows.specs.Tables.{rows_of}
 use Rattle.office_tables.specs.Tables.{HoldsOffice}
-use Rattle.office_tables.proofs.StepLemmas.{inside_then, inside_none}
+use Rattle.office_tables.proofs.statements.Steps.{statements-inside_then, statements-inside_none}
 use Rattle.office_changes.proofs.store.make_all.Goals as goal
-use Rattle.office_changes.proofs.LoopLemmas.{next_of}
+use Rattle.office_changes.proofs.changed_rows.Turns.{changed_rows-next_of}
 
 pub loop-change-init : goal.loop-change-init
 loop-change-init g c = record {
   same_reference = refl;
   made = λ office clean fits spelled was. (office, fits, spelled, was, refl);
   mode = λ clean. refl;
-  inside = inside_none (state g.S.Store c.args.tx.now.conn.now);
+  inside = statements-inside_none (state g.S.Store c.args.tx.now.conn.now);
 }
 
 pub loop-change-preserved : goal.loop-change-preserved
@@ -24,18 +24,18 @@ loop-change-preserved g c =
     let low : i < length xs = omega arith in
     let change = c.change-item.result in
     let first = c.args.first.now in
-    let here : drop i xs ≡ change ∷ drop (i + 1) xs = next_of xs i change low c.change-item.is in
+    let here : drop i xs ≡ change ∷ drop (i + 1) xs = changed_rows-next_of xs i change low c.change-item.is in
     record {
-      same_reference = c.in_ok-make.ensures.same_reference ∙ c.loop-change.invariant.same_reference;
+      same_reference = c.in_ok-make_change.ensures.same_reference ∙ c.loop-change.invariant.same_reference;
       made = λ office clean fits spelled was.
           let m = c.loop-change.invariant.made office
-          (omega (arith, c.make.ensures.inside.survives.clean)) fits spelled was in
+          (omega (arith, c.make_change.ensures.inside.survives.clean)) fits spelled was in
           let fit : AllFit first m.0 (change ∷ drop (i + 1) xs) = subst (AllFit first m.0) here m.1 in
-          let now = c.in_ok-make.ensures.made.shown m.0 clean fit.0 m.2 m.3 in
+          let now = c.in_ok-make_change.ensures.made.shown m.0 clean fit.0 m.2 m.3 in
           (applied m.0 change, fit.1, now.1, now.0, ap (applied_all m.0) (sym here) ∙ m.4);
-      mode = λ clean. c.in_ok-make.ensures.made.mode clean
-          ∙ c.loop-change.invariant.mode (omega (arith, c.make.ensures.inside.survives.clean));
-      inside = inside_then _ _ _ c.loop-change.invariant.inside c.make.ensures.inside;
+      mode = λ clean. c.in_ok-make_change.ensures.made.mode clean
+          ∙ c.loop-change.invariant.mode (omega (arith, c.make_change.ensures.inside.survives.clean));
+      inside = statements-inside_then _ _ _ c.loop-change.invariant.inside c.make_change.ensures.inside;
     }
 
 pub returns-clause-made : goal.returns-clause-made

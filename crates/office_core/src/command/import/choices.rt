@@ -4,7 +4,7 @@ ghost use Rattle.office_lists.specs.Records.{record_limit};
 ghost use Rattle.office_core.specs.Command.Import.{choices_command, first_denied, list_refusal};
 ghost use Rattle.office_core.specs.Inner.Tries.{AreAdded, AreAllowed, IsOrMemory};
 
-use crate::command::import::denial::denial;
+use crate::command::import::denial::import_denial;
 use crate::command::set_choices::may_choose;
 use crate::refusal::Refusal;
 use office_lists::{ChoicesEntry, read_choices};
@@ -40,15 +40,15 @@ fn each_choices_added(
     let mut changes = Vec::new(alloc);
     for (i, entry) in list.iter().enumerate() {
         if let Err(refusal) = may_choose(office, &entry.person, &entry.choices) {
-            return Err(denial(i, &refusal));
+            return Err(import_denial(i, &refusal));
         }
-        let change = choices_change(entry)?;
+        let change = imported_choices_change(entry)?;
         changes.push(change)?;
     }
     Ok(changes)
 }
 
-fn choices_change(entry: &ChoicesEntry) -> Result<Change, OutOfMemory>
+fn imported_choices_change(entry: &ChoicesEntry) -> Result<Change, OutOfMemory>
     ensures { IfOk result (λ change. change ≡ choices_command.change entry.now) }
 {
     Ok(Change::PutChoices {

@@ -8,7 +8,7 @@ use office_lists::Cause;
 
 /// The refusal of a list whose record of this index, counted from 0, is refused for this. Out of memory stays what it
 /// is.
-pub(crate) fn denial(index: usize, refusal: &Refusal) -> Refusal
+pub(crate) fn import_denial(index: usize, refusal: &Refusal) -> Refusal
     requires { index < record_limit }
     ensures { result ≡ denial_of (index + 1) refusal.now }
 {

@@ -6,7 +6,7 @@ ghost use Rattle.office_core.specs.Inner.Passes.{Passes};
 ghost use Rattle.office_core.specs.Inner.Tries.{AreAdded, AreAllowed, IsIndexed, IsOrMemory};
 ghost use Rattle.office_core.specs.Refusal.Checks.{home_checks_if_any};
 
-use crate::command::import::denial::denial;
+use crate::command::import::denial::import_denial;
 use crate::command::import::register::Register;
 use crate::refusal::Refusal;
 use crate::refusal::rooms::may_list;
@@ -44,10 +44,10 @@ fn each_person_added(
     let mut changes = Vec::new(alloc);
     for (i, entry) in list.iter().enumerate() {
         if let Err(refusal) = may_add_person(office, &register, entry) {
-            return Err(denial(i, &refusal));
+            return Err(import_denial(i, &refusal));
         }
         register.add(entry)?;
-        let change = person_change(entry)?;
+        let change = imported_person_change(entry)?;
         changes.push(change)?;
     }
     Ok(changes)
@@ -97,7 +97,7 @@ fn may_live_if_any(
     Ok(())
 }
 
-fn person_change(entry: &PersonEntry) -> Result<Change, OutOfMemory>
+fn imported_person_change(entry: &PersonEntry) -> Result<Change, OutOfMemory>
     ensures { IfOk result (λ change. change ≡ person_command.change entry.now) }
 {
     Ok(Change::PutPerson {

@@ -44,7 +44,7 @@ impl Register {
         ensures indexed { OnOk result (IsIndexed self.new) }
     {
         self.keys.insert(entry.key.copy()?, ())?;
-        place(&mut self.tenants, &entry.home, &entry.person)?;
+        place_in_register(&mut self.tenants, &entry.home, &entry.person)?;
         let kept = Person {
             name: entry.name.copy()?,
             key: entry.key.copy()?,
@@ -56,7 +56,7 @@ impl Register {
 }
 
 // One more person lives in the room, if any.
-fn place(
+fn place_in_register(
     tenants: &mut Table<RoomCodes, PersonId>,
     home: &Option<RoomCode>,
     person: &PersonId,

@@ -5,7 +5,7 @@ ghost use Rattle.office_core.specs.Command.Import.{first_denied, list_refusal, r
 ghost use Rattle.office_core.specs.Inner.Tries.{AreAdded, AreAllowed, IsOrMemory};
 
 use crate::command::add_room::may_add_room;
-use crate::command::import::denial::denial;
+use crate::command::import::denial::import_denial;
 use crate::refusal::Refusal;
 use office_lists::read_rooms;
 use office_state::{Change, Office};
@@ -39,16 +39,16 @@ fn each_room_added(
     let mut changes = Vec::new(alloc);
     for (i, room) in list.iter().enumerate() {
         if let Err(refusal) = may_add_room(office, &rooms, room) {
-            return Err(denial(i, &refusal));
+            return Err(import_denial(i, &refusal));
         }
         rooms.insert(room.copy()?, false)?;
-        let change = room_change(room)?;
+        let change = imported_room_change(room)?;
         changes.push(change)?;
     }
     Ok(changes)
 }
 
-fn room_change(room: &RoomCode) -> Result<Change, OutOfMemory>
+fn imported_room_change(room: &RoomCode) -> Result<Change, OutOfMemory>
     ensures { IfOk result (λ change. change ≡ room_command.change room.now) }
 {
     Ok(Change::PutRoom {

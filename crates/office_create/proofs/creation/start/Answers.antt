@@ -7,7 +7,7 @@ use Rattle.office_tables.specs.Edits.{with_first_round}
 use Rattle.office_tables.specs.Makes.{Makes}
 use Rattle.office_tables.specs.Tables.{HasTables}
 use Rattle.office_create.specs.Created.{Starts}
-use Rattle.office_create.proofs.EmptyLemmas.{no_rows, all_empty, first_rows}
+use Rattle.office_create.proofs.created_tables.Empty.{no_rows, created_tables-all_empty, created_tables-first_rows}
 use Rattle.office_create.proofs.creation.start.Goals as goal
 
 pub returns-clause-made : goal.returns-clause-made
@@ -17,6 +17,6 @@ returns-clause-made g c =
     let tables = c.in_ok-make_tables.ensures.made in
     let early : HasCleanDisk new → HasCleanDisk mid = λ clean. omega (arith, c.add_round.ensures.inside.survives.clean) in
     on_ok_weaker {P = Makes mid new (with_first_round 0 Idle)} {Q = Starts (state g.S.Store c.args.tx.now.conn.now) new} _ (λ filled. record {
-      shown = λ clean none. subst (HasTables new.now) first_rows (filled.shown no_rows clean (all_empty mid.now (tables.shown (early clean) (none, tt))));
+      shown = λ clean none. subst (HasTables new.now) created_tables-first_rows (filled.shown no_rows clean (created_tables-all_empty mid.now (tables.shown (early clean) (none, tt))));
       mode = λ clean. filled.mode clean ∙ tables.mode (early clean);
     }) c.add_round.ensures.made

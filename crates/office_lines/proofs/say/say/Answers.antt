@@ -1,7 +1,7 @@
 use Rattle.std.proofs.Common.{◌≡◌, ◌∙◌, length, take, inr, refl, arith}
 use Rattle.std.proofs.lemmas.List.{take_all}
 use Rattle.std.proofs.Math.Bool.{or-true}
-use Rattle.room_types.proofs.StreamLemmas.{Puts-kept}
+use Rattle.room_types.proofs.watched_bytes.Streams.{watched_bytes-Puts-kept}
 use Rattle.office_lines.proofs.say.say.Goals as goal
 
 pub returns-in-Err-flush-clause-says : goal.returns-in-Err-flush-clause-says
@@ -9,4 +9,4 @@ returns-in-Err-flush-clause-says g c =
     let text = c.args.text.now in
     let whole : take (length text) text ≡ text = take_all (length text) text (omega arith) in
     let sent = rw c.as_bytes.ensures.value at c.in-Ok.ensures.sent in
-    inr (refl, c.in-Err-flush.ensures.failed ∙ or-true _, length text, rw whole (Puts-kept _ _ _ _ sent c.in-Err-flush.ensures.bytes c.in-Err-flush.ensures.taken))
+    inr (refl, c.in-Err-flush.ensures.failed ∙ or-true _, length text, rw whole (watched_bytes-Puts-kept _ _ _ _ sent c.in-Err-flush.ensures.bytes c.in-Err-flush.ensures.taken))

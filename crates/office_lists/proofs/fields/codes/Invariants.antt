@@ -1,4 +1,4 @@
-use Rattle.office_lists.proofs.FieldLemmas.{AreCodes}
+use Rattle.office_lists.proofs.csv.Fields.{AreCodes}
 use Rattle.office_lists.proofs.fields.codes.Given as goal
 
 abbrev pub invariant-loop-word : goal.invariant-loop-word

@@ -1,5 +1,5 @@
 use Rattle.csv.specs.Records.{fields_of}
-use Rattle.office_lists.proofs.Headers.{SameFrom}
+use Rattle.office_lists.proofs.csv.Headers.{SameFrom}
 use Rattle.office_lists.proofs.fields.has_fields.Given as goal
 
 abbrev pub invariant-loop-i : goal.invariant-loop-i

@@ -1,8 +1,8 @@
 use Rattle.std.proofs.Common.{◌≡◌, ◌<◌, length, Some, sym, ap, ◌∙◌, add-one, arith}
 use Rattle.std.specs.Prelude.{option_and_then}
-use Rattle.room_types.proofs.Options.{none_if_never}
+use Rattle.room_types.proofs.options.Options.{options-none_if_never}
 use Rattle.office_lists.specs.Waves.{next, followed}
-use Rattle.office_lists.proofs.Chains.{one_numbered, all_numbered}
+use Rattle.office_lists.proofs.move_days.Chains.{move_days-one_numbered, move_days-all_numbered}
 use Rattle.office_lists.proofs.leaving.number_chain.Goals as goal
 
 pub loop-at-preserved : goal.loop-at-preserved
@@ -13,10 +13,10 @@ loop-at-preserved c =
     let there : followed followers count end ≡ Some c.in-Some.here = sym c.loop-at.invariant.here ∙ c.in-Some.is in
     let within : c.in-Some.here < length c.loop-at.waves = omega (arith, c.requires.within count c.in-Some.here there, c.loop-at.invariant.numbered.as_many) in
     record {
-      numbered = one_numbered followers end c.args.first count c.in-Some.here c.args.waves.now c.loop-at.waves c.loop-at.invariant.numbered there within;
+      numbered = move_days-one_numbered followers end c.args.first count c.in-Some.here c.args.waves.now c.loop-at.waves c.loop-at.invariant.numbered there within;
       here = sym (ap (λ n. followed followers n end) (add-one count) ∙ ap (option_and_then (next followers)) there);
     }
 
 pub returns : goal.returns
 returns c =
-    all_numbered c.args.followers.now c.args.end c.args.first c.loop-at.count c.args.waves.now c.loop-at.waves c.loop-at.invariant.numbered (sym c.loop-at.invariant.here ∙ none_if_never c.loop-at.at c.in_default.not-Some)
+    move_days-all_numbered c.args.followers.now c.args.end c.args.first c.loop-at.count c.args.waves.now c.loop-at.waves c.loop-at.invariant.numbered (sym c.loop-at.invariant.here ∙ options-none_if_never c.loop-at.at c.in_default.not-Some)

@@ -1,7 +1,7 @@
 use Rattle.std.proofs.Common.{◌≡◌, ◌-◌}
 use Rattle.office_lists.specs.Waves.{followed}
 use Rattle.office_lists.specs.declared.leaving.TheConstants.{MOVE_LIMIT}
-use Rattle.office_lists.proofs.Chains.{IsNumberedTo}
+use Rattle.office_lists.proofs.move_days.Chains.{IsNumberedTo}
 use Rattle.office_lists.proofs.leaving.number_chain.Given as goal
 
 abbrev pub invariant-loop-at : goal.invariant-loop-at

@@ -1,12 +1,12 @@
 use Rattle.std.proofs.Common.{◌≡◌, ℕ, ◌+◌, ◌≤◌, not, List, length, Option, None, Some, sym, ap, ◌∙◌, subst, arith}
 use Rattle.std.proofs.lemmas.List.{with_items_is}
 use Rattle.room_types.specs.declared.moves.Wave.{Wave}
-use Rattle.room_types.proofs.Options.{none_if_not_some, some_of}
+use Rattle.room_types.proofs.options.Options.{options-none_if_not_some, options-some_of}
 use Rattle.office_lists.specs.Waves.{leavers, end_numbers, own_number, next, followed}
 use Rattle.office_lists.specs.Followers.{AreApart, AreFollowers, NumbersChain}
-use Rattle.office_lists.proofs.Following.{number-le}
-use Rattle.office_lists.proofs.Chains.{AreNumberedTo, number-along, within-along, end_done, other_done, fewer_done}
-use Rattle.office_lists.proofs.Leavers.{all_one, first_at_most_one, leavers-apart, length-leavers, are_waves, are_computed}
+use Rattle.office_lists.proofs.move_days.Following.{move_days-number-le}
+use Rattle.office_lists.proofs.move_days.Chains.{AreNumberedTo, move_days-number-along, move_days-within-along, move_days-end_done, move_days-other_done, move_days-fewer_done}
+use Rattle.office_lists.proofs.move_days.Leavers.{move_days-all_one, move_days-first_at_most_one, move_days-leavers-apart, move_days-length-leavers, are_waves, are_computed}
 use Rattle.office_lists.proofs.leaving.waves.Goals as goal
 use Rattle.office_lists.proofs.leaving.waves.Goals.{then-is_none, else-is_none}
 
@@ -15,12 +15,12 @@ same_chain fs gs end first own old was new same before number chain =
     subst (λ l. NumbersChain l end own old new) same (subst (λ ws. NumbersChain gs end own ws new) before (subst (λ n. NumbersChain gs end n was new) number chain))
 
 pub followers-requires : goal.followers-requires
-followers-requires c = subst AreApart (sym (c.deref.ensures.value ∙ c.in_ok-leavers.ensures)) (leavers-apart c.args.entries.now c.requires.new_rooms_differ)
+followers-requires c = subst AreApart (sym (c.deref.ensures.value ∙ c.in_ok-leavers.ensures)) (move_days-leavers-apart c.args.entries.now c.requires.new_rooms_differ)
 
 pub number_chain-requires-clause-within : goal.number_chain-requires-clause-within
 number_chain-requires-clause-within c = λ count i e.
     let at : followed c.in_ok-followers.followers.items count c.loop-end.end ≡ Some i = ap (λ fs. followed fs count c.loop-end.end) (sym c.deref-then-is_none.ensures.value) ∙ e in
-    let within = within-along (end_numbers c.args.entries.now) c.deref-leaver-items.result.now c.in_ok-followers.followers.items c.loop-end.invariant.linked count c.loop-end.end i c.loop-end-test.true at in
+    let within = move_days-within-along (end_numbers c.args.entries.now) c.deref-leaver-items.result.now c.in_ok-followers.followers.items c.loop-end.invariant.linked count c.loop-end.end i c.loop-end-test.true at in
     omega (arith, within, c.loop-end.invariant.numbered.as_many, ap length c.deref_mut.ensures.value)
 
 pub number_chain-requires-clause-short : goal.number_chain-requires-clause-short
@@ -29,11 +29,11 @@ number_chain-requires-clause-short c = λ count i e.
     let fs = c.in_ok-followers.followers.items in
     let end = c.loop-end.end in
     let at : followed fs count end ≡ Some i = ap (λ l. followed l count end) (sym c.deref-then-is_none.ensures.value) ∙ e in
-    let last : next ls end ≡ None = none_if_not_some (next ls end) (c.is_none.ensures ∙ ap not c.if-is_none.true) in
-    let apart : AreApart ls = subst AreApart (sym c.loop-end.invariant.leavers) (leavers-apart c.args.entries.now c.requires.new_rooms_differ) in
+    let last : next ls end ≡ None = options-none_if_not_some (next ls end) (c.is_none.ensures ∙ ap not c.if-is_none.true) in
+    let apart : AreApart ls = subst AreApart (sym c.loop-end.invariant.leavers) (move_days-leavers-apart c.args.entries.now c.requires.new_rooms_differ) in
     let ends = end_numbers c.args.entries.now in
-    let few = number-le ends ls apart (first_at_most_one c.args.entries.now) (count + own_number ends end) i (within-along ends ls fs c.loop-end.invariant.linked count end i c.loop-end-test.true at) (number-along ends ls fs c.loop-end.invariant.linked count end i last at) in
-    omega (arith, few, all_one c.args.entries.now end, ap length c.loop-end.invariant.leavers, length-leavers c.args.entries.now, c.requires.few)
+    let few = move_days-number-le ends ls apart (move_days-first_at_most_one c.args.entries.now) (count + own_number ends end) i (move_days-within-along ends ls fs c.loop-end.invariant.linked count end i c.loop-end-test.true at) (move_days-number-along ends ls fs c.loop-end.invariant.linked count end i last at) in
+    omega (arith, few, move_days-all_one c.args.entries.now end, ap length c.loop-end.invariant.leavers, move_days-length-leavers c.args.entries.now, c.requires.few)
 
 pub loop-end-preserved : goal.loop-end-preserved
 loop-end-preserved c =
@@ -47,24 +47,24 @@ loop-end-preserved c =
       numbered =
           elim c.if-is_none.branch [
             | then-is_none w ↦
-                let last : next ls end ≡ None = none_if_not_some (next ls end) (c.is_none.ensures ∙ ap not w.if-is_none.true) in
+                let last : next ls end ≡ None = options-none_if_not_some (next ls end) (c.is_none.ensures ∙ ap not w.if-is_none.true) in
                 let same = w.deref-then-is_none.ensures.value in
                 let was = w.deref_mut.ensures.value in
                 let new = w.number_chain.new.waves in
                 let many = w.number_chain.auto.waves ∙ ap length was in
                 subst (λ ws. AreNumberedTo ends ls fs (end + 1) ws) (sym (ap (λ v. v.items) w.waves-is ∙ with_items_is c.loop-end.waves new (w.number_chain.auto.waves ∙ w.deref_mut.ensures.len)))
-                (end_done ends ls fs c.loop-end.invariant.linked end c.loop-end.waves.items new c.loop-end.invariant.numbered last many
-                (same_chain fs w.deref-then-is_none.result.now end 1 (own_number ends end) c.loop-end.waves.items w.deref_mut.result.now new same was (sym (all_one c.args.entries.now end)) w.number_chain.ensures))
+                (move_days-end_done ends ls fs c.loop-end.invariant.linked end c.loop-end.waves.items new c.loop-end.invariant.numbered last many
+                (same_chain fs w.deref-then-is_none.result.now end 1 (own_number ends end) c.loop-end.waves.items w.deref_mut.result.now new same was (sym (move_days-all_one c.args.entries.now end)) w.number_chain.ensures))
             | else-is_none w ↦
-                let more = some_of (next ls end) (c.is_none.ensures ∙ ap not w.if-is_none.false) in
+                let more = options-some_of (next ls end) (c.is_none.ensures ∙ ap not w.if-is_none.false) in
                 subst (λ ws. AreNumberedTo ends ls fs (end + 1) ws) (sym (ap (λ v. v.items) w.waves-is))
-                (other_done ends ls fs c.loop-end.invariant.linked end c.loop-end.waves.items c.loop-end.invariant.numbered more.0 more.1)
+                (move_days-other_done ends ls fs c.loop-end.invariant.linked end c.loop-end.waves.items c.loop-end.invariant.numbered more.0 more.1)
           ];
     }
 
 -- all entries are passed
 passed : (ends : List ℕ) (ls all : List (Option ℕ)) (fs : List (Option ℕ)) (count : ℕ) (waves : List Wave) → ls ≡ all → length ls ≤ count → AreNumberedTo ends ls fs count waves → AreNumberedTo ends all fs (length all) waves
-passed ends ls all fs count waves same low so = subst (λ l. AreNumberedTo ends l fs (length l) waves) same (fewer_done ends ls fs (length ls) count waves low so)
+passed ends ls all fs count waves same low so = subst (λ l. AreNumberedTo ends l fs (length l) waves) same (move_days-fewer_done ends ls fs (length ls) count waves low so)
 
 pub returns-clause-each : goal.returns-clause-each
 returns-clause-each c =

@@ -1,5 +1,5 @@
 use Rattle.std.proofs.Common.{◌<◌}
-use Rattle.office_lists.proofs.RecordLemmas.{IsReadTo}
+use Rattle.office_lists.proofs.csv.Records.{IsReadTo}
 use Rattle.office_lists.proofs.reading.read_list.Given as goal
 
 -- the records so far are read, and the reader has turns left

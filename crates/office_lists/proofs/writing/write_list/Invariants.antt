@@ -2,7 +2,7 @@ use Rattle.std.proofs.Common.{◌≡◌, ◌+◌}
 use Rattle.room_types.specs.Streams.{output_of}
 use Rattle.room_types.specs.Watched.{StopsAtFailure, watched_failed, watched_flushes}
 use Rattle.office_lists.specs.Exports.{export}
-use Rattle.office_lists.proofs.Sending.{IsWritten}
+use Rattle.office_lists.proofs.csv.Sending.{IsWritten}
 use Rattle.office_lists.proofs.writing.write_list.Given as goal
 
 -- the header and the records of the rows so far are written, and no write has failed

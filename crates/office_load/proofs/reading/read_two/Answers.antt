@@ -2,7 +2,7 @@ use Rattle.std.proofs.Common.{sym, ap, ◌∙◌, subst}
 use Rattle.sqlite.specs.Effect.{Database}
 use Rattle.sqlite.specs.Held.{state}
 use Rattle.office_tables.specs.Holds.{Holds}
-use Rattle.office_tables.proofs.StepLemmas.{honest_before}
+use Rattle.office_tables.proofs.statements.Steps.{statements-honest_before}
 use Rattle.office_load.specs.Listing.{ShowRecords}
 use Rattle.office_load.proofs.reading.read_two.Goals as goal
 
@@ -12,14 +12,14 @@ returns-in_default-clause-found g c clean has first second here there spelled mo
 
 pub returns-in_default-2-clause-found : goal.returns-in_default-2-clause-found
 returns-in_default-2-clause-found g c clean has first second here there spelled more =
-    let before = honest_before (state g.S.Store c.table_records.new.conn) (state g.S.Store c.table_records-2.new.conn) c.table_records-2.ensures.reads.follows (clean, c.in_ok-second.ensures.is_open clean) in
+    let before = statements-honest_before (state g.S.Store c.table_records.new.conn) (state g.S.Store c.table_records-2.new.conn) c.table_records-2.ensures.reads.follows (clean, c.in_ok-second.ensures.is_open clean) in
     let same = c.table_records.ensures.reads.same before has in
     let still = subst (λ (d : Database). Holds g.B.Listed.kept (d.trees g.B.Listed.tree) second) (sym same) there in
     rw c.in_default-2.is at c.in_ok-second.ensures.found clean (ap (λ (d : Database). d.schema) same ∙ has) second still more
 
 pub returns-clause-found : goal.returns-clause-found
 returns-clause-found g c clean has first second here there spelled more =
-    let before = honest_before (state g.S.Store c.table_records.new.conn) (state g.S.Store c.table_records-2.new.conn) c.table_records-2.ensures.reads.follows (clean, c.in_ok-second.ensures.is_open clean) in
+    let before = statements-honest_before (state g.S.Store c.table_records.new.conn) (state g.S.Store c.table_records-2.new.conn) c.table_records-2.ensures.reads.follows (clean, c.in_ok-second.ensures.is_open clean) in
     let same = c.table_records.ensures.reads.same before has in
     let still = subst (λ (d : Database). Holds g.B.Listed.kept (d.trees g.B.Listed.tree) second) (sym same) there in (
       rw c.in-Some.is at c.in_ok-first.ensures.found before.0 has first here spelled,
@@ -28,7 +28,7 @@ returns-clause-found g c clean has first second here there spelled more =
 
 pub returns-clause-shown : goal.returns-clause-shown
 returns-clause-shown g c clean has =
-    let before = honest_before (state g.S.Store c.table_records.new.conn) (state g.S.Store c.table_records-2.new.conn) c.table_records-2.ensures.reads.follows (clean, c.in_ok-second.ensures.is_open clean) in
+    let before = statements-honest_before (state g.S.Store c.table_records.new.conn) (state g.S.Store c.table_records-2.new.conn) c.table_records-2.ensures.reads.follows (clean, c.in_ok-second.ensures.is_open clean) in
     let same = c.table_records.ensures.reads.same before has in (
       rw c.in-Some.is at c.in_ok-first.ensures.shown before.0 has,
       subst (λ (d : Database). ShowRecords g.B.Record.columns g.B.Record.is_form g.B.Listed.project (d.trees g.B.Listed.tree) c.in-Some-2.second.items) same

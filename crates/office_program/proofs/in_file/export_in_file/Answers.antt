@@ -1,7 +1,7 @@
-use Rattle.office_program.proofs.InFileLemmas.{done_at_found}
+use Rattle.office_program.proofs.done_lines.InFile.{done_lines-done_at_found}
 use Rattle.office_program.proofs.in_file.export_in_file.Goals as goal
 
 pub returns-clause-exports : goal.returns-clause-exports
 returns-clause-exports g c =
     let found = c.on_file-found.ensures in
-    done_at_found _ _ _ c.on_file-found.result c.export_at-status.new.found c.export_at-status.result _ _ found.shows found.cause c.export_at-status.ensures.exports
+    done_lines-done_at_found _ _ _ c.on_file-found.result c.export_at-status.new.found c.export_at-status.result _ _ found.shows found.cause c.export_at-status.ensures.exports

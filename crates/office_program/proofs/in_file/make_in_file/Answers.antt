@@ -1,7 +1,7 @@
-use Rattle.office_program.proofs.InFileLemmas.{file_desk_made}
+use Rattle.office_program.proofs.done_lines.InFile.{done_lines-file_desk_made}
 use Rattle.office_program.proofs.in_file.make_in_file.Goals as goal
 
 pub returns-clause-makes : goal.returns-clause-makes
 returns-clause-makes g c =
     let made = c.create_file-made.ensures in
-    file_desk_made _ _ c.create_file-made.result c.say_made-status.result _ _ made.shows made.blank made.cause c.say_made-status.ensures.tells
+    done_lines-file_desk_made _ _ c.create_file-made.result c.say_made-status.result _ _ made.shows made.blank made.cause c.say_made-status.ensures.tells

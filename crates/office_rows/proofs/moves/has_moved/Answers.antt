@@ -4,7 +4,7 @@ use Rattle.std.specs.FinMap as map
 use Rattle.std.specs.FinMap.{get-empty}
 use Rattle.room_types.specs.Texts.{text_cmp}
 use Rattle.office_state.specs.declared.office.moves.Moved.{Moved}
-use Rattle.office_state.proofs.OfficeLemmas.Moves.{kept_moves}
+use Rattle.office_state.proofs.offices.Moves.{kept_moves}
 use Rattle.office_rows.proofs.moves.has_moved.Goals as goal
 
 pub returns-in-None : goal.returns-in-None

@@ -1,9 +1,9 @@
 use Rattle.std.proofs.Common.{Some, sym, subst, IsPermutation}
-use Rattle.room_types.proofs.Options.{none_some}
+use Rattle.room_types.proofs.options.Options.{options-none_some}
 use Rattle.office_rows.specs.Rows.{only_row}
 use Rattle.office_rows.specs.declared.records.RoundRecord.{RoundRecord}
 use Rattle.office_rows.specs.Tables.{rows_of}
-use Rattle.office_rows.proofs.Rounds.{found_is}
+use Rattle.office_rows.proofs.rows_read.Rounds.{rows_read-found_is}
 use Rattle.office_rows.proofs.office.make_office.Goals as goal
 
 pub returns-in_default-2-clause-makes : goal.returns-in_default-2-clause-makes
@@ -11,7 +11,7 @@ unfolding rows_of
 returns-in_default-2-clause-makes c = record {
   told = tt;
   only = λ office lawful has.
-      absurd (none_some _ _ c.in_default-2.is (c.in_ok-people.ensures.reads.only (record { people = office.people; withdrawn = office.withdrawn }) (record { withdrawers = lawful.lists.withdrawers }) has.people));
+      absurd (options-none_some _ _ c.in_default-2.is (c.in_ok-people.ensures.reads.only (record { people = office.people; withdrawn = office.withdrawn }) (record { withdrawers = lawful.lists.withdrawers }) has.people));
 }
 
 pub returns-in_default-read_round-clause-makes : goal.returns-in_default-read_round-clause-makes
@@ -20,7 +20,7 @@ returns-in_default-read_round-clause-makes c = record {
   told = tt;
   only = λ office lawful has.
       let round : RoundRecord = record { number = office.number; phase = office.phase } in
-      absurd (none_some _ _ c.in_default-read_round.is (c.read_round.ensures.only round tt (subst (λ l. IsPermutation (only_row round) l) (sym c.as_slice.ensures.value) has.rounds)));
+      absurd (options-none_some _ _ c.in_default-read_round.is (c.read_round.ensures.only round tt (subst (λ l. IsPermutation (only_row round) l) (sym c.as_slice.ensures.value) has.rounds)));
 }
 
 pub returns-clause-makes : goal.returns-clause-makes
@@ -37,15 +37,15 @@ returns-clause-makes c = record {
     lists = (rw c.in-Some-7.is at c.in_ok-lists.ensures.reads.told).1;
   };
   only = λ office lawful has.
-      let rooms = found_is _ _ _ c.in-Some.is (c.in_ok-rooms.ensures.reads.only office.rooms tt has.rooms) in
-      let people = found_is _ _ _ c.in-Some-2.is (c.in_ok-people.ensures.reads.only (record { people = office.people; withdrawn = office.withdrawn }) (record { withdrawers = lawful.lists.withdrawers }) has.people) in
+      let rooms = rows_read-found_is _ _ _ c.in-Some.is (c.in_ok-rooms.ensures.reads.only office.rooms tt has.rooms) in
+      let people = rows_read-found_is _ _ _ c.in-Some-2.is (c.in_ok-people.ensures.reads.only (record { people = office.people; withdrawn = office.withdrawn }) (record { withdrawers = lawful.lists.withdrawers }) has.people) in
       let now : RoundRecord = record { number = office.number; phase = office.phase } in
-      let round = found_is _ _ _ c.in-Some-read_round.is (c.read_round.ensures.only now tt (subst (λ l. IsPermutation (only_row now) l) (sym c.as_slice.ensures.value) has.rounds)) in
-      let choices = found_is _ _ _ c.in-Some-3.is (c.in_ok-choices.ensures.reads.only office.choices (record { none_empty = lawful.lists.none_empty; chosen = lawful.lists.chosen }) has.choices) in
-      let words = found_is _ _ _ c.in-Some-4.is (c.in_ok-words.ensures.reads.only office.words tt has.words) in
-      let results = found_is _ _ _ c.in-Some-5.is (c.in_ok-results.ensures.reads.only office.results tt has.results) in
-      let moves = found_is _ _ _ c.in-Some-6.is (c.in_ok-moves.ensures.reads.only office.moves (record { none_empty = lawful.moves.none_empty }) has.moves) in
-      let lists = found_is _ _ _ c.in-Some-7.is (c.in_ok-lists.ensures.reads.only office.lists tt has.lists) in
+      let round = rows_read-found_is _ _ _ c.in-Some-read_round.is (c.read_round.ensures.only now tt (subst (λ l. IsPermutation (only_row now) l) (sym c.as_slice.ensures.value) has.rounds)) in
+      let choices = rows_read-found_is _ _ _ c.in-Some-3.is (c.in_ok-choices.ensures.reads.only office.choices (record { none_empty = lawful.lists.none_empty; chosen = lawful.lists.chosen }) has.choices) in
+      let words = rows_read-found_is _ _ _ c.in-Some-4.is (c.in_ok-words.ensures.reads.only office.words tt has.words) in
+      let results = rows_read-found_is _ _ _ c.in-Some-5.is (c.in_ok-results.ensures.reads.only office.results tt has.results) in
+      let moves = rows_read-found_is _ _ _ c.in-Some-6.is (c.in_ok-moves.ensures.reads.only office.moves (record { none_empty = lawful.moves.none_empty }) has.moves) in
+      let lists = rows_read-found_is _ _ _ c.in-Some-7.is (c.in_ok-lists.ensures.reads.only office.lists tt has.lists) in
       λ i. Some (record {
         rooms = rooms i;
         people = (people i).people;

@@ -1,6 +1,6 @@
 use Rattle.room_types.specs.Grammars.{is_room_code}
 use Rattle.office_words.specs.Values.{in_grammar}
-use Rattle.office_words.proofs.CodeLemmas.{IsReadTo}
+use Rattle.office_words.proofs.request_words.Codes.{IsReadTo}
 use Rattle.office_words.proofs.values.all_codes.Given as goal
 
 abbrev pub invariant-loop-word : goal.invariant-loop-word

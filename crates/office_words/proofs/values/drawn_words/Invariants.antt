@@ -1,7 +1,7 @@
 use Rattle.std.proofs.Common.{◌≡◌, ◌⊎◌, true}
 use Rattle.room_types.specs.Words.{word_of}
 use Rattle.office_words.specs.Words.{first_in, is_drawn_word}
-use Rattle.office_words.proofs.CodeLemmas.{IsReadTo, texts}
+use Rattle.office_words.proofs.request_words.Codes.{IsReadTo, texts}
 use Rattle.office_words.proofs.values.drawn_words.Given as goal
 
 -- the words so far are read, and the first of them is a word of a draw

@@ -2,10 +2,10 @@ use Rattle.std.proofs.Common.{◌≡◌, ◌<◌, ◌-◌, length, take, drop, r
 use Rattle.std.proofs.KnownBytes.{Consumes-kept, Consumes-nil}
 use Rattle.std.proofs.Math.Bool.{or-false}
 use Rattle.std.proofs.lemmas.List.{length-take-le, length-take, length-drop}
-use Rattle.room_types.proofs.StreamLemmas.{kept_by_write, or_known}
+use Rattle.room_types.proofs.watched_bytes.Streams.{watched_bytes-kept_by_write, watched_bytes-or_known}
 use Rattle.resident_http.specs.Asks.{more, seen}
 use Rattle.resident_desk.specs.Conversations.{connection_of}
-use Rattle.resident_desk.proofs.Streams.{converses-responded, counted_last, counted_within, ended_told, length-put_into, not_more, read_into, read_none, untouched-more, untouched-refl}
+use Rattle.resident_desk.proofs.conversations.Streams.{conversations-converses-responded, conversations-counted_last, conversations-counted_within, conversations-ended_told, conversations-length-put_into, conversations-not_more, conversations-read_into, conversations-read_none, conversations-untouched-more, conversations-untouched-refl}
 use Rattle.resident_desk.proofs.conversation.converse.Goals as goal
 
 pub returns-then-filled-eq0-clause-few : goal.returns-then-filled-eq0-clause-few
@@ -15,7 +15,7 @@ returns-then-filled-eq0-clause-few g c =
     let size = i.size in
     let within = i.within in
     let count = length-take-le c.reads.filled c.reads.buffer (omega arith) in
-    rw c.in-Ok-eq0.ensures.reads (counted_last _ _ i.reads (omega (arith, few, count)))
+    rw c.in-Ok-eq0.ensures.reads (conversations-counted_last _ _ i.reads (omega (arith, few, count)))
 
 pub returns-then-filled-eq0-clause-converses : goal.returns-then-filled-eq0-clause-converses
 returns-then-filled-eq0-clause-converses g c =
@@ -23,11 +23,11 @@ returns-then-filled-eq0-clause-converses g c =
     let h = c.in-Ok-eq0.ensures in
     let room : 0 < length c.read_some.new.buf = omega (arith, c.read_some.auto.buf) in
     record {
-      read = read_none _ _ _ _ _ _ c.in-Ok-eq0.field-0-test (rw c.if-filled-eq0.true at i.read) h.bytes.0;
+      read = conversations-read_none _ _ _ _ _ _ c.in-Ok-eq0.field-0-test (rw c.if-filled-eq0.true at i.read) h.bytes.0;
       each = rw h.reads (omega (arith, i.reads, c.if-filled-eq0.true));
       at_end = h.bytes.1 c.in-Ok-eq0.field-0-test room;
-      ended = ended_told _ _ c.read_some.new.buf c.in-Ok-eq0.field-0 h.ended c.in-Ok-eq0.field-0-test room;
-      untouched = untouched-more _ _ _ i.untouched h.kept h.taken h.flushes h.pending;
+      ended = conversations-ended_told _ _ c.read_some.new.buf c.in-Ok-eq0.field-0 h.ended c.in-Ok-eq0.field-0-test room;
+      untouched = conversations-untouched-more _ _ _ i.untouched h.kept h.taken h.flushes h.pending;
       same = i.same;
     }
 
@@ -38,7 +38,7 @@ returns-in-Ok-eq0-clause-few g c =
     let size = i.size in
     let within = i.within in
     let count = length-take-le c.reads.filled c.reads.buffer (omega arith) in
-    rw c.respond.ensures.reads (rw c.in-Ok-eq0.ensures.reads (counted_last _ _ i.reads (omega (arith, few, count))))
+    rw c.respond.ensures.reads (rw c.in-Ok-eq0.ensures.reads (conversations-counted_last _ _ i.reads (omega (arith, few, count))))
 
 pub returns-in-Ok-eq0-clause-converses : goal.returns-in-Ok-eq0-clause-converses
 returns-in-Ok-eq0-clause-converses g c =
@@ -57,13 +57,13 @@ returns-in-Ok-eq0-clause-converses g c =
     let end = h.bytes.1 c.in-Ok-eq0.field-0-test room in
     let once = h.reads in
     let then_none = c.respond.ensures.reads in
-    let told = ended_told _ _ c.read_some.new.buf c.in-Ok-eq0.field-0 (c.respond.ensures.ended ∙ h.ended) c.in-Ok-eq0.field-0-test room in
-    converses-responded g.H.Handler.handles c.respond.result _ _
+    let told = conversations-ended_told _ _ c.read_some.new.buf c.in-Ok-eq0.field-0 (c.respond.ensures.ended ∙ h.ended) c.in-Ok-eq0.field-0-test room in
+    conversations-converses-responded g.H.Handler.handles c.respond.result _ _
     (connection_of remaining contents c.args.stream.now) (connection_of remaining contents c.read_some.new.self) (connection_of remaining contents c.respond.new.stream)
     bytes more
-    (read_none _ _ _ bytes _ _ c.in-Ok-eq0.field-0-test i.read h.bytes.0)
+    (conversations-read_none _ _ _ bytes _ _ c.in-Ok-eq0.field-0-test i.read h.bytes.0)
     c.respond.ensures.kept
-    (untouched-more _ _ _ i.untouched h.kept h.taken h.flushes h.pending)
+    (conversations-untouched-more _ _ _ i.untouched h.kept h.taken h.flushes h.pending)
     (omega (arith, within, count))
     (omega (arith, once, then_none, read_before, count))
     c.in-More.ensures.asks
@@ -76,7 +76,7 @@ reads-init g c = record {
   size = search rules;
   within = omega arith;
   read = Consumes-nil _;
-  untouched = untouched-refl _;
+  untouched = conversations-untouched-refl _;
   reads = omega (arith, c.requires.fresh.reads);
   failed = c.requires.fresh.failed;
   ended = refl;
@@ -97,14 +97,14 @@ reads-preserved g c =
     let some : c.in-Ok.n ≡ 0 → ⊥ = search (rules, tests) in
     let more_than_none : 0 < c.in-Ok.n = search (rules, tests) in
     record {
-      size = length-put_into c.reads.buffer c.read_some.new.buf filled (9216 - filled) (omega arith) kept ∙ i.size;
+      size = conversations-length-put_into c.reads.buffer c.read_some.new.buf filled (9216 - filled) (omega arith) kept ∙ i.size;
       within = omega (arith, fits, kept);
-      read = read_into _ _ _ c.reads.buffer c.read_some.new.buf filled c.in-Ok.n _ (omega arith) fits i.read h.bytes.0;
-      untouched = untouched-more _ _ _ i.untouched h.kept h.taken h.flushes h.pending;
-      reads = rw h.reads (counted_within _ _ _ i.reads i.within some);
+      read = conversations-read_into _ _ _ c.reads.buffer c.read_some.new.buf filled c.in-Ok.n _ (omega arith) fits i.read h.bytes.0;
+      untouched = conversations-untouched-more _ _ _ i.untouched h.kept h.taken h.flushes h.pending;
+      reads = rw h.reads (conversations-counted_within _ _ _ i.reads i.within some);
       failed = h.failed ∙ or-false _ ∙ i.failed;
-      ended = h.ended ∙ kept_by_write _ _ c.in-Ok.n more_than_none ∙ i.ended;
-      no_late = λ e d. h.late ∙ or_known _ _ (i.ended ∙ d) ∙ or_known _ _ i.failed ∙ i.no_late e d;
+      ended = h.ended ∙ watched_bytes-kept_by_write _ _ c.in-Ok.n more_than_none ∙ i.ended;
+      no_late = λ e d. h.late ∙ watched_bytes-or_known _ _ (i.ended ∙ d) ∙ watched_bytes-or_known _ _ i.failed ∙ i.no_late e d;
       same = i.same;
       ready = i.ready;
     }
@@ -116,7 +116,7 @@ returns-in-Err-clause-few g c =
     let size = i.size in
     let within = i.within in
     let count = length-take-le c.reads.filled c.reads.buffer (omega arith) in
-    rw c.in-Err.ensures.reads (counted_last _ _ i.reads (omega (arith, few, count)))
+    rw c.in-Err.ensures.reads (conversations-counted_last _ _ i.reads (omega (arith, few, count)))
 
 pub returns-in_default : goal.returns-in_default
 returns-in_default g c =
@@ -132,14 +132,14 @@ returns-in_default g c =
     record {
       few = rw then_none (omega (arith, read_before, within));
       no_late = λ e d. c.respond-in_default.ensures.late ∙ i.no_late e d;
-      converses = converses-responded g.H.Handler.handles c.respond-in_default.result _ _
+      converses = conversations-converses-responded g.H.Handler.handles c.respond-in_default.result _ _
           (connection_of remaining contents c.args.stream.now) (connection_of remaining contents c.reads.stream) (connection_of remaining contents c.respond-in_default.new.stream)
           bytes (seen c.read_ask.result) i.read c.respond-in_default.ensures.kept i.untouched
           (omega (arith, within, count))
           (omega (arith, then_none, read_before, count))
           c.read_ask.ensures.asks
           (λ e. c.respond-in_default.ensures.ended ∙ i.ended)
-          (λ e. absurd (not_more c.read_ask.result c.in_default.not-More e))
+          (λ e. absurd (conversations-not_more c.read_ask.result c.in_default.not-More e))
           (rw i.same at c.respond-in_default.ensures.responds);
       ready = c.respond-in_default.ensures.ready;
     }
@@ -161,6 +161,6 @@ returns-in-Err-clause-converses g c =
       each = omega (arith, once, read_before, count);
       asks = c.in-More.ensures.asks;
       failed = search (rules, tests);
-      untouched = untouched-more _ _ _ i.untouched h.kept h.taken h.flushes h.pending;
+      untouched = conversations-untouched-more _ _ _ i.untouched h.kept h.taken h.flushes h.pending;
       same = i.same;
     }

@@ -5,13 +5,13 @@ use Rattle.std.proofs.lemmas.List.{length-drop, length-take}
 use Rattle.std.specs.Prelude.{◌||◌, nat_lt}
 use Rattle.room_types.specs.Watched.{counted, watched_pending}
 use Rattle.room_types.specs.Streams.{count_after}
-use Rattle.room_types.proofs.StreamLemmas.{Puts-nil, Puts-none, count_after-counted, take_rest, kept_by_write, or_known}
+use Rattle.room_types.proofs.watched_bytes.Streams.{watched_bytes-Puts-nil, watched_bytes-Puts-none, watched_bytes-count_after-counted, watched_bytes-take_rest, watched_bytes-kept_by_write, watched_bytes-or_known}
 use Rattle.resident_desk.proofs.delivery.send_all.Goals as goal
 
 pub loop-sent-init : goal.loop-sent-init
 loop-sent-init g c = record {
   within = omega arith;
-  written = Puts-nil _;
+  written = watched_bytes-Puts-nil _;
   flushes = refl;
   pends = λ some. absurd (omega (arith, some));
   failed = c.requires;
@@ -28,7 +28,7 @@ loop-sent-preserved g c =
     let text = c.args.text.now in
     let sent = c.loop-sent.sent in
     let n = c.in-Ok.n in
-    let rest : take (length text - sent) (drop sent text) ≡ drop sent text = take_rest sent text in
+    let rest : take (length text - sent) (drop sent text) ≡ drop sent text = watched_bytes-take_rest sent text in
     let bound = rw rest at clauses.bound in
     let all : sent + n ≤ length text = omega (arith, bound, length-drop sent text) in
     let some : 0 < n = search (rules, tests) in
@@ -39,17 +39,17 @@ loop-sent-preserved g c =
       written = record {
         written = rw take-add (Appends-trans _ _ _ _ _ i.written.written (rw rest at clauses.bytes));
         taken = clauses.taken ∙ ap (λ t. counted t n) i.written.taken
-            ∙ count_after-counted _ (length (take sent text)) n some ∙ ap (count_after _) counts;
+            ∙ watched_bytes-count_after-counted _ (length (take sent text)) n some ∙ ap (count_after _) counts;
       };
       flushes = clauses.flushes ∙ i.flushes;
       pends = λ any. clauses.pending ∙ ap (λ t. t || watched_pending c.loop-sent.stream) took;
-      failed = clauses.failed ∙ kept_by_write _ _ n some ∙ i.failed;
+      failed = clauses.failed ∙ watched_bytes-kept_by_write _ _ n some ∙ i.failed;
       kept = Keeps-trans _ _ _ i.kept clauses.kept;
       reads = clauses.reads ∙ i.reads;
       ended = clauses.ended ∙ i.ended;
-      late = clauses.late ∙ or_known _ _ i.failed ∙ i.late;
+      late = clauses.late ∙ watched_bytes-or_known _ _ i.failed ∙ i.late;
     }
 
 pub returns-in-Ok-eq0-clause-front : goal.returns-in-Ok-eq0-clause-front
 returns-in-Ok-eq0-clause-front g c =
-    Puts-none _ _ _ _ _ _ c.loop-sent.invariant.written (omega arith) c.in-Ok-eq0.ensures.bytes c.in-Ok-eq0.ensures.taken (search (rules, tests))
+    watched_bytes-Puts-none _ _ _ _ _ _ c.loop-sent.invariant.written (omega arith) c.in-Ok-eq0.ensures.bytes c.in-Ok-eq0.ensures.taken (search (rules, tests))

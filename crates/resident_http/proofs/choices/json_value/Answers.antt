@@ -1,5 +1,5 @@
 use Rattle.std.proofs.Common.{◌≡◌, true, false, inr, refl}
-use Rattle.resident_http.proofs.JsonBodies.{json_of_text, json_of_other}
+use Rattle.resident_http.proofs.json.Bodies.{json_of_text, json_of_other}
 use Rattle.resident_http.proofs.choices.json_value.Goals as goal
 
 pub returns-in-Ok-clause-value : goal.returns-in-Ok-clause-value

@@ -1,7 +1,7 @@
 use Rattle.std.proofs.Common.{◌≡◌, drop}
 use Rattle.serde_json.specs.View.{items_view}
 use Rattle.resident_http.specs.Bodies.{codes_in}
-use Rattle.resident_http.proofs.CodeLists.{codes_before}
+use Rattle.resident_http.proofs.json.CodeLists.{codes_before}
 use Rattle.resident_http.proofs.choices.room_codes.Given as goal
 
 -- the codes so far, before those that are left

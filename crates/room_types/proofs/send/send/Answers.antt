@@ -4,11 +4,11 @@ use Rattle.std.proofs.Math.Seq.{take-add}
 use Rattle.std.proofs.lemmas.List.{length-drop, length-take}
 use Rattle.room_types.specs.Watched.{counted}
 use Rattle.room_types.specs.Streams.{count_after}
-use Rattle.room_types.proofs.StreamLemmas.{Puts-nil, Puts-none, count_after-counted, take_rest, kept_by_write, or_known}
+use Rattle.room_types.proofs.watched_bytes.Streams.{watched_bytes-Puts-nil, watched_bytes-Puts-none, watched_bytes-count_after-counted, watched_bytes-take_rest, watched_bytes-kept_by_write, watched_bytes-or_known}
 use Rattle.room_types.proofs.send.send.Goals as goal
 
 pub loop-sent-init : goal.loop-sent-init
-loop-sent-init g c = record { within = omega arith; written = Puts-nil _; flushes = refl; failed = refl; stops = λ e. refl }
+loop-sent-init g c = record { within = omega arith; written = watched_bytes-Puts-nil _; flushes = refl; failed = refl; stops = λ e. refl }
 
 pub loop-sent-preserved : goal.loop-sent-preserved
 loop-sent-preserved g c =
@@ -16,7 +16,7 @@ loop-sent-preserved g c =
     let text = c.args.text.now in
     let sent = c.loop-sent.sent in
     let n = c.in-Ok.n in
-    let rest : take (length text - sent) (drop sent text) ≡ drop sent text = take_rest sent text in
+    let rest : take (length text - sent) (drop sent text) ≡ drop sent text = watched_bytes-take_rest sent text in
     let bound = rw rest at clauses.bound in
     let all : sent + n ≤ length text = omega (arith, bound, length-drop sent text) in
     let some : 0 < n = search (rules, tests) in
@@ -26,13 +26,13 @@ loop-sent-preserved g c =
       written = record {
         written = rw take-add (Appends-trans _ _ _ _ _ c.loop-sent.invariant.written.written (rw rest at clauses.bytes));
         taken = clauses.taken ∙ ap (λ t. counted t n) c.loop-sent.invariant.written.taken
-            ∙ count_after-counted _ (length (take sent text)) n some ∙ ap (count_after _) counts;
+            ∙ watched_bytes-count_after-counted _ (length (take sent text)) n some ∙ ap (count_after _) counts;
       };
       flushes = clauses.flushes ∙ c.loop-sent.invariant.flushes;
-      failed = clauses.failed ∙ kept_by_write _ _ n some ∙ c.loop-sent.invariant.failed;
-      stops = λ e. clauses.late ∙ or_known _ _ (c.loop-sent.invariant.failed ∙ e) ∙ c.loop-sent.invariant.stops e;
+      failed = clauses.failed ∙ watched_bytes-kept_by_write _ _ n some ∙ c.loop-sent.invariant.failed;
+      stops = λ e. clauses.late ∙ watched_bytes-or_known _ _ (c.loop-sent.invariant.failed ∙ e) ∙ c.loop-sent.invariant.stops e;
     }
 
 pub returns-in-Ok-eq0-clause-front : goal.returns-in-Ok-eq0-clause-front
 returns-in-Ok-eq0-clause-front g c =
-    Puts-none _ _ _ _ _ _ c.loop-sent.invariant.written (omega arith) c.in-Ok-eq0.ensures.bytes c.in-Ok-eq0.ensures.taken (search (rules, tests))
+    watched_bytes-Puts-none _ _ _ _ _ _ c.loop-sent.invariant.written (omega arith) c.in-Ok-eq0.ensures.bytes c.in-Ok-eq0.ensures.taken (search (rules, tests))

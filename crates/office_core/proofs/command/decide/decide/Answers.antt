@@ -1,13 +1,13 @@
-use Rattle.office_core.proofs.CommandLemmas.{decision_leads}
-use Rattle.office_core.proofs.ReplyLemmas.{decision_ascends}
+use Rattle.office_core.proofs.commands.Commands.{commands-decision_leads}
+use Rattle.office_core.proofs.reply_rows.Replies.{reply_rows-decision_ascends}
 use Rattle.office_core.proofs.command.decide.decide.Goals as goal
 
 pub returns-clause-leads : goal.returns-clause-leads
 returns-clause-leads c =
-    decision_leads c.args.office.now c.args.command.now c.decision_of.result c.requires
-    c.decision_of.ensures.formed c.decision_of.ensures.decides
+    commands-decision_leads c.args.office.now c.args.command.now c.command_decision.result c.requires
+    c.command_decision.ensures.formed c.command_decision.ensures.decides
 
 pub returns-clause-ascending : goal.returns-clause-ascending
 returns-clause-ascending c =
-    decision_ascends c.args.office.now c.args.command.now c.decision_of.result
-    c.decision_of.ensures.decides
+    reply_rows-decision_ascends c.args.office.now c.args.command.now c.command_decision.result
+    c.command_decision.ensures.decides

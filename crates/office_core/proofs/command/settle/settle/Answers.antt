@@ -6,7 +6,7 @@ use Rattle.office_state.specs.declared.change.Change.{Change}
 use Rattle.office_state.specs.declared.change.Change.TheVariants.{AddMove}
 use Rattle.office_core.specs.Command.Settle.{leaving, arriving, swaps}
 use Rattle.office_core.specs.declared.reply.Reply.TheVariants.{Settled}
-use Rattle.office_core.proofs.CommandLemmas.Recorded.{as_many_settled}
+use Rattle.office_core.proofs.settlements.Recorded.{settlements-as_many_settled}
 use Rattle.office_core.proofs.command.settle.settle.Goals as goal
 
 -- the changes, as they are added
@@ -27,7 +27,7 @@ returns c =
     let order = c.as_slice.ensures.value in
     record {
       accepted = search rules;
-      replied = ap (λ count. Settled count) (ap length moves ∙ as_many_settled c.args.office.now);
+      replied = ap (λ count. Settled count) (ap length moves ∙ settlements-as_many_settled c.args.office.now);
       changed = collected c.swaps_leave.new.changes.items c.all_arrive.new.changes.items
           c.all_recorded.new.changes.items c.push.new.self.items c.push-2.new.self.items _ _ _ _ _
           (c.in_ok-swaps_leave.ensures ∙ ap (λ x. x ++ map leaving (swaps c.as_slice-moves.result.now)) c.new-changes.ensures.items

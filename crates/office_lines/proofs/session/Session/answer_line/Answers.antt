@@ -1,6 +1,6 @@
 use Rattle.std.proofs.Common.{rules, ◌≡◌, ◌-◌, not, length, arith, ap, ◌∙◌, refl, inl}
 use Rattle.office_texts.specs.Texts.{text_of}
-use Rattle.room_types.proofs.StreamLemmas.{Puts-nil}
+use Rattle.room_types.proofs.watched_bytes.Streams.{watched_bytes-Puts-nil}
 use Rattle.office_lines.proofs.session.Session.answer_line.Goals as goal
 
 pub returns-in-Ok-send-clause-answered : goal.returns-in-Ok-send-clause-answered
@@ -39,7 +39,7 @@ returns-clause-broken g c = record {
   sent = 0;
   unsent = length (text_of c.hear-said.result);
   step = rw c.deref.ensures.value at c.hear-said.ensures.step;
-  written = Puts-nil _;
+  written = watched_bytes-Puts-nil _;
   unflushed = refl;
   all = omega arith;
   suits = (omega arith, inl (refl, c.in-Err.ensures.memory, ap not c.in-Err.ensures.made));

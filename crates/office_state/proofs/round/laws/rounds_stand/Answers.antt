@@ -1,5 +1,5 @@
-use Rattle.office_state.proofs.RoundLemmas.Results.{same_round}
+use Rattle.office_state.proofs.round_outcomes.Results.{round_outcomes-same_round}
 use Rattle.office_state.proofs.round.laws.rounds_stand.Goals as goal
 
 pub returns : goal.returns
-returns c = same_round
+returns c = round_outcomes-same_round

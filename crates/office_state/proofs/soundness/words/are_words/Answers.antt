@@ -2,30 +2,30 @@ use Rattle.std.proofs.Common.{sym, ap, ◌∙◌}
 use Rattle.std.specs.Prelude.{eqb}
 use Rattle.std.proofs.lemmas.Bool.Decides.{Decides-at}
 use Rattle.std.proofs.lemmas.Bool.{both_ways}
-use Rattle.office_state.proofs.SoundnessLemmas.LawTests.{never, as_well, empty-decides, words-tell, words-first, words-second}
+use Rattle.office_state.proofs.sound_offices.LawTests.{sound_offices-never, sound_offices-as_well, sound_offices-empty-decides, sound_offices-words-tell, sound_offices-words-first, sound_offices-words-second}
 use Rattle.office_state.proofs.soundness.words.are_words.Goals as goal
 
-pub returns-then-not-has_words : goal.returns-then-not-has_words
-returns-then-not-has_words c =
-    let undrawn = sym c.has_words.ensures ∙ c.if-not-has_words.true in
-    as_well _
+pub returns-then-not-phase_has_words : goal.returns-then-not-phase_has_words
+returns-then-not-phase_has_words c =
+    let undrawn = sym c.phase_has_words.ensures ∙ c.if-not-phase_has_words.true in
+    sound_offices-as_well _
     (λ none. record { none = λ _. none; each = λ drawn. absurd (both_ways _ undrawn drawn) })
     (λ l. l.none undrawn)
-    (Decides-at (eqb c.len.result 0) _ (ap (λ n. eqb n 0) c.len.ensures) (empty-decides c.args.office.now.words))
+    (Decides-at (eqb c.len.result 0) _ (ap (λ n. eqb n 0) c.len.ensures) (sound_offices-empty-decides c.args.office.now.words))
 
 pub returns-then-not-are_words_of_participants : goal.returns-then-not-are_words_of_participants
 returns-then-not-are_words_of_participants c =
     let office = c.args.office.now in
-    let drawn = sym c.has_words.ensures ∙ c.if-not-has_words.false in
-    never (λ l. both_ways _ (sym c.are_words_of_participants.ensures ∙ c.if-not-are_words_of_participants.true) (words-first office.people office.withdrawn office.words (l.each drawn)))
+    let drawn = sym c.phase_has_words.ensures ∙ c.if-not-phase_has_words.false in
+    sound_offices-never (λ l. both_ways _ (sym c.are_words_of_participants.ensures ∙ c.if-not-are_words_of_participants.true) (sound_offices-words-first office.people office.withdrawn office.words (l.each drawn)))
 
 pub returns : goal.returns
 returns c =
     let office = c.args.office.now in
-    let drawn = sym c.has_words.ensures ∙ c.if-not-has_words.false in (
+    let drawn = sym c.phase_has_words.ensures ∙ c.if-not-phase_has_words.false in (
       λ e. record {
         none = λ undrawn. absurd (both_ways _ undrawn drawn);
-        each = λ _. words-tell office.people office.withdrawn office.words (sym c.are_words_of_participants.ensures ∙ c.if-not-are_words_of_participants.false) (sym c.have_participants_words.ensures ∙ e);
+        each = λ _. sound_offices-words-tell office.people office.withdrawn office.words (sym c.are_words_of_participants.ensures ∙ c.if-not-are_words_of_participants.false) (sym c.have_participants_words.ensures ∙ e);
       },
-      λ l. c.have_participants_words.ensures ∙ words-second office.people office.withdrawn office.words (l.each drawn),
+      λ l. c.have_participants_words.ensures ∙ sound_offices-words-second office.people office.withdrawn office.words (l.each drawn),
     )

@@ -1,0 +1,2 @@
+-- Lemmas on cells of a row.
+mod TextCells

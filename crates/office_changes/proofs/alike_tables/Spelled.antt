@@ -1,0 +1,252 @@
+-- What is written keeps the form of its table.
+use Rattle.std.proofs.Common.{ℕ, ◌<◌, ◌^◌, Bool, true, false, not, List, [], ◌∷◌, map, Option}
+use Rattle.std.proofs.Common.{cond, refl}
+use Rattle.std.specs.List.{All, AllByRecursion}
+use Rattle.std.proofs.lemmas.List.Elements.{All-nil, All-cons, recursion_from_All, All-from_recursion}
+use Rattle.std.proofs.lemmas.List.Sorted.{IsPermutation-sym}
+use Rattle.std.proofs.lemmas.Map.Views.{All-map-IsPermutation}
+use Rattle.sqlite_keyed.specs.Lists.{update_where, delete_where}
+use Rattle.sqlite_keyed.proofs.ListLemmas.{all-filter, all_map, all_unmap}
+use Rattle.sqlite_value.specs.Order.{Row}
+use Rattle.sqlite_value.specs.declared.value.Value.TheVariants as value
+use Rattle.room_types.specs.Grammars.{is_person_id, is_room_code, is_key, is_name, is_label}
+use Rattle.room_types.specs.Texts.{Text, text_eq}
+use Rattle.room_types.specs.declared.moves.Move.{Move}
+use Rattle.room_types.specs.declared.phase.Phase.{Phase}
+use Rattle.office_state.specs.declared.office.kept_list.KeptList.{KeptList}
+use Rattle.office_state.specs.declared.office.person.Person.{Person}
+use Rattle.office_cells.specs.Cells.{IsTextOf, IsOptionalTextOf, text_or_null}
+use Rattle.office_cells.specs.Columns.{room_columns, person_columns, round_shown, choice_columns, word_columns}
+use Rattle.office_cells.specs.Columns.{result_columns, move_columns, list_columns}
+use Rattle.office_cells.specs.Forms.{IsRoomRow, IsPersonRow, IsRoundRow, IsChoiceRow, IsWordRow, IsResultRow, IsMoveRow}
+use Rattle.office_cells.specs.Forms.{IsListRow}
+use Rattle.office_cells.specs.Spelled.{IsSpelled}
+use Rattle.office_rows.specs.Tables.{Tables}
+use Rattle.office_rows.specs.declared.records.ChoiceRecord.{ChoiceRecord}
+use Rattle.office_rows.specs.declared.records.PersonRecord.{PersonRecord}
+use Rattle.office_tables.specs.Edits.{with_room, with_shut, with_person, without_person, with_home, with_withdrawn}
+use Rattle.office_tables.specs.Edits.{without_withdrawn, with_round, with_choice, without_choices_of, without_round_tables}
+use Rattle.office_tables.specs.Edits.{with_word, with_result}
+use Rattle.office_tables.specs.Edits.{with_move, with_kept}
+use Rattle.office_rows.specs.SameRows.{AreSameRows}
+
+module _ {X : Type 0} (columns : X → Row) (IsRow : Row → Type 0) where
+  abbrev Formed : List X → Type 0
+  Formed xs = All IsRow (map columns xs)
+
+  alike_tables-each : (xs : List X) → Formed xs → AllByRecursion (λ x. IsRow (columns x)) xs
+  alike_tables-each xs h = all_unmap IsRow columns xs (recursion_from_All IsRow (map columns xs) h)
+
+  alike_tables-every : (xs : List X) → AllByRecursion (λ x. IsRow (columns x)) xs → Formed xs
+  alike_tables-every xs h = All-from_recursion IsRow (map columns xs) (all_map IsRow columns xs h)
+
+  alike_tables-formed_left : (q : X → Bool) (xs : List X) → Formed xs → Formed (delete_where q xs)
+  alike_tables-formed_left q xs h = alike_tables-every (delete_where q xs) (all-filter (λ x. IsRow (columns x)) (λ x. not (q x)) xs (alike_tables-each xs h))
+
+  module _ (q : X → Bool) (f : X → X) (keeps : (x : X) → IsRow (columns x) → IsRow (columns (f x))) where
+    alike_tables-one_changed : (b : Bool) (x : X) → IsRow (columns x) → IsRow (columns (cond b (f x) x))
+    alike_tables-one_changed true x h = keeps x h
+    alike_tables-one_changed false x h = h
+
+    alike_tables-all_changed : (xs : List X) → AllByRecursion (λ x. IsRow (columns x)) xs
+        → AllByRecursion (λ x. IsRow (columns x)) (update_where q f xs)
+    alike_tables-all_changed [] h = tt
+    alike_tables-all_changed (x ∷ xs) h = (alike_tables-one_changed (q x) x h.0, alike_tables-all_changed xs h.1)
+
+    alike_tables-formed_changed : (xs : List X) → Formed xs → Formed (update_where q f xs)
+    alike_tables-formed_changed xs h = alike_tables-every (update_where q f xs) (alike_tables-all_changed xs (alike_tables-each xs h))
+
+-- the order of rows is no matter
+pub alike_tables-spelled_alike : (these those : Tables) → AreSameRows these those → IsSpelled those → IsSpelled these
+alike_tables-spelled_alike these those same h = record {
+  rooms = All-map-IsPermutation room_columns IsRoomRow _ _ (IsPermutation-sym _ _ same.rooms) h.rooms;
+  people = All-map-IsPermutation person_columns IsPersonRow _ _ (IsPermutation-sym _ _ same.people) h.people;
+  rounds = All-map-IsPermutation round_shown IsRoundRow _ _ (IsPermutation-sym _ _ same.rounds) h.rounds;
+  choices = All-map-IsPermutation choice_columns IsChoiceRow _ _ (IsPermutation-sym _ _ same.choices) h.choices;
+  words = All-map-IsPermutation word_columns IsWordRow _ _ (IsPermutation-sym _ _ same.words) h.words;
+  results = All-map-IsPermutation result_columns IsResultRow _ _ (IsPermutation-sym _ _ same.results) h.results;
+  moves = All-map-IsPermutation move_columns IsMoveRow _ _ (IsPermutation-sym _ _ same.moves) h.moves;
+  lists = All-map-IsPermutation list_columns IsListRow _ _ (IsPermutation-sym _ _ same.lists) h.lists;
+}
+
+module _ (t : Tables) (h : IsSpelled t) where
+  alike_tables-rooms_spelled : (xs : List (Text × Bool)) → All IsRoomRow (map room_columns xs) → IsSpelled (record t { rooms = xs })
+  alike_tables-rooms_spelled xs k = record {
+    rooms = k;
+    people = h.people;
+    rounds = h.rounds;
+    choices = h.choices;
+    words = h.words;
+    results = h.results;
+    moves = h.moves;
+    lists = h.lists;
+  }
+
+  alike_tables-people_spelled : (xs : List PersonRecord) → All IsPersonRow (map person_columns xs)
+      → IsSpelled (record t { people = xs })
+  alike_tables-people_spelled xs k = record {
+    rooms = h.rooms;
+    people = k;
+    rounds = h.rounds;
+    choices = h.choices;
+    words = h.words;
+    results = h.results;
+    moves = h.moves;
+    lists = h.lists;
+  }
+
+  pub alike_tables-room_spelled : (room : Text) (shut : Bool) → IsTextOf is_room_code (value.Text room)
+      → IsSpelled (with_room room shut t)
+  unfolding with_room
+  alike_tables-room_spelled room shut code =
+      alike_tables-rooms_spelled ((room, shut) ∷ t.rooms) (All-cons IsRoomRow _ _ (code, (shut, refl)) h.rooms)
+
+  pub alike_tables-shut_spelled : (room : Text) (shut : Bool) → IsSpelled (with_shut room shut t)
+  unfolding with_shut
+  alike_tables-shut_spelled room shut =
+      alike_tables-rooms_spelled _ (alike_tables-formed_changed room_columns IsRoomRow (λ r. text_eq r.0 room) (λ r. (r.0, shut))
+      (λ r was. (was.0, (shut, refl))) t.rooms h.rooms)
+
+  pub alike_tables-person_spelled : (id : Text) (person : Person) → IsTextOf is_person_id (value.Text id)
+      → IsTextOf is_name (value.Text person.name) → IsTextOf is_key (value.Text person.key)
+      → IsOptionalTextOf is_room_code (text_or_null person.home) → IsSpelled (with_person id person t)
+  unfolding with_person
+  alike_tables-person_spelled id person is_id name key home =
+      alike_tables-people_spelled _ (All-cons IsPersonRow _ _ (is_id, name, key, home, (false, refl)) h.people)
+
+  pub alike_tables-without_person_spelled : (id : Text) → IsSpelled (without_person id t)
+  unfolding without_person
+  alike_tables-without_person_spelled id =
+      alike_tables-people_spelled _ (alike_tables-formed_left person_columns IsPersonRow
+      (λ (r : PersonRecord). text_eq r.id id) t.people h.people)
+
+  pub alike_tables-home_spelled : (id : Text) (home : Option Text) → IsOptionalTextOf is_room_code (text_or_null home)
+      → IsSpelled (with_home id home t)
+  unfolding with_home
+  alike_tables-home_spelled id home lives =
+      alike_tables-people_spelled _ (alike_tables-formed_changed person_columns IsPersonRow (λ (r : PersonRecord). text_eq r.id id)
+      (λ r. record r { person = record r.person { home = home } })
+      (λ r was. (was.0, was.1, was.2, lives, was.4)) t.people h.people)
+
+  pub alike_tables-withdrawn_spelled : (id : Text) → IsSpelled (with_withdrawn id t)
+  unfolding with_withdrawn
+  alike_tables-withdrawn_spelled id =
+      alike_tables-people_spelled _ (alike_tables-formed_changed person_columns IsPersonRow (λ (r : PersonRecord). text_eq r.id id)
+      (λ r. record r { withdrawn = true }) (λ r was. (was.0, was.1, was.2, was.3, (true, refl))) t.people h.people)
+
+  pub alike_tables-without_withdrawn_spelled : IsSpelled (without_withdrawn t)
+  unfolding without_withdrawn
+  alike_tables-without_withdrawn_spelled =
+      alike_tables-people_spelled _ (alike_tables-formed_changed person_columns IsPersonRow (λ r. true) (λ r. record r { withdrawn = false })
+      (λ r was. (was.0, was.1, was.2, was.3, (false, refl))) t.people h.people)
+
+  alike_tables-choices_spelled : (xs : List ChoiceRecord) → All IsChoiceRow (map choice_columns xs)
+      → IsSpelled (record t { choices = xs })
+  alike_tables-choices_spelled xs k = record {
+    rooms = h.rooms;
+    people = h.people;
+    rounds = h.rounds;
+    choices = k;
+    words = h.words;
+    results = h.results;
+    moves = h.moves;
+    lists = h.lists;
+  }
+
+  pub alike_tables-choice_spelled : (person : Text) (place : ℕ) (room : Text) → IsTextOf is_person_id (value.Text person)
+      → IsTextOf is_room_code (value.Text room) → IsSpelled (with_choice person place room t)
+  unfolding with_choice
+  alike_tables-choice_spelled person place room id code =
+      alike_tables-choices_spelled _ (All-cons IsChoiceRow _ _ (id, (place, refl), code) h.choices)
+
+  pub alike_tables-without_choices_of_spelled : (person : Text) → IsSpelled (without_choices_of person t)
+  unfolding without_choices_of
+  alike_tables-without_choices_of_spelled person =
+      alike_tables-choices_spelled _ (alike_tables-formed_left choice_columns IsChoiceRow
+      (λ (r : ChoiceRecord). text_eq r.person person) t.choices h.choices)
+
+  alike_tables-words_spelled : (xs : List (Text × ℕ)) → All IsWordRow (map word_columns xs) → IsSpelled (record t { words = xs })
+  alike_tables-words_spelled xs k = record {
+    rooms = h.rooms;
+    people = h.people;
+    rounds = h.rounds;
+    choices = h.choices;
+    words = k;
+    results = h.results;
+    moves = h.moves;
+    lists = h.lists;
+  }
+
+  pub alike_tables-word_spelled : (person : Text) (word : ℕ) → IsTextOf is_person_id (value.Text person) → word < 2 ^ 64
+      → IsSpelled (with_word person word t)
+  unfolding with_word
+  alike_tables-word_spelled person word id low = alike_tables-words_spelled _ (All-cons IsWordRow _ _ (id, (word, refl, low)) h.words)
+
+  pub alike_tables-result_spelled : (person : Text) (room : Option Text) → IsTextOf is_person_id (value.Text person)
+      → IsOptionalTextOf is_room_code (text_or_null room) → IsSpelled (with_result person room t)
+  unfolding with_result
+  alike_tables-result_spelled person room id code = record {
+    rooms = h.rooms;
+    people = h.people;
+    rounds = h.rounds;
+    choices = h.choices;
+    words = h.words;
+    results = All-cons IsResultRow _ _ (id, code) h.results;
+    moves = h.moves;
+    lists = h.lists;
+  }
+
+  pub alike_tables-without_round_tables_spelled : IsSpelled (without_round_tables t)
+  unfolding without_round_tables
+  alike_tables-without_round_tables_spelled = record {
+    rooms = h.rooms;
+    people = h.people;
+    rounds = h.rounds;
+    choices = All-nil IsChoiceRow;
+    words = All-nil IsWordRow;
+    results = All-nil IsResultRow;
+    moves = h.moves;
+    lists = h.lists;
+  }
+
+  pub alike_tables-move_spelled : (move : Move) → IsMoveRow (move_columns move) → IsSpelled (with_move move t)
+  unfolding with_move
+  alike_tables-move_spelled move form = record {
+    rooms = h.rooms;
+    people = h.people;
+    rounds = h.rounds;
+    choices = h.choices;
+    words = h.words;
+    results = h.results;
+    moves = All-cons IsMoveRow _ _ form h.moves;
+    lists = h.lists;
+  }
+
+  pub alike_tables-kept_spelled : (label : Text) (kept : KeptList) → IsTextOf is_label (value.Text label) → kept.count < 2 ^ 16
+      → IsSpelled (with_kept label kept t)
+  unfolding with_kept
+  alike_tables-kept_spelled label kept is_its_label low = record {
+    rooms = h.rooms;
+    people = h.people;
+    rounds = h.rounds;
+    choices = h.choices;
+    words = h.words;
+    results = h.results;
+    moves = h.moves;
+    lists = All-cons IsListRow _ _
+        (is_its_label, (kept.kind, refl), (kept.bytes, refl), (kept.count, refl, low)) h.lists;
+  }
+
+  pub alike_tables-round_spelled : (number : ℕ) (phase : Phase) → number < 2 ^ 16 → IsSpelled (with_round number phase t)
+  unfolding with_round
+  alike_tables-round_spelled number phase low = record {
+    rooms = h.rooms;
+    people = h.people;
+    rounds = alike_tables-formed_changed round_shown IsRoundRow (λ r. true) (λ r. record { number = number; phase = phase })
+        (λ r was. (refl, (number, refl, low), (phase, refl))) t.rounds h.rounds;
+    choices = h.choices;
+    words = h.words;
+    results = h.results;
+    moves = h.moves;
+    lists = h.lists;
+  }

@@ -1,0 +1,64 @@
+-- From what statements make of the tables to what they make of the rows of an office.
+use Rattle.std.proofs.Common.{◌∙◌}
+use Rattle.sqlite.specs.Effect.{Database}
+use Rattle.sqlite.specs.State.{State, HasCleanDisk}
+use Rattle.office_state.specs.Change.{applied, Fits}
+use Rattle.office_state.specs.declared.change.Change.{Change}
+use Rattle.office_state.specs.declared.office.Office.{Office}
+use Rattle.office_cells.specs.Columns.{room_columns, person_columns, round_columns, choice_columns}
+use Rattle.office_cells.specs.Columns.{word_columns, result_columns, move_columns, list_columns}
+use Rattle.office_cells.specs.Spelled.{IsSpelled}
+use Rattle.office_rows.specs.Tables.{Tables, rows_of}
+use Rattle.office_tables.specs.Makes.{Makes}
+use Rattle.office_tables.specs.Tables.{HasTables}
+use Rattle.office_tables.proofs.statements.Held.{statements-held_permuted}
+use Rattle.office_rows.specs.SameRows.{AreSameRows}
+use Rattle.office_changes.specs.Carries.{Turns, CarriesOne}
+use Rattle.office_changes.proofs.alike_tables.Spelled.{alike_tables-spelled_alike}
+
+-- a database that has some tables has all that are alike
+pub changed_rows-has_alike : (db : Database) (these those : Tables) → AreSameRows these those → HasTables db those → HasTables db these
+changed_rows-has_alike db these those same h = record {
+  schema = h.schema;
+  rows = record {
+    rooms = statements-held_permuted room_columns (db.trees 0) _ _ same.rooms h.rows.rooms;
+    people = statements-held_permuted person_columns (db.trees 2) _ _ same.people h.rows.people;
+    rounds = statements-held_permuted round_columns (db.trees 6) _ _ same.rounds h.rows.rounds;
+    choices = statements-held_permuted choice_columns (db.trees 16) _ _ same.choices h.rows.choices;
+    words = statements-held_permuted word_columns (db.trees 11) _ _ same.words h.rows.words;
+    results = statements-held_permuted result_columns (db.trees 13) _ _ same.results h.rows.results;
+    moves = statements-held_permuted move_columns (db.trees 7) _ _ same.moves h.rows.moves;
+    lists = statements-held_permuted list_columns (db.trees 9) _ _ same.lists h.rows.lists;
+  };
+}
+
+-- a statement that keeps the forms
+pub changed_rows-turns : (old new : State) (f : Tables → Tables) → ((tables : Tables) → IsSpelled tables → IsSpelled (f tables))
+    → Makes old new f → Turns old new f
+changed_rows-turns old new f keeps m = record {
+  shown = λ tables clean spelled was. (m.shown tables clean was, keeps tables spelled);
+  mode = m.mode;
+}
+
+-- one call after another
+pub changed_rows-turns_then : (old mid new : State) (f g : Tables → Tables) → (HasCleanDisk new → HasCleanDisk mid)
+    → Turns old mid f → Turns mid new g → Turns old new (λ tables. g (f tables))
+changed_rows-turns_then old mid new f g early m n = record {
+  shown = λ tables clean spelled was.
+      let then = m.shown tables (early clean) spelled was in
+      n.shown (f tables) clean then.1 then.0;
+  mode = λ clean. n.mode clean ∙ m.mode (early clean);
+}
+
+-- the calls of a change
+pub changed_rows-carries : (first : Office) (old new : State) (change : Change) (f : Tables → Tables)
+    → ((office : Office) → Fits first office change → AreSameRows (rows_of (applied office change)) (f (rows_of office)))
+    → Turns old new f → CarriesOne first old new change
+changed_rows-carries first old new change f same m = record {
+  shown = λ office clean fits spelled was.
+      let then = m.shown (rows_of office) clean spelled was in (
+        changed_rows-has_alike new.now _ _ (same office fits) then.0,
+        alike_tables-spelled_alike _ _ (same office fits) then.1,
+      );
+  mode = m.mode;
+}

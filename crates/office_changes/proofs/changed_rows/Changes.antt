@@ -1,0 +1,264 @@
+-- The rows of an office after each change, by what its statements make of the rows before.
+use Rattle.std.proofs.Common.{◌≡◌, ℕ, ◌+◌, Bool, true, false, List, [], ◌∷◌, ◌++◌, map, map-id}
+use Rattle.std.proofs.Common.{Option, Some, None, cond}
+use Rattle.std.proofs.Common.{refl, sym, ap, ◌∙◌, subst, IsPermutation}
+use Rattle.std.specs.List.{AllByRecursion, flat_map}
+use Rattle.std.specs.Option.{is_some}
+use Rattle.std.specs.Ordering.{eq_by_cmp}
+use Rattle.std.specs.Cmp.Lexicographic.{nat_list_cmp_total}
+use Rattle.std.specs.FinMap as maps
+use Rattle.std.specs.FinMap.{get-insert, get-empty}
+use Rattle.std.proofs.lemmas.List.Sorted.{IsPermutation-sym, IsPermutation-middle}
+use Rattle.std.proofs.lemmas.Map.Text.{is_eq-slice_cmp}
+use Rattle.sqlite_keyed.specs.Lists.{update_where}
+use Rattle.sqlite_keyed.proofs.ListLemmas.{map-map, map_same, IsPermutation-same}
+use Rattle.room_types.specs.Texts.{Text, TextMap, text_cmp, text_eq}
+use Rattle.room_types.specs.declared.kinds.ListKind.{ListKind}
+use Rattle.room_types.specs.declared.moves.Move.{Move}
+use Rattle.room_types.specs.declared.phase.Phase.{Phase}
+use Rattle.room_types.proofs.maps.Trees.{maps-entries-empty}
+use Rattle.room_types.proofs.options.Options.{options-none_if_not_some, options-some_of}
+use Rattle.office_state.specs.Change.{applied}
+use Rattle.office_state.specs.Office.Moves.{moves_of}
+use Rattle.office_state.specs.Office.{knows_room, knows_person, has_withdrawn}
+use Rattle.office_state.specs.declared.change.Change.TheVariants.{PutRoom, PutPerson, DropPerson, PutHome, PutWithdrawn}
+use Rattle.office_state.specs.declared.change.Change.TheVariants.{PutChoices, PutWord, PutResult, AddMove}
+use Rattle.office_state.specs.declared.change.Change.TheVariants.{PutRound, ClearRound, KeepList}
+use Rattle.office_state.specs.declared.office.Office.{Office}
+use Rattle.office_state.specs.declared.office.person.Person.{Person}
+use Rattle.office_rows.specs.Rows.{person_row, person_rows, choices_from, list_rows}
+use Rattle.office_rows.specs.SameRows.{AreSameRows}
+use Rattle.office_rows.specs.Tables.{Tables, rows_of}
+use Rattle.office_rows.specs.declared.records.ChoiceRecord.{ChoiceRecord}
+use Rattle.office_rows.specs.declared.records.PersonRecord.{PersonRecord}
+use Rattle.office_rows.proofs.rows_read.Moving.{rows_read-rows_more}
+use Rattle.office_changes.specs.Choosing.{with_choices}
+use Rattle.office_tables.specs.Edits.{with_room, with_shut, with_person, without_person, with_home, with_withdrawn}
+use Rattle.office_tables.specs.Edits.{without_withdrawn, with_round, with_choice, without_choices_of, without_round_tables}
+use Rattle.office_tables.specs.Edits.{with_word, with_result, with_move, with_kept, taking_part}
+use Rattle.office_changes.proofs.alike_tables.Alike.{alike_tables-alike-refl, alike_tables-rooms_alike, alike_tables-people_alike, alike_tables-choices_alike, alike_tables-words_alike}
+use Rattle.office_changes.proofs.alike_tables.Alike.{alike_tables-results_alike, alike_tables-moves_alike, alike_tables-lists_alike, alike_tables-alike-trans}
+use Rattle.office_changes.proofs.changed_rows.Entries.{changed_rows-rows_put, changed_rows-rows_gone, changed_rows-row_gone, changed_rows-row_added}
+use Rattle.office_changes.proofs.changed_rows.Entries.{changed_rows-row_unknown, changed_rows-row_changed}
+
+-- the test of a statement tells the rows of one key
+changed_rows-tells : (a b : Text) → text_eq a b ≡ eq_by_cmp text_cmp a b
+changed_rows-tells a b = sym (is_eq-slice_cmp a b)
+
+-- ---- tables whose rows are the entries themselves
+
+module _ {X : Type 0} (m : TextMap X) (k : Text) where
+  abbrev is_its : Text × X → Bool
+  is_its r = text_eq r.0 k
+
+  changed_rows-entry_added : (v : X) → maps.contains_key m k ≡ false
+      → IsPermutation (maps.entries (maps.insert m k v)) ((k, v) ∷ maps.entries m)
+  changed_rows-entry_added v new =
+      subst (λ l. IsPermutation l ((k, v) ∷ maps.entries m)) (map-id (maps.entries (maps.insert m k v)))
+      (subst (λ l. IsPermutation (map (λ e. e) (maps.entries (maps.insert m k v))) ((k, v) ∷ l))
+      (map-id (maps.entries m))
+      (changed_rows-row_added (λ e. e) (λ r. r.0) (λ e. refl) k is_its (λ r. changed_rows-tells r.0 k) m v (options-none_if_not_some (maps.get m k) new)))
+
+  changed_rows-entry_changed : (v : X) → maps.contains_key m k ≡ true
+      → maps.entries (maps.insert m k v) ≡ update_where is_its (λ r. (r.0, v)) (maps.entries m)
+  changed_rows-entry_changed v known =
+      let kept = options-some_of (maps.get m k) known in
+      sym (map-id (maps.entries (maps.insert m k v)))
+      ∙ changed_rows-row_changed (λ e. e) (λ r. r.0) (λ e. refl) k is_its (λ r. changed_rows-tells r.0 k) (λ r. (r.0, v)) m v kept.0 kept.1 refl
+      ∙ ap (update_where is_its (λ r. (r.0, v))) (map-id (maps.entries m))
+
+-- ---- rooms
+
+module _ (office : Office) (room : Text) (shut : Bool) where
+  -- a room that is not known
+  pub changed_rows-room_added : knows_room office room ≡ false
+      → AreSameRows (rows_of (applied office (PutRoom room shut))) (with_room room shut (rows_of office))
+  unfolding rows_of with_room
+  changed_rows-room_added new = alike_tables-rooms_alike (rows_of office) _ _ (changed_rows-entry_added office.rooms room shut new)
+
+  -- one that is
+  pub changed_rows-room_shut : knows_room office room ≡ true
+      → AreSameRows (rows_of (applied office (PutRoom room shut))) (with_shut room shut (rows_of office))
+  unfolding rows_of with_shut
+  changed_rows-room_shut known =
+      alike_tables-rooms_alike (rows_of office) _ _ (IsPermutation-same _ _ (changed_rows-entry_changed office.rooms room shut known))
+
+-- ---- people
+
+module _ (office : Office) (person : Text) where
+  abbrev shown : Text × Person → PersonRecord
+  shown e = person_row office.withdrawn e
+
+  abbrev is_that : PersonRecord → Bool
+  is_that r = text_eq r.id person
+
+  -- a person who is not known and has not withdrawn
+  pub changed_rows-person_added : (name key : Text) (home : Option Text) → knows_person office person ≡ false
+      → has_withdrawn office person ≡ false
+      → AreSameRows (rows_of (applied office (PutPerson person name key home)))
+      (with_person person (record { name = name; key = key; home = home }) (rows_of office))
+  unfolding rows_of with_person
+  changed_rows-person_added name key home new here =
+      let v : Person = record { name = name; key = key; home = home } in
+      let head : shown (person, v) ≡ record { id = person; person = v; withdrawn = false } =
+      ap (λ b. record { id = person; person = v; withdrawn = b }) here in
+      alike_tables-people_alike (rows_of office) _ _
+      (subst (λ r. IsPermutation (person_rows (maps.insert office.people person v) office.withdrawn)
+      (r ∷ person_rows office.people office.withdrawn)) head
+      (changed_rows-row_added shown (λ (r : PersonRecord). r.id) (λ e. refl) person is_that (λ r. changed_rows-tells r.id person) office.people v
+      (options-none_if_not_some (maps.get office.people person) new)))
+
+  pub changed_rows-person_gone : AreSameRows (rows_of (applied office (DropPerson person))) (without_person person (rows_of office))
+  unfolding rows_of without_person
+  changed_rows-person_gone =
+      alike_tables-people_alike (rows_of office) _ _ (IsPermutation-same _ _
+      (changed_rows-row_gone shown (λ (r : PersonRecord). r.id) (λ e. refl) person is_that (λ r. changed_rows-tells r.id person) office.people))
+
+  pub changed_rows-home_put : (home : Option Text)
+      → AreSameRows (rows_of (applied office (PutHome person home))) (with_home person home (rows_of office))
+  unfolding rows_of with_home
+  changed_rows-home_put home =
+      let f : PersonRecord → PersonRecord = λ r. record r { person = record r.person { home = home } } in
+      elim (maps.get office.people person) as (λ o. maps.get office.people person ≡ o
+      → AreSameRows (rows_of (elim o as (λ _. Office) [
+        | None ↦ office
+        | Some kept ↦ record office { people = maps.insert office.people person (record kept { home = home }) }
+      ])) (with_home person home (rows_of office))) [
+        | None ↦ λ unknown.
+            alike_tables-people_alike (rows_of office) _ _ (IsPermutation-same _ _
+            (changed_rows-row_unknown shown (λ (r : PersonRecord). r.id) (λ e. refl) person is_that
+            (λ r. changed_rows-tells r.id person) f office.people unknown))
+        | Some kept ↦ λ known.
+            alike_tables-people_alike (rows_of office) _ _ (IsPermutation-same _ _
+            (changed_rows-row_changed shown (λ (r : PersonRecord). r.id) (λ e. refl) person is_that
+            (λ r. changed_rows-tells r.id person) f office.people
+            (record kept { home = home }) kept known refl))
+      ] refl
+
+  -- the row of a person, once somebody has withdrawn
+  changed_rows-marked : (e : Text × Person)
+      → person_row (maps.insert office.withdrawn person tt) e
+      ≡ cond (text_eq e.0 person) (record (shown e) { withdrawn = true }) (shown e)
+  changed_rows-marked e =
+      ap (λ o. record { id = e.0; person = e.1; withdrawn = is_some o })
+      (get-insert nat_list_cmp_total office.withdrawn person tt e.0)
+      ∙ either (eq_by_cmp text_cmp e.0 person)
+      ∙ ap (λ b. cond b (record (shown e) { withdrawn = true }) (shown e)) (is_eq-slice_cmp e.0 person)
+    where
+      either : (b : Bool)
+          → record { id = e.0; person = e.1; withdrawn = is_some (cond b (Some tt) (maps.get office.withdrawn e.0)) }
+          ≡ cond b (record { id = e.0; person = e.1; withdrawn = true }) (person_row office.withdrawn e)
+      either true = refl
+      either false = refl
+
+  pub changed_rows-withdrawn_put : AreSameRows (rows_of (applied office (PutWithdrawn person))) (with_withdrawn person (rows_of office))
+  unfolding rows_of with_withdrawn
+  changed_rows-withdrawn_put =
+      alike_tables-people_alike (rows_of office) _ _ (IsPermutation-same _ _
+      (map_same _ _ changed_rows-marked (maps.entries office.people)
+      ∙ sym (map-map (λ (r : PersonRecord). cond (is_that r) (record r { withdrawn = true }) r) shown
+      (maps.entries office.people))))
+
+-- ---- choices
+
+changed_rows-choices_keyed : (person : Text) (place : ℕ) (rooms : List Text)
+    → AllByRecursion (λ (r : ChoiceRecord). r.person ≡ person) (choices_from person place rooms)
+changed_rows-choices_keyed person place [] = tt
+changed_rows-choices_keyed person place (room ∷ rooms) = (refl, changed_rows-choices_keyed person (place + 1) rooms)
+
+changed_rows-choices_added : (person : Text) (place : ℕ) (rooms : List Text) (t : Tables)
+    → AreSameRows (record t { choices = choices_from person place rooms ++ t.choices }) (with_choices person place rooms t)
+unfolding with_choice
+changed_rows-choices_added person place [] t = alike_tables-alike-refl t
+changed_rows-choices_added person place (room ∷ rooms) t =
+    let c : ChoiceRecord = record { person = person; place = place; room = room } in
+    let rest : List ChoiceRecord = choices_from person (place + 1) rooms in
+    alike_tables-alike-trans _ _ _
+    (alike_tables-choices_alike t (c ∷ (rest ++ t.choices)) (rest ++ c ∷ t.choices)
+    (IsPermutation-sym _ _ (IsPermutation-middle rest c t.choices)))
+    (changed_rows-choices_added person (place + 1) rooms (with_choice person place room t))
+
+module _ (office : Office) (person : Text) where
+  abbrev is_choice : ChoiceRecord → Bool
+  is_choice r = text_eq r.person person
+
+  -- a person's list is replaced
+  pub changed_rows-choices_put : (rooms : List Text)
+      → AreSameRows (rows_of (applied office (PutChoices person rooms)))
+      (with_choices person 0 rooms (without_choices_of person (rows_of office)))
+  unfolding rows_of without_choices_of
+  changed_rows-choices_put [] =
+      alike_tables-choices_alike (rows_of office) _ _ (IsPermutation-same _ _
+      (changed_rows-rows_gone list_rows (λ (r : ChoiceRecord). r.person) (λ e. changed_rows-choices_keyed e.0 0 e.1) person is_choice
+      (λ r. changed_rows-tells r.person person) office.choices))
+  changed_rows-choices_put (room ∷ rooms) =
+      alike_tables-alike-trans _ _ _
+      (alike_tables-choices_alike (rows_of office) _ _
+      (changed_rows-rows_put list_rows (λ (r : ChoiceRecord). r.person) (λ e. changed_rows-choices_keyed e.0 0 e.1) person is_choice
+      (λ r. changed_rows-tells r.person person)
+      office.choices (room ∷ rooms)))
+      (changed_rows-choices_added person 0 (room ∷ rooms) (without_choices_of person (rows_of office)))
+
+-- ---- words, results, moves and kept lists
+
+module _ (office : Office) (person : Text) where
+  -- somebody has a word who had none
+  pub changed_rows-word_added : (word : ℕ) → maps.contains_key office.words person ≡ false
+      → AreSameRows (rows_of (applied office (PutWord person word))) (with_word person word (rows_of office))
+  unfolding rows_of with_word
+  changed_rows-word_added word new = alike_tables-words_alike (rows_of office) _ _ (changed_rows-entry_added office.words person word new)
+
+  -- and likewise a result
+  pub changed_rows-result_added : (room : Option Text) → maps.contains_key office.results person ≡ false
+      → AreSameRows (rows_of (applied office (PutResult person room))) (with_result person room (rows_of office))
+  unfolding rows_of with_result
+  changed_rows-result_added room new =
+      alike_tables-results_alike (rows_of office) _ _ (changed_rows-entry_added office.results person (record { room = room }) new)
+
+-- somebody moves who has not moved in the round
+pub changed_rows-move_added : (office : Office) (move : Move)
+    → maps.contains_key (moves_of office.moves move.round) move.person ≡ false
+    → AreSameRows (rows_of (applied office (AddMove move))) (with_move move (rows_of office))
+unfolding rows_of with_move
+changed_rows-move_added office move new =
+    alike_tables-moves_alike (rows_of office) _ _ (IsPermutation-sym _ _ (rows_read-rows_more office.moves move new))
+
+-- a list is kept under a label that is new
+pub changed_rows-list_kept : (office : Office) (label : Text) (kind : ListKind) (bytes : List ℕ) (count : ℕ)
+    → maps.contains_key office.lists label ≡ false
+    → AreSameRows (rows_of (applied office (KeepList label kind bytes count)))
+    (with_kept label (record { kind = kind; bytes = bytes; count = count }) (rows_of office))
+unfolding rows_of with_kept
+changed_rows-list_kept office label kind bytes count new =
+    alike_tables-lists_alike (rows_of office) _ _
+    (changed_rows-entry_added office.lists label (record { kind = kind; bytes = bytes; count = count }) new)
+
+-- ---- the round
+
+pub changed_rows-round_put : (office : Office) (number : ℕ) (phase : Phase)
+    → AreSameRows (rows_of (applied office (PutRound number phase))) (with_round number phase (rows_of office))
+unfolding rows_of with_round
+changed_rows-round_put office number phase = alike_tables-alike-refl (rows_of (applied office (PutRound number phase)))
+
+changed_rows-unmarked : (people : TextMap Person) (withdrawn : TextMap (Unit {0}))
+    → person_rows people maps.empty ≡ map taking_part (person_rows people withdrawn)
+changed_rows-unmarked people withdrawn =
+    map_same _ _ (λ e. ap (λ o. record { id = e.0; person = e.1; withdrawn = is_some o }) (get-empty text_cmp e.0))
+    (maps.entries people)
+    ∙ sym (map-map taking_part (person_row withdrawn) (maps.entries people))
+
+-- lists, withdrawals, words and results go
+pub changed_rows-round_cleared : (office : Office)
+    → AreSameRows (rows_of (applied office ClearRound))
+    (without_withdrawn (without_round_tables (rows_of office)))
+unfolding rows_of without_withdrawn without_round_tables
+changed_rows-round_cleared office = let still = alike_tables-alike-refl (rows_of office) in record {
+  rooms = still.rooms;
+  people = IsPermutation-same _ _ (changed_rows-unmarked office.people office.withdrawn);
+  rounds = still.rounds;
+  choices = IsPermutation-same _ _ (ap (flat_map list_rows) (maps-entries-empty nat_list_cmp_total));
+  words = IsPermutation-same _ _ (maps-entries-empty nat_list_cmp_total);
+  results = IsPermutation-same _ _ (maps-entries-empty nat_list_cmp_total);
+  moves = still.moves;
+  lists = still.lists;
+}

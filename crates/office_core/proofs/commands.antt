@@ -1,0 +1,21 @@
+-- Lemmas on commands: where the changes of each lead.
+pub mod AddPerson
+pub mod AddRoom
+pub mod Cancel
+pub mod Changes
+pub mod CloseRound
+pub mod Commands
+pub mod Draw
+pub mod Ended
+pub mod Kept
+pub mod Leave
+pub mod OpenRound
+pub mod Publish
+pub mod Remove
+pub mod Reopen
+pub mod Run
+pub mod SetChoices
+pub mod SetHome
+pub mod Shut
+pub mod Withdraw
+pub mod Words

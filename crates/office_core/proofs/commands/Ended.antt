@@ -1,0 +1,35 @@
+-- An office whose round has ended keeps the laws.
+use Rattle.std.proofs.Common.{refl}
+use Rattle.room_types.specs.Texts.{TextMap}
+use Rattle.room_types.specs.declared.phase.Phase.TheVariants.{Idle}
+use Rattle.office_state.specs.Change.{without_round}
+use Rattle.office_state.specs.Office.Invariants.{AreMoves, IsLawful, IsRegister}
+use Rattle.office_state.specs.Office.Moves.{RoundMap}
+use Rattle.office_state.specs.declared.office.Office.{Office}
+use Rattle.office_state.specs.declared.office.moves.RoundMoves.{RoundMoves}
+use Rattle.office_state.specs.declared.office.person.Person.{Person}
+use Rattle.office_state.proofs.offices.Empty.{offices-no_lists}
+use Rattle.office_state.proofs.round_phases.Untouched.{round_phases-results_undrawn}
+
+-- the office between two rounds, with these people and moves
+abbrev pub ended : Office → TextMap Person → RoundMap RoundMoves → Office
+ended office people moves =
+    record (without_round office) { people = people; moves = moves; phase = Idle }
+
+pub commands-ended-lawful : (office : Office) (people : TextMap Person) (moves : RoundMap RoundMoves)
+    → IsLawful office → IsRegister office.rooms people → AreMoves (ended office people moves)
+    → IsLawful (ended office people moves)
+commands-ended-lawful office people moves l register are_moves = record {
+  kept = l.kept;
+  register = register;
+  lists = offices-no_lists office.rooms people;
+  round = record {
+    few_rounds = l.round.few_rounds;
+    numbered = λ e. absurd (cc);
+    idle_choices = λ _. refl;
+    idle_withdrawn = λ _. refl;
+  };
+  words = record { none = λ _. refl; each = λ e. absurd (cc) };
+  results = round_phases-results_undrawn (ended office people moves) refl refl;
+  moves = are_moves;
+}

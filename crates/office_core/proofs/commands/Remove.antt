@@ -1,0 +1,53 @@
+-- A person who goes keeps the laws.
+use Rattle.std.proofs.Common.{◌≡◌, None, refl, ap, ◌∙◌, sym, subst}
+use Rattle.std.proofs.lemmas.Bool.{not-false}
+use Rattle.std.specs.FinMap as map
+use Rattle.room_types.specs.Texts.{Text}
+use Rattle.std.specs.Option.{is_some}
+use Rattle.std.specs.FinMap.{get-empty}
+use Rattle.room_types.specs.Texts.{text_cmp}
+use Rattle.office_state.specs.Change.{LeadsOn}
+use Rattle.office_state.specs.Office.Invariants.{IsLawful}
+use Rattle.office_state.specs.declared.office.Office.{Office}
+use Rattle.office_state.specs.Office.Invariants.{AreLists}
+use Rattle.office_state.proofs.offices.Empty.{offices-no_lists}
+use Rattle.office_state.proofs.offices.Register.{offices-person_gone}
+use Rattle.office_state.proofs.round_phases.Untouched.{round_phases-prepared, round_phases-idle_preparing, round_phases-undrawn}
+use Rattle.office_state.proofs.round_phases.Untouched.{round_phases-words_undrawn, round_phases-results_undrawn, round_phases-moves_stay}
+use Rattle.office_core.specs.Refusal.Checks.{first_refusal}
+use Rattle.office_core.proofs.refusals.Checks.{refusals-none_applies}
+use Rattle.office_core.specs.Command.Remove.{checks, next, changes_of}
+
+pub commands-remove-leads : (office : Office) (person : Text) → IsLawful office
+    → first_refusal (checks office person) ≡ None
+    → LeadsOn office (next office person) (changes_of office person)
+commands-remove-leads office person l h =
+    let n = refusals-none_applies (checks office person) h in
+    let idle = not-false _ n.0 in
+    let u = round_phases-undrawn office l (round_phases-prepared office.phase (round_phases-idle_preparing office.phase idle)) in
+    let new : Office = next office person in
+    let no_choices = l.round.idle_choices idle in
+    let nobody = l.round.idle_withdrawn idle in
+    let lawful : IsLawful new = record {
+      kept = l.kept;
+      register = offices-person_gone office.rooms office.people l.register person;
+      lists = subst (λ choices. AreLists office.rooms new.people choices office.withdrawn)
+          (sym no_choices)
+          (subst (λ withdrawn. AreLists office.rooms new.people map.empty withdrawn) (sym nobody)
+          (offices-no_lists office.rooms new.people));
+      round = l.round;
+      words = round_phases-words_undrawn office.phase new.people office.withdrawn office.words u.has_no_words
+          u.no_words;
+      results = round_phases-results_undrawn new u.has_no_results u.no_results;
+      moves = round_phases-moves_stay office new refl (λ round o. o) l.moves;
+    } in
+    record {
+      leads = refl;
+      apart = (l.register.homes, lawful.register.homes);
+      fits = (
+        ap (λ withdrawn. map.contains_key withdrawn person) nobody
+            ∙ ap is_some (get-empty text_cmp person),
+        tt,
+      );
+      lawful = lawful;
+    }

@@ -1,0 +1,281 @@
+-- A list that comes in leads from a lawful office to a lawful one.
+use Rattle.std.proofs.Common.{◌≡◌, ◌+◌, ◌≤◌, ◌++◌, ℕ, true, false, List, [], ◌∷◌, length}
+use Rattle.std.proofs.Common.{Some, None, refl, ap, ◌∙◌, sym, subst, inl, inr}
+use Rattle.std.specs.Prelude.{nat_le, nat_lt}
+use Rattle.std.proofs.lemmas.Bool.{ltb-false, not-false}
+use Rattle.std.specs.FinMap as map
+use Rattle.std.specs.Option.{is_some}
+use Rattle.room_types.specs.Choices.{IsChoices}
+use Rattle.room_types.proofs.maps.TextMaps.{maps-contains_key-put, maps-get-put_other, maps-get-put_same, maps-text_cases}
+use Rattle.room_types.specs.Texts.{Text, TextMap}
+use Rattle.room_types.specs.declared.kinds.ListKind.{ListKind}
+use Rattle.room_types.specs.declared.kinds.ListKind.TheVariants.{Rooms, People, Choices}
+use Rattle.office_lists.specs.Records.{list_fault, record_limit, records_of}
+use Rattle.office_lists.specs.declared.fault.Cause.TheVariants.{Denied}
+use Rattle.office_state.specs.Change.{AllFit, Fits, LeadsOn, StaysApart, applied, applied_all}
+use Rattle.office_state.specs.Office.{knows_room}
+use Rattle.office_state.specs.Office.Invariants.{AreKept, IsLawful}
+use Rattle.office_state.specs.Office.Limits.{byte_limit, label_limit}
+use Rattle.office_state.specs.Office.Phases.{is_preparing}
+use Rattle.office_state.specs.declared.change.Change.{Change}
+use Rattle.office_state.specs.declared.change.Change.TheVariants.{KeepList}
+use Rattle.office_state.specs.declared.office.Office.{Office}
+use Rattle.office_state.specs.declared.office.kept_list.KeptList.{KeptList}
+use Rattle.office_state.proofs.offices.Register.{offices-len-put_within}
+use Rattle.office_state.proofs.round_phases.Untouched.{round_phases-moves_stay, round_phases-open_preparing, round_phases-prepared}
+use Rattle.office_state.proofs.round_phases.Untouched.{round_phases-results_undrawn, round_phases-undrawn}
+use Rattle.office_core.specs.Command.Import.{EntryCommand, bad_list, changes_by, changes_of, changes_where}
+use Rattle.office_core.specs.Command.Import.{checks, checks_where, choices_command, entries_in}
+use Rattle.office_core.specs.Command.Import.{new_label_changes, new_label_checks, first_denied, keeping}
+use Rattle.office_core.specs.Command.Import.{list_refusal, may_import, next, next_where, office_after}
+use Rattle.office_core.specs.Command.Import.{office_with, person_command, record_count, refusal_of}
+use Rattle.office_core.specs.Command.Import.{room_command}
+use Rattle.office_core.specs.Refusal.{number_of}
+use Rattle.office_core.specs.Refusal.Checks.{first_refusal}
+use Rattle.office_core.specs.declared.refusal.Refusal.TheVariants as refused
+use Rattle.office_core.proofs.commands.AddPerson.{commands-add_person-leads}
+use Rattle.office_core.proofs.commands.AddRoom.{commands-add_room-leads}
+use Rattle.office_core.proofs.imports.ListChecks.{imports-first_of_list}
+use Rattle.office_core.proofs.imports.Records.{Each, imports-each_recordable, imports-few_records, imports-none_of}
+use Rattle.office_core.proofs.commands.SetChoices.{commands-set_choices-leads}
+use Rattle.office_core.proofs.refusals.Checks.{refusals-none_applies}
+
+-- rooms that were known are known
+abbrev pub Grows : Office → Office → Type 0
+Grows first office = (room : Text) → knows_room first room ≡ true → knows_room office room ≡ true
+
+-- what the command of a good record does to a lawful office that does not refuse it
+record Steps (command : EntryCommand) (Good : command.Entry → Type 0) : Type 0 where
+  pub applies : (office : Office) (entry : command.Entry)
+      → applied office (command.change entry) ≡ command.next office entry
+  pub lawful : (office : Office) (entry : command.Entry) → Good entry → IsLawful office
+      → first_refusal (command.checks office entry) ≡ None → IsLawful (command.next office entry)
+  pub fits : (first office : Office) (entry : command.Entry) → Good entry → Grows first office
+      → IsLawful office → first_refusal (command.checks office entry) ≡ None
+      → Fits first office (command.change entry)
+  pub grows : (first office : Office) (entry : command.Entry) → Grows first office
+      → Grows first (command.next office entry)
+  pub lists : (office : Office) (entry : command.Entry)
+      → (command.next office entry).lists ≡ office.lists
+  pub phase : (office : Office) (entry : command.Entry)
+      → (command.next office entry).phase ≡ office.phase
+
+imports-unknown_first : (first office : Office) (room : Text) → Grows first office
+    → knows_room office room ≡ false → knows_room office room ≡ knows_room first room
+imports-unknown_first first office room grows new =
+    elim (knows_room first room) as
+    (λ b. knows_room first room ≡ b → knows_room office room ≡ b) [
+      | true ↦ λ e. grows room e
+      | false ↦ λ e. new
+    ] refl
+
+imports-room_steps : Steps room_command (λ room. Unit {0})
+imports-room_steps = record {
+  applies = λ office room. refl;
+  lawful = λ office room good l h. (commands-add_room-leads office room l h).lawful;
+  fits = λ first office room good grows l h.
+      imports-unknown_first first office room grows (refusals-none_applies (room_command.checks office room) h).1.0;
+  grows = λ first office room grows q known.
+      maps-contains_key-put office.rooms room false q (grows q known);
+  lists = λ office room. refl;
+  phase = λ office room. refl;
+}
+
+imports-person_steps : Steps person_command (λ entry. Unit {0})
+imports-person_steps = record {
+  applies = λ office e. refl;
+  lawful = λ office e good l h.
+      (commands-add_person-leads office e.person e.name e.key e.home l h).lawful;
+  fits = λ first office e good grows l h.
+      (commands-add_person-leads office e.person e.name e.key e.home l h).fits.0;
+  grows = λ first office e grows q known. grows q known;
+  lists = λ office e. refl;
+  phase = λ office e. refl;
+}
+
+imports-choices_steps : Steps choices_command (λ entry. IsChoices entry.choices)
+imports-choices_steps = record {
+  applies = λ office e. refl;
+  lawful = λ office e good l h.
+      (commands-set_choices-leads office e.person e.choices good l h).lawful;
+  fits = λ first office e good grows l h.
+      (commands-set_choices-leads office e.person e.choices good l h).fits.0;
+  grows = λ first office e grows q known. grows q known;
+  lists = λ office e. refl;
+  phase = λ office e. refl;
+}
+
+-- the changes of records, before any others, lead to the office after the records
+record Leads (command : EntryCommand) (first office : Office) (entries : List command.Entry)
+    (rest : List Change) : Type 0 where
+  pub leads : applied_all office (changes_by command entries ++ rest)
+      ≡ applied_all (office_after command office entries) rest
+  pub apart : StaysApart (office_after command office entries) rest
+      → StaysApart office (changes_by command entries ++ rest)
+  pub fits : AllFit first (office_after command office entries) rest
+      → AllFit first office (changes_by command entries ++ rest)
+  pub lawful : IsLawful (office_after command office entries)
+  pub lists : (office_after command office entries).lists ≡ office.lists
+  pub phase : (office_after command office entries).phase ≡ office.phase
+
+module _ (command : EntryCommand) (Good : command.Entry → Type 0) (steps : Steps command Good) where
+  imports-all_lead : (first office : Office) (at : ℕ) (entries : List command.Entry) (rest : List Change)
+      → Each Good entries → Grows first office → IsLawful office
+      → first_denied command office at entries ≡ None
+      → Leads command first office entries rest
+  imports-all_lead first office at [] rest good grows l h = record {
+    leads = refl;
+    apart = λ s. s;
+    fits = λ f. f;
+    lawful = l;
+    lists = refl;
+    phase = refl;
+  }
+  imports-all_lead first office at (entry ∷ entries) rest good grows l h =
+      let after = command.next office entry in
+      let others = changes_by command entries ++ rest in
+      let n = imports-none_of (λ refusal. Some (refused.BadRecord at (Denied (number_of refusal))))
+      (first_refusal (command.checks office entry)) (first_denied command after (at + 1) entries)
+      (λ x e. cc) h in
+      let same = steps.applies office entry in
+      let later = imports-all_lead first after (at + 1) entries rest good.1
+      (steps.grows first office entry grows) (steps.lawful office entry good.0 l n.0) n.1 in
+      record {
+        leads = ap (λ o. applied_all o others) same ∙ later.leads;
+        apart = λ s. (
+          l.register.homes,
+          subst (λ o. StaysApart o others) (sym same) (later.apart s),
+        );
+        fits = λ f. (
+          steps.fits first office entry good.0 grows l n.0,
+          subst (λ o. AllFit first o others) (sym same) (later.fits f),
+        );
+        lawful = later.lawful;
+        lists = later.lists ∙ steps.lists office entry;
+        phase = later.phase ∙ steps.phase office entry;
+      }
+
+-- what holds of all kept lists holds of them with one more
+imports-all_put : (P : KeptList → Type 0) (lists : TextMap KeptList) (label : Text) (list : KeptList)
+    → ((q : Text) (kept : KeptList) → map.get lists q ≡ Some kept → P kept) → P list
+    → (q : Text) (kept : KeptList) → map.get (map.insert lists label list) q ≡ Some kept → P kept
+imports-all_put P lists label list all one q kept h =
+    elim (maps-text_cases q label) as (λ _. P kept) [
+      | inl same ↦
+          let here : Some list ≡ Some kept =
+          sym (ap (λ k. map.get (map.insert lists label list) k) same
+          ∙ maps-get-put_same lists label list) ∙ h in
+          let it : list ≡ kept = cc in
+          subst P it one
+      | inr other ↦ all q kept (sym (maps-get-put_other lists label list q other) ∙ h)
+    ]
+
+imports-kept_put : (lists : TextMap KeptList) (label : Text) (list : KeptList) → AreKept lists
+    → map.get lists label ≡ None → nat_le label_limit (map.len lists) ≡ false
+    → length list.bytes ≤ byte_limit → list.count ≤ record_limit
+    → AreKept (map.insert lists label list)
+imports-kept_put lists label list kept new few short counted = record {
+  few = offices-len-put_within lists label list label_limit (ap is_some new) few;
+  short = imports-all_put (λ k. length k.bytes ≤ byte_limit) lists label list kept.short short;
+  counted = imports-all_put (λ k. k.count ≤ record_limit) lists label list kept.counted counted;
+}
+
+-- an office before the draw that keeps one more list
+imports-keeping-lawful : (office : Office) (label : Text) (kind : ListKind) (bytes : List ℕ)
+    → IsLawful office → is_preparing office.phase ≡ true
+    → AreKept (keeping office label kind bytes).lists
+    → IsLawful (keeping office label kind bytes)
+imports-keeping-lawful office label kind bytes l before kept =
+    let u = round_phases-undrawn office l (round_phases-prepared office.phase before) in
+    let new : Office = keeping office label kind bytes in
+    record {
+      kept = kept;
+      register = l.register;
+      lists = l.lists;
+      round = l.round;
+      words = l.words;
+      results = round_phases-results_undrawn new u.has_no_results u.no_results;
+      moves = round_phases-moves_stay office new refl (λ round o. o) l.moves;
+    }
+
+module _ (office : Office) (label : Text) (kind : ListKind) (bytes : List ℕ) (l : IsLawful office)
+    (new : map.get office.lists label ≡ None)
+    (few : nat_le label_limit (map.len office.lists) ≡ false)
+    (short : nat_lt byte_limit (length bytes) ≡ false)
+    (before : is_preparing office.phase ≡ true) where
+  imports-tried-leads : (command : EntryCommand) (Good : command.Entry → Type 0) → Steps command Good
+      → (list_fault command.form (records_of bytes) ≡ None → Each Good (entries_in command bytes))
+      → list_refusal command office bytes ≡ None
+      → LeadsOn office (keeping (office_after command office (entries_in command bytes)) label kind bytes)
+      (changes_by command (entries_in command bytes) ++ KeepList label kind bytes (record_count bytes) ∷ [])
+  imports-tried-leads command Good steps good h =
+      let entries = entries_in command bytes in
+      let n = imports-none_of (λ fault. Some (bad_list fault)) (list_fault command.form (records_of bytes))
+      (first_denied command office 1 entries) (λ x e. cc) h in
+      let keep : Change = KeepList label kind bytes (record_count bytes) in
+      let led = imports-all_lead command Good steps office office 1 entries (keep ∷ []) (good n.0)
+      (λ room known. known) l n.1 in
+      let after = office_after command office entries in
+      let kept : AreKept (keeping after label kind bytes).lists =
+      subst (λ lists. AreKept (map.insert lists label
+      (record { kind = kind; bytes = bytes; count = record_count bytes }))) (sym led.lists)
+      (imports-kept_put office.lists label
+      (record { kind = kind; bytes = bytes; count = record_count bytes }) l.kept new few
+      (ltb-false byte_limit (length bytes) short) (imports-few_records command.form bytes n.0)) in
+      let lawful = imports-keeping-lawful after label kind bytes led.lawful
+      (ap is_preparing led.phase ∙ before) kept in
+      record {
+        leads = led.leads;
+        apart = led.apart (led.lawful.register.homes, lawful.register.homes);
+        fits = led.fits (ap (λ lists. map.contains_key lists label) led.lists ∙ ap is_some new, tt);
+        lawful = lawful;
+      }
+
+imports-each_any : {A : Type 0} (list : List A) → Each (λ x. Unit {0}) list
+imports-each_any [] = tt
+imports-each_any (x ∷ rest) = (tt, imports-each_any rest)
+
+imports-comes_before : (kind : ListKind) (office : Office) → may_import kind office.phase ≡ true
+    → is_preparing office.phase ≡ true
+imports-comes_before Rooms office h = h
+imports-comes_before People office h = h
+imports-comes_before Choices office h = round_phases-open_preparing office.phase h
+
+-- a list under a new label
+imports-new-leads : (office : Office) (label : Text) (kind : ListKind) (bytes : List ℕ) → IsLawful office
+    → map.get office.lists label ≡ None → first_refusal (new_label_checks office kind bytes) ≡ None
+    → LeadsOn office (keeping (office_with kind office bytes) label kind bytes)
+    (new_label_changes label kind bytes)
+imports-new-leads office label kind bytes l new h =
+    let n = refusals-none_applies (new_label_checks office kind bytes) h in
+    let may = not-false (may_import kind office.phase) n.0 in
+    let good : refusal_of kind office bytes ≡ None =
+    sym (imports-first_of_list office kind bytes may n.1.0 n.1.1.0) ∙ h in
+    by kind n.1.0 n.1.1.0 (imports-comes_before kind office may) good
+  where
+    by : (kind : ListKind) → nat_le label_limit (map.len office.lists) ≡ false
+        → nat_lt byte_limit (length bytes) ≡ false → is_preparing office.phase ≡ true
+        → refusal_of kind office bytes ≡ None
+        → LeadsOn office (keeping (office_with kind office bytes) label kind bytes)
+        (new_label_changes label kind bytes)
+    by Rooms few short before good =
+        imports-tried-leads office label Rooms bytes l new few short before room_command (λ x. Unit {0})
+        imports-room_steps (λ e. imports-each_any (entries_in room_command bytes)) good
+    by People few short before good =
+        imports-tried-leads office label People bytes l new few short before person_command (λ x. Unit {0})
+        imports-person_steps (λ e. imports-each_any (entries_in person_command bytes)) good
+    by Choices few short before good =
+        imports-tried-leads office label Choices bytes l new few short before choices_command
+        (λ entry. IsChoices entry.choices) imports-choices_steps (imports-each_recordable bytes) good
+
+pub imports-import-leads : (office : Office) (label : Text) (kind : ListKind) (bytes : List ℕ)
+    → IsLawful office → first_refusal (checks office label kind bytes) ≡ None
+    → LeadsOn office (next office label kind bytes) (changes_of office label kind bytes)
+imports-import-leads office label kind bytes l h =
+    elim (map.get office.lists label) as
+    (λ o. map.get office.lists label ≡ o → first_refusal (checks_where o office kind bytes) ≡ None
+    → LeadsOn office (next_where o office label kind bytes) (changes_where o label kind bytes)) [
+      | Some kept ↦ λ known. λ ok.
+          record { leads = refl; apart = l.register.homes; fits = tt; lawful = l }
+      | None ↦ λ new. λ ok. imports-new-leads office label kind bytes l new ok
+    ] refl h

@@ -1,0 +1,3 @@
+-- Lemmas on the rows of replies.
+pub mod Listings
+pub mod Replies

@@ -1,0 +1,253 @@
+-- The movers in the order of the day: they are the same people, and whoever comes to a room finds it empty, but for those who
+-- swap, who have left before.
+use Rattle.std.proofs.Common.{◌≡◌, ℕ, zero, suc, ◌<◌, true, false, ◌||◌, List, [], ◌∷◌, length, get_or}
+use Rattle.std.proofs.Common.{map as map_list, Option, Some, None, cond, refl, ap, ◌∙◌, sym, subst, inl, inr, ◌⊎◌, arith}
+use Rattle.std.specs.Option.{option_and_then}
+use Rattle.std.specs.List.{All, Contains, list_any, position_or_len}
+use Rattle.std.specs.Ordering.{eq_by_cmp, is_eq, is_lt, ordering_then}
+use Rattle.std.specs.Cmp.{nat_cmp_is, tied_itself}
+use Rattle.std.specs.Cmp.Lexicographic.{nat_list_cmp_total}
+use Rattle.std.specs.declared.cmp.Ordering.TheVariants.{Less}
+use Rattle.std.proofs.lemmas.Bool.{false≢true, cases_lt, or_right}
+use Rattle.std.proofs.lemmas.List.{get_or_default, get_or-map, length-map}
+use Rattle.std.proofs.lemmas.List.Folds.{Any-from_list_any}
+use Rattle.std.proofs.lemmas.List.FromFn.{get_or-map-range_with_len}
+use Rattle.std.proofs.lemmas.List.Sorted.{All-permutation, Contains-permutation, list_any-IsPermutation, ranks_by, sorted_far}
+use Rattle.std.proofs.lemmas.List.Sums.{passes_at_first}
+use Rattle.room_types.specs.Ascending.{ascending}
+use Rattle.room_types.proofs.maps.TextMaps.{maps-tied_text}
+use Rattle.room_types.specs.Texts.{Text, text_cmp}
+use Rattle.room_types.specs.declared.moves.Move.{Move}
+use Rattle.room_types.specs.declared.moves.Wave.{Wave}
+use Rattle.room_types.specs.declared.moves.Wave.TheVariants.{Swap, Nth}
+use Rattle.room_types.proofs.arranged.Arrangements.{arranged-one_arrangement}
+use Rattle.office_lists.specs.MoveDay.{is_swap, move_cmp, wave_cmp}
+use Rattle.office_lists.specs.Waves.{Mover, NewRoomsDiffer, leaver, leavers, end_numbers, next, wave_of, waves_of, IsWave}
+use Rattle.office_lists.proofs.move_days.Following.{move_days-number-later}
+use Rattle.office_lists.proofs.move_days.Leavers.{move_days-as_many_waves, has_left, move_days-has_left_room, move_days-left_room, move_days-one_wave_each, move_days-position_found}
+use Rattle.office_lists.proofs.move_days.Lists.{move_days-move_total}
+use Rattle.office_state.specs.Round.Settlement.{moves_with}
+use Rattle.office_state.proofs.moving_people.Movers.{is_mover}
+use Rattle.office_core.specs.Command.Settle.{swaps}
+
+-- who moves, without the wave
+abbrev pub mover_of : Move → Mover
+mover_of move = (move.person, move.from, move.to)
+
+-- ---- the same movers
+
+settlements-any_mover : (ms : List Move) (q : Text)
+    → is_mover (map_list mover_of ms) q ≡ list_any (λ (m : Move). eq_by_cmp text_cmp q m.person) ms
+settlements-any_mover [] q = refl
+settlements-any_mover (m ∷ ms) q = ap (λ b. eq_by_cmp text_cmp q m.person || b) (settlements-any_mover ms q)
+
+pub settlements-is_mover-ascending : (ms : List Move) (q : Text)
+    → is_mover (map_list mover_of (ascending move_cmp ms)) q ≡ is_mover (map_list mover_of ms) q
+settlements-is_mover-ascending ms q =
+    settlements-any_mover (ascending move_cmp ms) q
+    ∙ sym (list_any-IsPermutation (λ (m : Move). eq_by_cmp text_cmp q m.person) ms
+    (ascending move_cmp ms) (arranged-one_arrangement move_cmp move_days-move_total ms).some.same_items)
+    ∙ sym (settlements-any_mover ms q)
+
+pub settlements-is_mover-swaps : (ms : List Move) (q : Text) → is_mover (map_list mover_of (swaps ms)) q ≡ true
+    → is_mover (map_list mover_of ms) q ≡ true
+settlements-is_mover-swaps [] q h = h
+settlements-is_mover-swaps (m ∷ ms) q h =
+    elim (is_swap m.wave) as
+    (λ b. is_mover (map_list mover_of (cond b (m ∷ swaps ms) (swaps ms))) q ≡ true
+    → is_mover (map_list mover_of (m ∷ ms)) q ≡ true) [
+      | true ↦ λ there. elim (eq_by_cmp text_cmp q m.person) as
+          (λ b. (b || is_mover (map_list mover_of (swaps ms)) q) ≡ true
+          → (b || is_mover (map_list mover_of ms) q) ≡ true) [
+            | true ↦ λ _. refl
+            | false ↦ settlements-is_mover-swaps ms q
+          ] there
+      | false ↦ λ there. or_right (eq_by_cmp text_cmp q m.person) _ (settlements-is_mover-swaps ms q there)
+    ] h
+
+-- the person of a move whose wave is a swap is among those who swap
+settlements-swap_at : (ms : List Move) (k : ℕ) (d : Move) → k < length ms → is_swap (get_or ms k d).wave ≡ true
+    → is_mover (map_list mover_of (swaps ms)) (get_or ms k d).person ≡ true
+settlements-swap_at [] k d within h = absurd (omega arith)
+settlements-swap_at (m ∷ ms) zero d within h =
+    ap (λ b. is_mover (map_list mover_of (cond b (m ∷ swaps ms) (swaps ms))) m.person) h
+    ∙ ap (λ o. is_eq o || is_mover (map_list mover_of (swaps ms)) m.person)
+    (tied_itself nat_list_cmp_total m.person)
+settlements-swap_at (m ∷ ms) (suc k) d within h =
+    let there = settlements-swap_at ms k d (omega (arith, within)) h in
+    elim (is_swap m.wave) as
+    (λ b. is_mover (map_list mover_of (cond b (m ∷ swaps ms) (swaps ms))) (get_or ms k d).person ≡ true) [
+      | true ↦ or_right (eq_by_cmp text_cmp (get_or ms k d).person m.person) _ there
+      | false ↦ there
+    ]
+
+-- a mover stands somewhere
+settlements-mover_at : (ms : List Mover) (q : Text) → is_mover ms q ≡ true
+    → (j : ℕ) × (j < length ms) × ((d : Mover) → (get_or ms j d).0 ≡ q)
+settlements-mover_at ms q h =
+    let there = Any-from_list_any (λ (m : Mover). eq_by_cmp text_cmp q m.0) ms h in (
+      there.0,
+      there.2,
+      λ d. ap (λ (m : Mover). m.0) (get_or_default ms there.0 d there.1 there.2 ∙ there.3)
+          ∙ sym (maps-tied_text q there.1.0 there.4),
+    )
+
+-- ---- the moves of the movers
+
+pub settlements-movers_of : (n : ℕ) (ms : List Mover) (ws : List Wave) → length ws ≡ length ms
+    → map_list mover_of (moves_with n ms ws) ≡ ms
+settlements-movers_of n [] [] h = refl
+settlements-movers_of n [] (w ∷ ws) h = absurd (omega (arith, h))
+settlements-movers_of n (m ∷ ms) [] h = absurd (omega (arith, h))
+settlements-movers_of n (m ∷ ms) (w ∷ ws) h = ap (λ others. m ∷ others) (settlements-movers_of n ms ws (omega (arith, h)))
+
+pub settlements-length-moves_with : (n : ℕ) (ms : List Mover) (ws : List Wave) → length ws ≡ length ms
+    → length (moves_with n ms ws) ≡ length ms
+settlements-length-moves_with n ms ws h =
+    sym (length-map (moves_with n ms ws) mover_of) ∙ ap length (settlements-movers_of n ms ws h)
+
+-- the move of mover k
+abbrev move_at : ℕ → List Mover → List Wave → ℕ → Move
+move_at n ms ws k =
+    let m : Mover = get_or ms k ([], None, None) in
+    record { round = n; person = m.0; from = m.1; to = m.2; wave = get_or ws k Swap }
+
+settlements-moves_with-at : (n : ℕ) (ms : List Mover) (ws : List Wave) (k : ℕ) (d : Move) → length ws ≡ length ms
+    → k < length ms → get_or (moves_with n ms ws) k d ≡ move_at n ms ws k
+settlements-moves_with-at n [] ws k d h within = absurd (omega arith)
+settlements-moves_with-at n (m ∷ ms) [] k d h within = absurd (omega (arith, h))
+settlements-moves_with-at n (m ∷ ms) (w ∷ ws) zero d h within = refl
+settlements-moves_with-at n (m ∷ ms) (w ∷ ws) (suc k) d h within =
+    settlements-moves_with-at n ms ws k d (omega (arith, h)) (omega (arith, within))
+
+pub settlements-all_moves : (P : Move → Type 0) (n : ℕ) (ms : List Mover) (ws : List Wave) → length ws ≡ length ms
+    → ((k : ℕ) → k < length ms → P (move_at n ms ws k)) → All P (moves_with n ms ws)
+settlements-all_moves P n ms ws many h = λ k d within.
+    let in' : k < length ms = omega (arith, within, settlements-length-moves_with n ms ws many) in
+    subst P (sym (settlements-moves_with-at n ms ws k d many in')) (h k in')
+
+-- ---- who comes before
+
+-- somebody is the person of move k, or of one before it
+abbrev pub CameBefore : List Move → ℕ → Move → Text → Type 0
+CameBefore rows k d q =
+    (q ≡ (get_or rows k d).person) ⊎ ((j : ℕ) × (j < k) × ((get_or rows j d).person ≡ q))
+
+-- the room that somebody comes to is empty by then: who lives there is the person, or one of those who come before
+abbrev pub FindEmpty : (Text → Option Text) → List Move → Type 0
+FindEmpty home rows = (k : ℕ) (d : Move) → k < length rows → (q room : Text)
+    → (get_or rows k d).to ≡ Some room → home q ≡ Some room → CameBefore rows k d q
+
+-- who lives where this move leads is its person, or the person of a move below it
+abbrev IsCleared : (Text → Option Text) → List Move → Move → Type 0
+IsCleared home moves m = (q room : Text) → m.to ≡ Some room → home q ≡ Some room
+    → (q ≡ m.person)
+    ⊎ ((b : Move) × Contains moves b × (b.person ≡ q) × (is_lt (move_cmp b m) ≡ true))
+
+pub settlements-empty_in_order : (home : Text → Option Text) (moves : List Move)
+    → All (IsCleared home moves) moves → FindEmpty home (ascending move_cmp moves)
+settlements-empty_in_order home moves h =
+    let rows = ascending move_cmp moves in
+    let so = (arranged-one_arrangement move_cmp move_days-move_total moves).some in
+    let each : All (IsCleared home moves) rows =
+    All-permutation (IsCleared home moves) moves rows so.same_items h in
+    λ k d within q room goes lives. elim (each k d within q room goes lives) as
+    (λ _. CameBefore rows k d q) [
+      | inl own ↦ inl own
+      | inr below ↦
+          let there : Contains rows below.0 =
+          Contains-permutation moves rows below.0 so.same_items below.1 in
+          let at : get_or rows there.0 d ≡ below.0 =
+          get_or_default rows there.0 d below.0 there.1 ∙ there.2 in
+          elim (cases_lt there.0 k) as
+          (λ _. CameBefore rows k d q) [
+            | inl before ↦ inr (there.0, before, ap (λ (m : Move). m.person) at ∙ below.2)
+            | inr after ↦
+                let far : is_lt (move_cmp (get_or rows there.0 d) (get_or rows k d)) ≡ false =
+                sorted_far (λ x y. is_lt (move_cmp x y)) (ranks_by move_days-move_total (λ x. x)) rows so.ascends k there.0 d
+                (omega (arith, after)) there.1 in
+                absurd (false≢true (sym far ∙ ap (λ b. is_lt (move_cmp b (get_or rows k d))) at ∙ below.3))
+          ]
+    ]
+
+-- the move of a wave is below one of the next
+settlements-next_wave : (n : ℕ) (a b : Move) → a.wave ≡ Nth n → b.wave ≡ Nth (suc n) → is_lt (move_cmp a b) ≡ true
+settlements-next_wave n a b p q =
+    (λ i. is_lt (ordering_then (wave_cmp (p i) (q i)) (text_cmp a.person b.person)))
+    ∙ ap (λ c. is_lt (ordering_then c (text_cmp a.person b.person)))
+    (sym (nat_cmp_is n (suc n) Less (omega arith)))
+
+-- `before` is where people live before the day, no two in one room, and `now` where they live once those who swap have left. A
+-- mover's old room is the home, and whoever lived where a mover comes to is that mover or another.
+module _ (n : ℕ) (ms : List Mover) (differ : NewRoomsDiffer ms) (before now : Text → Option Text)
+    (apart : (p q room : Text) → before p ≡ Some room → before q ≡ Some room → p ≡ q)
+    (from : (k : ℕ) → k < length ms → (get_or ms k ([], None, None)).1 ≡ before (get_or ms k ([], None, None)).0)
+    (kept : (q room : Text) → now q ≡ Some room → (before q ≡ Some room)
+    × (is_mover (map_list mover_of (swaps (moves_with n ms (waves_of ms)))) q ≡ false))
+    (known : (k : ℕ) (q room : Text) → k < length ms → (get_or ms k ([], None, None)).2 ≡ Some room
+    → before q ≡ Some room → (q ≡ (get_or ms k ([], None, None)).0) ⊎ (is_mover ms q ≡ true)) where
+  abbrev nobody : Mover
+  nobody = ([], None, None)
+
+  abbrev moves : List Move
+  moves = moves_with n ms (waves_of ms)
+
+  abbrev wave : ℕ → Wave
+  wave = wave_of (end_numbers ms) (leavers ms)
+
+  settlements-wave_is : (k : ℕ) → k < length ms → get_or (waves_of ms) k Swap ≡ wave k
+  settlements-wave_is k within = get_or-map-range_with_len wave 0 (length ms) k k Swap within (omega arith)
+
+  -- the mover who has the room that mover i comes to, if anybody has it
+  settlements-holder : (i : ℕ) (q room : Text) → i < length ms → (get_or ms i nobody).2 ≡ Some room
+      → before q ≡ Some room → is_mover ms q ≡ true
+      → (k : ℕ) × (k < length ms) × ((get_or ms k nobody).0 ≡ q) × (next (leavers ms) i ≡ Some k)
+  settlements-holder i q room within goes lives mover =
+      let at = settlements-mover_at ms q mover in
+      let old : (get_or ms at.0 nobody).1 ≡ Some room =
+      from at.0 at.1 ∙ ap before (at.2 nobody) ∙ lives in
+      let found = move_days-position_found (has_left room) ms at.0 nobody at.1 (move_days-has_left_room room (get_or ms at.0 nobody) old) in
+      let k : ℕ = position_or_len (has_left room) ms in
+      let there : (get_or ms k nobody).1 ≡ Some room =
+      move_days-left_room room (get_or ms k nobody) (passes_at_first (has_left room) ms nobody found.0) in (
+        k,
+        found.0,
+        apart _ q room (sym (from k found.0) ∙ there) lives,
+        get_or-map (λ (entry : Mover). option_and_then (leaver ms) entry.2) ms i nobody None within
+            ∙ ap (option_and_then (leaver ms)) goes ∙ found.1,
+      )
+
+  pub settlements-all_cleared : All (IsCleared now moves) moves
+  settlements-all_cleared = settlements-all_moves (IsCleared now moves) n ms (waves_of ms) (move_days-as_many_waves ms) (λ i within q room goes lives.
+      let lived = kept q room lives in
+      elim (known i q room within goes lived.0) as
+      (λ _. (q ≡ (get_or ms i nobody).0) ⊎ ((b : Move) × Contains moves b × (b.person ≡ q)
+      × (is_lt (move_cmp b (move_at n ms (waves_of ms) i)) ≡ true))) [
+        | inl own ↦ inl own
+        | inr mover ↦
+            let one = move_days-one_wave_each ms differ in
+            let h = settlements-holder i q room within goes lived.0 mover in
+            let b : Move = move_at n ms (waves_of ms) h.0 in
+            let is : get_or moves h.0 b ≡ b = settlements-moves_with-at n ms (waves_of ms) h.0 b (move_days-as_many_waves ms) h.1 in
+            let in' : h.0 < length moves = omega (arith, h.1, settlements-length-moves_with n ms (waves_of ms) (move_days-as_many_waves ms)) in
+            inr (
+              b,
+              (h.0, in', is),
+              h.2,
+              elim (wave h.0) as
+                  (λ w. wave h.0 ≡ w → is_lt (move_cmp b (move_at n ms (waves_of ms) i)) ≡ true) [
+                    | Swap ↦ λ swap.
+                        let gone = settlements-swap_at moves h.0 b in'
+                        (ap (λ (m : Move). is_swap m.wave) is ∙ ap is_swap (settlements-wave_is h.0 h.1 ∙ swap)) in
+                        absurd (false≢true (sym lived.1
+                        ∙ ap (is_mover (map_list mover_of (swaps moves))) (sym (ap (λ (m : Move). m.person) is ∙ h.2))
+                        ∙ gone))
+                    | Nth number ↦ λ numbered.
+                        let later : IsWave (end_numbers ms) (leavers ms) i (Nth (suc number)) =
+                        move_days-number-later (end_numbers ms) (leavers ms) number i h.0 h.3
+                        (subst (IsWave (end_numbers ms) (leavers ms) h.0) numbered (one.some h.0 h.1)) in
+                        settlements-next_wave number b (move_at n ms (waves_of ms) i) (settlements-wave_is h.0 h.1 ∙ numbered)
+                        (settlements-wave_is i within ∙ sym (one.one i (Nth (suc number)) within later))
+                  ] refl,
+            )
+      ])

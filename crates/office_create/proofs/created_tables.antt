@@ -1,0 +1,3 @@
+-- Lemmas on the tables of a new office.
+mod Declared
+mod Empty

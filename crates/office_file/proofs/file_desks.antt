@@ -1,0 +1,2 @@
+-- Lemmas on desks over a file.
+mod Opened

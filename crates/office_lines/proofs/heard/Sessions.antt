@@ -1,0 +1,349 @@
+-- What is heard of pieces of the input, one after the other.
+use Rattle.std.proofs.Common.{rules, tests, ◌≡◌, ℕ, ◌+◌, ◌<◌, ◌≤◌, Bool, true, false, eqb, max, List, [], ◌∷◌, ◌++◌, length, refl, sym, ap, ◌∙◌, subst, arith, append_assoc, append-nil, length-append, Option, inl, inr, ◌⊎◌}
+use Rattle.std.specs.Prelude.{◌^◌}
+use Rattle.std.specs.List.{list_all}
+use Rattle.std.specs.Io.KnownBytes.{Consumes, Keeps}
+use Rattle.std.proofs.KnownBytes.{Consumes-trans, Consumes-nil, Consumes-kept}
+use Rattle.std.proofs.lemmas.List.{take_all}
+use Rattle.std.proofs.lemmas.List.Folds.{list_all-append}
+use Rattle.std.proofs.Math.Seq.{take-append-add}
+use Rattle.std.proofs.lemmas.Bool.{and_from}
+use Rattle.office_store.specs.declared.requests.Answer.{Answer}
+use Rattle.office_store.specs.declared.requests.Request.{Request}
+use Rattle.office_lines.specs.declared.ending.Ending.{Ending}
+use Rattle.office_lines.specs.declared.ending.Ending.TheVariants.{Ended, ReadFault, WriteFault, NoMemory}
+use Rattle.office_lines.specs.Lines.{is_short, line_limit, piece_limit, read_limit, unended}
+use Rattle.room_types.specs.Streams.{Input, Output}
+use Rattle.room_types.specs.Watched.{counted}
+use Rattle.office_texts.specs.Texts.{text_of}
+use Rattle.office_lines.specs.Runs.{texts_of, greatest_status}
+use Rattle.office_lines.specs.Sessions.{ended_from, partial_from, State, Heard, Suits, Halted, Answered, Broken, Finished, Unfinished, Listened, Stopped, OnlyWhereFailed}
+use Rattle.office_lines.proofs.heard.Lines.{heard-ended_from-append, heard-partial_from-append}
+use Rattle.office_lines.proofs.rehearsals.Runs.{rehearsals-Run-append, rehearsals-greatest_status-append, rehearsals-texts_of-append, rehearsals-texts_front-within, rehearsals-texts_front-append, rehearsals-texts_front-more, rehearsals-last_is_made-append}
+use Rattle.room_types.proofs.watched_bytes.Streams.{watched_bytes-Puts-nil, watched_bytes-Puts-trans, watched_bytes-Puts-kept}
+
+-- one read more than gave a byte each
+pub heard-read_once : (reads reads' counter bytes : ℕ) → reads' ≡ counted reads 1 → reads ≡ counter → counter ≤ bytes → counter < 2 ^ 32 → reads' ≤ bytes + 1
+heard-read_once reads reads' counter bytes e c each few = omega (arith, e, c, each, few)
+
+-- the line that the end of the input ends is short, where what has begun is
+pub heard-short_unended : (begun : List ℕ) → length begun ≤ line_limit → list_all is_short (unended begun) ≡ true
+heard-short_unended [] h = refl
+heard-short_unended (b ∷ bs) h = search (rules, tests)
+
+-- a line on its own
+heard-one_short : (line : List ℕ) → length line ≤ line_limit → list_all is_short (line ∷ []) ≡ true
+heard-one_short line h = and_from _ _ (search (rules, tests)) refl
+
+heard-one_unended : (begun : List ℕ) → 0 < length begun → unended begun ≡ begun ∷ []
+heard-one_unended [] e = absurd (omega arith)
+heard-one_unended (b ∷ bs) e = refl
+
+heard-Suits-along : (e : Ending) (a a' l l' u : ℕ) (made made' : Bool) (n n' : ℕ) → a ≡ a' → (0 < u → l' ≡ l) → (0 < u → made' ≡ made) → n ≡ n'
+    → Suits e a l u made n → Suits e a' l' u made' n'
+heard-Suits-along Ended a a' l l' u made made' n n' p r t q h = h
+heard-Suits-along ReadFault a a' l l' u made made' n n' p r t q h = (h.0, sym q ∙ h.1)
+heard-Suits-along (WriteFault m) a a' l l' u made made' n n' p r t q h = h ∙ p
+heard-Suits-along (NoMemory m) a a' l l' u made made' n n' p r t q h =
+    (h.0 ∙ p, elim h.1 [ inl k ↦ inl (r k.1 ∙ k.0, k.1, t k.1 ∙ k.2) | inr k ↦ inr (k.0, omega (arith, k.1, q), omega (arith, k.2, q)) ])
+
+-- what failed, from an earlier time on
+pub heard-OnlyWhereFailed-since : (e : Ending) (a b c : Bool) → b ≡ a → OnlyWhereFailed e b c → OnlyWhereFailed e a c
+heard-OnlyWhereFailed-since Ended a b c p q = q ∙ p
+heard-OnlyWhereFailed-since ReadFault a b c p q = q ∙ p
+heard-OnlyWhereFailed-since (WriteFault n) a b c p q = q
+heard-OnlyWhereFailed-since (NoMemory n) a b c p q = q ∙ p
+
+module _ {H : Type 0} (handles : H → Request → Answer → H → Type 0) where
+  -- no bytes
+  pub heard-Heard-nil : (s : State H) → Heard handles s s []
+  heard-Heard-nil s = record {
+    answers = [];
+    partial_line = refl;
+    short = refl;
+    run = refl;
+    written = watched_bytes-Puts-nil s.out;
+    flushes = refl;
+    failed = refl;
+    sent = omega arith;
+    status = omega arith;
+  }
+
+  -- bytes after bytes
+  pub heard-Heard-append : (s t u : State H) (xs ys : List ℕ) → Heard handles s t xs → Heard handles t u ys → Heard handles s u (xs ++ ys)
+  heard-Heard-append s t u xs ys p q =
+      let more : ended_from t.partial_line ys ≡ ended_from (partial_from s.partial_line xs) ys = ap (λ b. ended_from b ys) p.partial_line in
+      let ended : ended_from s.partial_line (xs ++ ys) ≡ ended_from s.partial_line xs ++ ended_from t.partial_line ys =
+      heard-ended_from-append s.partial_line xs ys ∙ ap (λ l. ended_from s.partial_line xs ++ l) (sym more) in
+      let texts = rehearsals-texts_of-append p.answers q.answers in
+      record {
+        answers = p.answers ++ q.answers;
+        partial_line = q.partial_line ∙ ap (λ b. partial_from b ys) p.partial_line ∙ sym (heard-partial_from-append s.partial_line xs ys);
+        short = ap (list_all is_short) ended ∙ list_all-append is_short (ended_from s.partial_line xs) (ended_from t.partial_line ys) ∙ and_from _ _ p.short q.short;
+        run = rw ended (rehearsals-Run-append handles s.handler t.handler u.handler _ _ _ _ p.run q.run);
+        written = rw texts (watched_bytes-Puts-trans s.out t.out u.out _ _ p.written q.written);
+        flushes = q.flushes ∙ p.flushes;
+        failed = q.failed ∙ p.failed;
+        sent = omega (arith, p.sent, q.sent, ap length texts, length-append (texts_of p.answers) (texts_of q.answers));
+        status = q.status ∙ ap (λ n. max n (greatest_status q.answers)) p.status ∙ omega (arith, rehearsals-greatest_status-append p.answers q.answers);
+      }
+
+  -- more bytes after a halt
+  pub heard-Halted-more : (s : State H) (e : Ending) (o : H) (out : Output) (xs ys : List ℕ) → Halted handles s e o out xs → Halted handles s e o out (xs ++ ys)
+  heard-Halted-more s e o out xs ys h = record {
+    heard = h.heard;
+    rest = h.rest ++ ys;
+    answers = h.answers;
+    sent = h.sent;
+    unsent = h.unsent;
+    cut = ap (λ l. l ++ ys) h.cut ∙ append_assoc h.heard h.rest ys;
+    some = h.some;
+    short = h.short;
+    run = h.run;
+    written = h.written;
+    unflushed = h.unflushed;
+    all = h.all;
+    whole = h.whole;
+    suits = h.suits;
+  }
+
+  -- a halt after bytes that were heard
+  pub heard-Heard-Halted : (s t : State H) (e : Ending) (o : H) (out : Output) (xs ys : List ℕ) → Heard handles s t xs → Halted handles t e o out ys → Halted handles s e o out (xs ++ ys)
+  heard-Heard-Halted s t e o out xs ys p q =
+      let more : ended_from t.partial_line q.heard ≡ ended_from (partial_from s.partial_line xs) q.heard = ap (λ b. ended_from b q.heard) p.partial_line in
+      let ended : ended_from s.partial_line (xs ++ q.heard) ≡ ended_from s.partial_line xs ++ ended_from t.partial_line q.heard =
+      heard-ended_from-append s.partial_line xs q.heard ∙ ap (λ l. ended_from s.partial_line xs ++ l) (sym more) in
+      let begun : partial_from t.partial_line q.heard ≡ partial_from s.partial_line (xs ++ q.heard) =
+      ap (λ b. partial_from b q.heard) p.partial_line ∙ sym (heard-partial_from-append s.partial_line xs q.heard) in
+      let texts = rehearsals-texts_of-append p.answers q.answers in
+      let first = texts_of p.answers in
+      record {
+        heard = xs ++ q.heard;
+        rest = q.rest;
+        answers = p.answers ++ q.answers;
+        sent = length first + q.sent;
+        unsent = q.unsent;
+        cut = ap (λ l. xs ++ l) q.cut ∙ sym (append_assoc xs q.heard q.rest);
+        some = omega (arith, q.some, length-append xs q.heard);
+        short = ap (list_all is_short) ended ∙ list_all-append is_short (ended_from s.partial_line xs) (ended_from t.partial_line q.heard) ∙ and_from _ _ p.short q.short;
+        run = rw ended (rehearsals-Run-append handles s.handler t.handler o _ _ _ _ p.run q.run);
+        written = rw (texts, take-append-add first (texts_of q.answers) q.sent) (watched_bytes-Puts-trans s.out t.out out _ _ p.written q.written);
+        unflushed = q.unflushed ∙ p.flushes;
+        all = omega (arith, q.all, ap length texts, length-append first (texts_of q.answers));
+        whole = omega (arith, rehearsals-texts_front-append p.answers q.answers, q.whole);
+        suits = heard-Suits-along e _ _ _ _ _ _ _ _ _ (omega (arith, p.sent))
+            (λ some. omega (arith, rehearsals-texts_front-more p.answers q.answers (omega (arith, some, q.all))))
+            (λ some. rehearsals-last_is_made-append p.answers q.answers (omega (arith, some, q.all))) (ap length begun) q.suits;
+      }
+
+  -- ---- one byte
+
+  -- a line feed after a short line that was answered
+  pub heard-newline_heard : (s t : State H) (b : ℕ) → b ≡ 10 → length s.partial_line ≤ line_limit → Answered handles s t → Heard handles s t (b ∷ [])
+  heard-newline_heard s t b e short h =
+      let text : texts_of (h.said ∷ []) ≡ text_of h.said = append-nil (text_of h.said) in
+      subst (λ (n : ℕ). Heard handles s t (n ∷ [])) (sym e) (record {
+        answers = h.said ∷ [];
+        partial_line = h.partial_line;
+        short = heard-one_short s.partial_line short;
+        run = (t.handler, h.step, refl);
+        written = rw text h.written;
+        flushes = h.flushes;
+        failed = h.failed;
+        sent = h.sent ∙ ap (λ l. s.sent + length l) (sym text);
+        status = h.status ∙ omega arith;
+      })
+
+  -- a line feed after a line whose answer was not written
+  pub heard-newline_halted : (s : State H) (o : H) (out : Output) (b : ℕ) (ending : Ending) → b ≡ 10 → length s.partial_line ≤ line_limit
+      → Broken handles s ending o out → Halted handles s ending o out (b ∷ [])
+  heard-newline_halted s o out b ending e short h =
+      let text : texts_of (h.said ∷ []) ≡ text_of h.said = append-nil (text_of h.said) in
+      subst (λ (n : ℕ). Halted handles s ending o out (n ∷ [])) (sym e) (record {
+        heard = 10 ∷ [];
+        rest = [];
+        answers = h.said ∷ [];
+        sent = h.sent;
+        unsent = h.unsent;
+        cut = refl;
+        some = omega arith;
+        short = heard-one_short s.partial_line short;
+        run = (o, h.step, refl);
+        written = rw text h.written;
+        unflushed = h.unflushed;
+        all = h.all ∙ ap length (sym text);
+        whole = omega arith;
+        suits = heard-Suits-along ending _ _ _ _ _ _ _ _ _ refl (λ some. omega arith) (λ some. refl) refl h.suits;
+      })
+
+  -- a byte that goes on with a line
+  pub heard-longer_heard : (o : H) (out : Output) (line : List ℕ) (sent status b : ℕ) → eqb b 10 ≡ false
+      → Heard handles (record { handler = o; out = out; partial_line = line; sent = sent; status = status })
+      (record { handler = o; out = out; partial_line = line ++ b ∷ []; sent = sent; status = status }) (b ∷ [])
+  heard-longer_heard o out line sent status b e = record {
+    answers = [];
+    partial_line = rw e refl;
+    short = rw e refl;
+    run = rw e refl;
+    written = watched_bytes-Puts-nil out;
+    flushes = refl;
+    failed = refl;
+    sent = omega arith;
+    status = omega arith;
+  }
+
+  -- a byte that makes a line too long
+  pub heard-too_long : (s : State H) (b : ℕ) → eqb b 10 ≡ false → length s.partial_line ≡ line_limit → Halted handles s ReadFault s.handler s.out (b ∷ [])
+  heard-too_long s b e long = record {
+    heard = b ∷ [];
+    rest = [];
+    answers = [];
+    sent = 0;
+    unsent = 0;
+    cut = refl;
+    some = omega arith;
+    short = rw e refl;
+    run = rw e refl;
+    written = watched_bytes-Puts-nil s.out;
+    unflushed = refl;
+    all = refl;
+    whole = omega arith;
+    suits = (refl, rw e (omega (arith, long, length-append s.partial_line (b ∷ []))));
+  }
+
+  -- no memory for a byte that goes on with a line
+  pub heard-no_room : (s : State H) (b : ℕ) → eqb b 10 ≡ false → length s.partial_line < line_limit
+      → Halted handles s (NoMemory s.sent) s.handler s.out (b ∷ [])
+  heard-no_room s b e short =
+      let longer : length (s.partial_line ++ b ∷ []) ≡ length s.partial_line + 1 = length-append s.partial_line (b ∷ []) in
+      record {
+        heard = b ∷ [];
+        rest = [];
+        answers = [];
+        sent = 0;
+        unsent = 0;
+        cut = refl;
+        some = omega arith;
+        short = rw e refl;
+        run = rw e refl;
+        written = watched_bytes-Puts-nil s.out;
+        unflushed = refl;
+        all = refl;
+        whole = omega arith;
+        suits = (omega arith, inr (refl, rw e (omega (arith, longer)), rw e (omega (arith, longer, short))));
+      }
+
+  -- ---- the last line
+
+  -- what had come was answered
+  pub heard-Finished-answered : (s t : State H) → 0 < length s.partial_line → Answered handles s t → Finished handles s t s.out.flushes
+  heard-Finished-answered s t some h =
+      let text : texts_of (h.said ∷ []) ≡ text_of h.said = append-nil (text_of h.said) in
+      record {
+        answers = h.said ∷ [];
+        run = rw (heard-one_unended s.partial_line some) (t.handler, h.step, refl);
+        partial_line = h.partial_line;
+        written = rw text h.written;
+        flushed = h.flushes;
+        failed = h.failed;
+        sent = h.sent ∙ ap (λ l. s.sent + length l) (sym text);
+        status = h.status ∙ omega arith;
+      }
+
+  -- the answer to what had come was not written
+  pub heard-Unfinished-broken : (s : State H) (o : H) (out : Output) (ending : Ending) → 0 < length s.partial_line → length s.partial_line ≤ line_limit
+      → Broken handles s ending o out → Unfinished handles s ending o out
+  heard-Unfinished-broken s o out ending some short h =
+      let text : texts_of (h.said ∷ []) ≡ text_of h.said = append-nil (text_of h.said) in
+      record {
+        answers = h.said ∷ [];
+        sent = h.sent;
+        unsent = h.unsent;
+        short = heard-short_unended s.partial_line short;
+        run = rw (heard-one_unended s.partial_line some) (o, h.step, refl);
+        written = rw text h.written;
+        flushed = inl h.unflushed;
+        all = h.all ∙ ap length (sym text);
+        whole = omega arith;
+        suits = heard-Suits-along ending _ _ _ _ _ _ _ _ _ refl (λ some. omega arith) (λ some. refl) refl h.suits;
+      }
+
+  -- a flush that failed
+  pub heard-Finished-unflushed : (s t : State H) (out : Output) → length s.partial_line ≤ line_limit
+      → Finished handles s t s.out.flushes → Keeps t.out.contents out.contents → out.taken ≡ t.out.taken → out.flushes ≡ counted t.out.flushes 1
+      → Unfinished handles s (WriteFault t.sent) t.handler out
+  heard-Finished-unflushed s t out short h k taken once = record {
+    answers = h.answers;
+    sent = length (texts_of h.answers);
+    unsent = 0;
+    short = heard-short_unended s.partial_line short;
+    run = h.run;
+    written = rw (take_all (length (texts_of h.answers)) (texts_of h.answers) (omega arith)) (watched_bytes-Puts-kept _ _ _ _ h.written k taken);
+    flushed = inr (refl, once ∙ ap (λ n. counted n 1) h.flushed);
+    all = omega arith;
+    whole = rehearsals-texts_front-within h.answers;
+    suits = h.sent;
+  }
+
+  -- ---- reading
+
+  -- nothing was read
+  pub heard-Listened-nil : (s : State H) (u : Option (List ℕ)) → Listened handles s s u u
+  heard-Listened-nil s u = record { bytes = []; read = Consumes-nil u; heard = heard-Heard-nil s }
+
+  -- a piece more
+  pub heard-Listened-more : (s t v : State H) (u u' u'' : Option (List ℕ)) (piece : List ℕ) → Listened handles s t u u' → Consumes u' u'' piece → Heard handles t v piece
+      → Listened handles s v u u''
+  heard-Listened-more s t v u u' u'' piece h c k = record {
+    bytes = h.bytes ++ piece;
+    read = Consumes-trans _ _ _ _ _ h.read c;
+    heard = heard-Heard-append s t v _ _ h.heard k;
+  }
+
+  -- each read gave a byte, and so did one more
+  pub heard-Listened-longer : (s t v : State H) (u u' u'' : Option (List ℕ)) (piece : List ℕ) (h : Listened handles s t u u') (c : Consumes u' u'' piece)
+      (k : Heard handles t v piece) (n : ℕ)
+      → n ≤ length h.bytes → 0 < length piece → n + 1 ≤ length (heard-Listened-more s t v u u' u'' piece h c k).bytes
+  unfolding heard-Listened-more
+  heard-Listened-longer s t v u u' u'' piece h c k n each some =
+      let longer : n + 1 ≤ length (h.bytes ++ piece) = omega (arith, each, some, length-append h.bytes piece) in longer
+
+  -- a read that gave nothing
+  pub heard-Listened-end : (s t : State H) (u u' u'' : Option (List ℕ)) (reads : ℕ) (h : Listened handles s t u u') → Consumes u' u'' []
+      → reads ≤ length h.bytes + 1 → (k : Listened handles s t u u'') × (reads ≤ length k.bytes + 1)
+  heard-Listened-end s t u u' u'' reads h c each =
+      (record { bytes = h.bytes; read = subst (Consumes u u'') (append-nil h.bytes) (Consumes-trans _ _ _ _ _ h.read c); heard = h.heard }, each)
+
+  -- a halt within a piece
+  pub heard-Stopped-halted : (s t : State H) (e : Ending) (o : H) (out : Output) (u : Option (List ℕ)) (i i' : Input) (piece : List ℕ)
+      (h : Listened handles s t i.remaining u) → Consumes u i'.remaining piece → Halted handles t e o out piece → length piece ≤ piece_limit
+      → i'.reads ≤ length h.bytes + 1 → i'.failed ≡ i.failed → Stopped handles s e o out i i'
+  unfolding heard-Heard-Halted
+  heard-Stopped-halted s t e o out u i i' piece h c k within reads w =
+      let near : length k.rest < piece_limit = omega (arith, within, ap length k.cut, length-append k.heard k.rest, k.some) in
+      record {
+        bytes = h.bytes ++ piece;
+        read = Consumes-trans _ _ _ _ _ h.read c;
+        reads = omega (arith, reads, length-append h.bytes piece);
+        why = inl (heard-Heard-Halted s t e o out _ _ h.heard k, near, w);
+      }
+
+  -- a read failed
+  pub heard-Stopped-failed : (s t : State H) (i i' : Input) (u : Option (List ℕ)) (h : Listened handles s t i.remaining u) → Keeps u i'.remaining
+      → i'.reads ≤ length h.bytes + 1 → length t.partial_line ≤ line_limit → i'.failed ≡ true → Stopped handles s ReadFault t.handler t.out i i'
+  heard-Stopped-failed s t i i' u h k reads begun failed = record {
+    bytes = h.bytes;
+    read = Consumes-kept _ _ _ _ h.read k;
+    reads = reads;
+    why = inr (refl, record { after = t; heard = h.heard; handler_is = refl; out_is = refl; begun = begun; cause = inl failed });
+  }
+
+  -- no more can be read
+  pub heard-Stopped-cut : (s t : State H) (i i' : Input) (h : Listened handles s t i.remaining i'.remaining) → i'.reads ≤ length h.bytes + 1
+      → length t.partial_line ≤ line_limit → (i'.failed ≡ true) ⊎ ((read_limit ≤ i'.reads) × (read_limit ≤ length h.bytes)) → Stopped handles s ReadFault t.handler t.out i i'
+  heard-Stopped-cut s t i i' h reads begun cause = record {
+    bytes = h.bytes;
+    read = h.read;
+    reads = reads;
+    why = inr (refl, record { after = t; heard = h.heard; handler_is = refl; out_is = refl; begun = begun; cause = cause });
+  }

@@ -1,0 +1,4 @@
+-- Lemmas on rehearsals, and on runs of lines.
+pub mod Rehearsals
+pub mod Runs
+pub mod Simulations

@@ -1,0 +1,5 @@
+-- Lemmas on days of moving: leavers, chains, waves.
+pub mod Chains
+pub mod Following
+pub mod Leavers
+pub mod Lists

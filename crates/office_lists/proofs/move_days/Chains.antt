@@ -1,0 +1,177 @@
+-- Chains, numbered from their ends.
+use Rattle.std.proofs.Common.{◌≡◌, ◌≢◌, ℕ, zero, suc, ◌+◌, ◌<◌, ◌≤◌, true, false, List, length, get_or, set, Option, None, Some, refl, sym, ap, ◌∙◌, subst, inl, inr, ◌⊎◌, arith, eqb, eqb-true}
+use Rattle.std.specs.Prelude.{option_and_then}
+use Rattle.std.proofs.lemmas.Bool.{cases_lt, eqb-false}
+use Rattle.std.proofs.lemmas.Option.{same_Some}
+use Rattle.std.proofs.lemmas.List.{get_or-set_same, get_or-set_other, length-set}
+use Rattle.std.proofs.Math.ListN.{get_or-eq_default}
+use Rattle.room_types.specs.declared.moves.Wave.{Wave}
+use Rattle.room_types.specs.declared.moves.Wave.TheVariants.{Swap, Nth}
+use Rattle.office_lists.specs.Waves.{next, own_number, followed, HasNumber, IsWave, wave_of}
+use Rattle.office_lists.specs.Followers.{AreApart, AreFollowers, IsNumbered, NumbersChain}
+use Rattle.office_lists.proofs.move_days.Following.{move_days-followed-beyond, move_days-number-end, move_days-number-none, move_days-number-later, move_days-number-back, move_days-one_wave, move_days-some_wave}
+
+pub move_days-next-within : (ls : List (Option ℕ)) (i j : ℕ) → next ls i ≡ Some j → i < length ls
+move_days-next-within ls i j e =
+    elim (cases_lt i (length ls)) [
+      | inl less ↦ less
+      | inr past ↦ cc (sym (get_or-eq_default ls None past) ∙ e)
+    ]
+
+-- the chain that ends at `end` is numbered up to so many moves
+pub record IsNumberedTo (fs : List (Option ℕ)) (end first count : ℕ) (old new : List Wave) : Type 0 where
+  pub as_many : length new ≡ length old
+  pub reached : (c i : ℕ) → c < count → followed fs c end ≡ Some i → IsNumbered new i
+  pub right : (i number : ℕ) → get_or new i Swap ≡ Nth number → (get_or old i Swap ≡ Nth number) ⊎ ((c : ℕ) × (number ≡ c + first) × (followed fs c end ≡ Some i))
+  pub kept : (i number : ℕ) → get_or old i Swap ≡ Nth number → IsNumbered new i
+
+pub move_days-none_numbered : (fs : List (Option ℕ)) (end first : ℕ) (waves : List Wave) → IsNumberedTo fs end first 0 waves waves
+move_days-none_numbered fs end first waves = record {
+  as_many = refl;
+  reached = λ c i low e. absurd (omega arith);
+  right = λ i number e. inl e;
+  kept = λ i number e. (number, e);
+}
+
+move_days-same_number : (m n : ℕ) → Nth m ≡ Nth n → m ≡ n
+move_days-same_number m n e = cc
+
+-- what is at a place after a write
+move_days-after_write : (ws : List Wave) (here i number : ℕ) → here < length ws
+    → ((i ≡ here) × (get_or (set ws here (Nth number)) i Swap ≡ Nth number)) ⊎ ((i ≢ here) × (get_or (set ws here (Nth number)) i Swap ≡ get_or ws i Swap))
+move_days-after_write ws here i number in' =
+    elim (eqb i here) as (λ b. eqb i here ≡ b → ((i ≡ here) × (get_or (set ws here (Nth number)) i Swap ≡ Nth number)) ⊎ ((i ≢ here) × (get_or (set ws here (Nth number)) i Swap ≡ get_or ws i Swap))) [
+      | true ↦ λ e. let same = eqb-true i here e in inl (same, subst (λ k. get_or (set ws here (Nth number)) k Swap ≡ Nth number) (sym same) (get_or-set_same ws here (Nth number) Swap in'))
+      | false ↦ λ e. let other = eqb-false i here e in inr (other, get_or-set_other ws here i (Nth number) Swap other)
+    ] refl
+
+pub move_days-one_numbered : (fs : List (Option ℕ)) (end first count here : ℕ) (old new : List Wave) → IsNumberedTo fs end first count old new
+    → followed fs count end ≡ Some here → here < length new → IsNumberedTo fs end first (count + 1) old (set new here (Nth (count + first)))
+move_days-one_numbered fs end first count here old new so at in' = record {
+  as_many = length-set new here (Nth (count + first)) ∙ so.as_many;
+  reached = λ c i low e.
+      elim (move_days-after_write new here i (count + first) in') [
+        | inl now ↦ (count + first, now.1)
+        | inr before ↦
+            elim (cases_lt c count) [
+              | inl less ↦ let was = so.reached c i less e in (was.0, before.1 ∙ was.1)
+              | inr more ↦
+                  let last : c ≡ count = omega arith in
+                  absurd (before.0 (same_Some i here (sym (subst (λ k. followed fs k end ≡ Some i) last e) ∙ at)))
+            ]
+      ];
+  right = λ i number e.
+      elim (move_days-after_write new here i (count + first) in') [
+        | inl now ↦ let same : count + first ≡ number = move_days-same_number (count + first) number (sym now.1 ∙ e) in inr (count, sym same, at ∙ ap (λ k. Some k) (sym now.0))
+        | inr before ↦ so.right i number (sym before.1 ∙ e)
+      ];
+  kept = λ i number e.
+      elim (move_days-after_write new here i (count + first) in') [
+        | inl now ↦ (count + first, now.1)
+        | inr before ↦ let was = so.kept i number e in (was.0, before.1 ∙ was.1)
+      ];
+}
+
+-- at the end of the chain all its moves are numbered
+pub move_days-all_numbered : (fs : List (Option ℕ)) (end first count : ℕ) (old new : List Wave) → IsNumberedTo fs end first count old new → followed fs count end ≡ None → NumbersChain fs end first old new
+move_days-all_numbered fs end first count old new so at = record {
+  reached = λ c i e.
+      elim (cases_lt c count) [
+        | inl less ↦ so.reached c i less e
+        | inr more ↦ cc (sym (move_days-followed-beyond fs count c end at more) ∙ e)
+      ];
+  right = so.right;
+  kept = so.kept;
+}
+
+-- the chains of the ends below `count` are numbered
+pub record AreNumberedTo (ends : List ℕ) (ls fs : List (Option ℕ)) (count : ℕ) (waves : List Wave) : Type 0 where
+  pub as_many : length waves ≡ length ls
+  pub right : (i number : ℕ) → get_or waves i Swap ≡ Nth number → HasNumber ends ls number i
+  pub done : (end c i : ℕ) → end < count → next ls end ≡ None → followed fs c end ≡ Some i → IsNumbered waves i
+
+pub move_days-fewer_done : (ends : List ℕ) (ls fs : List (Option ℕ)) (few count : ℕ) (waves : List Wave) → few ≤ count → AreNumberedTo ends ls fs count waves → AreNumberedTo ends ls fs few waves
+move_days-fewer_done ends ls fs few count waves low so = record {
+  as_many = so.as_many;
+  right = so.right;
+  done = λ end c i less. so.done end c i (omega arith);
+}
+
+module _ (ends : List ℕ) (ls fs : List (Option ℕ)) (linked : AreFollowers ls fs) where
+  -- a place behind the end of a chain has the next number
+  pub move_days-number-along : (c end i : ℕ) → next ls end ≡ None → followed fs c end ≡ Some i → HasNumber ends ls (c + own_number ends end) i
+  move_days-number-along zero end i none e =
+      let is : own_number ends end ≡ 0 + own_number ends end = omega arith in
+      subst (HasNumber ends ls (0 + own_number ends end)) (same_Some end i e) (move_days-number-end ends ls (0 + own_number ends end) end none (sym is))
+  move_days-number-along (suc c) end i none e =
+      let is : suc (c + own_number ends end) ≡ suc c + own_number ends end = omega arith in
+      subst (λ n. HasNumber ends ls n i) is
+      (elim (followed fs c end) as (λ o. followed fs c end ≡ o → option_and_then (next fs) o ≡ Some i → HasNumber ends ls (suc (c + own_number ends end)) i) [
+        | None ↦ λ f g. cc
+        | Some j ↦ λ f g. move_days-number-later ends ls (c + own_number ends end) i j (linked.after i j g) (move_days-number-along c end j none f)
+      ] refl e)
+
+  pub move_days-within-along : (c end i : ℕ) → end < length ls → followed fs c end ≡ Some i → i < length ls
+  move_days-within-along zero end i in' e = subst (λ k. k < length ls) (same_Some end i e) in'
+  move_days-within-along (suc c) end i in' e =
+      elim (followed fs c end) as (λ o. followed fs c end ≡ o → option_and_then (next fs) o ≡ Some i → i < length ls) [
+        | None ↦ λ f g. cc
+        | Some j ↦ λ f g. move_days-next-within ls i j (linked.after i j g)
+      ] refl e
+
+  -- what has a number stands behind the end of a chain
+  pub move_days-end_of : (n i : ℕ) → i < length ls → AreApart ls → HasNumber ends ls n i → (end : ℕ) × (c : ℕ) × (end < length ls) × (next ls end ≡ None) × (followed fs c end ≡ Some i)
+  move_days-end_of zero i in' apart h =
+      elim (next ls i) as (λ o. next ls i ≡ o → (end : ℕ) × (c : ℕ) × (end < length ls) × (next ls end ≡ None) × (followed fs c end ≡ Some i)) [
+        | None ↦ λ e. (i, 0, in', e, refl)
+        | Some j ↦ λ e. absurd (move_days-number-none ends ls i j e h)
+      ] refl
+  move_days-end_of (suc n) i in' apart h =
+      elim (next ls i) as (λ o. next ls i ≡ o → (end : ℕ) × (c : ℕ) × (end < length ls) × (next ls end ≡ None) × (followed fs c end ≡ Some i)) [
+        | None ↦ λ e. (i, 0, in', e, refl)
+        | Some j ↦ λ e.
+            let rest = move_days-end_of n j (apart.within i j e) apart (move_days-number-back ends ls n i j e h) in
+            (rest.0, suc rest.1, rest.2, rest.3, ap (option_and_then (next fs)) rest.4 ∙ linked.before i j e)
+      ] refl
+
+  -- one more entry, the end of a chain that is numbered
+  pub move_days-end_done : (count : ℕ) (old new : List Wave) → AreNumberedTo ends ls fs count old → next ls count ≡ None → length new ≡ length old → NumbersChain fs count (own_number ends count) old new → AreNumberedTo ends ls fs (count + 1) new
+  move_days-end_done count old new so none same chain = record {
+    as_many = same ∙ so.as_many;
+    right = λ i number e.
+        elim (chain.right i number e) [
+          | inl was ↦ so.right i number was
+          | inr now ↦ subst (λ n. HasNumber ends ls n i) (sym now.1) (move_days-number-along now.0 count i none now.2)
+        ];
+    done = λ end c i low last at.
+        elim (cases_lt end count) [
+          | inl less ↦ let was = so.done end c i less last at in chain.kept i was.0 was.1
+          | inr more ↦ let this : end ≡ count = omega arith in chain.reached c i (subst (λ k. followed fs c k ≡ Some i) this at)
+        ];
+  }
+
+  -- one more entry that is not the end of a chain
+  pub move_days-other_done : (count : ℕ) (waves : List Wave) → AreNumberedTo ends ls fs count waves → (j : ℕ) → next ls count ≡ Some j → AreNumberedTo ends ls fs (count + 1) waves
+  move_days-other_done count waves so j some = record {
+    as_many = so.as_many;
+    right = so.right;
+    done = λ end c i low last at.
+        elim (cases_lt end count) [
+          | inl less ↦ so.done end c i less last at
+          | inr more ↦ let this : end ≡ count = omega arith in cc (sym some ∙ subst (λ k. next ls k ≡ None) this last)
+        ];
+  }
+
+  module _ (apart : AreApart ls) (low : (i : ℕ) → own_number ends i ≤ 1) (waves : List Wave) (so : AreNumberedTo ends ls fs (length ls) waves) where
+    pub move_days-wave_at : (i : ℕ) → i < length ls → get_or waves i Swap ≡ wave_of ends ls i
+    move_days-wave_at i in' =
+        elim (get_or waves i Swap) as (λ w. get_or waves i Swap ≡ w → w ≡ wave_of ends ls i) [
+          | Nth n ↦ λ e. move_days-one_wave ends ls i (Nth n) (wave_of ends ls i) (so.right i n e) (move_days-some_wave ends ls apart low i in')
+          | Swap ↦ λ e. elim (wave_of ends ls i) as (λ v. wave_of ends ls i ≡ v → Swap ≡ v) [
+            | Swap ↦ λ f. refl
+            | Nth m ↦ λ f.
+                let last = move_days-end_of m i in' apart (subst (IsWave ends ls i) f (move_days-some_wave ends ls apart low i in')) in
+                let there = so.done last.0 last.1 i last.2 last.3 last.4 in
+                cc (sym e ∙ there.1)
+          ] refl
+        ] refl

@@ -1,0 +1,2 @@
+-- Lemmas on columns that are padded.
+pub mod Cells

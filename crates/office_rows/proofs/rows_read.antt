@@ -1,0 +1,8 @@
+-- Lemmas on rows that are read back into an office.
+pub mod Filling
+pub mod Gathering
+pub mod Memory
+pub mod Moving
+pub mod Peopling
+pub mod Rounds
+pub mod RowOrder

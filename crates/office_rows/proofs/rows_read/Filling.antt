@@ -1,0 +1,67 @@
+-- Filling a map undoes what lists its entries.
+use Rattle.std.proofs.Common.{◌≡◌, true, false, List, [], ◌∷◌, ◌++◌, map, Option, Some, None, cond, refl, sym, ap, ◌∙◌, subst, append-nil, IsPermutation}
+use Rattle.std.specs.Prelude.{reverse}
+use Rattle.std.specs.Option.{is_some}
+use Rattle.std.specs.Ordering.{eq_by_cmp}
+use Rattle.std.specs.Cmp.{eq_by_cmp_equiv}
+use Rattle.std.specs.Cmp.Lexicographic.{nat_list_cmp_total}
+use Rattle.std.specs.List.{AllByRecursion, IsDistinct}
+use Rattle.std.specs.FinMap as maps
+use Rattle.std.specs.FinMap.{get-empty}
+use Rattle.std.proofs.lemmas.List.Sorted.{IsPermutation-refl, IsPermutation-sym, IsPermutation-trans, IsPermutation-middle, IsPermutation-append_left, IsPermutation-reverse}
+use Rattle.std.proofs.lemmas.Map.Keys.{IsDistinct-head, IsDistinct-tail}
+use Rattle.std.proofs.lemmas.Option.{same_Some}
+use Rattle.room_types.specs.Texts.{Text, TextMap, text_cmp}
+use Rattle.room_types.proofs.maps.TextMaps.{maps-exact_texts, maps-get-put_other}
+use Rattle.room_types.proofs.maps.Trees.{maps-entries-empty}
+use Rattle.room_types.proofs.maps.Entries.{maps-each_always, maps-insert-new, maps-moved_keys, maps-one_map}
+use Rattle.room_types.proofs.options.Options.{options-none_if_not_some}
+use Rattle.office_rows.specs.Inner.Filled.{filled}
+use Rattle.office_rows.specs.Reads.{Reads, IsAny}
+
+module _ {X : Type 0} where
+  pub rows_read-filled-has : (es : List (Text × X)) (m final : TextMap X) → filled m es ≡ Some final → IsPermutation (maps.entries m ++ es) (maps.entries final)
+  rows_read-filled-has [] m final e =
+      subst (λ l. IsPermutation (maps.entries m ++ []) (maps.entries l)) (same_Some m final e) (subst (λ l. IsPermutation l (maps.entries m)) (sym (append-nil (maps.entries m))) (IsPermutation-refl (maps.entries m)))
+  rows_read-filled-has (f ∷ es) m final e =
+      elim (maps.contains_key m f.0) as (λ b. maps.contains_key m f.0 ≡ b → cond b None (filled (maps.insert m f.0 f.1) es) ≡ Some final → IsPermutation (maps.entries m ++ f ∷ es) (maps.entries final)) [
+        | true ↦ λ t h. absurd (cc)
+        | false ↦ λ t h.
+            IsPermutation-trans _ _ _ (IsPermutation-middle (maps.entries m) f es)
+            (IsPermutation-trans _ _ _ (IsPermutation-append_left es _ _ (maps-insert-new nat_list_cmp_total maps-exact_texts m f.0 f.1 (options-none_if_not_some (maps.get m f.0) t))) (rows_read-filled-has es (maps.insert m f.0 f.1) final h))
+      ] refl e
+
+  abbrev AreNew : TextMap X → List (Text × X) → Type 0
+  AreNew m es = AllByRecursion (λ e. maps.contains_key m e.0 ≡ false) es
+
+  rows_read-still_new : (m : TextMap X) (k : Text) (v : X) (es : List (Text × X)) → AllByRecursion (λ q. eq_by_cmp text_cmp k q ≡ false) (map (λ e. e.0) es) → AreNew m es → AreNew (maps.insert m k v) es
+  rows_read-still_new m k v [] apart h = tt
+  rows_read-still_new m k v (e ∷ es) apart h =
+      (ap is_some (maps-get-put_other m k v e.0 ((eq_by_cmp_equiv nat_list_cmp_total).symm e.0 k ∙ apart.0)) ∙ h.0, rows_read-still_new m k v es apart.1 h.1)
+
+  -- where keys differ, none is refused
+  pub rows_read-filled-all : (es : List (Text × X)) (m : TextMap X) → IsDistinct (eq_by_cmp text_cmp) (map (λ e. e.0) es) → AreNew m es → filled m es ≡ None → ⊥
+  rows_read-filled-all [] m d h n = cc
+  rows_read-filled-all (f ∷ es) m d h n =
+      rows_read-filled-all es (maps.insert m f.0 f.1) (IsDistinct-tail (eq_by_cmp text_cmp) f.0 (map (λ e. e.0) es) d)
+      (rows_read-still_new m f.0 f.1 es (IsDistinct-head (eq_by_cmp text_cmp) f.0 (map (λ e. e.0) es) d) h.1)
+      (ap (λ b. cond b None (filled (maps.insert m f.0 f.1) es)) (sym h.0) ∙ n)
+
+  rows_read-all_new : (es : List (Text × X)) → AreNew maps.empty es
+  rows_read-all_new = maps-each_always (λ (e : Text × X). maps.contains_key maps.empty e.0 ≡ false) (λ e. ap is_some (get-empty {X = X} text_cmp e.0))
+
+  rows_read-filled-rows : (rows es : List (Text × X)) → IsPermutation rows es → (found : Option (TextMap X)) → filled maps.empty es ≡ found → Reads IsAny maps.entries rows found
+  rows_read-filled-rows rows es moved None e = record {
+    told = tt;
+    only = λ m sound same. absurd (rows_read-filled-all es maps.empty (maps-moved_keys nat_list_cmp_total maps-exact_texts m es (IsPermutation-trans _ _ _ same moved)) (rows_read-all_new es) e);
+  }
+  rows_read-filled-rows rows es moved (Some final) e =
+      let has : IsPermutation es (maps.entries final) = subst (λ l. IsPermutation (l ++ es) (maps.entries final)) (maps-entries-empty nat_list_cmp_total) (rows_read-filled-has es maps.empty final e) in
+      let told : IsPermutation (maps.entries final) rows = IsPermutation-sym _ _ (IsPermutation-trans _ _ _ moved has) in
+      record {
+        told = (tt, told);
+        only = λ m sound same. ap (λ l. Some l) (maps-one_map nat_list_cmp_total maps-exact_texts final m (IsPermutation-trans _ _ _ told (IsPermutation-sym _ _ same)));
+      }
+
+  pub rows_read-filled-reads : (rows : List (Text × X)) → Reads IsAny maps.entries rows (filled maps.empty (reverse rows))
+  rows_read-filled-reads rows = rows_read-filled-rows rows (reverse rows) (IsPermutation-reverse rows) (filled maps.empty (reverse rows)) refl

@@ -1,0 +1,259 @@
+-- Recording moves undoes what makes rows of moves.
+use Rattle.std.proofs.Common.{◌≡◌, ℕ, Bool, true, false, List, [], ◌∷◌, ◌++◌, map, Option, Some, None, cond, refl, sym, ap, ◌∙◌, subst, T, ◌&&◌, append-nil, IsPermutation}
+use Rattle.std.specs.Prelude.{unwrap_or, reverse}
+use Rattle.std.specs.Option.{is_some}
+use Rattle.std.specs.declared.cmp.Ordering.TheVariants.{Less, Equal, Greater}
+use Rattle.std.specs.Ordering.{eq_by_cmp, is_eq, nat_cmp}
+use Rattle.std.specs.Cmp.{eq_by_cmp_equiv, nat_cmp_total, tied_itself}
+use Rattle.std.specs.Cmp.Lexicographic.{nat_list_cmp_total}
+use Rattle.std.specs.List.{AllByRecursion, IsDistinct, flat_map}
+use Rattle.std.specs.FinMap as maps
+use Rattle.std.specs.FinMap.{nat_cmp-IsAntisymmetric, find, put, entries_sorted, entries-insert, get-entries, get-empty, get-insert, same_map}
+use Rattle.std.specs.FinMap.Entries.{below_all, by_order, is_sorted}
+use Rattle.std.proofs.lemmas.List.Sorted.{IsPermutation-refl, IsPermutation-sym, IsPermutation-trans, IsPermutation-middle, IsPermutation-append_left, IsPermutation-append_right, IsPermutation-map, IsPermutation-reverse}
+use Rattle.std.proofs.lemmas.Map.Keys.{IsDistinct-IsPermutation, IsDistinct-head, IsDistinct-tail}
+use Rattle.std.proofs.lemmas.Option.{same_Some}
+use Rattle.std.proofs.lemmas.Bool.{and_right}
+use Rattle.sqlite_trees.specs.Tree.{IsAscending}
+use Rattle.sqlite_trees.proofs.ListLemmas.{IsPermutation-flat_map}
+use Rattle.sqlite_keyed.proofs.ListLemmas.{all_weaker, all-append, all-flat_map, ascending-append, all_map, all_unmap}
+use Rattle.room_types.specs.Texts.{Text, TextMap, text_cmp}
+use Rattle.room_types.proofs.maps.TextMaps.{maps-exact_texts, maps-get-put_same, maps-get-put_other, maps-less_from_test}
+use Rattle.room_types.specs.declared.moves.Move.{Move}
+use Rattle.room_types.proofs.maps.Trees.{maps-entries-empty}
+use Rattle.office_state.specs.Office.Moves.{RoundMap, moves_of, with_move}
+use Rattle.office_state.specs.declared.office.moves.Moved.{Moved}
+use Rattle.office_state.specs.declared.office.moves.RoundMoves.{RoundMoves}
+use Rattle.office_state.proofs.offices.Moves.{kept_moves}
+use Rattle.room_types.proofs.maps.Entries.{maps-at_keys, maps-at_entries, maps-below_less, maps-insert-new, maps-moved_all, maps-none_below, maps-same_finds}
+use Rattle.room_types.proofs.maps.TextMaps.{maps-first_holds, maps-second_holds}
+use Rattle.room_types.proofs.options.Options.{options-none_if_not_some}
+use Rattle.office_rows.specs.Rows.{move_row, round_rows, move_rows, AreKeptMoves}
+use Rattle.office_rows.specs.Inner.Recorded.{recorded_moves}
+use Rattle.office_rows.specs.Reads.{Reads}
+
+abbrev Moves : Type 0
+Moves = RoundMap RoundMoves
+
+abbrev rest_of : Move → Moved
+rest_of row = record { from = row.from; to = row.to; wave = row.wave }
+
+abbrev with_row : TextMap Moved → Move → RoundMoves
+with_row kept row = record { by_person = maps.insert kept row.person (rest_of row) }
+
+-- a round that gets one more row
+rows_read-put-known : (k : ℕ) (v old : RoundMoves) (row : Move) (es : List (ℕ × RoundMoves)) → T (is_sorted nat_cmp es) → find nat_cmp k es ≡ Some old
+    → IsPermutation (row ∷ round_rows (k, old)) (round_rows (k, v)) → IsPermutation (row ∷ flat_map round_rows es) (flat_map round_rows (put nat_cmp k v es))
+rows_read-put-known k v old row [] s f h = absurd (cc)
+rows_read-put-known k v old row (e ∷ es) s f h =
+    elim (nat_cmp k e.0) as (λ c. nat_cmp k e.0 ≡ c → cond (is_eq c) (Some e.1) (find nat_cmp k es) ≡ Some old
+    → IsPermutation (row ∷ (round_rows e ++ flat_map round_rows es)) (flat_map round_rows (by_order c ((k, v) ∷ e ∷ es) ((e.0, v) ∷ es) (e ∷ put nat_cmp k v es)))) [
+      | Less ↦ λ c m. let none = maps-none_below nat_cmp k es (maps-below_less nat_cmp_total k e.0 es c (maps-first_holds _ _ s)) in absurd (cc)
+      | Equal ↦ λ c m.
+          let same : k ≡ e.0 = nat_cmp-IsAntisymmetric k e.0 c in
+          let value : old ≡ e.1 = cc in
+          let here : IsPermutation (row ∷ round_rows (e.0, e.1)) (round_rows (e.0, v)) =
+          subst (λ q. IsPermutation (row ∷ round_rows (q, e.1)) (round_rows (q, v))) same (subst (λ w. IsPermutation (row ∷ round_rows (k, w)) (round_rows (k, v))) value h) in
+          IsPermutation-append_left (flat_map round_rows es) _ _ here
+      | Greater ↦ λ c m.
+          IsPermutation-trans _ _ _ (IsPermutation-sym _ _ (IsPermutation-middle (round_rows e) row (flat_map round_rows es)))
+          (IsPermutation-append_right (round_rows e) _ _ (rows_read-put-known k v old row es (maps-second_holds _ _ s) m h))
+    ] refl f
+
+module _ (moves : Moves) (row : Move) (new : maps.contains_key (moves_of moves row.round) row.person ≡ false) where
+  rows_read-one_more : (kept : TextMap Moved) → maps.get kept row.person ≡ None → IsPermutation (row ∷ map (move_row row.round) (maps.entries kept)) (round_rows (row.round, with_row kept row))
+  rows_read-one_more kept none = IsPermutation-map (move_row row.round) _ _ (maps-insert-new nat_list_cmp_total maps-exact_texts kept row.person (rest_of row) none)
+
+  pub rows_read-rows_more : IsPermutation (row ∷ move_rows moves) (move_rows (with_move moves row))
+  rows_read-rows_more = elim (maps.get moves row.round) as (λ o. maps.get moves row.round ≡ o → maps.contains_key (kept_moves o) row.person ≡ false
+      → IsPermutation (row ∷ move_rows moves) (move_rows (maps.insert moves row.round (with_row (kept_moves o) row)))) [
+        | None ↦ λ none fresh.
+            let v : RoundMoves = with_row maps.empty row in
+            let head : IsPermutation (row ∷ []) (round_rows (row.round, v)) =
+            subst (λ es. IsPermutation (row ∷ map (move_row row.round) es) (round_rows (row.round, v))) (maps-entries-empty {X = Moved} nat_list_cmp_total) (rows_read-one_more maps.empty (options-none_if_not_some (maps.get (maps.empty {R = text_cmp}) row.person) fresh)) in
+            IsPermutation-trans _ _ _ (IsPermutation-append_left (move_rows moves) _ _ head)
+            (IsPermutation-flat_map round_rows _ _ (maps-insert-new nat_cmp_total nat_cmp-IsAntisymmetric moves row.round v none))
+        | Some kept ↦ λ some fresh.
+            let v : RoundMoves = with_row kept.by_person row in
+            subst (λ es. IsPermutation (row ∷ move_rows moves) (flat_map round_rows es)) (sym (entries-insert nat_cmp_total moves row.round v))
+            (rows_read-put-known row.round v kept row (maps.entries moves) (entries_sorted moves) (sym (get-entries moves row.round) ∙ some) (rows_read-one_more kept.by_person (options-none_if_not_some (maps.get kept.by_person row.person) fresh)))
+      ] refl new
+
+  pub rows_read-recorded_more : AreKeptMoves moves → AreKeptMoves (with_move moves row)
+  rows_read-recorded_more before = record {
+    none_empty = λ round kept f none.
+        let v : RoundMoves = with_row (moves_of moves row.round) row in
+        elim (eq_by_cmp nat_cmp round row.round) as (λ b. cond b (Some v) (maps.get moves round) ≡ Some kept → ⊥) [
+          | true ↦ λ g.
+              let is : v ≡ kept = ap (λ (o : Option RoundMoves). unwrap_or o v) g in
+              let there = maps-get-put_same (moves_of moves row.round) row.person (rest_of row) in
+              let nothing : maps.get (maps.insert (moves_of moves row.round) row.person (rest_of row)) row.person ≡ None =
+              ap (λ (k : RoundMoves). maps.get k.by_person row.person) is ∙ ap (λ m. maps.get m row.person) none ∙ get-empty text_cmp row.person in
+              cc
+          | false ↦ λ g. before.none_empty round kept g none
+        ] (sym (get-insert nat_cmp_total moves row.round v round) ∙ f);
+  }
+
+rows_read-recorded_moves-has : (rows : List Move) (m final : Moves) → AreKeptMoves m → recorded_moves m rows ≡ Some final → AreKeptMoves final × IsPermutation (move_rows m ++ rows) (move_rows final)
+rows_read-recorded_moves-has [] m final sound e =
+    let same = same_Some m final e in (
+      subst (λ q. AreKeptMoves q) same sound,
+      subst (λ q. IsPermutation (move_rows m ++ []) (move_rows q)) same (subst (λ l. IsPermutation l (move_rows m)) (sym (append-nil (move_rows m))) (IsPermutation-refl (move_rows m))),
+    )
+rows_read-recorded_moves-has (row ∷ rows) m final sound e =
+    elim (maps.contains_key (moves_of m row.round) row.person) as (λ b. maps.contains_key (moves_of m row.round) row.person ≡ b → cond b None (recorded_moves (with_move m row) rows) ≡ Some final → AreKeptMoves final × IsPermutation (move_rows m ++ row ∷ rows) (move_rows final)) [
+      | true ↦ λ t h. absurd (cc)
+      | false ↦ λ t h.
+          let rest = rows_read-recorded_moves-has rows (with_move m row) final (rows_read-recorded_more m row t sound) h in (
+            rest.0,
+            IsPermutation-trans _ _ _ (IsPermutation-middle (move_rows m) row rows) (IsPermutation-trans _ _ _ (IsPermutation-append_left rows _ _ (rows_read-rows_more m row t)) rest.1),
+          )
+    ] refl e
+
+-- ---- nobody moves twice in a round
+
+abbrev same_mover : Move → Move → Bool
+same_mover a b = eq_by_cmp nat_cmp a.round b.round && eq_by_cmp text_cmp a.person b.person
+
+rows_read-turned : (a b : Move) → same_mover a b ≡ same_mover b a
+rows_read-turned a b = λ i. (eq_by_cmp_equiv nat_cmp_total).symm a.round b.round i && (eq_by_cmp_equiv nat_list_cmp_total).symm a.person b.person i
+
+abbrev Apart : Move → Move → Type 0
+Apart a b = same_mover a b ≡ false
+
+rows_read-distinct_from : (rows : List Move) → IsAscending Apart rows → IsDistinct same_mover rows
+unfolding IsDistinct
+rows_read-distinct_from [] up = tt
+rows_read-distinct_from (r ∷ rows) up = (up.0, rows_read-distinct_from rows up.1)
+
+rows_read-round_apart : (k : ℕ) (e : Text × Moved) (es : List (Text × Moved)) → T (below_all text_cmp e.0 es) → AllByRecursion (Apart (move_row k e)) (map (move_row k) es)
+rows_read-round_apart k e [] b = tt
+rows_read-round_apart k e (f ∷ es) b = (and_right (eq_by_cmp nat_cmp k k) (eq_by_cmp text_cmp e.0 f.0) (ap is_eq (maps-less_from_test _ (maps-first_holds _ _ b))), rows_read-round_apart k e es (maps-second_holds _ _ b))
+
+rows_read-round_up : (k : ℕ) (es : List (Text × Moved)) → T (is_sorted text_cmp es) → IsAscending Apart (map (move_row k) es)
+rows_read-round_up k [] s = tt
+rows_read-round_up k (e ∷ es) s = (rows_read-round_apart k e es (maps-first_holds _ _ s), rows_read-round_up k es (maps-second_holds _ _ s))
+
+rows_read-of_round : (k : ℕ) (es : List (Text × Moved)) → AllByRecursion (λ r. r.round ≡ k) (map (move_row k) es)
+rows_read-of_round k [] = tt
+rows_read-of_round k (e ∷ es) = (refl, rows_read-of_round k es)
+
+rows_read-later_rounds : (k : ℕ) (es : List (ℕ × RoundMoves)) → T (below_all nat_cmp k es) → AllByRecursion (λ r. nat_cmp k r.round ≡ Less) (flat_map round_rows es)
+rows_read-later_rounds k [] b = tt
+rows_read-later_rounds k (e ∷ es) b =
+    all-append (λ (r : Move). nat_cmp k r.round ≡ Less) (round_rows e) (flat_map round_rows es)
+    (all_weaker (λ (r : Move). r.round ≡ e.0) (λ (r : Move). nat_cmp k r.round ≡ Less) (λ r same. ap (nat_cmp k) same ∙ maps-less_from_test _ (maps-first_holds _ _ b)) (round_rows e) (rows_read-of_round e.0 (maps.entries e.1.by_person)))
+    (rows_read-later_rounds k es (maps-second_holds _ _ b))
+
+rows_read-all_up : (es : List (ℕ × RoundMoves)) → T (is_sorted nat_cmp es) → IsAscending Apart (flat_map round_rows es)
+rows_read-all_up [] s = tt
+rows_read-all_up (e ∷ es) s =
+    ascending-append Apart (round_rows e) (flat_map round_rows es) (rows_read-round_up e.0 (maps.entries e.1.by_person) (entries_sorted e.1.by_person)) (rows_read-all_up es (maps-second_holds _ _ s))
+    (all_weaker (λ (r : Move). r.round ≡ e.0) (λ r. AllByRecursion (Apart r) (flat_map round_rows es))
+    (λ r same. all_weaker (λ (t : Move). nat_cmp e.0 t.round ≡ Less) (Apart r) (λ t h. ap (λ o. is_eq o && eq_by_cmp text_cmp r.person t.person) (ap (λ k. nat_cmp k t.round) same ∙ h)) (flat_map round_rows es) (rows_read-later_rounds e.0 es (maps-first_holds _ _ s)))
+    (round_rows e) (rows_read-of_round e.0 (maps.entries e.1.by_person)))
+
+rows_read-movers_differ : (m : Moves) (rows : List Move) → IsPermutation (move_rows m) rows → IsDistinct same_mover rows
+rows_read-movers_differ m rows same = IsDistinct-IsPermutation same_mover rows_read-turned (move_rows m) rows same (rows_read-distinct_from (move_rows m) (rows_read-all_up (maps.entries m) (entries_sorted m)))
+
+abbrev IsNew : Moves → Move → Type 0
+IsNew m r = maps.contains_key (moves_of m r.round) r.person ≡ false
+
+rows_read-new_after : (m : Moves) (row r : Move) → Apart row r → IsNew m r → IsNew (with_move m row) r
+rows_read-new_after m row r apart h =
+    let v : RoundMoves = with_row (moves_of m row.round) row in
+    ap (λ o. maps.contains_key (kept_moves o) r.person) (get-insert nat_cmp_total m row.round v r.round)
+    ∙ elim (nat_cmp r.round row.round) as (λ c. nat_cmp r.round row.round ≡ c → maps.contains_key (kept_moves (cond (is_eq c) (Some v) (maps.get m r.round))) r.person ≡ false) [
+      | Less ↦ λ c. h
+      | Equal ↦ λ c.
+          let round : r.round ≡ row.round = nat_cmp-IsAntisymmetric r.round row.round c in
+          let tied : eq_by_cmp nat_cmp row.round r.round ≡ true = ap (λ k. eq_by_cmp nat_cmp row.round k) round ∙ ap is_eq (tied_itself nat_cmp_total row.round) in
+          let other : eq_by_cmp text_cmp row.person r.person ≡ false = ap (λ b. b && eq_by_cmp text_cmp row.person r.person) (sym tied) ∙ apart in
+          ap is_some (maps-get-put_other (moves_of m row.round) row.person (rest_of row) r.person ((eq_by_cmp_equiv nat_list_cmp_total).symm r.person row.person ∙ other))
+          ∙ ap (λ k. maps.contains_key (moves_of m k) r.person) (sym round) ∙ h
+      | Greater ↦ λ c. h
+    ] refl
+
+rows_read-still_new : (m : Moves) (row : Move) (rows : List Move) → AllByRecursion (Apart row) rows → AllByRecursion (IsNew m) rows → AllByRecursion (IsNew (with_move m row)) rows
+rows_read-still_new m row [] apart h = tt
+rows_read-still_new m row (r ∷ rows) apart h = (rows_read-new_after m row r apart.0 h.0, rows_read-still_new m row rows apart.1 h.1)
+
+rows_read-recorded_moves-all : (rows : List Move) (m : Moves) → IsDistinct same_mover rows → AllByRecursion (IsNew m) rows → recorded_moves m rows ≡ None → ⊥
+rows_read-recorded_moves-all [] m d h n = cc
+rows_read-recorded_moves-all (row ∷ rows) m d h n =
+    rows_read-recorded_moves-all rows (with_move m row) (IsDistinct-tail same_mover row rows d) (rows_read-still_new m row rows (IsDistinct-head same_mover row rows d) h.1)
+    (ap (λ b. cond b None (recorded_moves (with_move m row) rows)) (sym h.0) ∙ n)
+
+rows_read-all_new : (rows : List Move) → AllByRecursion (IsNew maps.empty) rows
+rows_read-all_new [] = tt
+rows_read-all_new (r ∷ rows) =
+    (ap (λ o. maps.contains_key (kept_moves o) r.person) (get-empty {X = RoundMoves} nat_cmp r.round) ∙ ap is_some (get-empty {X = Moved} text_cmp r.person), rows_read-all_new rows)
+
+-- ---- rows tell what the moves are
+
+abbrev IsIn : Moves → Move → Type 0
+IsIn m r = maps.get (moves_of m r.round) r.person ≡ Some (rest_of r)
+
+rows_read-all_in : (m : Moves) → AllByRecursion (IsIn m) (move_rows m)
+rows_read-all_in m =
+    all-flat_map (IsIn m) round_rows (maps.entries m)
+    (maps-at_entries nat_cmp_total nat_cmp-IsAntisymmetric (λ round kept. AllByRecursion (IsIn m) (round_rows (round, kept))) m (λ round kept f.
+    all_map (IsIn m) (move_row round) (maps.entries kept.by_person)
+    (maps-at_entries nat_list_cmp_total maps-exact_texts (λ p moved. IsIn m (move_row round (p, moved))) kept.by_person (λ p moved g. ap (λ o. maps.get (kept_moves o) p) f ∙ g))))
+
+rows_read-split_all : {A : Type 0} (P : A → Type 0) (xs ys : List A) → AllByRecursion P (xs ++ ys) → AllByRecursion P xs × AllByRecursion P ys
+rows_read-split_all P [] ys h = (tt, h)
+rows_read-split_all P (x ∷ xs) ys h = let rest = rows_read-split_all P xs ys h.1 in ((h.0, rest.0), rest.1)
+
+rows_read-all_apart : {A B : Type 0} (P : B → Type 0) (f : A → List B) (xs : List A) → AllByRecursion P (flat_map f xs) → AllByRecursion (λ x. AllByRecursion P (f x)) xs
+rows_read-all_apart P f [] h = tt
+rows_read-all_apart P f (x ∷ xs) h = let parts = rows_read-split_all P (f x) (flat_map f xs) h in (parts.0, rows_read-all_apart P f xs parts.1)
+
+-- what holds of each row holds of each move
+rows_read-at_moves : (P : Move → Type 0) (m : Moves) → AllByRecursion P (move_rows m) → (round : ℕ) (p : Text) (moved : Moved) → maps.get (moves_of m round) p ≡ Some moved → P (move_row round (p, moved))
+rows_read-at_moves P m h round p moved f =
+    elim (maps.get m round) as (λ o. maps.get m round ≡ o → maps.get (kept_moves o) p ≡ Some moved → P (move_row round (p, moved))) [
+      | None ↦ λ none g. let nothing = get-empty {X = Moved} text_cmp p in absurd (cc)
+      | Some kept ↦ λ some g.
+          maps-at_keys nat_list_cmp_total maps-exact_texts (λ q v. P (move_row round (q, v))) kept.by_person
+          (all_unmap P (move_row round) (maps.entries kept.by_person)
+          (maps-at_keys nat_cmp_total nat_cmp-IsAntisymmetric (λ r k. AllByRecursion P (round_rows (r, k))) m (rows_read-all_apart P round_rows (maps.entries m) h) round kept some)) p moved g
+    ] refl f
+
+pub rows_read-one_moves : (m n : Moves) → AreKeptMoves m → AreKeptMoves n → IsPermutation (move_rows m) (move_rows n) → m ≡ n
+rows_read-one_moves m n sound_m sound_n same =
+    let alike : (round : ℕ) → moves_of m round ≡ moves_of n round = λ round.
+    maps-same_finds nat_list_cmp_total maps-exact_texts (moves_of m round) (moves_of n round)
+    (rows_read-at_moves (IsIn m) n (maps-moved_all (IsIn m) (move_rows m) (move_rows n) same (rows_read-all_in m)) round)
+    (rows_read-at_moves (IsIn n) m (maps-moved_all (IsIn n) (move_rows n) (move_rows m) (IsPermutation-sym _ _ same) (rows_read-all_in n)) round) in
+    same_map nat_cmp_total nat_cmp-IsAntisymmetric m n (λ round.
+    rounds (maps.get m round) (maps.get n round) (λ k f. sound_m.none_empty round k f) (λ k f. sound_n.none_empty round k f) (alike round))
+  where
+    rounds : (a b : Option RoundMoves) → ((k : RoundMoves) → a ≡ Some k → k.by_person ≡ maps.empty → ⊥) → ((k : RoundMoves) → b ≡ Some k → k.by_person ≡ maps.empty → ⊥) → kept_moves a ≡ kept_moves b → a ≡ b
+    rounds None None f g e = refl
+    rounds None (Some k) f g e = absurd (g k refl (sym e))
+    rounds (Some k) None f g e = absurd (f k refl e)
+    rounds (Some k) (Some l) f g e = λ i. Some (record { by_person = e i })
+
+rows_read-nothing_recorded : AreKeptMoves maps.empty
+rows_read-nothing_recorded = record { none_empty = λ round kept f. let none = get-empty {X = RoundMoves} nat_cmp round in absurd (cc) }
+
+rows_read-no_rows : move_rows maps.empty ≡ []
+rows_read-no_rows = ap (flat_map round_rows) (maps-entries-empty nat_cmp_total)
+
+rows_read-recorded_moves-rows : (rows moved : List Move) → IsPermutation rows moved → (found : Option Moves) → recorded_moves maps.empty moved ≡ found → Reads AreKeptMoves move_rows rows found
+rows_read-recorded_moves-rows rows moved same None e = record {
+  told = tt;
+  only = λ m sound has. absurd (rows_read-recorded_moves-all moved maps.empty (rows_read-movers_differ m moved (IsPermutation-trans _ _ _ has same)) (rows_read-all_new moved) e);
+}
+rows_read-recorded_moves-rows rows moved same (Some final) e =
+    let has = rows_read-recorded_moves-has moved maps.empty final rows_read-nothing_recorded e in
+    let told : IsPermutation (move_rows final) rows =
+    IsPermutation-sym _ _ (IsPermutation-trans _ _ _ same (subst (λ l. IsPermutation (l ++ moved) (move_rows final)) rows_read-no_rows has.1)) in
+    record {
+      told = (has.0, told);
+      only = λ m sound these. ap (λ q. Some q) (rows_read-one_moves final m has.0 sound (IsPermutation-trans _ _ _ told (IsPermutation-sym _ _ these)));
+    }
+
+pub rows_read-recorded_moves-reads : (rows : List Move) → Reads AreKeptMoves move_rows rows (recorded_moves maps.empty (reverse rows))
+rows_read-recorded_moves-reads rows = rows_read-recorded_moves-rows rows (reverse rows) (IsPermutation-reverse rows) (recorded_moves maps.empty (reverse rows)) refl

@@ -1,2 +1,0 @@
--- Lemmas on changes.
-pub mod Apply

@@ -1,0 +1,4 @@
+-- Lemmas on people who move, and on the office after a settlement.
+pub mod Movers
+pub mod Settled
+pub mod Settling

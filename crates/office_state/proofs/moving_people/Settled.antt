@@ -1,0 +1,349 @@
+-- The office after a settlement: who moves where, and that the register and the moves obey the
+-- laws.
+use Rattle.std.proofs.Common.{◌≡◌, ◌≢◌, ℕ, suc, ◌≤◌, Bool, true, false, not, ◌&&◌, List, [], ◌∷◌}
+use Rattle.std.proofs.Common.{length, map as map_list, Option, Some, None, cond, refl, ap, ◌∙◌, sym}
+use Rattle.std.proofs.Common.{subst, inl, inr, arith}
+use Rattle.std.specs.Prelude.{unwrap_or}
+use Rattle.std.specs.Option.{is_some, option_map, option_and_then}
+use Rattle.std.specs.List.{All, AllByRecursion, AllPairs, filter}
+use Rattle.std.specs.declared.cmp.Ordering.TheVariants.{Less, Equal, Greater}
+use Rattle.std.specs.Ordering.{nat_cmp, is_eq}
+use Rattle.std.specs.Cmp.{nat_cmp_total}
+use Rattle.std.specs.FinMap as map
+use Rattle.std.specs.FinMap.{get-insert, get-empty, len-entries, get-entries, entries_sorted}
+use Rattle.std.specs.FinMap.{nat_cmp-IsAntisymmetric}
+use Rattle.std.proofs.lemmas.List.Elements.{All-map, All-filter, filter_passes, recursion_from_All}
+use Rattle.std.proofs.lemmas.List.{length-map}
+use Rattle.std.proofs.lemmas.List.Kept.{AllPairs-filter, AllPairs-cons}
+use Rattle.std.proofs.lemmas.Bool.{and_parts}
+use Rattle.room_types.specs.Texts.{Text, TextMap, text_cmp}
+use Rattle.room_types.proofs.maps.TextMaps.{maps-text_cases, maps-get-put_same, maps-get-put_other}
+use Rattle.room_types.proofs.maps.TextMaps.{maps-contains_key-put_same}
+use Rattle.room_types.specs.declared.moves.Move.{Move}
+use Rattle.room_types.specs.declared.moves.Wave.{Wave}
+use Rattle.trade_line.specs.Market.{IsMarket}
+use Rattle.office_lists.specs.Waves.{Mover, NewRoomsDiffer}
+use Rattle.office_state.specs.Office.Invariants.{IsRegister, Unshared}
+use Rattle.office_state.specs.Office.Limits.{people_limit}
+use Rattle.office_state.specs.Office.Moves.{RoundMap, moves_of, with_move}
+use Rattle.office_state.specs.Office.{home_of, has_withdrawn, participants, knows_person, is_same_text}
+use Rattle.office_state.specs.Office.{recorded_result}
+use Rattle.office_state.specs.Round.{is_participant, round_market, round_results, result_of}
+use Rattle.office_state.specs.Round.{is_kept_back}
+use Rattle.office_state.specs.Round.Settlement.{moves_out, movers, moves_with}
+use Rattle.office_state.specs.Round.Settlement.{settled_people, with_moves}
+use Rattle.office_state.specs.declared.office.moves.Moved.{Moved}
+use Rattle.office_state.specs.declared.office.moves.RoundMoves.{RoundMoves}
+use Rattle.office_state.specs.declared.office.Assigned.{Assigned}
+use Rattle.office_state.specs.declared.office.Office.{Office}
+use Rattle.office_state.specs.declared.office.person.Person.{Person}
+use Rattle.office_state.proofs.moving_people.Movers.{moving_people-get-settled, moving_people-home_settled, moving_people-key_settled}
+use Rattle.office_state.proofs.moving_people.Movers.{moving_people-len-settled}
+use Rattle.office_state.proofs.round_problems.People.{round_problems-participants_differ}
+use Rattle.office_state.proofs.round_outcomes.Results.{round_outcomes-get-round_results}
+use Rattle.office_state.proofs.round_problems.Rooms.{round_problems-found_each, round_problems-given_open, round_problems-given_once, round_problems-not_kept_back}
+use Rattle.office_state.proofs.round_problems.Rooms.{round_problems-tenant_gets}
+use Rattle.office_state.proofs.moving_people.Settling.{AreFresh, home_in, moving_people-moves_of-with_move}
+use Rattle.office_state.proofs.offices.Moves.{kept_moves}
+
+abbrev Some_home : Person → Option Text
+Some_home v = v.home
+
+moving_people-gone_then : (a b : Bool) → a ≡ true → (a && not b) ≡ false → b ≡ true
+moving_people-gone_then true true e h = refl
+moving_people-gone_then true false e h = cc
+moving_people-gone_then false b e h = cc
+
+moving_people-AllPairs-map : {X Y : Type 0} (R : Y → Y → Type 0) (f : X → Y) (xs : List X)
+    → AllPairs (λ a b. R (f a) (f b)) xs → AllPairs R (map_list f xs)
+moving_people-AllPairs-map R f [] h = λ i j d before within. absurd (omega (arith, within))
+moving_people-AllPairs-map R f (x ∷ xs) h =
+    AllPairs-cons R (f x) (map_list f xs)
+    (All-map (R (f x)) f xs (λ k d b. h 0 (suc k) d (omega arith) (omega (arith, b))))
+    (moving_people-AllPairs-map R f xs (λ i j d before within. h (suc i) (suc j) d (omega (arith, before))
+    (omega (arith, within))))
+
+-- the participants take part
+moving_people-participants_part : (office : Office)
+    → All (λ p. is_participant office p ≡ true) (participants office)
+moving_people-participants_part office =
+    let test : Text × Person → Bool = λ e. not (has_withdrawn office e.0) in
+    let found : All (λ (e : Text × Person). knows_person office e.0 ≡ true)
+    (map.entries office.people) =
+    round_problems-found_each (λ q v. knows_person office q ≡ true) (map.entries office.people)
+    (entries_sorted office.people) (λ q v h. ap is_some (get-entries office.people q ∙ h)) in
+    let kept =
+    All-filter test (λ e. knows_person office e.0 ≡ true) (map.entries office.people) found in
+    let passed = filter_passes test (map.entries office.people) in
+    All-map (λ p. is_participant office p ≡ true) (λ e. e.0)
+    (filter test (map.entries office.people)) (λ k d b. (λ i. kept k d b i && passed k d b i))
+
+module _ (office : Office) (l : IsRegister office.rooms office.people)
+    (ok : IsMarket (round_market office)) (results : office.results ≡ round_results office) where
+  -- the recorded result is that of top trading cycles
+  pub moving_people-recorded_is : (p : Text) → is_participant office p ≡ true
+      → recorded_result office p ≡ result_of office p
+  moving_people-recorded_is p part =
+      ap (option_and_then (λ (given : Assigned). given.room))
+      (ap (λ kept. map.get kept p) results ∙ round_outcomes-get-round_results office p
+      ∙ ap (λ b. cond b (Some (record { room = result_of office p })) None) part)
+
+  -- who moves gets a room
+  moving_people-goes : (p : Text) → is_participant office p ≡ true → moves_out office p ≡ true
+      → is_some (recorded_result office p) ≡ true
+  moving_people-goes p part out =
+      elim (recorded_result office p) as
+      (λ o. recorded_result office p ≡ o → not (is_same_text (home_of office p) o) ≡ true
+      → is_some o ≡ true) [
+        | Some room ↦ λ _ _. refl
+        | None ↦ λ nothing moves. elim (home_of office p) as
+            (λ o. home_of office p ≡ o → not (is_same_text o None) ≡ true → false ≡ true) [
+              | None ↦ λ _ stays. stays
+              | Some room ↦ λ lives _. absurd
+                  (round_problems-tenant_gets office ok p room l part lives (sym (moving_people-recorded_is p part) ∙ nothing))
+            ] refl moves
+      ] refl out
+
+  -- those who move, with all that is known of them
+  moving_people-moving : All (λ p. (is_participant office p ≡ true) × (moves_out office p ≡ true))
+      (filter (moves_out office) (participants office))
+  moving_people-moving = λ k d b. (
+    All-filter (moves_out office) (λ p. is_participant office p ≡ true) (participants office)
+        (moving_people-participants_part office) k d b,
+    filter_passes (moves_out office) (participants office) k d b,
+  )
+
+  pub moving_people-movers_go : AllByRecursion (λ (m : Mover). is_some m.2 ≡ true) (movers office)
+  moving_people-movers_go = recursion_from_All (λ (m : Mover). is_some m.2 ≡ true) (movers office)
+      (All-map (λ (m : Mover). is_some m.2 ≡ true)
+      (λ p. (p, home_of office p, recorded_result office p))
+      (filter (moves_out office) (participants office))
+      (λ k d b. moving_people-goes _ (moving_people-moving k d b).0 (moving_people-moving k d b).1))
+
+  -- each mover comes to the settled home
+  pub moving_people-movers_lead : All (λ (m : Mover). (room : Text) → m.2 ≡ Some room
+      → home_in (settled_people office) m.0 ≡ Some room) (movers office)
+  moving_people-movers_lead =
+      All-map (λ (m : Mover). (room : Text) → m.2 ≡ Some room
+      → home_in (settled_people office) m.0 ≡ Some room)
+      (λ p. (p, home_of office p, recorded_result office p))
+      (filter (moves_out office) (participants office))
+      (λ k d b room e. comes _ (moving_people-moving k d b).0 room e)
+    where
+      known : (p : Text) → is_participant office p ≡ true → knows_person office p ≡ true
+      known p part = (and_parts (knows_person office p) (not (has_withdrawn office p)) part).0
+
+      comes : (p : Text) → is_participant office p ≡ true → (room : Text)
+          → recorded_result office p ≡ Some room
+          → option_and_then (λ (v : Person). v.home) (map.get (settled_people office) p) ≡ Some room
+      comes p part room e =
+          ap (option_and_then (λ (v : Person). v.home)) (moving_people-get-settled office p)
+          ∙ elim (map.get office.people p) as
+          (λ o. is_some o ≡ true → option_and_then (λ (v : Person). v.home)
+          (option_map (λ kept. cond (is_participant office p)
+          (record kept { home = recorded_result office p }) kept) o) ≡ Some room) [
+            | None ↦ λ h. cc
+            | Some kept ↦ λ _. ap (λ b. Some_home
+                (cond b (record kept { home = recorded_result office p }) kept)) part ∙ e
+          ] (known p part)
+
+  -- no two movers are one person, and no two get one room
+  moving_people-names_differ : AllPairs ◌≢◌ (filter (moves_out office) (participants office))
+  moving_people-names_differ =
+      AllPairs-filter ◌≢◌ (moves_out office) (participants office) (round_problems-participants_differ office)
+
+  pub moving_people-movers_differ : AllPairs (λ (a b : Mover). a.0 ≢ b.0) (movers office)
+  moving_people-movers_differ = moving_people-AllPairs-map (λ (a b : Mover). a.0 ≢ b.0)
+      (λ p. (p, home_of office p, recorded_result office p))
+      (filter (moves_out office) (participants office)) moving_people-names_differ
+
+  pub moving_people-new_rooms_differ : NewRoomsDiffer (movers office)
+  moving_people-new_rooms_differ =
+      moving_people-AllPairs-map (λ (a b : Mover). (room : Text) → a.2 ≡ Some room → b.2 ≡ Some room → ⊥)
+      (λ p. (p, home_of office p, recorded_result office p))
+      (filter (moves_out office) (participants office))
+      (λ i j d before within room ea eb.
+      let first = moving_people-moving i d (omega (arith, before, within)) in
+      let second = moving_people-moving j d within in
+      moving_people-names_differ i j d before within
+      (round_problems-given_once office ok _ _ room first.0 second.0 (sym (moving_people-recorded_is _ first.0) ∙ ea)
+      (sym (moving_people-recorded_is _ second.0) ∙ eb)))
+
+  -- homes differ after the settlement
+  moving_people-settled_homes : Unshared (λ p. p.home) (settled_people office)
+  moving_people-settled_homes p q room hp hq =
+      elim (moving_people-home_settled office p room hp) as (λ _. p ≡ q) [
+        | inl a ↦ elim (moving_people-home_settled office q room hq) as (λ _. p ≡ q) [
+          | inl b ↦ round_problems-given_once office ok p q room a.0 b.0 (sym (moving_people-recorded_is p a.0) ∙ a.1)
+              (sym (moving_people-recorded_is q b.0) ∙ b.1)
+          | inr b ↦ absurd (taken_twice p q room a b)
+        ]
+        | inr a ↦ elim (moving_people-home_settled office q room hq) as (λ _. p ≡ q) [
+          | inl b ↦ absurd (taken_twice q p room b a)
+          | inr b ↦ l.homes p q room a.1 b.1
+        ]
+      ]
+    where
+      taken_twice : (p q room : Text)
+          → (is_participant office p ≡ true) × (recorded_result office p ≡ Some room)
+          → (is_participant office q ≡ false) × (home_of office q ≡ Some room) → ⊥
+      taken_twice p q room a b =
+          let free : is_kept_back office room ≡ false =
+          (round_problems-given_open office ok p room a.0 (sym (moving_people-recorded_is p a.0) ∙ a.1)).1 in
+          elim (map.get office.people q) as
+          (λ o. map.get office.people q ≡ o
+          → option_and_then (λ (v : Person). v.home) o ≡ Some room → ⊥) [
+            | None ↦ λ _ h. cc
+            | Some v ↦ λ known lives. round_problems-not_kept_back office room q v free known
+                (moving_people-gone_then (knows_person office q) (has_withdrawn office q) (ap is_some known) b.0)
+                lives
+          ] refl b.1
+
+  pub moving_people-settled_register : IsRegister office.rooms (settled_people office)
+  moving_people-settled_register = record {
+    keys = λ p q key hp hq. l.keys p q key (sym (moving_people-key_settled office p) ∙ hp)
+        (sym (moving_people-key_settled office q) ∙ hq);
+    homes = moving_people-settled_homes;
+    homes_open = λ p room h. elim (moving_people-home_settled office p room h) as
+        (λ _. map.get office.rooms room ≡ Some false) [
+          | inl a ↦ (round_problems-given_open office ok p room a.0 (sym (moving_people-recorded_is p a.0) ∙ a.1)).0
+          | inr a ↦ l.homes_open p room a.1
+        ];
+    few_rooms = l.few_rooms;
+    few_people = subst (λ n. n ≤ people_limit) (sym (moving_people-len-settled office)) l.few_people;
+  }
+
+moving_people-both_by : {X : Type 0} (P Q R : X → Type 0) → ((x : X) → P x → Q x → R x) → (xs : List X)
+    → AllByRecursion P xs → AllByRecursion Q xs → AllByRecursion R xs
+moving_people-both_by P Q R f [] p q = tt
+moving_people-both_by P Q R f (x ∷ xs) p q = (f x p.0 q.0, moving_people-both_by P Q R f xs p.1 q.1)
+
+-- moves of different people who have none in the round yet
+pub moving_people-fresh : (kept : RoundMap RoundMoves) (round : ℕ) (ms : List Mover) (waves : List Wave)
+    → AllByRecursion (λ (m : Mover). map.contains_key (moves_of kept round) m.0 ≡ false) ms
+    → AllPairs (λ (a b : Mover). a.0 ≢ b.0) ms → AreFresh kept (moves_with round ms waves)
+moving_people-fresh kept round [] waves none pairs = tt
+moving_people-fresh kept round (m ∷ ms) [] none pairs = tt
+moving_people-fresh kept round (m ∷ ms) (wave ∷ waves) none pairs =
+    let move : Move = record { round = round; person = m.0; from = m.1; to = m.2; wave = wave } in
+    let value : Moved = record { from = m.1; to = m.2; wave = wave } in
+    let others : AllByRecursion (λ (b : Mover). m.0 ≢ b.0) ms =
+    recursion_from_All (λ (b : Mover). m.0 ≢ b.0) ms
+    (λ k d b. pairs 0 (suc k) d (omega arith) (omega (arith, b))) in (
+      none.0,
+      moving_people-fresh (with_move kept move) round ms waves
+          (moving_people-both_by (λ (b : Mover). m.0 ≢ b.0)
+          (λ (b : Mover). map.contains_key (moves_of kept round) b.0 ≡ false)
+          (λ (b : Mover). map.contains_key (moves_of (with_move kept move) round) b.0 ≡ false)
+          (λ b apart absent.
+          ap (λ moves. map.contains_key moves b.0) (moving_people-moves_of-with_move kept move)
+          ∙ elim (maps-text_cases b.0 m.0) as
+          (λ _. map.contains_key (map.insert (moves_of kept round) m.0 value) b.0 ≡ false) [
+            | inl same ↦ absurd (apart (sym same))
+            | inr other ↦ ap is_some (maps-get-put_other (moves_of kept round) m.0 value b.0 other)
+                ∙ absent
+          ])
+          ms others none.1)
+          (λ i j d before within. pairs (suc i) (suc j) d (omega (arith, before))
+          (omega (arith, within))),
+    )
+
+-- the laws of moves, for the rounds that may have any
+pub record KeepsMoves (ok : ℕ → Bool) (moves : RoundMap RoundMoves) : Type 0 where
+  pub over : (round : ℕ) → map.contains_key moves round ≡ true → ok round ≡ true
+  pub none_empty : (round : ℕ) (kept : RoundMoves) → map.get moves round ≡ Some kept
+      → kept.by_person ≡ map.empty → ⊥
+  pub arrived : (round : ℕ) (p : Text) (moved : Moved)
+      → map.get (moves_of moves round) p ≡ Some moved → is_some moved.to ≡ true
+
+moving_people-not_empty : (m : TextMap Moved) (p : Text) (v : Moved) → map.insert m p v ≡ map.empty → ⊥
+moving_people-not_empty m p v e =
+    let there : map.contains_key (map.insert m p v) p ≡ true = maps-contains_key-put_same m p v in
+    let nowhere : map.contains_key (map.insert m p v) p ≡ false =
+    ap (λ k. map.contains_key k p) e ∙ ap is_some (get-empty text_cmp p) in
+    cc
+
+moving_people-with_move-keeps : (ok : ℕ → Bool) (moves : RoundMap RoundMoves) (move : Move) → KeepsMoves ok moves
+    → ok move.round ≡ true → is_some move.to ≡ true → KeepsMoves ok (with_move moves move)
+moving_people-with_move-keeps ok moves move l fine goes =
+    let value : Moved = record { from = move.from; to = move.to; wave = move.wave } in
+    let kept_now : RoundMoves =
+    record { by_person = map.insert (moves_of moves move.round) move.person value } in
+    record {
+      over = λ round h. elim (nat_cmp round move.round) as
+          (λ o. nat_cmp round move.round ≡ o
+          → is_some (cond (is_eq o) (Some kept_now) (map.get moves round)) ≡ true
+          → ok round ≡ true) [
+            | Less ↦ λ _ there. l.over round there
+            | Equal ↦ λ ties _. ap ok (nat_cmp-IsAntisymmetric round move.round ties) ∙ fine
+            | Greater ↦ λ _ there. l.over round there
+          ] refl (ap is_some (sym (get-insert nat_cmp_total moves move.round kept_now round)) ∙ h);
+      none_empty = λ round kept h none. elim (nat_cmp round move.round) as
+          (λ o. cond (is_eq o) (Some kept_now) (map.get moves round) ≡ Some kept → ⊥) [
+            | Less ↦ λ there. l.none_empty round kept there none
+            | Equal ↦ λ here.
+                let same : kept_now ≡ kept = ap (λ o. unwrap_or o kept_now) here in
+                moving_people-not_empty (moves_of moves move.round) move.person value
+                (ap (λ (k : RoundMoves). k.by_person) same ∙ none)
+            | Greater ↦ λ there. l.none_empty round kept there none
+          ] (sym (get-insert nat_cmp_total moves move.round kept_now round) ∙ h);
+      arrived =
+          λ round p moved h. elim (nat_cmp round move.round) as (λ o. nat_cmp round move.round ≡ o
+          → map.get (kept_moves (cond (is_eq o) (Some kept_now) (map.get moves round))) p ≡ Some moved
+          → is_some moved.to ≡ true) [
+            | Less ↦ λ _ there. l.arrived round p moved there
+            | Equal ↦ λ ties here. elim (maps-text_cases p move.person) as
+                (λ _. is_some moved.to ≡ true) [
+                  | inl same ↦
+                      let is : value ≡ moved =
+                      ap (λ o. unwrap_or o value) (sym
+                      (ap (map.get (map.insert (moves_of moves move.round) move.person value)) same
+                      ∙ maps-get-put_same (moves_of moves move.round) move.person value) ∙ here) in
+                      ap (λ (m : Moved). is_some m.to) (sym is) ∙ goes
+                  | inr other ↦ l.arrived move.round p moved
+                      (sym (maps-get-put_other (moves_of moves move.round) move.person value p other)
+                      ∙ here)
+                ]
+            | Greater ↦ λ _ there. l.arrived round p moved there
+          ] refl (ap (λ o. map.get (kept_moves o) p)
+          (sym (get-insert nat_cmp_total moves move.round kept_now round)) ∙ h);
+    }
+
+pub moving_people-with_moves-keeps : (ok : ℕ → Bool) (moves : RoundMap RoundMoves) (round : ℕ) (ms : List Mover)
+    (waves : List Wave) → KeepsMoves ok moves → ok round ≡ true
+    → AllByRecursion (λ (m : Mover). is_some m.2 ≡ true) ms
+    → KeepsMoves ok (with_moves moves (moves_with round ms waves))
+moving_people-with_moves-keeps ok moves round [] waves l fine goes = l
+moving_people-with_moves-keeps ok moves round (m ∷ ms) [] l fine goes = l
+moving_people-with_moves-keeps ok moves round (m ∷ ms) (wave ∷ waves) l fine goes =
+    let move : Move = record { round = round; person = m.0; from = m.1; to = m.2; wave = wave } in
+    moving_people-with_moves-keeps ok (with_move moves move) round ms waves
+    (moving_people-with_move-keeps ok moves move l fine goes.0) fine goes.1
+
+moving_people-fewer : {X : Type 0} (p : X → Bool) (xs : List X) → length (filter p xs) ≤ length xs
+moving_people-fewer p [] = omega arith
+moving_people-fewer p (x ∷ xs) =
+    let rest = moving_people-fewer p xs in
+    elim (p x) as (λ b. length (cond b (x ∷ filter p xs) (filter p xs)) ≤ length (x ∷ xs)) [
+      | true ↦ omega (arith, rest)
+      | false ↦ omega (arith, rest)
+    ]
+
+-- no more people move than there are
+pub moving_people-few_movers : (office : Office) → IsRegister office.rooms office.people
+    → length (movers office) ≤ people_limit
+moving_people-few_movers office l =
+    let few = l.few_people in
+    let entries : length (map.entries office.people) ≡ map.len office.people =
+    sym (len-entries office.people) in
+    let part : length (participants office)
+    ≡ length (filter (λ e. not (has_withdrawn office e.0)) (map.entries office.people)) =
+    length-map (filter (λ e. not (has_withdrawn office e.0)) (map.entries office.people))
+    (λ e. e.0) in
+    let out : length (movers office) ≡ length (filter (moves_out office) (participants office)) =
+    length-map (filter (moves_out office) (participants office))
+    (λ p. (p, home_of office p, recorded_result office p)) in
+    let a = moving_people-fewer (λ (e : Text × Person). not (has_withdrawn office e.0))
+    (map.entries office.people) in
+    let b = moving_people-fewer (moves_out office) (participants office) in
+    omega (arith, few, entries, part, out, a, b)

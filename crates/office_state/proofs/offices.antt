@@ -1,0 +1,10 @@
+-- Lemmas on offices: people, homes, rooms, moves, lists.
+pub mod Apply
+pub mod Empty
+pub mod Homes
+pub mod KeptLists
+pub mod Moves
+pub mod People
+pub mod Register
+pub mod Tenants
+pub mod Truths

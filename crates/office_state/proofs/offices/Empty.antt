@@ -1,0 +1,65 @@
+-- The empty office is lawful.
+use Rattle.std.proofs.Common.{◌≡◌, ◌≤◌, true, false, Option, Some, None, [], refl, ap, ◌∙◌, sym}
+use Rattle.std.proofs.Common.{subst, arith}
+use Rattle.std.specs.Prelude.{unwrap_or}
+use Rattle.std.specs.Option.{option_and_then, option_map, is_some}
+use Rattle.std.specs.Ordering.{nat_cmp}
+use Rattle.std.specs.FinMap as map
+use Rattle.std.specs.FinMap.{get-empty, len-empty}
+use Rattle.room_types.specs.Texts.{Text, TextMap, text_cmp}
+use Rattle.room_types.proofs.options.Options.{options-none_some}
+use Rattle.office_state.specs.Office.Invariants.{IsLawful, AreLists}
+use Rattle.office_state.specs.Office.{empty_office, had_by}
+use Rattle.office_state.specs.declared.office.moves.RoundMoves.{RoundMoves}
+use Rattle.office_state.specs.declared.office.person.Person.{Person}
+
+offices-nothing_had : (which : Person → Option Text) (p : Text)
+    → had_by which (map.empty {R = text_cmp}) p ≡ None
+offices-nothing_had which p = ap (option_and_then which) (get-empty text_cmp p)
+
+pub offices-none_known : {A : Type 0} (o : Option A) → o ≡ None → is_some o ≡ true → ⊥
+offices-none_known o n s = let none : is_some o ≡ false = ap is_some n in cc
+
+-- no lists and withdrawals
+pub offices-no_lists : (rooms : TextMap _) (people : TextMap Person)
+    → AreLists rooms people map.empty map.empty
+offices-no_lists rooms people = record {
+  choosers = λ p h. absurd (offices-none_known _ (get-empty text_cmp p) h);
+  listed = λ p codes e. absurd (options-none_some _ codes (get-empty text_cmp p) e);
+  none_empty = λ p e. options-none_some _ [] (get-empty text_cmp p) e;
+  chosen = λ p codes e. absurd (options-none_some _ codes (get-empty text_cmp p) e);
+  withdrawers = λ p h. absurd (offices-none_known _ (get-empty text_cmp p) h);
+}
+
+pub offices-empty_lawful : IsLawful empty_office
+offices-empty_lawful = record {
+  register = record {
+    keys = λ p q key hp hq. absurd (options-none_some _ key (offices-nothing_had (λ v. Some v.key) p) hp);
+    homes = λ p q room hp hq. absurd (options-none_some _ room (offices-nothing_had (λ v. v.home) p) hp);
+    homes_open = λ p room h. absurd (options-none_some _ room (offices-nothing_had (λ v. v.home) p) h);
+    few_rooms = subst (λ n. n ≤ 2000) (sym (len-empty text_cmp _)) (omega arith);
+    few_people = subst (λ n. n ≤ 2000) (sym (len-empty text_cmp _)) (omega arith);
+  };
+  lists = offices-no_lists map.empty map.empty;
+  round = record {
+    few_rounds = omega arith;
+    numbered = λ e. absurd (cc);
+    idle_choices = λ _. refl;
+    idle_withdrawn = λ _. refl;
+  };
+  kept = record {
+    few = subst (λ n. n ≤ 200) (sym (len-empty text_cmp _)) (omega arith);
+    short = λ label kept e. absurd (options-none_some _ kept (get-empty text_cmp label) e);
+    counted = λ label kept e. absurd (options-none_some _ kept (get-empty text_cmp label) e);
+  };
+  words = record { none = λ _. refl; each = λ e. absurd (cc) };
+  results = record { none = λ _. refl; given = λ e. absurd (cc) };
+  moves = record {
+    over = λ round h. absurd (offices-none_known _ (get-empty nat_cmp round) h);
+    none_empty = λ round kept e. absurd (options-none_some _ kept (get-empty nat_cmp round) e);
+    arrived = λ round p moved e. absurd
+        (options-none_some _ moved (ap (λ (o : Option RoundMoves). map.get
+        (unwrap_or (option_map (λ (kept : RoundMoves). kept.by_person) o) map.empty) p)
+        (get-empty nat_cmp round) ∙ get-empty text_cmp p) e);
+  };
+}

@@ -1,0 +1,7 @@
+-- Lemmas on what the trade gives in a round.
+pub mod Apart
+pub mod Lists
+pub mod Ranks
+pub mod Results
+pub mod Stays
+pub mod WellTraded

@@ -1,0 +1,267 @@
+-- What each participant gets, and how it is ranked.
+use Rattle.std.proofs.Common.{◌≡◌, ℕ, ◌<◌, ◌≤◌, ◌+◌, true, cond, is_none, le_refl, arith}
+use Rattle.std.proofs.Common.{List, [], length, get_or, Option, Some, None, refl}
+use Rattle.std.proofs.Common.{sym, ap, ◌∙◌, subst}
+use Rattle.std.specs.Option.{option_map, option_and_then, is_some, unwrap_or}
+use Rattle.std.proofs.Math.Nat.{le_trans}
+use Rattle.std.proofs.lemmas.Option.{slice_get-get_or}
+use Rattle.room_types.specs.Texts.{Text}
+use Rattle.trade_line.specs.Assignment.{IsAssignment}
+use Rattle.trade_line.specs.Market.{IsMarket, home, list_of}
+use Rattle.trade_line.specs.OtherList.{with_list, IsListFor}
+use Rattle.trade_line.specs.Rank.{rank}
+use Rattle.trade_line.specs.TopTradingCycles.{gets}
+use Rattle.trade_line.proofs.welfare.OtherLists.{welfare-with_list_market}
+use Rattle.trade_line.proofs.welfare.Welfare.{welfare-gets_assignment, welfare-gets_rational, welfare-gets_efficient}
+use Rattle.office_state.specs.Office.{home_of}
+use Rattle.office_state.specs.Round.{is_participant, round_people, round_rooms, round_market}
+use Rattle.office_state.specs.Round.{round_home, round_room, round_list, result_of, result_by}
+use Rattle.office_state.specs.Round.{round_rank, rank_by_number, number_in}
+use Rattle.office_state.specs.Round.Laws.{IsRationalFor, IsRoundAssignment, IsEfficientFor}
+use Rattle.office_state.specs.declared.office.Office.{Office}
+use Rattle.office_state.proofs.round_problems.Names.{round_problems-number_in-below, round_problems-number_in-name, round_problems-number_in-at}
+use Rattle.office_state.proofs.round_problems.Names.{round_problems-slice_get-number}
+use Rattle.office_state.proofs.round_problems.People.{round_problems-participant_number, round_problems-number_of_participant}
+use Rattle.office_state.proofs.round_problems.People.{round_problems-rooms_differ, round_problems-people_differ}
+use Rattle.office_state.proofs.round_problems.Problem.{round_problems-market_people, round_problems-market_rooms, round_problems-market_home}
+use Rattle.office_state.proofs.offices.Truths.{offices-then_some}
+
+-- a room of the round, named and numbered again
+round_outcomes-number-round_room : (office : Office) (o : Option ℕ)
+    → ((r : ℕ) → o ≡ Some r → r < length (round_rooms office))
+    → option_and_then (number_in (round_rooms office)) (round_room office o) ≡ o
+round_outcomes-number-round_room office None known = refl
+round_outcomes-number-round_room office (Some r) known =
+    ap (option_and_then (number_in (round_rooms office)))
+    (slice_get-get_or (round_rooms office) r [] (known r refl))
+    ∙ round_problems-number_in-at (round_rooms office) r [] (round_problems-rooms_differ office) (known r refl)
+
+-- and it is a room of the round
+round_outcomes-round_room-known : (office : Office) (o : Option ℕ)
+    → ((r : ℕ) → o ≡ Some r → r < length (round_rooms office))
+    → (room : Text) → round_room office o ≡ Some room
+    → is_some (number_in (round_rooms office) room) ≡ true
+round_outcomes-round_room-known office None known room e = absurd (cc)
+round_outcomes-round_room-known office (Some r) known room e =
+    ap is_some (ap (option_and_then (number_in (round_rooms office))) (sym e)
+    ∙ round_outcomes-number-round_room office (Some r) known)
+
+module _ (office : Office) (ok : IsMarket (round_market office)) (person : Text) (n : ℕ)
+    (numbered : number_in (round_people office) person ≡ Some n) where
+  pub round_outcomes-within : n < (round_market office).people
+  round_outcomes-within = subst (λ k. n < k) (sym (round_problems-market_people office))
+      (round_problems-number_in-below (round_people office) person n numbered)
+
+  round_outcomes-rank-numbered : (room : Option Text)
+      → round_rank office person room ≡ rank_by_number office n room
+  unfolding round_rank
+  round_outcomes-rank-numbered room =
+      ap (λ o. rank_by_number office (unwrap_or o (length (round_people office))) room) numbered
+
+  -- what a person ranks by name is ranked by number
+  pub round_outcomes-rank-named : (room : Option Text)
+      → ((name : Text) → room ≡ Some name → is_some (number_in (round_rooms office) name) ≡ true)
+      → round_rank office person room
+      ≡ rank (round_market office) n (option_and_then (number_in (round_rooms office)) room)
+  round_outcomes-rank-named room known = round_outcomes-rank-numbered room ∙ by_room room known
+    where
+      round_outcomes-by_number : (o : Option ℕ) → is_some o ≡ true
+          → unwrap_or (option_map (λ r. rank (round_market office) n (Some r)) o)
+          (length (list_of (round_market office) n) + 1) ≡ rank (round_market office) n o
+      round_outcomes-by_number None h = absurd (cc)
+      round_outcomes-by_number (Some r) h = refl
+
+      by_room : (o : Option Text) → ((name : Text) → o ≡ Some name
+          → is_some (number_in (round_rooms office) name) ≡ true)
+          → rank_by_number office n o ≡ rank (round_market office) n
+          (option_and_then (number_in (round_rooms office)) o)
+      by_room None known = refl
+      by_room (Some name) known = round_outcomes-by_number (number_in (round_rooms office) name) (known name refl)
+
+  pub round_outcomes-rank-given : (o : Option ℕ) → ((r : ℕ) → o ≡ Some r → r < (round_market office).rooms)
+      → round_rank office person (round_room office o) ≡ rank (round_market office) n o
+  round_outcomes-rank-given o known =
+      let round_outcomes-below : (r : ℕ) → o ≡ Some r → r < length (round_rooms office) =
+      λ r e. subst (λ k. r < k) (round_problems-market_rooms office) (known r e) in
+      round_outcomes-rank-named (round_room office o) (round_outcomes-round_room-known office o round_outcomes-below)
+      ∙ ap (rank (round_market office) n) (round_outcomes-number-round_room office o round_outcomes-below)
+
+  pub round_outcomes-result-numbered : result_of office person ≡ round_room office (gets (round_market office) n)
+  unfolding result_of
+  round_outcomes-result-numbered = ap (option_and_then
+      (λ number. round_room office (gets (round_market office) number))) numbered
+
+  pub round_outcomes-result_by-numbered : (codes : List Text)
+      → result_by office person codes
+      ≡ round_room office (gets (with_list (round_market office) n (round_list office person codes))
+      n)
+  unfolding result_by
+  round_outcomes-result_by-numbered codes =
+      ap (option_and_then (λ number. round_room office
+      (gets (with_list (round_market office) number (round_list office person codes)) number)))
+      numbered
+
+  pub round_outcomes-rank-result : round_rank office person (result_of office person)
+      ≡ rank (round_market office) n (gets (round_market office) n)
+  round_outcomes-rank-result =
+      ap (round_rank office person) round_outcomes-result-numbered
+      ∙ round_outcomes-rank-given (gets (round_market office) n)
+      (λ r e. (welfare-gets_assignment (round_market office) ok).known n r round_outcomes-within e)
+
+  -- the room by another list is not ranked above the result
+  pub round_outcomes-no_gain-named : (codes : List Text)
+      → IsListFor (round_market office) n (round_list office person codes)
+      → rank (round_market office) n (gets (round_market office) n) ≤ rank (round_market office) n
+      (gets (with_list (round_market office) n (round_list office person codes)) n)
+      → (room : Option Text) → room ≡ round_room office
+      (gets (with_list (round_market office) n (round_list office person codes)) n)
+      → round_rank office person (result_of office person) ≤ round_rank office person room
+  round_outcomes-no_gain-named codes fits least room is =
+      let other = with_list (round_market office) n (round_list office person codes) in
+      let ranked : round_rank office person room ≡ rank (round_market office) n (gets other n) =
+      ap (round_rank office person) is
+      ∙ round_outcomes-rank-given (gets other n) (λ r e.
+      (welfare-gets_assignment other (welfare-with_list_market (round_market office) ok n
+      (round_list office person codes) fits)).known n r round_outcomes-within e) in
+      subst (λ k. k ≤ round_rank office person room) (sym round_outcomes-rank-result)
+      (subst (λ k. rank (round_market office) n (gets (round_market office) n) ≤ k)
+      (sym ranked) least)
+
+  -- nobody ranks the result below the home
+  pub round_outcomes-rational-named : round_rank office person (result_of office person) ≤ round_rank office person
+      (home_of office person)
+  round_outcomes-rational-named =
+      let lives : home (round_market office) n ≡ round_home office person =
+      round_problems-market_home office n (subst (λ k. n < k) (round_problems-market_people office) round_outcomes-within)
+      ∙ ap (round_home office) (round_problems-number_in-name (round_people office) person n [] numbered) in
+      subst (λ k. k ≤ round_rank office person (home_of office person)) (sym round_outcomes-rank-result)
+      (le_trans (welfare-gets_rational (round_market office) ok n round_outcomes-within)
+      (subst (λ k. rank (round_market office) n (home (round_market office) n) ≤ k)
+      (sym (round_outcomes-rank-numbered (home_of office person))) (least (home_of office person) lives)))
+    where
+      -- a home outside the round is ranked below all else
+      round_outcomes-by_number : (o : Option ℕ) → home (round_market office) n ≡ o
+          → rank (round_market office) n (home (round_market office) n) ≤ unwrap_or
+          (option_map (λ r. rank (round_market office) n (Some r)) o)
+          (length (list_of (round_market office) n) + 1)
+      round_outcomes-by_number (Some r) e =
+          subst (λ k. rank (round_market office) n (home (round_market office) n) ≤ k)
+          (ap (rank (round_market office) n) e)
+          (le_refl (rank (round_market office) n (home (round_market office) n)))
+      round_outcomes-by_number None e =
+          let floor : rank (round_market office) n (home (round_market office) n)
+          ≡ length (list_of (round_market office) n) =
+          ap (rank (round_market office) n) e
+          ∙ ap (λ b. cond b (length (list_of (round_market office) n))
+          (length (list_of (round_market office) n) + 1)) (ap is_none e) in
+          omega (arith, floor)
+
+      least : (o : Option Text) → home (round_market office) n
+          ≡ option_and_then (number_in (round_rooms office)) o
+          → rank (round_market office) n (home (round_market office) n) ≤ rank_by_number office n o
+      least None e = subst (λ k. rank (round_market office) n (home (round_market office) n) ≤ k)
+          (ap (rank (round_market office) n) e)
+          (le_refl (rank (round_market office) n (home (round_market office) n)))
+      least (Some room) e = round_outcomes-by_number (number_in (round_rooms office) room) e
+
+pub round_outcomes-rational : (office : Office) → IsMarket (round_market office)
+    → IsRationalFor office (result_of office)
+round_outcomes-rational office ok person part =
+    let place = round_problems-number_of_participant office person part in
+    round_outcomes-rational-named office ok person place.0 place.1
+
+-- ---- no better assignment
+
+module _ (office : Office) where
+  abbrev pub person_at : ℕ → Text
+  person_at n = get_or (round_people office) n []
+
+  pub round_outcomes-below : (n : ℕ) → n < (round_market office).people → n < length (round_people office)
+  round_outcomes-below n h = subst (λ k. n < k) (round_problems-market_people office) h
+
+  pub round_outcomes-number_at : (n : ℕ) → n < (round_market office).people
+      → number_in (round_people office) (person_at n) ≡ Some n
+  round_outcomes-number_at n h = round_problems-number_in-at (round_people office) n [] (round_problems-people_differ office) (round_outcomes-below n h)
+
+  pub round_outcomes-takes_part : (n : ℕ) → n < (round_market office).people
+      → is_participant office (person_at n) ≡ true
+  round_outcomes-takes_part n h = sym (round_problems-participant_number office (person_at n)) ∙ ap is_some (round_outcomes-number_at n h)
+
+  -- a room of the round, or nothing, numbered and named again
+  pub round_outcomes-named_again : (o : Option Text)
+      → ((name : Text) → o ≡ Some name → is_some (number_in (round_rooms office) name) ≡ true)
+      → round_room office (option_and_then (number_in (round_rooms office)) o) ≡ o
+  round_outcomes-named_again None known = refl
+  round_outcomes-named_again (Some name) known =
+      round_outcomes-by_number (number_in (round_rooms office) name) refl (known name refl)
+    where
+      round_outcomes-by_number : (o : Option ℕ) → number_in (round_rooms office) name ≡ o → is_some o ≡ true
+          → round_room office o ≡ Some name
+      round_outcomes-by_number None e h = absurd (cc)
+      round_outcomes-by_number (Some r) e h = round_problems-slice_get-number (round_rooms office) name r e
+
+module _ (office : Office) (ok : IsMarket (round_market office)) (gives : Text → Option Text)
+    (fits : IsRoundAssignment office gives) where
+  -- the assignment by numbers
+  round_outcomes-by_number : ℕ → Option ℕ
+  round_outcomes-by_number n = option_and_then (number_in (round_rooms office)) (gives (person_at office n))
+
+  round_outcomes-by_number-IsAssignment : IsAssignment (round_market office) round_outcomes-by_number
+  unfolding round_outcomes-by_number
+  round_outcomes-by_number-IsAssignment = record {
+    known = λ n r h e.
+        let room = offices-then_some (number_in (round_rooms office)) (gives (person_at office n)) r e in
+        subst (λ k. r < k) (sym (round_problems-market_rooms office))
+        (round_problems-number_in-below (round_rooms office) room.0 r room.2);
+    differ = λ n k r hn hk en ek.
+        let room = offices-then_some (number_in (round_rooms office)) (gives (person_at office n)) r en in
+        let other = offices-then_some (number_in (round_rooms office)) (gives (person_at office k)) r ek in
+        let same : other.0 ≡ room.0 = sym (round_problems-number_in-name (round_rooms office) other.0 r [] other.2)
+        ∙ round_problems-number_in-name (round_rooms office) room.0 r [] room.2 in
+        let one : person_at office n ≡ person_at office k =
+        fits.differ (person_at office n) (person_at office k) room.0 (round_outcomes-takes_part office n hn)
+        (round_outcomes-takes_part office k hk) room.1 (other.1 ∙ ap (λ t. Some t) same) in
+        cc (sym (round_outcomes-number_at office n hn) ∙ ap (number_in (round_people office)) one
+        ∙ round_outcomes-number_at office k hk);
+  }
+
+  round_outcomes-same_by_number : ((person : Text) → is_participant office person ≡ true
+      → round_rank office person (gives person) ≤ round_rank office person
+      (result_of office person))
+      → (n : ℕ) → n < (round_market office).people → round_outcomes-by_number n ≡ gets (round_market office) n
+  unfolding round_outcomes-by_number
+  round_outcomes-same_by_number better n h =
+      welfare-gets_efficient (round_market office) ok round_outcomes-by_number round_outcomes-by_number-IsAssignment (λ k hk.
+      let ranked : round_rank office (person_at office k) (gives (person_at office k))
+      ≡ rank (round_market office) k (round_outcomes-by_number k) =
+      round_outcomes-rank-named office ok (person_at office k) k (round_outcomes-number_at office k hk)
+      (gives (person_at office k)) (λ room e. fits.known (person_at office k) room
+      (round_outcomes-takes_part office k hk) e) in
+      subst (λ x. x ≤ rank (round_market office) k (gets (round_market office) k)) ranked
+      (subst (λ x. round_rank office (person_at office k) (gives (person_at office k)) ≤ x)
+      (round_outcomes-rank-result office ok (person_at office k) k (round_outcomes-number_at office k hk))
+      (better (person_at office k) (round_outcomes-takes_part office k hk)))) n h
+
+  pub round_outcomes-none_better : ((person : Text) → is_participant office person ≡ true
+      → round_rank office person (gives person) ≤ round_rank office person
+      (result_of office person))
+      → (person : Text) → is_participant office person ≡ true
+      → gives person ≡ result_of office person
+  unfolding round_outcomes-by_number
+  round_outcomes-none_better better person part =
+      let place = round_problems-number_of_participant office person part in
+      let here : get_or (round_people office) place.0 [] ≡ person =
+      round_problems-number_in-name (round_people office) person place.0 [] place.1 in
+      let h : place.0 < (round_market office).people =
+      subst (λ k. place.0 < k) (sym (round_problems-market_people office))
+      (round_problems-number_in-below (round_people office) person place.0 place.1) in
+      sym (round_outcomes-named_again office (gives person) (λ room e. fits.known person room part e))
+      ∙ ap (λ p. round_room office (option_and_then (number_in (round_rooms office)) (gives p)))
+      (sym here)
+      ∙ ap (round_room office) (round_outcomes-same_by_number better place.0 h)
+      ∙ sym (round_outcomes-result-numbered office ok person place.0 place.1)
+
+pub round_outcomes-efficient : (office : Office) → IsMarket (round_market office)
+    → IsEfficientFor office (result_of office)
+round_outcomes-efficient office ok gives fits better person part =
+    round_outcomes-none_better office ok gives fits better person part

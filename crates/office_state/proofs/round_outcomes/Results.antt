@@ -1,0 +1,159 @@
+-- The results of a round as they are recorded: one for each participant, by identifier.
+use Rattle.std.proofs.Common.{◌≡◌, ℕ, ◌<◌, true, false, cond}
+use Rattle.std.proofs.Common.{List, [], ◌∷◌, ◌||◌, Option, Some, None, map, refl}
+use Rattle.std.proofs.Common.{sym, ap, ◌∙◌, subst, inl, inr}
+use Rattle.std.specs.Option.{option_map, option_and_then, is_some}
+use Rattle.std.specs.Ordering.{eq_by_cmp}
+use Rattle.std.specs.Cmp.Lexicographic.{nat_list_cmp_total}
+use Rattle.std.specs.List.{slice_get, list_any}
+use Rattle.std.specs.List.Sorted.{IsStrictlySortedBy}
+use Rattle.std.specs.Map.{keys_of}
+use Rattle.std.specs.FinMap as maps
+use Rattle.std.specs.FinMap.{find, get-from_entries, same_map}
+use Rattle.room_types.proofs.maps.Trees.{maps-entries-sorted}
+use Rattle.room_types.specs.Texts.{Text, TextMap, text_cmp}
+use Rattle.room_types.proofs.maps.TextMaps.{maps-exact_texts, maps-text_cases, maps-differ}
+use Rattle.trade_line.specs.Assignment.{given_in}
+use Rattle.trade_line.specs.Market.{IsMarket}
+use Rattle.trade_line.specs.TopTradingCycles.{gets, ttc}
+use Rattle.trade_line.proofs.welfare.Given.{welfare-given_gets}
+use Rattle.office_state.specs.Office.{participants}
+use Rattle.office_state.specs.Round.{is_participant, round_people, round_rooms, round_market}
+use Rattle.office_state.specs.Round.{round_room, result_of}
+use Rattle.office_state.specs.Round.{round_results, number_in}
+use Rattle.office_state.specs.Round.Laws.{HaveSameEntries, HaveSameRound}
+use Rattle.office_state.specs.declared.office.Assigned.{Assigned}
+use Rattle.office_state.specs.declared.office.Office.{Office}
+use Rattle.office_state.proofs.round_problems.Names.{round_problems-number_in-below}
+use Rattle.office_state.proofs.round_problems.People.{round_problems-participants_ascend, round_problems-participants_hold}
+use Rattle.office_state.proofs.round_problems.People.{round_problems-participant_number}
+use Rattle.office_state.proofs.round_problems.Problem.{round_problems-market_people}
+
+round_outcomes-find_named : {A : Type 0} (f : Text → A) (names : List Text) (q : Text)
+    → find text_cmp q (map (λ name. (name, f name)) names)
+    ≡ cond (list_any (eq_by_cmp text_cmp q) names) (Some (f q)) None
+round_outcomes-find_named f [] q = refl
+round_outcomes-find_named f (name ∷ names) q =
+    elim (maps-text_cases q name) as (λ _. cond (eq_by_cmp text_cmp q name) (Some (f name))
+    (find text_cmp q (map (λ n. (n, f n)) names))
+    ≡ cond (eq_by_cmp text_cmp q name || list_any (eq_by_cmp text_cmp q) names)
+    (Some (f q)) None) [
+      | inl same ↦ elim (eq_by_cmp text_cmp q name) as
+          (λ b. eq_by_cmp text_cmp q name ≡ b
+          → cond b (Some (f name)) (find text_cmp q (map (λ n. (n, f n)) names))
+          ≡ cond (b || list_any (eq_by_cmp text_cmp q) names) (Some (f q)) None) [
+            | true ↦ λ e. ap (λ t. Some (f t)) (sym same)
+            | false ↦ λ e. absurd (maps-differ q name same e)
+          ] refl
+      | inr other ↦
+          ap (λ b. cond b (Some (f name)) (find text_cmp q (map (λ n. (n, f n)) names))) other
+          ∙ round_outcomes-find_named f names q
+          ∙ sym (ap (λ b. cond (b || list_any (eq_by_cmp text_cmp q) names) (Some (f q)) None)
+          other)
+    ]
+
+-- what the table of results says of a person
+pub round_outcomes-get-round_results : (office : Office) (person : Text)
+    → maps.get (round_results office) person
+    ≡ cond (is_participant office person) (Some (record { room = result_of office person })) None
+unfolding round_results
+round_outcomes-get-round_results office person =
+    get-from_entries nat_list_cmp_total
+    (map (λ p. (p, record { room = result_of office p })) (participants office)) person
+    ∙ round_outcomes-find_named (λ p. record { room = result_of office p }) (participants office) person
+    ∙ ap (λ b. cond b (Some (record { room = result_of office person })) None)
+    (round_problems-participants_hold office person)
+
+pub round_outcomes-contains_key-round_results : (office : Office) (person : Text)
+    → maps.contains_key (round_results office) person ≡ is_participant office person
+round_outcomes-contains_key-round_results office person =
+    ap is_some (round_outcomes-get-round_results office person)
+    ∙ (let given : Assigned = record { room = result_of office person } in
+    elim (is_participant office person) as
+    (λ b. is_some (cond b (Some given) None) ≡ b) [ true ↦ refl | false ↦ refl ])
+
+round_outcomes-keys_named : {A : Type 0} (f : Text → A) (names : List Text)
+    → keys_of (map (λ name. (name, f name)) names) ≡ names
+round_outcomes-keys_named f [] = refl
+round_outcomes-keys_named f (name ∷ names) = ap (λ (rest : List Text). name ∷ rest) (round_outcomes-keys_named f names)
+
+-- the results stand by identifier
+pub round_outcomes-entries-round_results : (office : Office)
+    → maps.entries (round_results office)
+    ≡ map (λ person. (person, record { room = result_of office person })) (participants office)
+unfolding round_results
+round_outcomes-entries-round_results office =
+    maps-entries-sorted nat_list_cmp_total
+    (map (λ person. (person, record { room = result_of office person })) (participants office))
+    (subst (λ names. IsStrictlySortedBy text_cmp names)
+    (sym (round_outcomes-keys_named (λ person. record { room = result_of office person })
+    (participants office))) (round_problems-participants_ascend office))
+
+-- what the line of askers gives, by name
+pub round_outcomes-results-same : (office : Office) (results : TextMap Assigned) (people rooms : List Text)
+    (given : List (Option ℕ)) → IsMarket (round_market office)
+    → people ≡ round_people office → rooms ≡ round_rooms office → given ≡ ttc (round_market office)
+    → ((person : Text) → maps.get results person
+    ≡ option_map (λ number. record
+    { room = option_and_then (slice_get rooms) (given_in given number) })
+    (number_in people person))
+    → results ≡ round_results office
+unfolding result_of
+round_outcomes-results-same office results people rooms given ok is_people is_rooms is_given told =
+    same_map nat_list_cmp_total maps-exact_texts results (round_results office) (λ person.
+    let by_number : ℕ → Assigned =
+    λ number. record { room = round_room office (gets (round_market office) number) } in
+    let as_given : ℕ → Assigned =
+    λ number. record {
+      room = round_room office
+          (given_in (ttc (round_market office)) number);
+    } in
+    told person
+    ∙ (λ i. option_map (λ number. record
+    { room = option_and_then (slice_get (is_rooms i)) (given_in (is_given i) number) })
+    (number_in (is_people i) person))
+    ∙ elim (number_in (round_people office) person) as
+    (λ o. number_in (round_people office) person ≡ o → is_some o ≡ is_participant office person
+    → option_map as_given o ≡ cond (is_participant office person)
+    (Some (record {
+      room = option_and_then
+          (λ number. round_room office (gets (round_market office) number)) o;
+    })) None) [
+      | None ↦ λ e part. ap (λ b. cond b (Some (record { room = None })) None) part
+      | Some number ↦ λ e part.
+          ap (λ o. Some (record { room = round_room office o }))
+          (welfare-given_gets (round_market office) ok number
+          (subst (λ n. number < n) (sym (round_problems-market_people office))
+          (round_problems-number_in-below (round_people office) person number e)))
+          ∙ ap (λ b. cond b (Some (by_number number)) None) part
+    ] refl (round_problems-participant_number office person)
+    ∙ sym (round_outcomes-get-round_results office person))
+
+-- ---- what does not change the round
+
+-- the one office with what the round is made of from the other
+round_outcomes-blend : (one other : Office) → HaveSameEntries one other
+    → one ≡ record one {
+      rooms = other.rooms;
+      people = other.people;
+      choices = other.choices;
+      withdrawn = other.withdrawn;
+      words = other.words;
+    }
+round_outcomes-blend one other same =
+    λ i. record one {
+      rooms = same.rooms i;
+      people = same.people i;
+      choices = same.choices i;
+      withdrawn = same.withdrawn i;
+      words = same.words i;
+    }
+
+pub round_outcomes-same_round : (one other : Office) → HaveSameEntries one other → HaveSameRound one other
+unfolding round_people round_rooms round_market result_of round_results
+round_outcomes-same_round one other same = record {
+  people = ap round_people (round_outcomes-blend one other same);
+  rooms = ap round_rooms (round_outcomes-blend one other same);
+  market = ap round_market (round_outcomes-blend one other same);
+  results = ap round_results (round_outcomes-blend one other same);
+}

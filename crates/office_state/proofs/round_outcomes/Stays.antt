@@ -1,0 +1,20 @@
+-- The round's results do not hang on the phase and on what is recorded of results.
+use Rattle.std.proofs.Common.{◌≡◌, refl}
+use Rattle.room_types.specs.Texts.{TextMap}
+use Rattle.room_types.specs.declared.phase.Phase.{Phase}
+use Rattle.office_state.specs.Round.{round_results}
+use Rattle.office_state.specs.declared.office.Assigned.{Assigned}
+use Rattle.office_state.specs.declared.office.Office.{Office}
+use Rattle.office_state.proofs.round_outcomes.Results.{round_outcomes-same_round}
+
+pub round_outcomes-round_results-along : (office : Office) (results : TextMap Assigned) (phase : Phase)
+    → round_results (record office { results = results; phase = phase }) ≡ round_results office
+round_outcomes-round_results-along office results phase =
+    (round_outcomes-same_round (record office { results = results; phase = phase }) office
+    (record {
+      rooms = refl;
+      people = refl;
+      choices = refl;
+      withdrawn = refl;
+      words = refl;
+    })).results

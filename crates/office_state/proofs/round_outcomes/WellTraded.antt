@@ -1,0 +1,60 @@
+-- What top trading cycles gives in a lawful office is well traded, and so are the recorded results.
+use Rattle.std.proofs.Common.{◌≡◌, ◌≤◌, true, Option, sym, subst, ◌∙◌}
+use Rattle.room_types.specs.Texts.{Text}
+use Rattle.office_state.specs.Office.Invariants.{IsLawful}
+use Rattle.office_state.specs.Office.{home_of, recorded_result}
+use Rattle.office_state.specs.Office.Phases.{has_results}
+use Rattle.office_state.specs.Round.{is_participant, result_of, round_rank}
+use Rattle.office_state.specs.Round.Laws.{IsWellTraded}
+use Rattle.office_state.specs.declared.office.Office.{Office}
+use Rattle.office_state.proofs.round_outcomes.Apart.{round_outcomes-apart}
+use Rattle.office_state.proofs.round_problems.Problem.{round_problems-lawful-IsMarket}
+use Rattle.office_state.proofs.round_problems.Rooms.{round_problems-given_numbered, round_problems-given_once}
+use Rattle.office_state.proofs.moving_people.Settled.{moving_people-recorded_is}
+use Rattle.office_state.proofs.round_outcomes.Ranks.{round_outcomes-rational, round_outcomes-efficient}
+
+pub round_outcomes-traded : (office : Office) → IsLawful office → IsWellTraded office (result_of office)
+round_outcomes-traded office l = record {
+  assignment = record {
+    known = λ p room part e. round_problems-given_numbered office (round_problems-lawful-IsMarket office l) p room part e;
+    differ = λ p q room part_p part_q ep eq. round_problems-given_once office
+        (round_problems-lawful-IsMarket office l) p q room part_p part_q ep eq;
+  };
+  rational = round_outcomes-rational office (round_problems-lawful-IsMarket office l);
+  efficient = round_outcomes-efficient office (round_problems-lawful-IsMarket office l);
+  apart = round_outcomes-apart office l.register (round_problems-lawful-IsMarket office l);
+}
+
+-- so is whatever gives each participant the same
+round_outcomes-traded_too : (office : Office) (f g : Text → Option Text) → IsWellTraded office f
+    → ((p : Text) → is_participant office p ≡ true → g p ≡ f p) → IsWellTraded office g
+round_outcomes-traded_too office f g w same = record {
+  assignment = record {
+    known = λ p room part e. w.assignment.known p room part (sym (same p part) ∙ e);
+    differ = λ p q room part_p part_q ep eq. w.assignment.differ p q room part_p part_q
+        (sym (same p part_p) ∙ ep) (sym (same q part_q) ∙ eq);
+  };
+  rational = λ p part. subst (λ room. round_rank office p room ≤ round_rank office p
+      (home_of office p)) (sym (same p part)) (w.rational p part);
+  efficient = λ gives assigned better p part.
+      w.efficient gives assigned (λ q takes. subst
+      (λ room. round_rank office q (gives q) ≤ round_rank office q room) (same q takes)
+      (better q takes)) p part
+      ∙ sym (same p part);
+  apart = λ group gives trade better p h.
+      w.apart group gives trade (λ q hq. subst
+      (λ room. round_rank office q (gives q) ≤ round_rank office q room)
+      (same q (trade.participants q hq)) (better q hq)) p h
+      ∙ sym (same p (trade.participants p h));
+}
+
+pub round_outcomes-recorded : (office : Office) → IsLawful office → has_results office.phase ≡ true → (p : Text)
+    → is_participant office p ≡ true → recorded_result office p ≡ result_of office p
+round_outcomes-recorded office l there p part =
+    moving_people-recorded_is office l.register (round_problems-lawful-IsMarket office l) (l.results.given there) p part
+
+pub round_outcomes-recorded_traded : (office : Office) → IsLawful office → has_results office.phase ≡ true
+    → IsWellTraded office (recorded_result office)
+round_outcomes-recorded_traded office l there =
+    round_outcomes-traded_too office (result_of office) (recorded_result office) (round_outcomes-traded office l)
+    (round_outcomes-recorded office l there)

@@ -1,0 +1,172 @@
+-- Who takes part: each person once, also in the drawn order.
+use Rattle.std.proofs.Common.{◌≡◌, ◌≢◌, ℕ, ◌+◌, Bool, true, false, cond, not, ◌&&◌, ◌||◌, List, []}
+use Rattle.std.proofs.Common.{◌∷◌, length, get_or, Option, Some, None, map, refl, sym, ap, ◌∙◌}
+use Rattle.std.proofs.Common.{subst, T}
+use Rattle.std.specs.declared.cmp.Ordering.TheVariants.{Less}
+use Rattle.std.specs.Ordering.{eq_by_cmp}
+use Rattle.std.specs.Cmp.{tied_itself}
+use Rattle.std.specs.Cmp.Lexicographic.{nat_list_cmp_total, nat_list_eq_equiv, bytes_decides}
+use Rattle.std.specs.List.{AllPairs, AllByRecursion, filter, list_any}
+use Rattle.std.specs.List.Sorted.{IsPermutation, IsStrictlySortedBy}
+use Rattle.std.specs.Option.{is_some, option_map}
+use Rattle.std.specs.FinMap as maps
+use Rattle.std.specs.FinMap.{entries_sorted, get-entries, find, is_sorted}
+use Rattle.std.specs.FinMap.Entries.{below_all, where_key, find-where_key, is_some-find}
+use Rattle.std.proofs.lemmas.List.{length-map}
+use Rattle.std.proofs.lemmas.List.Sorted.{IsPermutation-map, length_permutation}
+use Rattle.std.proofs.lemmas.List.Sorted.{list_any-IsPermutation}
+use Rattle.std.proofs.lemmas.Map.Keys.{Less-from_sorted, IsDistinct-IsPermutation}
+use Rattle.std.proofs.lemmas.Map.Made.{AllPairs-from_IsDistinct, IsDistinct-from_AllPairs}
+use Rattle.room_types.specs.Texts.{Text, text_cmp, text_eq}
+use Rattle.room_types.proofs.maps.TextMaps.{maps-exact_texts, maps-first_holds, maps-second_holds, maps-less_from_test}
+use Rattle.room_types.proofs.options.Options.{options-some_of}
+use Rattle.draw_order.specs.Draw.{Lot, IsDrawnOrder}
+use Rattle.draw_order.proofs.draws.Orders.{draws-one_drawn_order}
+use Rattle.office_state.specs.Office.{has_withdrawn, participants}
+use Rattle.office_state.specs.Round.{is_participant, word_of, lots_of, round_people, round_rooms}
+use Rattle.office_state.specs.Round.{is_kept_back, number_in}
+use Rattle.office_state.specs.declared.office.Office.{Office}
+use Rattle.office_state.proofs.round_problems.Names.{round_problems-text_eq-tied, round_problems-position-cons}
+
+module _ {X : Type 0} (test : Text × X → Bool) where
+  round_problems-below_kept : (x : Text) (es : List (Text × X)) → T (below_all text_cmp x es)
+      → AllByRecursion (λ y. text_cmp x y ≡ Less) (map (λ e. e.0) (filter test es))
+  round_problems-below_kept x [] below = tt
+  round_problems-below_kept x (e ∷ es) below =
+      elim (test e) as (λ b. AllByRecursion (λ y. text_cmp x y ≡ Less)
+      (map (λ e. e.0) (cond b (e ∷ filter test es) (filter test es)))) [
+        | true ↦ (
+          maps-less_from_test (text_cmp x e.0) (maps-first_holds _ _ below),
+          round_problems-below_kept x es
+              (maps-second_holds _ _ below),
+        )
+        | false ↦ round_problems-below_kept x es (maps-second_holds _ _ below)
+      ]
+
+  -- the keys of entries ascend, also of some of them
+  round_problems-keys_ascend : (es : List (Text × X)) → T (is_sorted text_cmp es)
+      → IsStrictlySortedBy text_cmp (map (λ e. e.0) (filter test es))
+  unfolding IsStrictlySortedBy
+  round_problems-keys_ascend [] sorted = tt
+  round_problems-keys_ascend (e ∷ es) sorted =
+      elim (test e) as (λ b. IsStrictlySortedBy text_cmp
+      (map (λ e. e.0) (cond b (e ∷ filter test es) (filter test es)))) [
+        | true ↦ (
+          round_problems-below_kept e.0 es (maps-first_holds _ _ sorted),
+          round_problems-keys_ascend es
+              (maps-second_holds _ _ sorted),
+        )
+        | false ↦ round_problems-keys_ascend es (maps-second_holds _ _ sorted)
+      ]
+
+pub round_problems-participants_ascend : (office : Office) → IsStrictlySortedBy text_cmp (participants office)
+round_problems-participants_ascend office =
+    round_problems-keys_ascend (λ e. not (has_withdrawn office e.0)) (maps.entries office.people)
+    (entries_sorted office.people)
+
+round_problems-rooms_ascend : (office : Office) → IsStrictlySortedBy text_cmp (round_rooms office)
+unfolding round_rooms
+round_problems-rooms_ascend office =
+    round_problems-keys_ascend (λ e. not e.1 && not (is_kept_back office e.0)) (maps.entries office.rooms)
+    (entries_sorted office.rooms)
+
+round_problems-less_differs : (a b : Text) → text_cmp a b ≡ Less → a ≢ b
+round_problems-less_differs a b less same =
+    cc (sym less ∙ ap (λ t. text_cmp t b) same ∙ tied_itself nat_list_cmp_total b)
+
+-- texts that ascend differ
+round_problems-ascending_differ : (names : List Text) → IsStrictlySortedBy text_cmp names → AllPairs ◌≢◌ names
+round_problems-ascending_differ names up =
+    λ i j d before within. round_problems-less_differs (get_or names i d) (get_or names j d)
+    (Less-from_sorted text_cmp names i j d up before within)
+
+pub round_problems-participants_differ : (office : Office) → AllPairs ◌≢◌ (participants office)
+round_problems-participants_differ office = round_problems-ascending_differ (participants office) (round_problems-participants_ascend office)
+
+pub round_problems-rooms_differ : (office : Office) → AllPairs ◌≢◌ (round_rooms office)
+round_problems-rooms_differ office = round_problems-ascending_differ (round_rooms office) (round_problems-rooms_ascend office)
+
+round_problems-identifiers : (word : Text → ℕ) (people : List Text)
+    → map (λ (lot : Lot). lot.0) (map (λ p. (p, word p)) people) ≡ people
+round_problems-identifiers word [] = refl
+round_problems-identifiers word (p ∷ people) = ap (λ (others : List Text). p ∷ others) (round_problems-identifiers word people)
+
+-- the drawn order has the participants, in another order
+pub round_problems-people_are_participants : (office : Office)
+    → IsPermutation (participants office) (round_people office)
+unfolding round_people
+round_problems-people_are_participants office =
+    let drawn : IsDrawnOrder (lots_of office) (round_people office) =
+    (draws-one_drawn_order (lots_of office)).some in
+    let moved : IsPermutation (map (λ (lot : Lot). lot.0) (lots_of office))
+    (map (λ (lot : Lot). lot.0) drawn.ascending) =
+    IsPermutation-map (λ (lot : Lot). lot.0)
+    (lots_of office) drawn.ascending drawn.arranged.same_items in
+    subst (λ names. IsPermutation names (round_people office))
+    (round_problems-identifiers (word_of office) (participants office))
+    (subst (λ names. IsPermutation (map (λ (lot : Lot). lot.0) (lots_of office)) names)
+    (sym drawn.identifiers) moved)
+
+-- there are as many in the drawn order as there are lots
+pub round_problems-as_many_as_lots : (office : Office) → length (round_people office) ≡ length (lots_of office)
+round_problems-as_many_as_lots office =
+    length_permutation (participants office) (round_people office) (round_problems-people_are_participants office)
+    ∙ sym (length-map (participants office) (λ person. (person, word_of office person)))
+
+pub round_problems-people_differ : (office : Office) → AllPairs ◌≢◌ (round_people office)
+round_problems-people_differ office =
+    AllPairs-from_IsDistinct {eq = text_eq} bytes_decides (round_people office)
+    (IsDistinct-IsPermutation text_eq (nat_list_eq_equiv.symm) (participants office)
+    (round_people office) (round_problems-people_are_participants office)
+    (IsDistinct-from_AllPairs {eq = text_eq} bytes_decides (participants office)
+    (round_problems-participants_differ office)))
+
+round_problems-both_known : {X : Type 0} (a : Bool) (o : Option X) → is_some (cond a o None) ≡ (is_some o && a)
+round_problems-both_known true None = refl
+round_problems-both_known true (Some x) = refl
+round_problems-both_known false None = refl
+round_problems-both_known false (Some x) = refl
+
+pub round_problems-participants_hold : (office : Office) (person : Text)
+    → list_any (eq_by_cmp text_cmp person) (participants office) ≡ is_participant office person
+round_problems-participants_hold office person =
+    let stays : Text → Bool = λ p. not (has_withdrawn office p) in
+    sym (is_some-find text_cmp person (where_key text_cmp stays (maps.entries office.people)))
+    ∙ ap is_some (find-where_key text_cmp stays person
+    (λ x tied. ap stays (sym (maps-exact_texts person x tied))) (maps.entries office.people))
+    ∙ round_problems-both_known (stays person) (find text_cmp person (maps.entries office.people))
+    ∙ ap (λ o. is_some o && stays person) (sym (get-entries office.people person))
+
+pub round_problems-people_hold : (office : Office) (person : Text)
+    → list_any (eq_by_cmp text_cmp person) (round_people office) ≡ is_participant office person
+round_problems-people_hold office person =
+    sym (list_any-IsPermutation (eq_by_cmp text_cmp person) (participants office)
+    (round_people office) (round_problems-people_are_participants office)) ∙ round_problems-participants_hold office person
+
+-- a name has a number where it is one of the names
+pub round_problems-is_some-number_in : (names : List Text) (q : Text)
+    → is_some (number_in names q) ≡ list_any (eq_by_cmp text_cmp q) names
+round_problems-is_some-number_in [] q = refl
+round_problems-is_some-number_in (name ∷ names) q =
+    ap is_some (round_problems-position-cons (λ other. text_eq other q) name names)
+    ∙ ap (λ b. is_some (cond b (Some 0) (option_map (λ n. 1 + n) (number_in names q))))
+    (round_problems-text_eq-tied name q)
+    ∙ elim (eq_by_cmp text_cmp q name) as
+    (λ b. is_some (cond b (Some 0) (option_map (λ n. 1 + n) (number_in names q)))
+    ≡ (b || list_any (eq_by_cmp text_cmp q) names)) [
+      | true ↦ refl
+      | false ↦ elim (number_in names q) as
+          (λ o. is_some (option_map (λ n. 1 + n) o) ≡ is_some o) [ None ↦ refl | Some n ↦ refl ]
+          ∙ round_problems-is_some-number_in names q
+    ]
+
+-- a person takes part where the person has a number
+pub round_problems-participant_number : (office : Office) (person : Text)
+    → is_some (number_in (round_people office) person) ≡ is_participant office person
+round_problems-participant_number office person =
+    round_problems-is_some-number_in (round_people office) person ∙ round_problems-people_hold office person
+
+pub round_problems-number_of_participant : (office : Office) (person : Text) → is_participant office person ≡ true
+    → (n : ℕ) × (number_in (round_people office) person ≡ Some n)
+round_problems-number_of_participant office person part =
+    options-some_of (number_in (round_people office) person) (round_problems-participant_number office person ∙ part)

@@ -1,0 +1,47 @@
+-- Values as the columns of a strict table take them.
+use Rattle.std.proofs.Common.{◌≡◌, ℕ, ℤ, pos, Bool, true, false, ◌&&◌, Option, Some, None, List, refl, ap, ◌∙◌, cond}
+use Rattle.std.specs.Str.{bytes_eq}
+use Rattle.std.specs.Ordering.{is_eq}
+use Rattle.std.proofs.lemmas.Map.Text.{is_eq-slice_cmp}
+use Rattle.sqlite_value.specs.Order.{value_cmp}
+use Rattle.sqlite_value.specs.declared.value.Value.{Value}
+use Rattle.sqlite_value.specs.declared.value.Value.TheVariants.{Null, Int, Text}
+use Rattle.sqlite_value.specs.declared.keys.Collation.TheVariants.{Binary}
+use Rattle.sqlite_value.proofs.OrderLemmas.{value_cmp-Text}
+use Rattle.sqlite_schema.specs.declared.schema.Kind.TheVariants as kind
+use Rattle.sqlite_sql.specs.declared.ops.BinaryOp.TheVariants.{Compare}
+use Rattle.sqlite_sql.specs.declared.ops.CompareOp.TheVariants.{Eq}
+use Rattle.sqlite_sql.specs.Ops.{unary, binary, is_true, from_truth}
+use Rattle.sqlite_rules.specs.Cast.{cast}
+use Rattle.room_types.specs.declared.moves.Wave.{Wave}
+use Rattle.room_types.specs.declared.moves.Wave.TheVariants.{Swap, Nth}
+use Rattle.office_cells.specs.Cells.{text_or_null, wave_value}
+
+statements-either : (b : Bool) (x : Value) → cond b x x ≡ x
+statements-either true x = refl
+statements-either false x = refl
+
+pub statements-cast-Int : (n : ℤ) → cast kind.Integer (Int n) ≡ Int n
+unfolding unary
+statements-cast-Int n = statements-either _ (Int n)
+
+pub statements-cast-Null : cast kind.Integer Null ≡ Null
+unfolding unary
+statements-cast-Null = statements-either _ Null
+
+pub statements-cast-text_or_null : (text : Option (List ℕ)) → cast kind.Text (text_or_null text) ≡ text_or_null text
+statements-cast-text_or_null None = refl
+statements-cast-text_or_null (Some text) = refl
+
+pub statements-cast-wave_value : (wave : Wave) → cast kind.Integer (wave_value wave) ≡ wave_value wave
+statements-cast-wave_value Swap = statements-cast-Null
+statements-cast-wave_value (Nth n) = statements-cast-Int (pos n)
+
+-- the test that a column of texts is a parameter
+pub statements-same_text : (a b : List ℕ) → (is_true (binary (Compare Eq Binary) (Text a) (Text b)) && true) ≡ bytes_eq a b
+unfolding binary
+statements-same_text a b = tested (is_eq (value_cmp (Text a) (Text b))) ∙ ap is_eq (value_cmp-Text a b) ∙ is_eq-slice_cmp a b
+  where
+    tested : (t : Bool) → (is_true (from_truth (Some t)) && true) ≡ t
+    tested true = refl
+    tested false = refl

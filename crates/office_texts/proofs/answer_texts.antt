@@ -1,0 +1,2 @@
+-- Lemmas on texts of answers.
+pub mod Bytes

@@ -1,0 +1,20 @@
+-- Which texts have bytes.
+use Rattle.std.proofs.Common.{◌<◌, List, [], ◌∷◌, length, codes, arith, length-append}
+use Rattle.std.specs.Fmt.{decimal}
+use Rattle.room_types.specs.Texts.{Text}
+use Rattle.room_types.specs.Words.{word_text}
+use Rattle.office_core.specs.declared.reply.OrderRow.{OrderRow}
+use Rattle.office_texts.specs.OutputLines.{line_of}
+use Rattle.office_texts.specs.OrderLines.{order_line, order_lines, order_text, right_in}
+
+-- a line ends with a line feed
+pub answer_texts-line_some : (pieces : List Text) → 0 < length (line_of pieces)
+answer_texts-line_some [] = omega arith
+answer_texts-line_some (piece ∷ pieces) = omega (arith, length-append piece (line_of pieces), answer_texts-line_some pieces)
+
+-- there is a line for each row
+pub answer_texts-order_some : (rows : List OrderRow) → 0 < length rows → 0 < length (order_text rows)
+answer_texts-order_some [] some = absurd (omega (arith, some))
+answer_texts-order_some (row ∷ rows) some =
+    let first : 0 < length (order_line 1 row) = answer_texts-line_some (right_in 4 (decimal 1) ∷ codes " " ∷ word_text row.word ∷ codes " " ∷ row.person ∷ []) in
+    omega (arith, length-append (order_line 1 row) (order_lines 2 rows), first)

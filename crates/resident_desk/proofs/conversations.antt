@@ -1,0 +1,4 @@
+-- Lemmas on conversations with residents.
+mod AtDesk
+mod Carried
+mod Streams

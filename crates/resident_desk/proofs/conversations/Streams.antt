@@ -1,0 +1,156 @@
+-- What was read of a stream, and what went out on it.
+use Rattle.std.proofs.Common.{◌≡◌, ℕ, ◌+◌, ◌<◌, ◌≤◌, Bool, true, false, List, [], ◌++◌, length, take, drop, refl, sym, ap, ◌∙◌, subst, arith, append-nil, length-append, rules, tests, Option, None, Some, inl, inr}
+use Rattle.std.specs.Prelude.{◌||◌, ◌&&◌, ◌==◌, nat_lt, if◌then◌else◌, OnSome}
+use Rattle.std.proofs.Math.Bool.{or-true}
+use Rattle.std.specs.Io.KnownBytes.{Appends, Consumes, Keeps, IsAtEnd}
+use Rattle.std.proofs.KnownBytes.{Consumes-trans, Consumes-kept, Keeps-refl, Keeps-trans}
+use Rattle.std.proofs.lemmas.List.{length-drop, length-take-le, take-append-le}
+use Rattle.std.proofs.Math.Seq.{take-append-add}
+use borrow.Rule.Slice.PartMut.{put_mid, post_of}
+use Rattle.room_types.specs.Streams.{Output, Puts, count_after}
+use Rattle.room_types.specs.Watched.{counted}
+use Rattle.office_store.specs.declared.requests.Answer.{Answer as DeskAnswer}
+use Rattle.office_store.specs.declared.requests.Request.{Request}
+use Rattle.resident_http.specs.Asks.{Asked, Asks, is_more, more, seen}
+use Rattle.resident_http.specs.declared.ask.AskState.{AskState}
+use Rattle.resident_http.specs.declared.ask.AskState.TheVariants as state
+use Rattle.resident_desk.specs.Conversations.{Connection, Converses, Delivers, IsUntouched, Replies, Responds}
+use Rattle.resident_desk.specs.declared.served.Served.{Served}
+use Rattle.resident_desk.specs.declared.served.Served.TheVariants.{Answered, ReadFault, Silent, WriteFault}
+
+-- ---- what was read
+
+-- a read behind the bytes read so far
+conversations-read_more : (a b c : Option (List ℕ)) (buf tail : List ℕ) (len n : ℕ) → len ≤ length buf → Consumes a b (take len buf) → Consumes b c (take n tail) → Consumes a c (take (len + n) (take len buf ++ tail))
+conversations-read_more a b c buf tail len n within p q =
+    let count = length-take-le len buf within in
+    let joined : take (len + n) (take len buf ++ tail) ≡ take len buf ++ take n tail =
+    ap (λ k. take (k + n) (take len buf ++ tail)) (sym count) ∙ take-append-add (take len buf) tail n in
+    rw joined (Consumes-trans a b c _ _ p q)
+
+-- a read into the buffer behind the bytes read so far
+pub conversations-read_into : (a b c : Option (List ℕ)) (buf new : List ℕ) (len n k : ℕ) → len ≤ length buf → n ≤ length new → Consumes a b (take len buf) → Consumes b c (take n new)
+    → Consumes a c (take (len + n) (put_mid len k buf new))
+conversations-read_into a b c buf new len n k within fits p q = conversations-read_more a b c buf (new ++ post_of len k buf) len n within p (rw (take-append-le n new (post_of len k buf) fits) q)
+
+conversations-length-parts : (xs ys zs : List ℕ) → length (xs ++ (ys ++ zs)) ≡ length xs + (length ys + length zs)
+conversations-length-parts xs ys zs = omega (arith, length-append xs (ys ++ zs), length-append ys zs)
+
+pub conversations-length-put_into : (buf new : List ℕ) (len k : ℕ) → len + k ≡ length buf → length new ≡ k → length (put_mid len k buf new) ≡ length buf
+conversations-length-put_into buf new len k size e =
+    conversations-length-parts (take len buf) new (drop k (drop len buf)) ∙ omega (arith, e, size, length-take-le len buf (omega arith), length-drop k (drop len buf), length-drop len buf)
+
+-- a read of nothing
+pub conversations-read_none : (a b c : Option (List ℕ)) (bs new : List ℕ) (n : ℕ) → n ≡ 0 → Consumes a b bs → Consumes b c (take n new) → Consumes a c bs
+conversations-read_none a b c bs new n e p q =
+    let none : take n new ≡ [] = ap (λ k. take k new) e in
+    subst (Consumes a c) (append-nil bs) (Consumes-trans a b c bs [] p (subst (Consumes b c) none q))
+
+-- a stream that tells its bytes is still at its end
+conversations-still_at_end : (a b c : Option (List ℕ)) (bs : List ℕ) → Consumes a b bs → IsAtEnd b → Keeps b c → OnSome a (IsAtEnd c)
+conversations-still_at_end None b c bs p e k = tt
+conversations-still_at_end (Some x) None c bs p e k = absurd p
+conversations-still_at_end (Some x) (Some y) None bs p e k = absurd k
+conversations-still_at_end (Some x) (Some y) (Some z) bs p e k = k ∙ e
+
+-- what is not awaited any more
+pub conversations-not_more : (r : AskState) → (r ≡ state.More → ⊥) → seen r ≡ more → ⊥
+conversations-not_more state.More h e = absurd (h refl)
+conversations-not_more (state.Ask m t k b u) h e = cc
+conversations-not_more (state.Fault s) h e = cc
+
+-- one read more
+pub conversations-counted_within : (r len n : ℕ) → r ≤ len → len ≤ 9216 → (n ≡ 0 → ⊥) → counted r 1 ≤ len + n
+conversations-counted_within r len n h k some = omega arith
+
+pub conversations-counted_last : (r len : ℕ) → r ≤ len → len < 9216 → counted r 1 ≤ 9216
+conversations-counted_last r len h k = omega arith
+
+-- a read that gave nothing, with room, has found the end
+pub conversations-ended_told : (before after : Bool) (buf : List ℕ) (n : ℕ) → after ≡ (before || (nat_lt 0 (length buf) && n == 0)) → n ≡ 0 → 0 < length buf → after ≡ true
+conversations-ended_told before after buf n told none some =
+    let room : nat_lt 0 (length buf) ≡ true = search (rules, tests) in
+    let nothing : (n == 0) ≡ true = search (rules, tests) in
+    told ∙ ap (λ t. before || (t && n == 0)) room ∙ ap (λ t. before || (true && t)) nothing ∙ or-true before
+
+-- ---- what went out
+
+pub conversations-untouched-refl : (o : Output) → IsUntouched o o
+conversations-untouched-refl o = record { kept = Keeps-refl o.contents; taken = refl; flushes = refl; pending = refl }
+
+pub conversations-untouched-more : (a b c : Output) → IsUntouched a b → Keeps b.contents c.contents → c.taken ≡ b.taken → c.flushes ≡ b.flushes → c.pending ≡ b.pending → IsUntouched a c
+conversations-untouched-more a b c u kept taken flushes pending = record {
+  kept = Keeps-trans a.contents b.contents c.contents u.kept kept;
+  taken = taken ∙ u.taken;
+  flushes = flushes ∙ u.flushes;
+  pending = pending ∙ u.pending;
+}
+
+conversations-Appends-after : (a b c : Option (List ℕ)) (bs : List ℕ) → Keeps a b → Appends b c bs → Appends a c bs
+conversations-Appends-after None b c bs p q = tt
+conversations-Appends-after (Some x) None c bs p q = absurd p
+conversations-Appends-after (Some x) (Some y) None bs p q = absurd q
+conversations-Appends-after (Some x) (Some y) (Some z) bs p q = q ∙ ap (λ l. l ++ bs) p
+
+conversations-puts-after : (a b c : Output) (bs : List ℕ) → IsUntouched a b → Puts b c bs → Puts a c bs
+conversations-puts-after a b c bs u p = record {
+  written = conversations-Appends-after a.contents b.contents c.contents bs u.kept p.written;
+  taken = p.taken ∙ ap (λ t. count_after t (length bs)) u.taken;
+}
+
+conversations-delivers-after : (served : Served) (status : ℕ) (bs : List ℕ) (a b c : Output) → IsUntouched a b → Delivers served status bs b c → Delivers served status bs a c
+conversations-delivers-after (Answered told) status bs a b c u d = (
+  d.0,
+  record {
+    written = conversations-puts-after a b c bs u d.1.written;
+    flushed = d.1.flushed ∙ ap (λ n. counted n 1) u.flushes;
+    clear = d.1.clear;
+    well = d.1.well;
+  },
+)
+conversations-delivers-after (WriteFault sent) status bs a b c u d = (
+  d.0,
+  elim d.1 [
+    | inl front ↦ inl (front.0, conversations-puts-after a b c _ u front.1, front.2 ∙ u.flushes)
+    | inr all ↦ inr (all.0, conversations-puts-after a b c bs u all.1, all.2 ∙ ap (λ n. counted n 1) u.flushes, all.3)
+  ],
+)
+conversations-delivers-after Silent status bs a b c u d = absurd d
+conversations-delivers-after ReadFault status bs a b c u d = absurd d
+
+module _ {H : Type 0} (handles : H → Request → DeskAnswer → H → Type 0) where
+  conversations-replies-responded : (served : Served) (old new : H) (before mid after : Connection) (bytes : List ℕ) (asked : Asked)
+      → Consumes before.input.remaining mid.input.remaining bytes → Keeps mid.input.remaining after.input.remaining → IsUntouched before.output mid.output
+      → length bytes ≤ 9216 → after.input.reads ≤ length bytes + (if is_more asked then 1 else 0) → Asks bytes asked
+      → (is_more asked ≡ false → after.ended ≡ before.ended)
+      → (asked ≡ more → (0 < length bytes) × (after.ended ≡ true) × IsAtEnd mid.input.remaining)
+      → Responds handles asked old new served mid.output after.output → Replies handles old new served before after
+  conversations-replies-responded served old new before mid after bytes asked read kept untouched limit each asks unended ended responds = record {
+    bytes = bytes;
+    asked = asked;
+    read = Consumes-kept _ _ _ bytes read kept;
+    limit = limit;
+    each = each;
+    asks = asks;
+    unended = unended;
+    ended = λ e. let h = ended e in (h.0, h.1, conversations-still_at_end before.input.remaining mid.input.remaining after.input.remaining bytes read h.2 kept);
+    responds = record {
+      answer = responds.answer;
+      answers = responds.answers;
+      delivers = conversations-delivers-after served _ _ before.output mid.output after.output untouched responds.delivers;
+    };
+  }
+
+  -- what was asked by the bytes that were read was answered
+  pub conversations-converses-responded : (served : Served) (old new : H) (before mid after : Connection) (bytes : List ℕ) (asked : Asked)
+      → Consumes before.input.remaining mid.input.remaining bytes → Keeps mid.input.remaining after.input.remaining → IsUntouched before.output mid.output
+      → length bytes ≤ 9216 → after.input.reads ≤ length bytes + (if is_more asked then 1 else 0) → Asks bytes asked
+      → (is_more asked ≡ false → after.ended ≡ before.ended)
+      → (asked ≡ more → (0 < length bytes) × (after.ended ≡ true) × IsAtEnd mid.input.remaining)
+      → Responds handles asked old new served mid.output after.output → Converses handles served old new before after
+  conversations-converses-responded (Answered status) old new before mid after bytes asked read kept untouched limit each asks unended ended responds =
+      conversations-replies-responded (Answered status) old new before mid after bytes asked read kept untouched limit each asks unended ended responds
+  conversations-converses-responded (WriteFault sent) old new before mid after bytes asked read kept untouched limit each asks unended ended responds =
+      conversations-replies-responded (WriteFault sent) old new before mid after bytes asked read kept untouched limit each asks unended ended responds
+  conversations-converses-responded Silent old new before mid after bytes asked read kept untouched limit each asks unended ended responds = absurd responds.delivers
+  conversations-converses-responded ReadFault old new before mid after bytes asked read kept untouched limit each asks unended ended responds = absurd responds.delivers

@@ -1,0 +1,2 @@
+-- Lemmas on letters.
+pub mod Letters

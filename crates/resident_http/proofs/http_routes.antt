@@ -1,0 +1,3 @@
+-- Lemmas on routes.
+mod Found
+mod Literal

@@ -1,0 +1,4 @@
+-- Lemmas on bodies in JSON.
+mod Bodies
+mod CodeLists
+mod Floats

@@ -1,0 +1,30 @@
+-- The bodies of answers hold no float, so that their text is known.
+use Rattle.std.proofs.Common.{◌≡◌, false, List, [], ◌∷◌, map, refl, Option, Some, None}
+use Rattle.serde_json.specs.Data.{string}
+use Rattle.serde_json.specs.View.{items_of}
+use Rattle.serde_json.specs.Written.{has_float, items_have_float}
+use Rattle.room_types.specs.Texts.{Text}
+use Rattle.room_types.specs.declared.rows.RoomRow.{RoomRow}
+use Rattle.office_core.specs.declared.reply.Standing.{Standing}
+use Rattle.resident_http.specs.Bodies.{choices_data, room_data, rooms_data, standing_data, text_or_null}
+
+json-texts : (all : List Text) → items_have_float (items_of (map string all)) ≡ false
+json-texts [] = refl
+json-texts (text ∷ all) = json-texts all
+
+json-rooms : (rows : List RoomRow) → items_have_float (items_of (map room_data rows)) ≡ false
+json-rooms [] = refl
+json-rooms (row ∷ rows) = json-rooms rows
+
+json-text_or : (text : Option Text) → has_float (text_or_null text) ≡ false
+json-text_or None = refl
+json-text_or (Some text) = refl
+
+pub json-no_float_in_choices : (choices : List Text) → has_float (choices_data choices) ≡ false
+json-no_float_in_choices choices = rw (json-texts choices) refl
+
+pub json-no_float_in_standing : (standing : Standing) → has_float (standing_data standing) ≡ false
+json-no_float_in_standing standing = rw (json-texts standing.choices, json-text_or standing.home, json-text_or standing.result) refl
+
+pub json-no_float_in_rooms : (rows : List RoomRow) → has_float (rooms_data rows) ≡ false
+json-no_float_in_rooms rows = json-rooms rows

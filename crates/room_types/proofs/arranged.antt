@@ -1,0 +1,2 @@
+-- Lemmas on ascending arrangements.
+pub mod Arrangements

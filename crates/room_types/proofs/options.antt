@@ -1,0 +1,2 @@
+-- Lemmas on options.
+pub mod Options

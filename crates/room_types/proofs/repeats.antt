@@ -1,0 +1,2 @@
+-- Lemmas on lists that name a room twice.
+pub mod Repeats

@@ -1,0 +1,2 @@
+-- Lemmas on the bytes that a watched device took and gave.
+pub mod Streams

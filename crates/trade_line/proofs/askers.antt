@@ -1,0 +1,3 @@
+-- Lemmas on the line of askers, as a list and linked by number.
+pub mod Lines
+pub mod Links

@@ -1,0 +1,3 @@
+-- Lemmas on searches below a bound, and on the slow program that is made of them.
+pub mod PlainSteps
+pub mod Search

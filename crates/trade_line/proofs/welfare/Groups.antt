@@ -1,0 +1,193 @@
+-- Other lists of a group: where none of it loses, everybody gets the same. Whoever gets x may as well ask for x alone; then the cycles of
+-- the own lists are cycles of those lists too.
+use Rattle.std.proofs.Common.{◌≡◌, ◌≢◌, ℕ, ◌<◌, ◌≤◌, ◌⊎◌, Bool, true, false, cond, not, ◌&&◌, ◌==◌, List, [], ◌∷◌, Option, Some, None, find, map, length, All, AllPairs, refl, sym, ap, ◌∙◌, subst, inl, inr, arith, eqb-true, eq-eqb, zero-add, get_or-set_other, le_refl, slice_set}
+use Rattle.std.specs.List.{range_with_len}
+use Rattle.std.proofs.lemmas.Bool.{cases_Bool, and_from, both_ways, cond-true, cond-false, not_from_false}
+use Rattle.std.proofs.lemmas.List.Elements.{All-nil, All-cons}
+use Rattle.std.proofs.lemmas.List.FromFn.{get_or-map-range_with_len, length-map-range_with_len}
+use Rattle.std.specs.Cmp.Derive.{one_truth}
+use Rattle.trade_line.specs.Below.{or_else}
+use Rattle.trade_line.specs.Cycles.{IsStageOf}
+use Rattle.trade_line.specs.Market.{Market, IsMarket, home, list_of, is_room, tenant}
+use Rattle.trade_line.specs.TopTradingCycles.{Stage, start, wish, first, tenant_or_first, holder, target, successor, taken, leave, gets}
+use Rattle.trade_line.specs.Inner.Removal.{Reach, IsTrade, Leads}
+use Rattle.trade_line.specs.Inner.Removal.Leads.{done, trade}
+use Rattle.trade_line.specs.Rank.{rank}
+use Rattle.trade_line.specs.OtherList.{with_lists, with_list}
+use Rattle.trade_line.specs.Groups.{OthersKeep, NoneLoses, IsGroupStrategyproof, IsNonbossy}
+use Rattle.trade_line.proofs.searches.Search.{searches-clash, searches-find_passes, searches-is_room_gives, searches-is_room_from}
+use Rattle.trade_line.proofs.cycles.Exchange.{cycles-reach_same, cycles-taken_gives}
+use Rattle.trade_line.proofs.cycles.Unique.{cycles-same_stage, cycles-taken_from, cycles-trade_removed}
+use Rattle.trade_line.proofs.cycles.Steps.{cycles-leave_known, cycles-start_known, cycles-gets_leads}
+use Rattle.trade_line.proofs.welfare.Ranks.{welfare-wish_is_best}
+use Rattle.trade_line.proofs.welfare.Welfare.{HomesThere, welfare-homes_stay, welfare-there_from, welfare-start_homes, welfare-start_has_person, welfare-gets_assignment}
+
+-- the list of somebody with the home h who asks for x alone
+abbrev pub aim : Option ℕ → Option ℕ → List ℕ
+aim h None = []
+aim h (Some x) = cond (is_room x h) [] (x ∷ [])
+
+welfare-aim_all : (P : ℕ → Type 0) (h x : Option ℕ) → ((r : ℕ) → x ≡ Some r → is_room r h ≡ false → P r) → All P (aim h x)
+welfare-aim_all P h None has = All-nil P
+welfare-aim_all P h (Some x) has =
+    elim (cases_Bool (is_room x h)) [
+      | inl t ↦ rw t (All-nil P)
+      | inr n ↦ rw n (All-cons P x [] (has x refl n) (All-nil P))
+    ]
+
+welfare-aim_short : (h x : Option ℕ) → length (aim h x) ≤ 1
+welfare-aim_short h None = omega arith
+welfare-aim_short h (Some x) = elim (cases_Bool (is_room x h)) [ inl t ↦ rw t (omega arith) | inr n ↦ rw n (omega arith) ]
+
+module _ (m : Market) (lists : List (List ℕ)) where
+  welfare-target_same : (s : Stage) (q : ℕ) (o : Option ℕ) → target (with_lists m lists) s q o ≡ target m s q o
+  unfolding holder first
+  welfare-target_same s q None = refl
+  welfare-target_same s q (Some r) = by_tenant (tenant m r)
+    where
+      by_tenant : (o : Option ℕ) → tenant_or_first (with_lists m lists) s o ≡ tenant_or_first m s o
+      by_tenant None = refl
+      by_tenant (Some t) = refl
+
+  welfare-wish_kept : (s : Stage) (q : ℕ) → list_of (with_lists m lists) q ≡ list_of m q → wish (with_lists m lists) s q ≡ wish m s q
+  unfolding wish
+  welfare-wish_kept s q e = ap (λ xs. or_else (find s.rooms xs) (home m q)) e
+
+  -- whoever asks for the wish alone has the same wish
+  welfare-wish_aimed : (s : Stage) (q : ℕ) → list_of (with_lists m lists) q ≡ aim (home m q) (wish m s q) → wish (with_lists m lists) s q ≡ wish m s q
+  unfolding wish
+  welfare-wish_aimed s q e = ap (λ xs. or_else (find s.rooms xs) (home m q)) e ∙ by_found (find s.rooms (list_of m q)) refl
+    where
+      at_home : (h : Option ℕ) → or_else (find s.rooms (aim h h)) h ≡ h
+      at_home None = refl
+      at_home (Some r) = rw (searches-is_room_from r (Some r) refl) refl
+
+      by_found : (o : Option ℕ) → find s.rooms (list_of m q) ≡ o → or_else (find s.rooms (aim (home m q) (or_else o (home m q)))) (home m q) ≡ or_else o (home m q)
+      by_found None f = at_home (home m q)
+      by_found (Some y) f =
+          elim (cases_Bool (is_room y (home m q))) [
+            | inl t ↦ rw t (searches-is_room_gives y (home m q) t)
+            | inr n ↦ rw n (rw (searches-find_passes s.rooms (list_of m q) y f) refl)
+          ]
+
+  -- a trade whose people keep their wishes is one by the other lists
+  module _ (s : Stage) (k : ℕ → Bool) (same : (q : ℕ) → k q ≡ true → wish (with_lists m lists) s q ≡ wish m s q) where
+    welfare-successor_same : (q : ℕ) → k q ≡ true → successor (with_lists m lists) s q ≡ successor m s q
+    unfolding successor
+    welfare-successor_same q h = ap (target (with_lists m lists) s q) (same q h) ∙ welfare-target_same s q (wish m s q)
+
+    welfare-trade_same : IsTrade m s k → IsTrade (with_lists m lists) s k
+    welfare-trade_same tk = record {
+      known = tk.known;
+      remain = tk.remain;
+      closed = λ q h. subst (λ z. k z ≡ true) (sym (welfare-successor_same q h)) (tk.closed q h);
+      cycle = λ q h. subst (λ z. Reach (successor (with_lists m lists) s) z q) (sym (welfare-successor_same q h))
+          (cycles-reach_same (successor m s) (successor (with_lists m lists) s) k tk.closed welfare-successor_same (tk.cycle q h) (tk.closed q h));
+    }
+
+    welfare-leave_same : leave (with_lists m lists) s k ≡ leave m s k
+    unfolding leave
+    welfare-leave_same = cycles-same_stage (leave (with_lists m lists) s k) (leave m s k) (λ q. refl) (λ r. ap (λ b. s.rooms r && not b) (one_truth (taken (with_lists m lists) s k r) (taken m s k r)
+        (λ h. let g : (q : ℕ) × (q < m.people) × (k q ≡ true) × (wish (with_lists m lists) s q ≡ Some r) = cycles-taken_gives (with_lists m lists) s k r h in
+        cycles-taken_from m s k r g.0 g.1 g.2 (sym (same g.0 g.2) ∙ g.3))
+        (λ h. let g : (q : ℕ) × (q < m.people) × (k q ≡ true) × (wish m s q ≡ Some r) = cycles-taken_gives m s k r h in
+        cycles-taken_from (with_lists m lists) s k r g.0 g.1 g.2 (same g.0 g.2 ∙ g.3))))
+
+  -- what each person gets stays where some ask for it alone
+  welfare-aim_leads : (f : ℕ → Option ℕ) → ((q : ℕ) → q < m.people → (list_of (with_lists m lists) q ≡ list_of m q) ⊎ (list_of (with_lists m lists) q ≡ aim (home m q) (f q))) → {s : Stage} → Leads m f s → Leads (with_lists m lists) f s
+  welfare-aim_leads f each (done none) = done none
+  welfare-aim_leads f each {s} (trade k tk fk d) =
+      let same : (q : ℕ) → k q ≡ true → wish (with_lists m lists) s q ≡ wish m s q = λ q h. elim (each q (tk.known q h)) [
+        | inl e ↦ welfare-wish_kept s q e
+        | inr e ↦ welfare-wish_aimed s q (e ∙ ap (aim (home m q)) (fk q h))
+      ] in
+      trade k (welfare-trade_same s k same tk) (λ q h. fk q h ∙ sym (same q h))
+      (subst (λ z. Leads (with_lists m lists) f z) (sym (welfare-leave_same s k same)) (welfare-aim_leads f each d))
+
+-- where some ask for x alone, and rank it no lower than what they get by the own list, everybody gets x
+module _ (m : Market) (ok : IsMarket m) (lists : List (List ℕ)) (ok2 : IsMarket (with_lists m lists)) (f x : ℕ → Option ℕ) (each : (q : ℕ) → q < m.people → (list_of (with_lists m lists) q ≡ list_of m q) ⊎ ((list_of (with_lists m lists) q ≡ aim (home m q) (x q)) × (rank m q (x q) ≤ rank m q (f q)))) where
+  welfare-same_from : {s : Stage} → Leads m f s → IsStageOf m s → HomesThere m ok s → Leads (with_lists m lists) x s → (p : ℕ) → s.people p ≡ true → x p ≡ f p
+  unfolding leave
+  welfare-same_from {s} (done none) known homes e p h = searches-clash (s.people p) h (none p)
+  welfare-same_from {s} (trade k tk fk d) known homes e p h =
+      let same : (q : ℕ) → k q ≡ true → wish (with_lists m lists) s q ≡ wish m s q = λ q h. elim (each q (tk.known q h)) [
+        | inl kept ↦ welfare-wish_kept m lists s q kept
+        | inr b ↦
+            let got : x q ≡ wish m s q = welfare-wish_is_best m ok s q (tk.known q h) (x q) (λ r er. welfare-there_from (with_lists m lists) ok2 x e known homes q r (tk.remain q h) er)
+            (subst (λ z. rank m q (x q) ≤ rank m q z) (fk q h) b.1) in
+            welfare-wish_aimed m lists s q (b.0 ∙ ap (aim (home m q)) got)
+      ] in
+      let r : ((p : ℕ) → k p ≡ true → x p ≡ wish (with_lists m lists) s p) × Leads (with_lists m lists) x (leave (with_lists m lists) s k) =
+      cycles-trade_removed (with_lists m lists) x e k (welfare-trade_same m lists s k same tk) in
+      elim (cases_Bool (k p)) [
+        | inl y ↦ r.0 p y ∙ same p y ∙ sym (fk p y)
+        | inr n ↦ welfare-same_from d (cycles-leave_known m s k known) (welfare-homes_stay m ok s k tk known homes)
+            (subst (λ z. Leads (with_lists m lists) x z) (welfare-leave_same m lists s k same) r.1) p (and_from (s.people p) (not (k p)) h (not_from_false (k p) n))
+      ]
+
+module _ (m : Market) (ok : IsMarket m) (group : ℕ → Bool) (lists : List (List ℕ)) (ok2 : IsMarket (with_lists m lists)) (keep : OthersKeep m group lists) (none : NoneLoses m group lists) where
+  -- each member asks for what they get by the other lists, alone
+  welfare-aimed : List (List ℕ)
+  welfare-aimed = map (λ q. cond (group q) (aim (home m q) (gets (with_lists m lists) q)) (list_of m q)) (range_with_len 0 m.people)
+
+  welfare-aimed_at : (q : ℕ) → q < m.people → list_of (with_lists m welfare-aimed) q ≡ cond (group q) (aim (home m q) (gets (with_lists m lists) q)) (list_of m q)
+  unfolding welfare-aimed
+  welfare-aimed_at q l = get_or-map-range_with_len (λ q. cond (group q) (aim (home m q) (gets (with_lists m lists) q)) (list_of m q)) 0 m.people q q [] l (zero-add q)
+
+  welfare-in_group : (q : ℕ) → q < m.people → group q ≡ true → list_of (with_lists m welfare-aimed) q ≡ aim (home m q) (gets (with_lists m lists) q)
+  welfare-in_group q l h = welfare-aimed_at q l ∙ cond-true (group q) (aim (home m q) (gets (with_lists m lists) q)) (list_of m q) h
+
+  welfare-outside : (q : ℕ) → q < m.people → group q ≡ false → list_of (with_lists m welfare-aimed) q ≡ list_of m q
+  welfare-outside q l h = welfare-aimed_at q l ∙ cond-false (group q) (aim (home m q) (gets (with_lists m lists) q)) (list_of m q) h
+
+  -- what holds of the own lists and of the members' new ones holds of all lists
+  welfare-all_lists : (P : ℕ → List ℕ → Type 0) → ((q : ℕ) → q < m.people → P q (aim (home m q) (gets (with_lists m lists) q))) → ((q : ℕ) → q < m.people → P q (list_of m q)) → (q : ℕ) → q < m.people → P q (list_of (with_lists m welfare-aimed) q)
+  welfare-all_lists P new old q l =
+      elim (cases_Bool (group q)) [
+        | inl y ↦ subst (P q) (sym (welfare-in_group q l y)) (new q l)
+        | inr n ↦ subst (P q) (sym (welfare-outside q l n)) (old q l)
+      ]
+
+  welfare-aimed_market : IsMarket (with_lists m welfare-aimed)
+  unfolding welfare-aimed
+  welfare-aimed_market = record {
+    indexed = record {
+      homes_len = ok.indexed.homes_len;
+      lists_len = length-map-range_with_len (λ q. cond (group q) (aim (home m q) (gets (with_lists m lists) q)) (list_of m q)) 0 m.people;
+      homes_known = ok.indexed.homes_known;
+      lists_known = welfare-all_lists (λ q xs. All (λ r. r < m.rooms) xs) (λ q l. welfare-aim_all (λ r. r < m.rooms) (home m q) (gets (with_lists m lists) q) (λ r e n. (welfare-gets_assignment (with_lists m lists) ok2).known q r l e)) ok.indexed.lists_known;
+    };
+    homes_differ = ok.homes_differ;
+    lists_strict = welfare-all_lists (λ q xs. AllPairs ◌≢◌ xs) (λ q l i j d ij le. absurd (omega (arith, ij, le, welfare-aim_short (home m q) (gets (with_lists m lists) q)))) ok.lists_strict;
+    own_unlisted = λ q r l e. welfare-all_lists (λ q xs. (r : ℕ) → home m q ≡ Some r → All (λ x. x ≢ r) xs) (λ q l r e. welfare-aim_all (λ x. x ≢ r) (home m q) (gets (with_lists m lists) q) (λ x ex n xr. both_ways (is_room x (home m q)) n (searches-is_room_from x (home m q) (e ∙ ap Some (sym xr))))) (λ q l r e. ok.own_unlisted q r l e) q l r e;
+  }
+
+  welfare-start_same : (a : List (List ℕ)) → start (with_lists m a) ≡ start m
+  unfolding start
+  welfare-start_same a = refl
+
+  welfare-new_leads : Leads (with_lists m welfare-aimed) (gets (with_lists m lists)) (start m)
+  welfare-new_leads =
+      subst (λ z. Leads (with_lists m welfare-aimed) (gets (with_lists m lists)) z) (welfare-start_same lists)
+      (welfare-aim_leads (with_lists m lists) welfare-aimed (gets (with_lists m lists))
+      (λ q l. elim (cases_Bool (group q)) [ inl y ↦ inr (welfare-in_group q l y) | inr n ↦ inl (welfare-outside q l n ∙ sym (keep q l n)) ])
+      (cycles-gets_leads (with_lists m lists)))
+
+  welfare-all_same : (p : ℕ) → p < m.people → gets (with_lists m lists) p ≡ gets m p
+  welfare-all_same p l =
+      welfare-same_from m ok welfare-aimed welfare-aimed_market (gets m) (gets (with_lists m lists))
+      (λ q l. elim (cases_Bool (group q)) [ inl y ↦ inr (welfare-in_group q l y, none q l y) | inr n ↦ inl (welfare-outside q l n) ])
+      (cycles-gets_leads m) (cycles-start_known m) (welfare-start_homes m ok) welfare-new_leads p (welfare-start_has_person m ok p l)
+
+pub welfare-group_strategyproof : (m : Market) → IsMarket m → IsGroupStrategyproof m
+welfare-group_strategyproof m ok group lists ok2 keep none p l = welfare-all_same m ok group lists ok2 keep none p l
+
+-- one person is a group
+pub welfare-one_is_a_group : (m : Market) → IsMarket m → (p : ℕ) (l : List ℕ) → IsMarket (with_list m p l) → rank m p (gets (with_list m p l) p) ≤ rank m p (gets m p) → (q : ℕ) → q < m.people → gets (with_list m p l) q ≡ gets m q
+welfare-one_is_a_group m ok p l ok2 le =
+    welfare-all_same m ok (λ z. z == p) (slice_set m.lists p l) ok2
+    (λ z hz n. get_or-set_other m.lists p z l [] (λ zp. both_ways (z == p) n (eq-eqb z p zp)))
+    (λ z hz y. subst (λ v. rank m v (gets (with_list m p l) v) ≤ rank m v (gets m v)) (sym (eqb-true z p y)) le)
+
+pub welfare-trade_is_nonbossy : (m : Market) → IsMarket m → IsNonbossy m
+welfare-trade_is_nonbossy m ok p l h ok2 e = welfare-one_is_a_group m ok p l ok2 (subst (λ v. rank m p v ≤ rank m p (gets m p)) (sym e) (le_refl (rank m p (gets m p))))
