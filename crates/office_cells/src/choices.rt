@@ -20,7 +20,7 @@ impl Record for ChoiceRecord {
 
     ghost takes = { BeginsWith is_person_id };
 
-    fn from_row(alloc: Global, row: &Row) -> Result<Option<ChoiceRecord>, OutOfMemory> {
+    fn record_from_cells(alloc: Global, row: &Row) -> Result<Option<ChoiceRecord>, OutOfMemory> {
         let Some(person) = text_in(alloc, row, 0)? else {
             return Ok(None);
         };

@@ -38,7 +38,10 @@ impl Record for (Label, KeptList) {
 
     ghost takes = { BeginsWith is_label };
 
-    fn from_row(alloc: Global, row: &Row) -> Result<Option<(Label, KeptList)>, OutOfMemory> {
+    fn record_from_cells(
+        alloc: Global,
+        row: &Row,
+    ) -> Result<Option<(Label, KeptList)>, OutOfMemory> {
         let Some(label) = text_in(alloc, row, 0)? else {
             return Ok(None);
         };

@@ -19,7 +19,7 @@ impl Record for Move {
 
     ghost takes = { FollowsNumber is_person_id };
 
-    fn from_row(alloc: Global, row: &Row) -> Result<Option<Move>, OutOfMemory> {
+    fn record_from_cells(alloc: Global, row: &Row) -> Result<Option<Move>, OutOfMemory> {
         let Some(round) = short_in(row, 0) else {
             return Ok(None);
         };

@@ -21,7 +21,7 @@ impl Record for PersonRecord {
 
     ghost takes = { BeginsWith is_person_id };
 
-    fn from_row(alloc: Global, row: &Row) -> Result<Option<PersonRecord>, OutOfMemory> {
+    fn record_from_cells(alloc: Global, row: &Row) -> Result<Option<PersonRecord>, OutOfMemory> {
         let Some(id) = text_in(alloc, row, 0)? else {
             return Ok(None);
         };

@@ -20,7 +20,7 @@ pub trait Record: Drop {
     ghost takes: { Values → Type 0 };
 
     /// The record of a row, or none where the row has another form. Memory is taken for some rows alone.
-    fn from_row(alloc: Global, row: &Row) -> Result<Option<Self>, OutOfMemory>
+    fn record_from_cells(alloc: Global, row: &Row) -> Result<Option<Self>, OutOfMemory>
         ensures told { IfOk result (λ found. MatchOption found (¬ is_form row.now)
             (λ record_. front row.now ≡ columns record_)) }
         ensures formed { IfOk result (λ found. IfSome found (λ _. is_form row.now)) }
@@ -37,7 +37,7 @@ pub fn records_in<R: Record>(alloc: Global, rows: &[Row]) -> Result<Option<Vec<R
 {
     let mut records = Vec::new(alloc);
     for row in rows {
-        let Some(record) = R::from_row(alloc, row)? else {
+        let Some(record) = R::record_from_cells(alloc, row)? else {
             return Ok(None);
         };
         records.push(record)?;

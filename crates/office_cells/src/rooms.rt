@@ -19,7 +19,10 @@ impl Record for (RoomCode, bool) {
 
     ghost takes = { BeginsWith is_room_code };
 
-    fn from_row(alloc: Global, row: &Row) -> Result<Option<(RoomCode, bool)>, OutOfMemory> {
+    fn record_from_cells(
+        alloc: Global,
+        row: &Row,
+    ) -> Result<Option<(RoomCode, bool)>, OutOfMemory> {
         let Some(code) = text_in(alloc, row, 0)? else {
             return Ok(None);
         };

@@ -64,7 +64,7 @@ impl Record for RoundRecord {
 
     ghost takes = { IsNever };
 
-    fn from_row(_alloc: Global, row: &Row) -> Result<Option<RoundRecord>, OutOfMemory> {
+    fn record_from_cells(_alloc: Global, row: &Row) -> Result<Option<RoundRecord>, OutOfMemory> {
         let Some(version) = short_in(row, 0) else {
             return Ok(None);
         };

@@ -49,7 +49,10 @@ impl Record for (PersonId, Word) {
 
     ghost takes = { BeginsWith is_person_id };
 
-    fn from_row(alloc: Global, row: &Row) -> Result<Option<(PersonId, Word)>, OutOfMemory> {
+    fn record_from_cells(
+        alloc: Global,
+        row: &Row,
+    ) -> Result<Option<(PersonId, Word)>, OutOfMemory> {
         let Some(person) = text_in(alloc, row, 0)? else {
             return Ok(None);
         };

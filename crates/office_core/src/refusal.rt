@@ -108,7 +108,7 @@ impl Refusal {
 }
 
 /// `UnknownRoom` with a copy of the code, or `OutOfMemory`.
-pub(crate) fn unknown_room(room: &RoomCode) -> Refusal
+pub(crate) fn refusal_of_unknown_room(room: &RoomCode) -> Refusal
     ensures { (result ≡ Refusal.UnknownRoom room.now) ⊎ (result ≡ Refusal.OutOfMemory) }
 {
     match room.copy() {
@@ -118,7 +118,7 @@ pub(crate) fn unknown_room(room: &RoomCode) -> Refusal
 }
 
 /// `RoomShut` with a copy of the code, or `OutOfMemory`.
-pub(crate) fn room_shut(room: &RoomCode) -> Refusal
+pub(crate) fn refusal_of_shut_room(room: &RoomCode) -> Refusal
     ensures { (result ≡ Refusal.RoomShut room.now) ⊎ (result ≡ Refusal.OutOfMemory) }
 {
     match room.copy() {

@@ -9,7 +9,7 @@ use Rattle.office_words.specs.declared.sentences.Sentence.TheVariants.{Silent, A
 use Rattle.office_texts.specs.declared.said.Said.{Said}
 use Rattle.office_texts.specs.declared.said.Said.TheVariants.{Nothing, Answered, NotUnderstood}
 use Rattle.office_words.specs.Sentences.{begins_request, sentence_of}
-use Rattle.office_texts.specs.Texts.{is_constant, text_of, status_of}
+use Rattle.office_texts.specs.Texts.{is_constant, text_of, answer_text_status}
 
 module _ {H : Type 0} (handles : H → Request → Answer → H → Type 0) where
   -- What may be said of a line that says this, and who handles requests after it. Of a silent line nothing is said. What is not
@@ -47,4 +47,4 @@ last_is_made (said ∷ next ∷ others) = last_is_made (next ∷ others)
 -- the greatest status, 0 without any
 abbrev pub greatest_status : List Said → ℕ
 greatest_status [] = 0
-greatest_status (said ∷ others) = max (status_of said) (greatest_status others)
+greatest_status (said ∷ others) = max (answer_text_status said) (greatest_status others)

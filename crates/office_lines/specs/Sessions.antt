@@ -11,7 +11,7 @@ use Rattle.office_store.specs.declared.requests.Request.{Request}
 use Rattle.office_lines.specs.Lines.{is_short, is_line_end, line_limit, piece_limit, read_limit, front, unended}
 use Rattle.room_types.specs.Streams.{Input, Output, Puts}
 use Rattle.room_types.specs.Watched.{counted}
-use Rattle.office_texts.specs.Texts.{is_constant, text_of, status_of}
+use Rattle.office_texts.specs.Texts.{is_constant, text_of, answer_text_status}
 use Rattle.office_lines.specs.Runs.{Run, Step, texts_of, last_is_made, greatest_status}
 
 -- the lines that the bytes end, where a line has begun already
@@ -103,7 +103,7 @@ module _ {H : Type 0} (handles : H → Request → Answer → H → Type 0) wher
     pub flushes : after.out.flushes ≡ before.out.flushes
     pub failed : after.out.failed ≡ before.out.failed
     pub sent : after.sent ≡ before.sent + length (text_of said)
-    pub status : after.status ≡ max before.status (status_of said)
+    pub status : after.status ≡ max before.status (answer_text_status said)
 
   -- The line that had come was answered, and a front of the text went out. Nothing was flushed.
   pub record Broken (before : State H) (ending : Ending) (handler : H) (out : Output) : Type 0 where

@@ -8,7 +8,7 @@ use Rattle.office_texts.specs.declared.said.Said.TheVariants.{NotUnderstood}
 use Rattle.office_lines.specs.Lines.{is_line_end, is_short}
 use Rattle.office_lines.specs.Runs.{Step}
 use Rattle.office_lines.specs.Saying.{Says, SaysUnavailable}
-use Rattle.office_texts.specs.Texts.{is_constant, status_of, text_of}
+use Rattle.office_texts.specs.Texts.{is_constant, answer_text_status, text_of}
 use Rattle.office_words.specs.Values.{joined}
 use Rattle.room_types.specs.Streams.{Output}
 use Rattle.room_types.specs.Texts.{Text}
@@ -17,7 +17,7 @@ use Rattle.room_types.specs.Texts.{Text}
 -- is 3.
 abbrev pub Tells : Said → ℕ → Output → Output → Type 0
 Tells said status out out' =
-    Says (text_of said) (status_of said) status out out'
+    Says (text_of said) (answer_text_status said) status out out'
     ⊎ ((status ≡ 3) × (is_constant said ≡ false) × (0 < length (text_of said)) × (out' ≡ out))
 
 -- it holds a line feed, so it is not one line

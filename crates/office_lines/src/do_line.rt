@@ -9,7 +9,7 @@ use crate::hearing::hear;
 use crate::limits::LINE_LIMIT;
 use crate::say::say;
 use office_store::Handler;
-use office_texts::{NOT_UNDERSTOOD, Said, UNAVAILABLE, status_of, text_of};
+use office_texts::{NOT_UNDERSTOOD, Said, UNAVAILABLE, answer_text_status, text_of};
 use room_types::Watched;
 use std::alloc::Global;
 use std::io::Write;
@@ -77,7 +77,7 @@ pub fn tell<W: Write>(alloc: Global, said: &Said, output: &mut Watched<W>) -> u8
         (output_of W.contents output.new) }
 {
     match text_of(alloc, said) {
-        Ok(text) => say(output, text.as_str(), status_of(said)),
+        Ok(text) => say(output, text.as_str(), answer_text_status(said)),
         Err(_) => UNAVAILABLE,
     }
 }

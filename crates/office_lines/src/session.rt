@@ -6,7 +6,7 @@ use crate::ending::Ending;
 use crate::hearing::hear;
 use crate::limits::LINE_LIMIT;
 use office_store::Handler;
-use office_texts::{status_of, text_of};
+use office_texts::{answer_text_status, text_of};
 use room_types::Watched;
 use room_types::send::send;
 use std::alloc::Global;
@@ -62,7 +62,7 @@ impl Session {
         ensures ready { H.is_ready handler.new }
     {
         let said = hear(alloc, handler, &self.partial_line);
-        self.status = self.status.max(status_of(&said));
+        self.status = self.status.max(answer_text_status(&said));
         match text_of(alloc, &said) {
             Ok(text) => match send(output, text.as_bytes()) {
                 Ok(()) => {

@@ -54,7 +54,7 @@ pub fn load<S: Alter>(alloc: Global, conn: &mut Connection<S>) -> Result<Option<
 }
 
 // The records of all tables, or none where some row has another form.
-#[tactic(auto, using(crate::proofs::FollowLemmas::reads_then))]
+#[tactic(auto, using(crate::proofs::found_offices::Following::found_offices_reads_then))]
 fn read_records<S: Alter>(
     alloc: Global,
     conn: &mut Connection<S>,
@@ -97,7 +97,7 @@ fn read_records<S: Alter>(
 }
 
 // The records of two tables, or none where some row of either has another form.
-#[tactic(auto, using(crate::proofs::FollowLemmas::reads_then))]
+#[tactic(auto, using(crate::proofs::found_offices::Following::found_offices_reads_then))]
 fn read_two<A: Listed, B: Listed, S: Alter>(
     alloc: Global,
     conn: &mut Connection<S>,

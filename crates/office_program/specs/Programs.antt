@@ -6,7 +6,7 @@ use Rattle.clap.specs.ValueTests.{is_unsigned_in}
 use Rattle.clap.specs.Words.{Kinds, Row, all_of, fault_of, first_of, one_of, subcommand_of}
 use Rattle.office_program.specs.declared.usage.Program.{Program}
 use Rattle.office_program.specs.declared.usage.Program.TheVariants as program
-use Rattle.office_program.specs.Seeds.{program_seed_of}
+use Rattle.office_program.specs.Seeds.{word_line_seed}
 use Rattle.office_program.specs.Usage.{usage}
 use Rattle.office_lists.specs.declared.exports.ExportKind.{ExportKind}
 use Rattle.office_lists.specs.declared.exports.ExportKind.TheVariants.{Rooms, People, Moves}
@@ -58,7 +58,7 @@ do_program rows = option_and_then (λ path. option_map (does path) (all_of (code
 
 -- `words --seed HEX --count N`
 abbrev pub words_program : List Row → Option Line
-words_program rows = option_and_then (λ seed. option_map (prints seed) (number_of 0 2000 (codes "count") rows)) (option_and_then program_seed_of (first_of (codes "seed") rows))
+words_program rows = option_and_then (λ seed. option_map (prints seed) (number_of 0 2000 (codes "count") rows)) (option_and_then word_line_seed (first_of (codes "seed") rows))
 
 -- the kind of lists of this name
 abbrev pub list_kind_named : Text → Option ListKind

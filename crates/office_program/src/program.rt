@@ -5,7 +5,7 @@ ghost use Rattle.office_program.specs.Programs.{do_program, entered_program_line
 ghost use Rattle.office_program.specs.Programs.{list_kind_given, new_program, number_of, program_of, serve_program, words_program};
 ghost use Rattle.office_words.specs.Understanding.{Understands, UnderstandsAs};
 
-use crate::seeds::program_seed_of;
+use crate::seeds::word_line_seed;
 use crate::usage::{CONNECTIONS_LIMIT, PORT_LIMIT, Program, WORDS_LIMIT, rooms_command};
 use clap::error::ErrorKind;
 use clap::{ArgMatches, Error};
@@ -87,7 +87,7 @@ fn do_program<'a>(alloc: Global, entries: &ArgMatches<'a>) -> Result<Program<'a>
 fn words_program<'a>(entries: &ArgMatches<'a>) -> Option<Program<'a>>
     ensures { option_map line_of result ≡ words_program (rows_of (found_of entries.now)) }
 {
-    let seed = program_seed_of(text(entries, "seed")?)?;
+    let seed = word_line_seed(text(entries, "seed")?)?;
     let count = number(entries, "count", 0, WORDS_LIMIT)?;
     Some(Program::Words { seed, count })
 }

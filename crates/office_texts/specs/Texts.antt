@@ -32,9 +32,9 @@ SaidAscends (Answered answer) = AnswerAscends answer
 SaidAscends NotUnderstood = ⊤
 
 -- how the line went: accepted, refused, not understood, or unavailable
-abbrev pub status_of : Said → ℕ
-status_of Nothing = 0
-status_of (Answered (Reply reply)) = 0
-status_of (Answered (Refused refusal)) = 1
-status_of NotUnderstood = 2
-status_of (Answered Unavailable) = 3
+abbrev pub answer_text_status : Said → ℕ
+answer_text_status Nothing = 0
+answer_text_status (Answered (Reply reply)) = 0
+answer_text_status (Answered (Refused refusal)) = 1
+answer_text_status NotUnderstood = 2
+answer_text_status (Answered Unavailable) = 3

@@ -12,4 +12,6 @@ pub use crate::order_lines::text_of_order;
 pub use crate::refusals::text_of_refusal;
 pub use crate::replies::text_of_reply;
 pub use crate::said::Said;
-pub use crate::texts::{ACCEPTED, NOT_UNDERSTOOD, REFUSED, UNAVAILABLE, status_of, text_of};
+pub use crate::texts::{
+    ACCEPTED, NOT_UNDERSTOOD, REFUSED, UNAVAILABLE, answer_text_status, text_of,
+};

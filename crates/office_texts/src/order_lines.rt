@@ -10,7 +10,7 @@ use std::alloc::{AllocError, Global};
 const PLACE_WIDTH: usize = 4;
 
 /// The rows in their order, with places from 1. Without rows there are no bytes, and no memory is taken.
-#[tactic(auto, using(crate::proofs::TextLemmas::order_some))]
+#[tactic(auto, using(crate::proofs::answer_texts::Bytes::answer_texts_order_some))]
 pub fn text_of_order(alloc: Global, rows: &[OrderRow]) -> Result<String, OutOfMemory>
     ensures text { IfOk result (λ text. string_bytes text ≡ order_text rows.now) }
     ensures memory { OnErr result (0 < length (order_text rows.now)) }

@@ -1,7 +1,7 @@
 //! What is said of lines, and the statuses of lines.
 ghost use Rattle.std.specs.Prelude.{◌≡◌, ◌<◌, IfOk, OnErr, false, length};
 ghost use Rattle.std.specs.Cow.{cow_str_bytes};
-ghost use Rattle.office_texts.specs.Texts.{text_of as text-of, status_of as status-of, SaidAscends, is_constant};
+ghost use Rattle.office_texts.specs.Texts.{text_of as text-of, answer_text_status as status-of, SaidAscends, is_constant};
 
 use crate::refusals::text_of_refusal;
 use crate::replies::text_of_reply;
@@ -44,7 +44,7 @@ pub fn text_of(alloc: Global, said: &Said) -> Result<CowStr<'static, Global>, Ou
 }
 
 /// The status of the line.
-pub fn status_of(said: &Said) -> u8
+pub fn answer_text_status(said: &Said) -> u8
     ensures { result ≡ status-of said.now }
 {
     match said {

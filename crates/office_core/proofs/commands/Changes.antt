@@ -4,7 +4,7 @@ use Rattle.office_state.specs.Empty.{is_empty}
 use Rattle.office_state.specs.declared.change.Change.{Change}
 
 -- where a change comes last there are changes
-pub commands-has_last : (changes others : List Change) (change : Change)
+pub commands_has_last : (changes others : List Change) (change : Change)
     → is_empty (changes ++ change ∷ others) ≡ false
-commands-has_last [] others change = refl
-commands-has_last (first ∷ changes) others change = refl
+commands_has_last [] others change = refl
+commands_has_last (first ∷ changes) others change = refl

@@ -21,12 +21,12 @@ use Rattle.office_state.specs.declared.office.Office.{Office}
 use Rattle.office_core.specs.Command.Draw.{words_put, with_words}
 use Rattle.office_core.proofs.imports.Indexed.{imports-some_or}
 
-pub commands-words_put_more : (people : List Text) (words : List ℕ) (i : ℕ) (d : Text) (e : ℕ)
+pub commands_words_put_more : (people : List Text) (words : List ℕ) (i : ℕ) (d : Text) (e : ℕ)
     → i < length people → i < length words
     → words_put (drop i people) (drop i words)
     ≡ PutWord (get_or people i d) (get_or words i e) ∷ words_put (drop (i + 1) people)
     (drop (i + 1) words)
-commands-words_put_more people words i d e h k =
+commands_words_put_more people words i d e h k =
     ap (λ p. words_put p (drop i words)) (drop_more people i d h)
     ∙ ap (λ w. words_put (get_or people i d ∷ drop (i + 1) people) w) (drop_more words i e k)
 

@@ -144,7 +144,7 @@ imports-HasHomes-put m tenants k v (Some home) lives new has room =
     ∙ sym (imports-holder_put (λ p. p.home) m k v room new)
 
 -- a register with one more person
-pub imports-still_indexed : (people : TextMap Person) (keys : TextMap (Unit {0})) (tenants : TextMap Text)
+pub imports_still_indexed : (people : TextMap Person) (keys : TextMap (Unit {0})) (tenants : TextMap Text)
     (k : Text) (v : Person)
     → map.contains_key people k ≡ false
     → IsIndexed (record { people = people; keys = keys; tenants = tenants })
@@ -153,7 +153,7 @@ pub imports-still_indexed : (people : TextMap Person) (keys : TextMap (Unit {0})
       keys = map.insert keys v.key tt;
       tenants = placed tenants v.home k;
     })
-imports-still_indexed people keys tenants k v new is = record {
+imports_still_indexed people keys tenants k v new is = record {
   keys = imports-HasKeys-put people keys k v tt new is.keys;
   homes = imports-HasHomes-put people tenants k v v.home refl new is.homes;
 }

@@ -30,31 +30,31 @@ use Rattle.office_core.specs.Refusal.{number_of}
 use Rattle.office_core.specs.Refusal.Checks.{Check, first_refusal, names_room, tells_of_list}
 use Rattle.office_core.specs.declared.refusal.Refusal.{Refusal}
 use Rattle.office_core.specs.declared.refusal.Refusal.TheVariants as refused
-use Rattle.office_core.proofs.commands.Changes.{commands-has_last}
+use Rattle.office_core.proofs.commands.Changes.{commands_has_last}
 use Rattle.office_core.proofs.imports.Records.{imports-few_rows}
 
 pub imports-first_of : (o : Option Refusal) → first_refusal (check_of o) ≡ o
 imports-first_of None = refl
 imports-first_of (Some refusal) = refl
 
-pub imports-few_told : {X : Type 0} (form : ListForm X) (bytes : List ℕ) (entries : List X)
+pub imports_few_told : {X : Type 0} (form : ListForm X) (bytes : List ℕ) (entries : List X)
     → Tells form bytes entries → length entries ≤ record_limit
-imports-few_told form bytes entries told =
+imports_few_told form bytes entries told =
     subst (λ es. length es ≤ record_limit) (sym told.told) (imports-few_rows form bytes told.good)
 
-pub imports-few_changes : (command : EntryCommand) (office : Office) (entries : List command.Entry)
+pub imports_few_changes : (command : EntryCommand) (office : Office) (entries : List command.Entry)
     (changes : List Change)
     → AreAllowed command office entries changes → length entries ≤ record_limit
     → length changes ≤ record_limit
-imports-few_changes command office entries changes are few =
+imports_few_changes command office entries changes are few =
     let same : length changes ≡ length entries =
     ap (λ cs. length cs) are.changed ∙ length-map entries (λ entry. command.change entry) in
     subst (λ n. n ≤ record_limit) (sym same) few
 
 -- as many changes as the list has records
-pub imports-as_many : (command : EntryCommand) (office : Office) (bytes : List ℕ) (changes : List Change)
+pub imports_as_many : (command : EntryCommand) (office : Office) (bytes : List ℕ) (changes : List Change)
     → AreAdded command office bytes changes → length changes ≡ record_count bytes
-imports-as_many command office bytes changes are =
+imports_as_many command office bytes changes are =
     ap (λ cs. length cs) are.changed
     ∙ length-map (entries_in command bytes) (λ entry. command.change entry)
     ∙ length-map (data_records (records_of bytes)) command.form.entry
@@ -169,5 +169,5 @@ pub imports-list_is_refused : (office : Office) (label : Text) (kind : ListKind)
 imports-list_is_refused office label kind bytes refusal may few short h =
     imports-list_refused (new_label_changes label kind bytes) (new_label_checks office kind bytes)
     (refusal_of kind office bytes) refusal
-    (commands-has_last (record_changes kind bytes) [] (KeepList label kind bytes (record_count bytes)))
+    (commands_has_last (record_changes kind bytes) [] (KeepList label kind bytes (record_count bytes)))
     (imports-first_of_list office kind bytes may few short) (imports-kind_tells kind office bytes) h

@@ -12,7 +12,7 @@ use Rattle.office_state.specs.declared.office.Office.{Office}
 use Rattle.office_core.specs.Command.Settle.{swaps}
 use Rattle.office_core.proofs.settlements.Moving.{settlements-length-moves_with}
 
-pub settlements-moves_with_more : (round : ℕ) (ms : List Mover) (waves : List Wave) (i : ℕ) (d : Mover)
+pub settlements_moves_with_more : (round : ℕ) (ms : List Mover) (waves : List Wave) (i : ℕ) (d : Mover)
     (e : Wave) → i < length ms → i < length waves
     → moves_with round (drop i ms) (drop i waves)
     ≡ record {
@@ -23,14 +23,14 @@ pub settlements-moves_with_more : (round : ℕ) (ms : List Mover) (waves : List 
       wave =
           get_or waves i e;
     } ∷ moves_with round (drop (i + 1) ms) (drop (i + 1) waves)
-settlements-moves_with_more round ms waves i d e h k =
+settlements_moves_with_more round ms waves i d e h k =
     ap (λ m. moves_with round m (drop i waves)) (drop_more ms i d h)
     ∙ ap (λ w. moves_with round (get_or ms i d ∷ drop (i + 1) ms) w) (drop_more waves i e k)
 
-pub settlements-swaps_more : (moves : List Move) (i : ℕ) (d : Move) → i < length moves
+pub settlements_swaps_more : (moves : List Move) (i : ℕ) (d : Move) → i < length moves
     → swaps (take (i + 1) moves)
     ≡ swaps (take i moves) ++ cond (is_swap (get_or moves i d).wave) (get_or moves i d ∷ []) []
-settlements-swaps_more moves i d within = filter_more (λ move. is_swap move.wave) moves i d within
+settlements_swaps_more moves i d within = filter_more (λ move. is_swap move.wave) moves i d within
 
 -- as many moves as movers
 pub settlements-as_many_settled : (office : Office) → length (settled_moves office) ≡ length (movers office)

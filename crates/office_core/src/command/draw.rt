@@ -13,7 +13,7 @@ use std::alloc::Global;
 
 /// Decides that word i goes to participant i, in ascending identifier. Refused in turn: `BadPhase` unless closed;
 /// `WrongWordCount` unless there is one word for each participant.
-#[tactic(auto, using(crate::proofs::CommandLemmas::Changes::has_last))]
+#[tactic(auto, using(crate::proofs::commands::Changes::commands_has_last))]
 pub fn draw(alloc: Global, office: &Office, words: &[Word]) -> Result<Decision, Refusal>
     ensures { IsDecided (checks office.now words.now) (reply_to office.now words.now)
         (changes_of office.now words.now) result }
@@ -39,7 +39,7 @@ pub fn draw(alloc: Global, office: &Office, words: &[Word]) -> Result<Decision, 
 }
 
 // A change for each word.
-#[tactic(auto, using(crate::proofs::CommandLemmas::Words::words_put_more))]
+#[tactic(auto, using(crate::proofs::commands::Words::commands_words_put_more))]
 fn words_put(alloc: Global, people: &[PersonId], words: &[Word]) -> Result<Vec<Change>, OutOfMemory>
     requires { length words.now ≡ length people.now }
     ensures { IfOk result (λ changes. changes.items ≡ words_put people.now words.now) }

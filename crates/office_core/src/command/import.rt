@@ -120,7 +120,7 @@ fn may_import(kind: ListKind, phase: Phase) -> bool
 }
 
 // A change for each record of the list.
-#[tactic(auto, using(crate::proofs::CommandLemmas::ListChecks::as_many))]
+#[tactic(auto, using(crate::proofs::imports::ListChecks::imports_as_many))]
 fn import_records_added(
     alloc: Global,
     office: &Office,

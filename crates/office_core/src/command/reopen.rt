@@ -3,7 +3,7 @@ ghost use Rattle.office_core.specs.Command.Decision.{IsDecided};
 ghost use Rattle.office_core.specs.Command.Reopen.{checks, reply_to, changes_of};
 
 use crate::command::decision::{Decision, command_decision_with_change};
-use crate::refusal::{Refusal, unknown_room};
+use crate::refusal::{Refusal, refusal_of_unknown_room};
 use crate::reply::Reply;
 use office_state::phases::is_preparing;
 use office_state::{Change, Office};
@@ -20,7 +20,7 @@ pub fn reopen(alloc: Global, office: &Office, room: &RoomCode) -> Result<Decisio
         return Err(Refusal::BadPhase(office.phase));
     }
     if !office.rooms.contains_key(room) {
-        return Err(unknown_room(room));
+        return Err(refusal_of_unknown_room(room));
     }
     if !office.is_shut(room) {
         return Err(Refusal::NotShut);

@@ -18,7 +18,7 @@ use std::alloc::Global;
 
 /// Decides the exchange: each participant's result is the room of top trading cycles in the round's problem
 /// (Abdulkadiroglu and Sönmez 1999). Refused with `BadPhase` unless drawn.
-#[tactic(auto, using(crate::proofs::CommandLemmas::Changes::has_last))]
+#[tactic(auto, using(crate::proofs::commands::Changes::commands_has_last))]
 pub fn run(alloc: Global, office: &Office) -> Result<Decision, Refusal>
     requires { IsLawful office.now }
     ensures { IsDecided (checks office.now) (reply_to office.now) (changes_of office.now) result }

@@ -21,7 +21,7 @@ use std::alloc::Global;
 /// Decides the day of moving: those who swap leave, then everybody arrives in the new room, wave by wave, the moves are
 /// recorded, and the round is over. Refused with `BadPhase` unless published. Each mover's home is changed once, and twice where
 /// movers pass their rooms round in a circle.
-#[tactic(auto, using(crate::proofs::CommandLemmas::Changes::has_last))]
+#[tactic(auto, using(crate::proofs::commands::Changes::commands_has_last))]
 pub fn settle(alloc: Global, office: &Office) -> Result<Decision, Refusal>
     requires { IsLawful office.now }
     ensures { IsDecided (checks office.now) (reply_to office.now) (changes_of office.now) result }
@@ -59,7 +59,7 @@ fn settled_moves(alloc: Global, office: &Office) -> Result<Vec<Move>, OutOfMemor
 }
 
 // The moves of these movers, with these waves.
-#[tactic(auto, using(crate::proofs::CommandLemmas::Recorded::moves_with_more))]
+#[tactic(auto, using(crate::proofs::settlements::Recorded::settlements_moves_with_more))]
 fn moves_with(
     alloc: Global,
     round: u16,
@@ -83,7 +83,7 @@ fn moves_with(
 }
 
 // Those who swap leave.
-#[tactic(auto, using(crate::proofs::CommandLemmas::Recorded::swaps_more))]
+#[tactic(auto, using(crate::proofs::settlements::Recorded::settlements_swaps_more))]
 fn swaps_leave(changes: &mut Vec<Change>, moves: &[Move]) -> Result<(), OutOfMemory>
     ensures { OnOk result (changes.new.items ≡ changes.old.items
         ++ map_list leaving (swaps moves.now)) }

@@ -15,7 +15,7 @@ use std::alloc::Global;
 
 /// Decides to take a room out of use; the reply names the tenant who loses the home. Refused in turn: `BadPhase` unless
 /// idle or open; `UnknownRoom`; `RoomShut`. It goes through the people.
-#[tactic(auto, using(crate::proofs::CommandLemmas::Changes::has_last))]
+#[tactic(auto, using(crate::proofs::commands::Changes::commands_has_last))]
 pub fn shut(alloc: Global, office: &Office, room: &RoomCode) -> Result<Decision, Refusal>
     ensures { IsDecided (checks office.now room.now) (reply_to office.now room.now)
         (changes_of office.now room.now) result }

@@ -6,17 +6,17 @@ ghost use Rattle.office_core.specs.Query.Order.{told, order_row};
 use crate::refusal::Refusal;
 use crate::reply::{OrderRow, Reply};
 use office_state::Office;
-use office_state::phases::phase_has_words;
+use office_state::phases::round_phase_has_words;
 use office_state::round::{round_people, round_word_of};
 use room_types::{Listing, OutOfMemory, PersonId};
 use std::alloc::Global;
 
 /// The participants in the drawn order, with their words. Refused with `BadPhase` where there are no words.
-#[tactic(auto, using(crate::proofs::Rows::some_ordered))]
+#[tactic(auto, using(crate::proofs::reply_rows::Listings::reply_rows_some_ordered))]
 pub fn order(alloc: Global, office: &Office) -> Result<Reply, Refusal>
     ensures { Tells (told office.now) result }
 {
-    if !phase_has_words(office.phase) {
+    if !round_phase_has_words(office.phase) {
         return Err(Refusal::BadPhase(office.phase));
     }
     let people = round_people(alloc, office)?;

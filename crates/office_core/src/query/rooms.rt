@@ -10,7 +10,7 @@ use room_types::{Listing, PersonId, RoomRow, State};
 use std::alloc::Global;
 
 /// The rooms by code, each with its state and tenant, in n log n steps. Where there are none it takes no memory.
-#[tactic(auto, using(crate::proofs::Rows::no_rows, crate::proofs::Rows::some_rows))]
+#[tactic(auto, using(crate::proofs::reply_rows::Listings::reply_rows_no_rows, crate::proofs::reply_rows::Listings::reply_rows_some_rows))]
 pub fn rooms(alloc: Global, office: &Office) -> Result<Reply, Refusal>
     ensures { Tells (told office.now) result }
 {

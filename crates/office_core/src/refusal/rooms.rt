@@ -3,7 +3,7 @@ ghost use Rattle.std.specs.List.{flat_map};
 ghost use Rattle.office_core.specs.Inner.Passes.{Passes};
 ghost use Rattle.office_core.specs.Refusal.Checks.{room_checks, home_checks, home_checks_if_any};
 
-use crate::refusal::{Refusal, room_shut, unknown_room};
+use crate::refusal::{Refusal, refusal_of_shut_room, refusal_of_unknown_room};
 use office_state::Office;
 use room_types::RoomCode;
 
@@ -12,10 +12,10 @@ pub fn may_list(office: &Office, room: &RoomCode) -> Result<(), Refusal>
     ensures { Passes (room_checks office.now room.now) result }
 {
     if !office.rooms.contains_key(room) {
-        return Err(unknown_room(room));
+        return Err(refusal_of_unknown_room(room));
     }
     if office.is_shut(room) {
-        return Err(room_shut(room));
+        return Err(refusal_of_shut_room(room));
     }
     Ok(())
 }

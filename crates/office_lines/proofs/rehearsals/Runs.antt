@@ -4,7 +4,7 @@ use Rattle.std.proofs.lemmas.List.Concat.{flat_map-append}
 use Rattle.office_store.specs.declared.requests.Answer.{Answer}
 use Rattle.office_store.specs.declared.requests.Request.{Request}
 use Rattle.office_texts.specs.declared.said.Said.{Said}
-use Rattle.office_texts.specs.Texts.{text_of, status_of}
+use Rattle.office_texts.specs.Texts.{text_of, answer_text_status}
 use Rattle.office_lines.specs.Lines.{front}
 use Rattle.office_words.specs.Sentences.{begins_request, is_silent, sentence_of}
 use Rattle.office_words.specs.declared.sentences.Sentence.{Sentence}
@@ -33,7 +33,7 @@ module _ {H : Type 0} (handles : H → Request → Answer → H → Type 0) wher
 
 pub rehearsals-greatest_status-append : (rs ss : List Said) → greatest_status (rs ++ ss) ≡ max (greatest_status rs) (greatest_status ss)
 rehearsals-greatest_status-append [] ss = omega arith
-rehearsals-greatest_status-append (r ∷ rs) ss = ap (max (status_of r)) (rehearsals-greatest_status-append rs ss) ∙ omega arith
+rehearsals-greatest_status-append (r ∷ rs) ss = ap (max (answer_text_status r)) (rehearsals-greatest_status-append rs ss) ∙ omega arith
 
 pub rehearsals-texts_of-append : (rs ss : List Said) → texts_of (rs ++ ss) ≡ texts_of rs ++ texts_of ss
 rehearsals-texts_of-append rs ss = flat_map-append text_of rs ss

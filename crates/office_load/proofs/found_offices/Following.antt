@@ -8,8 +8,8 @@ use Rattle.office_tables.specs.Tables.{HasTables}
 use Rattle.office_tables.proofs.statements.Steps.{statements-follows_then, statements-honest_before}
 use Rattle.office_load.specs.Reading.{OnlyReads}
 
-pub found_offices-reads_then : (a b c : State) → OnlyReads a b → OnlyReads b c → OnlyReads a c
-found_offices-reads_then a b c p q = record {
+pub found_offices_reads_then : (a b c : State) → OnlyReads a b → OnlyReads b c → OnlyReads a c
+found_offices_reads_then a b c p q = record {
   follows = statements-follows_then a b c p.follows q.follows;
   same = λ honest has.
       let before = statements-honest_before b c q.follows honest in

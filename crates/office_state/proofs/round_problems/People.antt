@@ -108,8 +108,8 @@ round_problems-people_are_participants office =
     (sym drawn.identifiers) moved)
 
 -- there are as many in the drawn order as there are lots
-pub round_problems-as_many_as_lots : (office : Office) → length (round_people office) ≡ length (lots_of office)
-round_problems-as_many_as_lots office =
+pub round_problems_as_many_as_lots : (office : Office) → length (round_people office) ≡ length (lots_of office)
+round_problems_as_many_as_lots office =
     length_permutation (participants office) (round_people office) (round_problems-people_are_participants office)
     ∙ sym (length-map (participants office) (λ person. (person, word_of office person)))
 

@@ -62,7 +62,7 @@ pub fn is_preparing(phase: Phase) -> bool
 }
 
 /// Whether there is a round that can be given up.
-pub fn phase_may_cancel(phase: Phase) -> bool
+pub fn round_phase_may_cancel(phase: Phase) -> bool
     ensures { result ≡ may_cancel phase }
 {
     matches!(
@@ -72,7 +72,7 @@ pub fn phase_may_cancel(phase: Phase) -> bool
 }
 
 /// Whether the words are drawn.
-pub fn phase_has_words(phase: Phase) -> bool
+pub fn round_phase_has_words(phase: Phase) -> bool
     ensures { result ≡ has_words phase }
 {
     matches!(phase, Phase::Drawn | Phase::Ran | Phase::Published)

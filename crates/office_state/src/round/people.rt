@@ -9,7 +9,7 @@ use std::alloc::Global;
 
 /// The participants in the drawn order, in n log n steps for n people; before the draw by identifier, since each word is then 0.
 /// It is refused only for memory. Where nobody takes part it takes none.
-#[tactic(auto, using(crate::proofs::RoundLemmas::People::as_many_as_lots))]
+#[tactic(auto, using(crate::proofs::round_problems::People::round_problems_as_many_as_lots))]
 pub fn round_people(alloc: Global, office: &Office) -> Result<Vec<PersonId>, OutOfMemory>
     ensures people { IfOk result (λ people. people.items ≡ round_people office.now) }
     ensures memory { OnErr result (0 < length (round_people office.now)) }

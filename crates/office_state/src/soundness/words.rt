@@ -8,14 +8,14 @@ ghost use Rattle.office_state.specs.Office.{has_withdrawn};
 ghost use Rattle.office_state.specs.Round.{is_participant};
 
 use crate::office::Office;
-use crate::office::phases::phase_has_words;
+use crate::office::phases::round_phase_has_words;
 
 /// Whether words obey their laws.
 pub(crate) fn are_words(office: &Office) -> bool
     ensures { Decides result
         (AreWords office.now.phase office.now.people office.now.withdrawn office.now.words) }
 {
-    if !phase_has_words(office.phase) {
+    if !round_phase_has_words(office.phase) {
         return office.words.len() == 0;
     }
     if !are_words_of_participants(office) {

@@ -20,7 +20,7 @@ use Rattle.office_tables.specs.Tables.{HoldsOffice}
 use Rattle.office_tables.proofs.statements.Steps.{statements-follows-refl, statements-follows_then}
 use Rattle.office_changes.specs.Carries.{Carries}
 use Rattle.office_load.specs.Reading.{OnlyReads}
-use Rattle.office_load.proofs.found_offices.Following.{found_offices-reads_then}
+use Rattle.office_load.proofs.found_offices.Following.{found_offices_reads_then}
 use Rattle.office_store.proofs.desks.Certain.{desks-accepted_is_stored}
 use Rattle.office_store.specs.Keeping.{changes_take_memory}
 use Rattle.office_store.specs.Desk.{DeskState, HandlesAt, IsTold, KeepsOn, Shows, StandsFor, reaches_tables}
@@ -222,7 +222,7 @@ module _ {S : Type 0} (g : Ghosts S) where
     untouched =
         desks-kept_office_through old.kept mid.kept (mid.conn ≡ old.conn) (reaches_tables request answer ≡ false → new.conn ≡ mid.conn)
         (reaches_tables request answer ≡ false → new.conn ≡ old.conn) kept same h.untouched (λ first then none. then none ∙ first);
-    reads = λ refused. found_offices-reads_then _ _ _ reads (h.reads refused);
+    reads = λ refused. found_offices_reads_then _ _ _ reads (h.reads refused);
     undone = λ refused some honest.
         let unread = desks-some_said old.kept (mid.conn ≡ old.conn) same some in
         h.undone refused (desks-some_after old.kept mid.kept kept some) honest ∙ ap (λ (conn : Held S). (state g conn).now) unread;

@@ -13,8 +13,8 @@ answer_texts-line_some [] = omega arith
 answer_texts-line_some (piece ∷ pieces) = omega (arith, length-append piece (line_of pieces), answer_texts-line_some pieces)
 
 -- there is a line for each row
-pub answer_texts-order_some : (rows : List OrderRow) → 0 < length rows → 0 < length (order_text rows)
-answer_texts-order_some [] some = absurd (omega (arith, some))
-answer_texts-order_some (row ∷ rows) some =
+pub answer_texts_order_some : (rows : List OrderRow) → 0 < length rows → 0 < length (order_text rows)
+answer_texts_order_some [] some = absurd (omega (arith, some))
+answer_texts_order_some (row ∷ rows) some =
     let first : 0 < length (order_line 1 row) = answer_texts-line_some (right_in 4 (decimal 1) ∷ codes " " ∷ word_text row.word ∷ codes " " ∷ row.person ∷ []) in
     omega (arith, length-append (order_line 1 row) (order_lines 2 rows), first)

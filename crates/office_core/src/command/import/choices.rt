@@ -13,7 +13,7 @@ use room_types::OutOfMemory;
 use std::alloc::Global;
 
 /// A change for each person's list; or the first bad record, and where there is none the first that is denied.
-#[tactic(auto, using(crate::proofs::CommandLemmas::ListChecks::few_told, crate::proofs::CommandLemmas::ListChecks::few_changes))]
+#[tactic(auto, using(crate::proofs::imports::ListChecks::imports_few_told, crate::proofs::imports::ListChecks::imports_few_changes))]
 pub fn choices_added(alloc: Global, office: &Office, bytes: &[u8]) -> Result<Vec<Change>, Refusal>
     ensures added { IfOk result
         (λ changes. AreAdded choices_command office.now bytes.now changes.items) }

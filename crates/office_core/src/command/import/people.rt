@@ -18,7 +18,7 @@ use room_types::{OutOfMemory, RoomCode};
 use std::alloc::Global;
 
 /// A change for each person of the list; or its first bad record, and where there is none the first that is denied.
-#[tactic(auto, using(crate::proofs::CommandLemmas::ListChecks::few_told, crate::proofs::CommandLemmas::ListChecks::few_changes))]
+#[tactic(auto, using(crate::proofs::imports::ListChecks::imports_few_told, crate::proofs::imports::ListChecks::imports_few_changes))]
 pub fn people_added(alloc: Global, office: &Office, bytes: &[u8]) -> Result<Vec<Change>, Refusal>
     ensures added { IfOk result
         (λ changes. AreAdded person_command office.now bytes.now changes.items) }

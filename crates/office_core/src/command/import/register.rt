@@ -34,7 +34,7 @@ impl Register {
     }
 
     /// One more person, who is not known yet.
-    #[tactic(auto, using(crate::proofs::CommandLemmas::Indexed::still_indexed))]
+    #[tactic(auto, using(crate::proofs::imports::Indexed::imports_still_indexed))]
     pub(crate) fn add(&mut self, entry: &PersonEntry) -> Result<(), OutOfMemory>
         requires unknown { map.contains_key self.old.people entry.now.person ≡ false }
         requires indexed { IsIndexed self.old }

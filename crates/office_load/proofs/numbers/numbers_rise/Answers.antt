@@ -3,7 +3,7 @@ use Rattle.office_tables.proofs.statements.Steps.{statements-honest_before}
 use Rattle.sqlite.specs.Effect.{Database}
 use Rattle.sqlite.specs.Held.{state}
 use Rattle.office_load.specs.Numbers.{AreNumbered, tree_of}
-use Rattle.office_load.proofs.found_offices.Following.{found_offices-reads_then}
+use Rattle.office_load.proofs.found_offices.Following.{found_offices_reads_then}
 use Rattle.office_load.proofs.loaded.Numbering.{loaded-next_place, loaded-numbered_if_read}
 use Rattle.office_load.proofs.numbers.numbers_rise.Goals as goal
 
@@ -14,7 +14,7 @@ loop-place-preserved g c =
     let after = state g.S.Store c.rowids.new.conn in
     record {
       outside = c.rowids.ensures.outside;
-      reads = found_offices-reads_then start before after c.loop-place.invariant.reads c.rowids.ensures.reads;
+      reads = found_offices_reads_then start before after c.loop-place.invariant.reads c.rowids.ensures.reads;
       opened = λ clean low. c.in_ok-rows.ensures.is_open clean;
       risen = λ clean has.
           let early = statements-honest_before before after c.rowids.ensures.reads.follows (clean, c.in_ok-rows.ensures.is_open clean) in

@@ -5,9 +5,9 @@ use Rattle.std.proofs.lemmas.Bool.{both_ways}
 use Rattle.office_state.proofs.sound_offices.LawTests.{sound_offices-never, sound_offices-as_well, sound_offices-empty-decides, sound_offices-words-tell, sound_offices-words-first, sound_offices-words-second}
 use Rattle.office_state.proofs.soundness.words.are_words.Goals as goal
 
-pub returns-then-not-phase_has_words : goal.returns-then-not-phase_has_words
-returns-then-not-phase_has_words c =
-    let undrawn = sym c.phase_has_words.ensures ∙ c.if-not-phase_has_words.true in
+pub returns-then-not-round_phase_has_words : goal.returns-then-not-round_phase_has_words
+returns-then-not-round_phase_has_words c =
+    let undrawn = sym c.round_phase_has_words.ensures ∙ c.if-not-round_phase_has_words.true in
     sound_offices-as_well _
     (λ none. record { none = λ _. none; each = λ drawn. absurd (both_ways _ undrawn drawn) })
     (λ l. l.none undrawn)
@@ -16,13 +16,13 @@ returns-then-not-phase_has_words c =
 pub returns-then-not-are_words_of_participants : goal.returns-then-not-are_words_of_participants
 returns-then-not-are_words_of_participants c =
     let office = c.args.office.now in
-    let drawn = sym c.phase_has_words.ensures ∙ c.if-not-phase_has_words.false in
+    let drawn = sym c.round_phase_has_words.ensures ∙ c.if-not-round_phase_has_words.false in
     sound_offices-never (λ l. both_ways _ (sym c.are_words_of_participants.ensures ∙ c.if-not-are_words_of_participants.true) (sound_offices-words-first office.people office.withdrawn office.words (l.each drawn)))
 
 pub returns : goal.returns
 returns c =
     let office = c.args.office.now in
-    let drawn = sym c.phase_has_words.ensures ∙ c.if-not-phase_has_words.false in (
+    let drawn = sym c.round_phase_has_words.ensures ∙ c.if-not-round_phase_has_words.false in (
       λ e. record {
         none = λ undrawn. absurd (both_ways _ undrawn drawn);
         each = λ _. sound_offices-words-tell office.people office.withdrawn office.words (sym c.are_words_of_participants.ensures ∙ c.if-not-are_words_of_participants.false) (sym c.have_participants_words.ensures ∙ e);
