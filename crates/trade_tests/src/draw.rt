@@ -26,7 +26,7 @@ impl Model for Counting {
 impl NextWord<u32> for Counting {
     ghost step = { λ last. ((last + 1) % 2 ^ 32, (last + 1) % 2 ^ 32) };
 
-    fn next_draw_word(&mut self) -> u32 {
+    fn next_word(&mut self) -> u32 {
         self.last = self.last.wrapping_add(1);
         self.last
     }
@@ -36,7 +36,7 @@ impl Rng for Counting {
     ghost stream = { stream_of (steps_u32 (λ last. ((last + 1) % 2 ^ 32, (last + 1) % 2 ^ 32))) };
 
     fn next_u32(&mut self) -> u32 {
-        self.next_draw_word()
+        self.next_word()
     }
 
     fn next_u64(&mut self) -> u64 {
