@@ -1,2 +1,2 @@
 -- Lemmas on cells of a row.
-mod TextCells
+pub mod TextCells

@@ -1,3 +1,3 @@
 -- Lemmas on the tables of a new office.
-mod Declared
-mod Empty
+pub mod Declared
+pub mod Empty

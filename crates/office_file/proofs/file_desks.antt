@@ -1,2 +1,2 @@
 -- Lemmas on desks over a file.
-mod Opened
+pub mod Opened

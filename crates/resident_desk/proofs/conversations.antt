@@ -1,4 +1,4 @@
 -- Lemmas on conversations with residents.
-mod AtDesk
-mod Carried
-mod Streams
+pub mod AtDesk
+pub mod Carried
+pub mod Streams

@@ -1,2 +1,2 @@
 -- Lemmas on what a resident is served.
-mod Replies
+pub mod Replies

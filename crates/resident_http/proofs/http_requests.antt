@@ -1,7 +1,7 @@
 -- Lemmas on the bytes of a request.
-mod Continuations
-mod Fields
-mod Keys
-mod Requests
-mod Targets
-mod Windows
+pub mod Continuations
+pub mod Fields
+pub mod Keys
+pub mod Requests
+pub mod Targets
+pub mod Windows

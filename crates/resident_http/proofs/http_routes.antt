@@ -1,3 +1,3 @@
 -- Lemmas on routes.
-mod Found
-mod Literal
+pub mod Found
+pub mod Literal

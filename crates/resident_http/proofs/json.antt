@@ -1,4 +1,4 @@
 -- Lemmas on bodies in JSON.
-mod Bodies
-mod CodeLists
-mod Floats
+pub mod Bodies
+pub mod CodeLists
+pub mod Floats
