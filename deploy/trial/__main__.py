@@ -13,6 +13,8 @@ sys.dont_write_bytecode = True
 from burst import try_burst
 from limits import try_limits
 from page import try_page
+from stall import try_stall
+from waits import try_waits
 
 if __name__ == "__main__":
     if len(sys.argv) != 3:
@@ -22,4 +24,6 @@ if __name__ == "__main__":
     try_page(sys.argv[1], folder)
     try_burst(sys.argv[1])
     try_limits(sys.argv[1])
+    try_stall(sys.argv[1])
+    try_waits(sys.argv[1])
     print("all is as it should be")

@@ -6,6 +6,7 @@ ends, and by bin/systemctl. Whatever was started has ended when the `with` block
 
 import contextlib
 import os
+import random
 import shutil
 import socket
 import sqlite3
@@ -35,11 +36,21 @@ def check(what, holds, more=""):
     print(f"ok    {what}", flush=True)
 
 
-def free_port():
-    """A port that nobody listens on now."""
-    with socket.socket() as probe:
-        probe.bind(("127.0.0.1", 0))
-        return probe.getsockname()[1]
+def free_ports(count):
+    """So many ports that nobody uses now, below those that the system gives to connections.
+
+    The system may give a port of its own range to any connection while the server is stopped. The server cannot have the port
+    back as long as that connection lasts, and for a minute after its end.
+    """
+    lowest = int(Path("/proc/sys/net/ipv4/ip_local_port_range").read_text(encoding="ascii").split()[0])
+    free = []
+    for port in random.sample(range(lowest // 2, lowest), 1000):
+        with contextlib.suppress(OSError), socket.socket() as probe:
+            probe.bind(("127.0.0.1", port))
+            free.append(port)
+        if len(free) == count:
+            return free
+    return fail(f"no {count} ports are free below {lowest}")
 
 
 def until(holds, seconds, what):
@@ -71,7 +82,7 @@ class Stand:
         self.program, self.connections = str(Path(program).resolve()), connections
         self.folder = Path(tempfile.mkdtemp(prefix="rooms-trial-"))
         self.file = self.folder / "rooms.db"
-        self.server_port, self.plain_port, self.port = free_port(), free_port(), free_port()
+        self.server_port, self.plain_port, self.port = free_ports(3)
         self.wanted, self.running = self.folder / "wanted", self.folder / "running"
         self.over, self.proxy, self.unit = threading.Event(), None, None
         self.starts = 0
@@ -111,7 +122,7 @@ class Stand:
             os.kill(int(self.running.read_text()), 15)
 
     def serve(self):
-        """The unit: `rooms serve`, started again 200 milliseconds after it has ended."""
+        """The unit: `rooms serve`. Where it ends by itself it is started again after 200 milliseconds, and else once it is wanted."""
         line = [self.program, "serve", "--db", str(self.file), "--port", str(self.server_port),
                 "--count", str(self.connections)]
         while not self.over.is_set():
@@ -124,7 +135,8 @@ class Stand:
                 self.running.write_text(str(server.pid))
                 server.wait()
             self.running.unlink()
-            time.sleep(0.2)
+            if self.wanted.exists():
+                time.sleep(0.2)
 
     def start(self):
         """Starts the unit and waits for its port."""
@@ -147,8 +159,8 @@ class Stand:
 
     # --- the proxy
 
-    def start_proxy(self):
-        """Starts HAProxy over the repository's file, with the trial's ports and paths."""
+    def start_proxy(self, *changes):
+        """Starts HAProxy over the repository's file, with the trial's ports and paths, and further changes: an old text and a new."""
         self.make_certificate()
         text = (DEPLOY / "haproxy.cfg").read_text(encoding="utf-8")
         for old, new in [
@@ -157,6 +169,7 @@ class Stand:
             ("bind :443 ", f"bind 127.0.0.1:{self.port} "),
             ("/etc/haproxy/rooms.pem", str(self.folder / "rooms.pem")),
             ("127.0.0.1:8080", f"127.0.0.1:{self.server_port}"),
+            *changes,
         ]:
             if text.count(old) != 1:
                 fail(f"haproxy.cfg has {text.count(old)} times {old!r}")
@@ -190,6 +203,13 @@ class Stand:
             database.executemany("INSERT INTO room VALUES (?, 0)", [(room,) for room in rooms])
             database.executemany("INSERT INTO person VALUES (?, ?, ?, NULL, 0)",
                                  [(person, f"Person {person}", key_of(person)) for person in people])
+
+    def fill_lists(self, people, rooms, count):
+        """Gives each person a list of so many rooms, drawn by chance."""
+        with contextlib.closing(sqlite3.connect(self.file)) as database, database:
+            database.executemany("INSERT INTO choice VALUES (?, ?, ?)",
+                                 [(person, place, room) for person in people
+                                  for place, room in enumerate(random.sample(rooms, count))])
 
     def recorded(self):
         """The lists that the file has, by person."""
