@@ -4,3 +4,8 @@ pub mod Laws
 pub mod Query
 pub mod Refusal
 pub mod Replies
+pub use Rattle.office_state.specs.Change
+pub use Rattle.office_state.specs.Empty
+pub use Rattle.office_state.specs.Office
+pub use Rattle.office_state.specs.Round
+pub use Rattle.office_state.specs.Soundness

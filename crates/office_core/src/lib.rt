@@ -15,3 +15,4 @@ pub use crate::query::Query;
 pub use crate::query::answer::answer;
 pub use crate::refusal::Refusal;
 pub use crate::reply::{OrderRow, Reply, Standing};
+pub use office_state::{Change, Office, apply, sound};

@@ -1,1 +1,1 @@
-mod file_desks
+mod system_files

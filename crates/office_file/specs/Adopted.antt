@@ -1,69 +1,68 @@
--- What an opening finds of an office, and why it is refused.
-use Rattle.std.specs.Prelude.{◌≡◌, ◌⊎◌, false, IfErr, IsSome, IsTrue, Result}
-use Rattle.sqlite_disk.specs.declared.Disk.{Ghosts}
-use Rattle.sqlite_store.specs.declared.store.FileStore.{FileStore}
-use Rattle.sqlite_wal.specs.Recovery.{Image}
-use Rattle.sqlite.specs.Files.{file_state, over_files}
-use Rattle.sqlite.specs.Held.{Held}
+-- An office that is found in a file, and why there is none.
+use Rattle.std.specs.Prelude.{◌≡◌, ◌⊎◌, ℕ, List, false, IfErr, IsSome, IsTrue, Result}
+use Rattle.sqlite.specs.Held.{Held, state}
 use Rattle.sqlite.specs.State.{HasCleanDisk}
+use Rattle.sqlite_trees.specs.declared.store.Store.{Ghosts}
 use Rattle.office_state.specs.declared.office.Office.{Office}
-use Rattle.office_file.specs.Files.{IsOpenedOver}
-use Rattle.office_load.specs.Finding.{AreDeclared, AreWhole}
+use Rattle.office_file.specs.Access.{FileAccess}
+use Rattle.office_load.specs.Finding.{AreDeclared, AreWhole, names_round}
 use Rattle.office_load.specs.Layout.{is_laid_out}
 use Rattle.office_store.specs.Adopting.{IsFaultOf, MayRefuse}
 use Rattle.office_store.specs.Desk.{DeskState, Shows}
 use Rattle.office_store.specs.declared.desk.faults.DeskFault.{DeskFault}
-use Rattle.office_store.specs.declared.desk.faults.DeskFault.TheVariants.{Unavailable}
+use Rattle.office_store.specs.declared.desk.faults.DeskFault.TheVariants.{NotAnOffice, Unavailable}
 use Rattle.office_tables.specs.Steps.{Follows, IsHonest}
 use Rattle.office_tables.specs.Tables.{HoldsOffice}
 
-module _ {D : Type 0} {g : Ghosts D} where
+module _ {S : Type 0} (g : Ghosts S) where
   -- The database of the connection holds the rows of an office, and the desk shows that office, where the disk returned what
   -- was written and the tables are declared as those of an office.
-  abbrev pub ShowsFound : Held (FileStore D g) → DeskState (FileStore D g) → Type 0
+  abbrev pub ShowsFound : Held S → DeskState S → Type 0
   ShowsFound connection desk =
-      HasCleanDisk (file_state desk.conn) → AreDeclared (file_state connection).now.schema
-      → AreWhole (file_state connection).now.trees
-      → (office : Office) × HoldsOffice (file_state connection).now office × Shows over_files desk office
+      HasCleanDisk (state g desk.conn) → AreDeclared (state g connection).now.schema
+      → AreWhole (state g connection).now.trees
+      → (office : Office) × HoldsOffice (state g connection).now office × Shows g desk office
 
-  -- the tables of the desk are those that the connection had, where they are declared as those of an office, as long as no
-  -- fault shuts the connection
-  abbrev pub StaysFound : Held (FileStore D g) → DeskState (FileStore D g) → Type 0
+  -- the tables of the desk are those that the connection had, as long as no fault shuts the connection
+  abbrev pub StaysFound : Held S → DeskState S → Type 0
   StaysFound connection desk =
-      IsHonest (file_state desk.conn) → AreDeclared (file_state connection).now.schema
-      → (file_state desk.conn).now ≡ (file_state connection).now
+      IsHonest (state g desk.conn) → (state g desk.conn).now ≡ (state g connection).now
 
-  -- The database of a connection is refused for this: only as what is declared allows, whatever the disk does (`allowed`); and
-  -- only as what the tables hold allows, where they are declared as those of an office and the disk returns what was written in
-  -- each state that may follow (`cause`). The connection is let go: `refused` is some state that follows it, the connection
-  -- itself or another, and none is known to be the last one. So `follows`, `undone` and `unread` tell nothing of what is left
-  -- in the file.
-  pub record MayRefuseFound (connection refused : Held (FileStore D g)) (fault : DeskFault) : Type 0 where
-    pub follows : Follows (file_state connection) (file_state refused)
-    pub undone : IsHonest (file_state refused) → AreDeclared (file_state connection).now.schema
-        → (file_state refused).now ≡ (file_state connection).now
-    pub unread : is_laid_out (file_state connection).now.schema ≡ false → refused ≡ connection
-    pub allowed : IsFaultOf (file_state connection).now.schema fault
-    pub cause : HasCleanDisk (file_state refused) → AreDeclared (file_state connection).now.schema
-        → MayRefuse (file_state connection).now fault
+  -- The database of a connection is refused for this, and the connection is then the other one: only as what is declared
+  -- allows, whatever the disk does (`allowed`); and only as what the tables hold allows, where they are declared as those of an
+  -- office and the disk returned what was written (`cause`). Its tables are as they were.
+  pub record RefusesFound (connection refused : Held S) (fault : DeskFault) : Type 0 where
+    pub follows : Follows (state g connection) (state g refused)
+    pub undone : IsHonest (state g refused) → (state g refused).now ≡ (state g connection).now
+    pub unread : is_laid_out (state g connection).now.schema ≡ false → refused ≡ connection
+    pub absent : names_round (state g connection).now.schema ≡ false → fault ≡ NotAnOffice
+    pub allowed : IsFaultOf (state g connection).now.schema fault
+    pub cause : HasCleanDisk (state g refused) → AreDeclared (state g connection).now.schema
+        → MayRefuse (state g connection).now fault
 
-  abbrev pub RefusesFound : Held (FileStore D g) → Result (DeskState (FileStore D g)) DeskFault → Type 0
-  RefusesFound connection result = IfErr result (λ fault. (refused : Held (FileStore D g)) × MayRefuseFound connection refused fault)
-
-module _ {D : Type 0} {g : Ghosts D} (contents : Image) where
-  -- The desk goes on from an opening that found the tables of an office, and nothing beside them. It keeps an office. It
-  -- shows the one that was found, and the tables stay as they were, each under its own premises (`shows`, `unchanged`).
-  pub record BeginsFound (desk : DeskState (FileStore D g)) : Type 0 where
-    pub connection : Held (FileStore D g)
-    pub opened : IsOpenedOver contents connection
-    pub laid : IsTrue (is_laid_out (file_state connection).now.schema)
-    pub follows : Follows (file_state connection) (file_state desk.conn)
+module _ {F S : Type 0} (access : FileAccess F S) where
+  -- The desk goes on from the database that was opened, which has the tables of an office, and nothing beside them. It keeps
+  -- an office. It shows the one that was found, and the tables stay as they were, each under its own premises (`shows`,
+  -- `unchanged`).
+  pub record BeginsFound (files : F) (path : List ℕ) (desk : DeskState S) (files' : F) : Type 0 where
+    pub connection : Held S
+    pub opened : access.finds files path connection files'
+    pub laid : IsTrue (is_laid_out (state access.base connection).now.schema)
+    pub follows : Follows (state access.base connection) (state access.base desk.conn)
     pub kept : IsSome desk.kept
-    pub shows : ShowsFound connection desk
-    pub unchanged : StaysFound connection desk
+    pub shows : ShowsFound access.base connection desk
+    pub unchanged : StaysFound access.base connection desk
 
-  -- the files were not opened, or what an opening found is refused
-  abbrev pub IsFileFault : Result (DeskState (FileStore D g)) DeskFault → Type 0
-  IsFileFault result =
-      IfErr result (λ fault. (fault ≡ Unavailable) ⊎ ((connection : Held (FileStore D g)) × IsOpenedOver contents connection
-      × (refused : Held (FileStore D g)) × MayRefuseFound connection refused fault))
+  -- the database that was opened is refused, and its connection is closed
+  pub record ClosesFound (files : F) (path : List ℕ) (fault : DeskFault) (files' : F) : Type 0 where
+    pub connection : Held S
+    pub between : F
+    pub opened : access.finds files path connection between
+    pub refused : Held S
+    pub refuses : RefusesFound access.base connection refused fault
+    pub closed : access.closes between refused files'
+
+  -- the file was not opened, or what was opened is refused
+  abbrev pub IsFileFault : F → List ℕ → Result (DeskState S) DeskFault → F → Type 0
+  IsFileFault files path result files' =
+      IfErr result (λ fault. ((fault ≡ Unavailable) × access.fails files path files') ⊎ ClosesFound files path fault files')

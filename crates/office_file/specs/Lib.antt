@@ -1,2 +1,5 @@
+pub mod Access
 pub mod Adopted
+pub mod Created
 pub mod Files
+pub mod System

@@ -1,10 +1,17 @@
-//! Desks over files are let go.
-use crate::creating::FileDesk;
-use office_store::DeskFault;
-use sqlite::Start;
+//! Desks over files are closed.
+ghost use Rattle.std.specs.Prelude.{◌≡◌, IfOk, OnErr};
 
-/// Lets the desk go, if there is one: its file is closed, and the log stays beside it. Whoever has such a desk hands it on
-/// to here, so that no other crate of the program needs the proof that an open file with all its parts can be let go, which takes minutes.
-pub fn let_go<S: Start>(desk: Result<FileDesk<S>, DeskFault>) {
-    drop(desk);
+use crate::files::Closes;
+use office_store::{Desk, DeskFault};
+use sqlite::{Alter, Connection};
+
+/// Closes the desk's file, if there is a desk: its connection is closed as the desk left it.
+pub fn close<B: Alter, F: Closes<Connection<B>>>(files: &mut F, desk: Result<Desk<B>, DeskFault>)
+    ensures closed { IfOk desk (λ desk. F.closes files.old desk.conn files.new) }
+    ensures none { OnErr desk (files.new ≡ files.old) }
+{
+    match desk {
+        Ok(desk) => files.close(desk.release()),
+        Err(_) => {}
+    }
 }

@@ -3,10 +3,14 @@
 
 pub mod closing;
 pub mod creating;
+pub mod files;
 pub mod finding;
 pub mod opening;
+pub mod system;
 
-pub use crate::closing::let_go;
-pub use crate::creating::{FileDesk, create_file, create_over};
-pub use crate::finding::{adopt_over, on_file};
+pub use crate::closing::close;
+pub use crate::creating::create_in;
+pub use crate::files::{Closes, Files, SystemFiles};
+pub use crate::finding::find_in;
 pub use crate::opening::{FileConnection, open_file, open_present_file};
+pub use crate::system::{FileDesk, close_file, create_file, create_over, find_over, on_file};

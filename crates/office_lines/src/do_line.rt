@@ -24,7 +24,7 @@ pub fn do_words<H: Handler, W: Write>(
 ) -> u8
     requires ready { H.is_ready handler.old }
     requires fresh_output { IsFresh output.old }
-    ensures no_late_write { StopsAtFailure output.old output.new }
+    ensures no_wasted_write { StopsAtFailure output.old output.new }
     ensures does { DoesWords H.handles handler.old (map (λ word. word.now) words.now) result
         handler.new (output_of W.contents output.old) (output_of W.contents output.new) }
     ensures ready { H.is_ready handler.new }
@@ -46,7 +46,7 @@ pub fn do_line<H: Handler, W: Write>(
 ) -> u8
     requires ready { H.is_ready handler.old }
     requires fresh_output { IsFresh output.old }
-    ensures no_late_write { StopsAtFailure output.old output.new }
+    ensures no_wasted_write { StopsAtFailure output.old output.new }
     ensures does { DoesText H.handles handler.old line.now result handler.new
         (output_of W.contents output.old) (output_of W.contents output.new) }
     ensures ready { H.is_ready handler.new }
@@ -72,7 +72,7 @@ fn is_heard_line_broken(text: &[u8]) -> bool
 pub fn tell<W: Write>(alloc: Global, said: &Said, output: &mut Watched<W>) -> u8
     requires ascending { SaidAscends said.now }
     requires fresh { IsFresh output.old }
-    ensures no_late_write { StopsAtFailure output.old output.new }
+    ensures no_wasted_write { StopsAtFailure output.old output.new }
     ensures tells { Tells said.now result (output_of W.contents output.old)
         (output_of W.contents output.new) }
 {

@@ -30,8 +30,8 @@ pub fn rehearse<H: Handler, R: Read, W: Write>(
     requires fresh_input { IsFresh input.old }
     requires fresh_output { IsFresh output.old }
     ensures few { watched_reads input.new ≤ read_limit }
-    ensures no_late_read { StopsAtEnd input.old input.new }
-    ensures no_late_write { StopsAtFailure output.old output.new }
+    ensures no_wasted_read { StopsAtEnd input.old input.new }
+    ensures no_wasted_write { StopsAtFailure output.old output.new }
     ensures rehearses { Rehearses H.handles result.ending result.status handler.old handler.new
         (input_of R.remaining input.old) (input_of R.remaining input.new)
         (output_of W.contents output.old) (output_of W.contents output.new) }
@@ -81,8 +81,8 @@ fn listen<H: Handler, R: Read, W: Write>(
         OnlyWhereFailed ending (watched_failed output.old) (watched_failed output.new)) }
     ensures kept { OnOk result (watched_failed input.new ≡ watched_failed input.old) }
     ensures few { watched_reads input.new ≤ read_limit }
-    ensures no_late_read { StopsAtEnd input.old input.new }
-    ensures no_late_write { StopsAtFailure output.old output.new }
+    ensures no_wasted_read { StopsAtEnd input.old input.new }
+    ensures no_wasted_write { StopsAtFailure output.old output.new }
     ensures bound { OnOk result (session.new.sent ≤ 2 ^ 100) }
     ensures ready { H.is_ready handler.new }
 {

@@ -10,7 +10,7 @@ use std::io::Write;
 
 /// Writes the text and flushes. The exit status is this one, and 3 where the device fails.
 pub fn say<W: Write>(output: &mut Watched<W>, text: &str, status: u8) -> u8
-    ensures no_late_write { StopsAtFailure output.old output.new }
+    ensures no_wasted_write { StopsAtFailure output.old output.new }
     ensures says { Says text.now status result (output_of W.contents output.old)
         (output_of W.contents output.new) }
 {
@@ -25,7 +25,7 @@ pub fn say<W: Write>(output: &mut Watched<W>, text: &str, status: u8) -> u8
 
 /// Says that memory or the database did not serve, and flushes. The exit status is 3.
 pub fn say_line_unavailable<W: Write>(output: &mut Watched<W>) -> u8
-    ensures no_late_write { StopsAtFailure output.old output.new }
+    ensures no_wasted_write { StopsAtFailure output.old output.new }
     ensures says { SaysUnavailable result (output_of W.contents output.old)
         (output_of W.contents output.new) }
 {

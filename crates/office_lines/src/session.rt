@@ -57,7 +57,7 @@ impl Session {
             handler.new (output_of W.contents output.new)) }
         ensures failed { IfErr result (λ ending.
             OnlyWhereFailed ending (watched_failed output.old) (watched_failed output.new)) }
-        ensures no_late_write { StopsAtFailure output.old output.new }
+        ensures no_wasted_write { StopsAtFailure output.old output.new }
         ensures bound { OnOk result (self.new.sent < self.old.sent + 2 ^ 64) }
         ensures ready { H.is_ready handler.new }
     {
@@ -96,7 +96,7 @@ impl Session {
             handler.new (output_of W.contents output.new) (byte ∷ [])) }
         ensures failed { IfErr result (λ ending.
             OnlyWhereFailed ending (watched_failed output.old) (watched_failed output.new)) }
-        ensures no_late_write { StopsAtFailure output.old output.new }
+        ensures no_wasted_write { StopsAtFailure output.old output.new }
         ensures bound { OnOk result (self.new.sent < self.old.sent + 2 ^ 64) }
         ensures ready { H.is_ready handler.new }
     {
@@ -130,7 +130,7 @@ impl Session {
             handler.new (output_of W.contents output.new) piece.now) }
         ensures failed { IfErr result (λ ending.
             OnlyWhereFailed ending (watched_failed output.old) (watched_failed output.new)) }
-        ensures no_late_write { StopsAtFailure output.old output.new }
+        ensures no_wasted_write { StopsAtFailure output.old output.new }
         ensures bound { OnOk result (self.new.sent ≤ self.old.sent + length piece.now * 2 ^ 64) }
         ensures ready { H.is_ready handler.new }
     {
@@ -157,7 +157,7 @@ impl Session {
             handler.new (output_of W.contents output.new)) }
         ensures failed { IfErr result (λ ending.
             OnlyWhereFailed ending (watched_failed output.old) (watched_failed output.new)) }
-        ensures no_late_write { StopsAtFailure output.old output.new }
+        ensures no_wasted_write { StopsAtFailure output.old output.new }
         ensures ready { H.is_ready handler.new }
     {
         if self.partial_line.is_empty() {
@@ -185,7 +185,7 @@ impl Session {
             handler.new (output_of W.contents output.new)) }
         ensures failed { IfErr result (λ ending.
             OnlyWhereFailed ending (watched_failed output.old) (watched_failed output.new)) }
-        ensures no_late_write { StopsAtFailure output.old output.new }
+        ensures no_wasted_write { StopsAtFailure output.old output.new }
         ensures ready { H.is_ready handler.new }
     {
         self.answer_rest(alloc, handler, output)?;

@@ -9,9 +9,6 @@ use room_types::{OutOfMemory, PersonId, RoomCode, Wave};
 use std::alloc::{AllocError, Global};
 use std::collections::BTreeMap;
 
-/// How many people may move in one round.
-pub const MOVE_LIMIT: usize = 2_000;
-
 // The number of an entry at the end of its chain.
 const END_NUMBER: u16 = 1;
 
@@ -95,7 +92,7 @@ fn number_chain(waves: &mut [Wave], followers: &[Option<usize>], end: usize, fir
         → i < length waves.old }
     requires as_many { length followers.now ≡ length waves.old }
     requires short { (count i : ℕ) → followed followers.now count end ≡ Some i
-        → count < MOVE_LIMIT }
+        → count < move_limit }
     requires low { first ≤ 1 }
     ensures { NumbersChain followers.now end first waves.old waves.new }
 {

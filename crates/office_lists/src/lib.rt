@@ -14,10 +14,10 @@ mod writing;
 
 pub use crate::entries::{ChoicesEntry, PersonEntry};
 pub use crate::exports::{
-    ExportKind, head_bytes, move_row_bytes, person_row_bytes, room_row_bytes,
+    ExportKind, ExportRow, head_bytes, move_row_bytes, person_row_bytes, room_row_bytes,
 };
 pub use crate::fault::{Cause, ListFault};
-pub use crate::leaving::{MOVE_LIMIT, Mover, one_wave_each, waves};
+pub use crate::leaving::{Mover, one_wave_each, waves};
 pub use crate::move_day::{in_moving_order, move_day_text, one_move_day_list};
 pub use crate::reading::{RECORD_LIMIT, read_choices, read_people, read_rooms};
 pub use crate::tables::{or_none, people_text, results_text, rooms_text};

@@ -19,6 +19,7 @@ use Rattle.office_store.specs.LawfulSteps.{HandlesLawfully}
 use Rattle.office_store.specs.declared.desk.faults.DeskFault.{DeskFault}
 use Rattle.office_tables.specs.Steps.{Follows}
 use Rattle.office_texts.specs.OutputLines.{line_of}
+use Rattle.resident_server.specs.Network.{Network}
 use Rattle.resident_server.specs.Serving.{ServesPort}
 use Rattle.room_types.specs.Streams.{Output}
 use Rattle.room_types.specs.Texts.{Text}
@@ -94,5 +95,6 @@ module _ {S : Type 0} (g : Ghosts S) where
   ExportsAt found last kind status out out' = DoneAt (λ old new. ExportsDesk old new kind status out out') found last status out out'
 
   -- residents are served at the desk that was found, or it is said why none was found
-  abbrev pub ServesAt : Result (DeskState S) DeskFault → Result (DeskState S) DeskFault → ℕ → ℕ → ℕ → Output → Output → Type 0
-  ServesAt found last port count status out out' = DoneAt (λ old new. ServesPort g old new port count status out out') found last status out out'
+  abbrev pub ServesAt : {P : Type 0} → Network P → P → Result (DeskState S) DeskFault → P → Result (DeskState S) DeskFault → ℕ → ℕ → ℕ → Output → Output → Type 0
+  ServesAt network ports found ports' last port count status out out' =
+      DoneAt (λ old new. ServesPort g network ports old ports' new port count status out out') found last status out out'

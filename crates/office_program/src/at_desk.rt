@@ -1,10 +1,11 @@
 //! What is done at a desk, and what is said where there is none.
-ghost use Rattle.std.specs.Prelude.{map};
+ghost use Rattle.std.specs.Prelude.{◌≡◌, map, IsErr};
 ghost use Rattle.room_types.specs.Streams.{output_of};
 ghost use Rattle.room_types.specs.Watched.{IsFresh, StopsAtFailure};
 ghost use Rattle.office_program.specs.AtDesk.{DoesAt, ExportsAt, ExportsDesk, ImportsAt, ImportsDesk, ServesAt};
 ghost use Rattle.office_program.specs.AtDesk.{TellsMade};
 ghost use Rattle.office_program.specs.Shelves.{shelf_of};
+ghost use Rattle.resident_server.specs.Network.{network_of};
 
 use crate::desk_faults::refuse_desk;
 use crate::importing::import_list;
@@ -14,7 +15,7 @@ use office_lines::say::{say, say_line_unavailable};
 use office_lists::ExportKind;
 use office_store::{Desk, DeskFault, Unavailable};
 use office_texts::{ACCEPTED, UNAVAILABLE};
-use resident_server::serve_port;
+use resident_server::{Ports, serve_port};
 use room_types::{Label, ListKind, Watched};
 use sqlite::Alter;
 use std::alloc::Global;
@@ -27,7 +28,7 @@ pub fn say_made<S: Alter, W: Write>(
     output: &mut Watched<W>,
 ) -> u8
     requires fresh_output { IsFresh output.old }
-    ensures no_late_write { StopsAtFailure output.old output.new }
+    ensures no_wasted_write { StopsAtFailure output.old output.new }
     ensures tells { TellsMade made.now result (output_of W.contents output.old)
         (output_of W.contents output.new) }
 {
@@ -46,7 +47,7 @@ pub fn do_at<S: Alter, W: Write>(
     output: &mut Watched<W>,
 ) -> u8
     requires fresh_output { IsFresh output.old }
-    ensures no_late_write { StopsAtFailure output.old output.new }
+    ensures no_wasted_write { StopsAtFailure output.old output.new }
     ensures does { DoesAt S.Store found.old found.new (map (λ word. word.now) words.now) result
         (output_of W.contents output.old) (output_of W.contents output.new) }
 {
@@ -68,7 +69,7 @@ pub fn import_at<S: Alter, L: Lists, W: Write>(
     output: &mut Watched<W>,
 ) -> u8
     requires fresh_output { IsFresh output.old }
-    ensures no_late_write { StopsAtFailure output.old output.new }
+    ensures no_wasted_write { StopsAtFailure output.old output.new }
     ensures imports { let shelf = shelf_of L.opens L.fails L.List.remaining lists.now in
         ImportsAt S.Store shelf found.old found.new kind label list.now result
         (output_of W.contents output.old) (output_of W.contents output.new) }
@@ -90,7 +91,7 @@ fn import_desk<S: Alter, L: Lists, W: Write>(
     output: &mut Watched<W>,
 ) -> u8
     requires fresh_output { IsFresh output.old }
-    ensures no_late_write { StopsAtFailure output.old output.new }
+    ensures no_wasted_write { StopsAtFailure output.old output.new }
     ensures imports { let shelf = shelf_of L.opens L.fails L.List.remaining lists.now in
         ImportsDesk S.Store shelf desk.old desk.new kind label list.now result
         (output_of W.contents output.old) (output_of W.contents output.new) }
@@ -114,7 +115,7 @@ pub fn export_at<S: Alter, W: Write>(
     output: &mut Watched<W>,
 ) -> u8
     requires fresh_output { IsFresh output.old }
-    ensures no_late_write { StopsAtFailure output.old output.new }
+    ensures no_wasted_write { StopsAtFailure output.old output.new }
     ensures exports { ExportsAt S.Store found.old found.new kind result
         (output_of W.contents output.old) (output_of W.contents output.new) }
 {
@@ -132,7 +133,7 @@ fn export_desk<S: Alter, W: Write>(
     output: &mut Watched<W>,
 ) -> u8
     requires fresh_output { IsFresh output.old }
-    ensures no_late_write { StopsAtFailure output.old output.new }
+    ensures no_wasted_write { StopsAtFailure output.old output.new }
     ensures exports { ExportsDesk S.Store desk.old desk.new kind result
         (output_of W.contents output.old) (output_of W.contents output.new) }
 {
@@ -145,22 +146,27 @@ fn export_desk<S: Alter, W: Write>(
     }
 }
 
-/// Serves residents at the desk that was found, so many connections on this port. Where none was found, that is said, and
-/// nobody is served. Gives the exit status.
-pub fn serve_at<S: Alter, W: Write>(
-    rt: &HostRuntime,
+/// Serves residents at the desk that was found, so many connections on this port. Where none was found, that is said, nobody
+/// is served, and the port is not listened on. Gives the exit status.
+pub fn serve_at<S: Alter, P: Ports, W: Write>(
+    alloc: Global,
     found: &mut Result<Desk<S>, DeskFault>,
+    ports: &mut P,
     port: u16,
     count: u32,
     output: &mut Watched<W>,
 ) -> u8
     requires fresh_output { IsFresh output.old }
-    ensures no_late_write { StopsAtFailure output.old output.new }
-    ensures serves { ServesAt S.Store found.old found.new port count result
+    ensures no_wasted_write { StopsAtFailure output.old output.new }
+    ensures serves { let network = network_of P.Socket.Stream.reads P.Socket.Stream.writes P.Socket.Stream.flushes
+        P.Socket.Stream.remaining P.Socket.Stream.contents
+        P.Socket.accepts P.Socket.closes P.listens P.fails P.stops in
+        ServesAt S.Store network ports.old found.old ports.new found.new port count result
         (output_of W.contents output.old) (output_of W.contents output.new) }
+    ensures unasked { IsErr found.old → ports.new ≡ ports.old }
 {
     match found {
-        Ok(desk) => serve_port(rt, desk, port, count, output),
-        Err(fault) => refuse_desk(rt.alloc(), *fault, output),
+        Ok(desk) => serve_port(alloc, desk, ports, port, count, output),
+        Err(fault) => refuse_desk(alloc, *fault, output),
     }
 }

@@ -3,27 +3,30 @@ ghost use Rattle.std.specs.Prelude.{◌≤◌, map};
 ghost use Rattle.room_types.specs.Watched.{IsFresh, StopsAtEnd, StopsAtFailure, watched_reads};
 ghost use Rattle.room_types.specs.Streams.{input_of, output_of};
 ghost use Rattle.office_program.specs.Doing.{CarriesOut, RehearsesAnew, Refuses};
-ghost use Rattle.office_program.specs.InFile.{no_contents};
+ghost use Rattle.office_file.specs.Access.{file_access};
 ghost use Rattle.office_program.specs.Shelves.{shelf_of};
+ghost use Rattle.resident_server.specs.Network.{network_of};
 ghost use Rattle.office_lines.specs.Lines.{read_limit};
-ghost use Rattle.sqlite_wal.specs.Files.{image_at};
 
 use crate::in_file::{do_in_file, export_in_file, import_in_file, make_in_file, serve_in_file};
 use crate::lists::Lists;
 use crate::program::program;
+use crate::rehearsing::rehearse_in_memory;
 use crate::usage::Program;
 use crate::word_lines::words_text;
-use office_lines::rehearse::rehearse;
+use office_file::{Closes, Files, SystemFiles};
 use office_lines::say::{say, say_line_unavailable};
 use office_store::Desk;
 use office_texts::{ACCEPTED, NOT_UNDERSTOOD};
 use office_words::WordFault;
-use room_types::Watched;
-use sqlite::{FileFrom, Start, Wary};
-use sqlite_disk::Disk;
+use resident_server::{Listener, Loopback, Ports};
+use room_types::{Stream, Watched};
+use sqlite::{Alter, Connection, FileFrom, FileStore, Start, Wary};
+use sqlite_trees::store::Store;
 use std::alloc::Global;
 use std::fs::File;
 use std::io::{Read, Write};
+use std::net::{TcpListener, TcpStream};
 
 /// Does what these words after the program's name ask for, and gives the exit status.
 pub fn carry_out<'a, R: Read, W: Write, E: Write>(
@@ -37,27 +40,33 @@ pub fn carry_out<'a, R: Read, W: Write, E: Write>(
     requires fresh_output { IsFresh output.old }
     requires fresh_error { IsFresh error.old }
     ensures few { watched_reads input.new ≤ read_limit }
-    ensures no_late_read { StopsAtEnd input.old input.new }
-    ensures no_late_write { StopsAtFailure output.old output.new }
-    ensures no_late_error { StopsAtFailure error.old error.new }
+    ensures no_wasted_read { StopsAtEnd input.old input.new }
+    ensures no_wasted_write { StopsAtFailure output.old output.new }
+    ensures no_wasted_error { StopsAtFailure error.old error.new }
     ensures carries_out { let shelf = shelf_of
         ⟦<HostRuntime as Lists>⟧.opens ⟦<HostRuntime as Lists>⟧.fails ⟦<File as Read>⟧.remaining rt.now in
-        CarriesOut ⟦<FileFrom<Wary> as Disk>⟧ no_contents shelf
-        (map (λ word. word.now) words.entry.now) result
+        let access = file_access ⟦<FileStore<FileFrom<Wary>> as Store>⟧
+        ⟦<SystemFiles<'static, Wary> as Files<FileStore<FileFrom<Wary>>>>⟧.opens ⟦<SystemFiles<'static, Wary> as Files<FileStore<FileFrom<Wary>>>>⟧.finds
+        ⟦<SystemFiles<'static, Wary> as Files<FileStore<FileFrom<Wary>>>>⟧.fails ⟦<SystemFiles<'static, Wary> as Closes<Connection<FileStore<FileFrom<Wary>>>>>⟧.closes in
+        let network = network_of ⟦<TcpStream as Stream>⟧.reads ⟦<TcpStream as Stream>⟧.writes ⟦<TcpStream as Stream>⟧.flushes
+        ⟦<TcpStream as Read>⟧.remaining ⟦<TcpStream as Write>⟧.contents
+        ⟦<TcpListener as Listener>⟧.accepts ⟦<TcpListener as Listener>⟧.closes
+        ⟦<Loopback<'static> as Ports>⟧.listens ⟦<Loopback<'static> as Ports>⟧.fails ⟦<Loopback<'static> as Ports>⟧.stops in
+        (files : _) × (files' : _) × (ports : _) × (ports' : _) × CarriesOut access shelf network
+        (map (λ word. word.now) words.entry.now) files ports result files' ports'
         (input_of R.remaining input.old) (input_of R.remaining input.new)
         (output_of W.contents output.old) (output_of W.contents output.new)
         (output_of E.contents error.old) (output_of E.contents error.new) }
 {
-    carry_out_from(rt, words, Wary, rt, input, output, error)
+    carry_out_over(rt, words, Wary, input, output, error)
 }
 
-/// Does what these words after the program's name ask for, and gives the exit status, whatever the file of an office and its log
-/// held, for which `start` stands, and wherever lists lie.
-pub fn carry_out_from<'a, S: Start, L: Lists, R: Read, W: Write, E: Write>(
+/// Does what these words after the program's name ask for over the system, and gives the exit status, whatever the file of an
+/// office and its log held, for which `start` stands.
+pub fn carry_out_over<'a, S: Start, R: Read, W: Write, E: Write>(
     rt: &HostRuntime,
     words: &'a [&'a str],
     start: S,
-    lists: &L,
     input: &mut Watched<R>,
     output: &mut Watched<W>,
     error: &mut Watched<E>,
@@ -66,21 +75,82 @@ pub fn carry_out_from<'a, S: Start, L: Lists, R: Read, W: Write, E: Write>(
     requires fresh_output { IsFresh output.old }
     requires fresh_error { IsFresh error.old }
     ensures few { watched_reads input.new ≤ read_limit }
-    ensures no_late_read { StopsAtEnd input.old input.new }
-    ensures no_late_write { StopsAtFailure output.old output.new }
-    ensures no_late_error { StopsAtFailure error.old error.new }
-    ensures carries_out { let shelf = shelf_of L.opens L.fails L.List.remaining lists.now in
-        CarriesOut ⟦<FileFrom<S> as Disk>⟧ (image_at S.Start) shelf
-        (map (λ word. word.now) words.entry.now) result
+    ensures no_wasted_read { StopsAtEnd input.old input.new }
+    ensures no_wasted_write { StopsAtFailure output.old output.new }
+    ensures no_wasted_error { StopsAtFailure error.old error.new }
+    ensures carries_out { let shelf = shelf_of
+        ⟦<HostRuntime as Lists>⟧.opens ⟦<HostRuntime as Lists>⟧.fails ⟦<File as Read>⟧.remaining rt.now in
+        let access = file_access ⟦<FileStore<FileFrom<S>> as Store>⟧
+        ⟦<SystemFiles<'static, S> as Files<FileStore<FileFrom<S>>>>⟧.opens ⟦<SystemFiles<'static, S> as Files<FileStore<FileFrom<S>>>>⟧.finds
+        ⟦<SystemFiles<'static, S> as Files<FileStore<FileFrom<S>>>>⟧.fails ⟦<SystemFiles<'static, S> as Closes<Connection<FileStore<FileFrom<S>>>>>⟧.closes in
+        let network = network_of ⟦<TcpStream as Stream>⟧.reads ⟦<TcpStream as Stream>⟧.writes ⟦<TcpStream as Stream>⟧.flushes
+        ⟦<TcpStream as Read>⟧.remaining ⟦<TcpStream as Write>⟧.contents
+        ⟦<TcpListener as Listener>⟧.accepts ⟦<TcpListener as Listener>⟧.closes
+        ⟦<Loopback<'static> as Ports>⟧.listens ⟦<Loopback<'static> as Ports>⟧.fails ⟦<Loopback<'static> as Ports>⟧.stops in
+        (files : _) × (files' : _) × (ports : _) × (ports' : _) × CarriesOut access shelf network
+        (map (λ word. word.now) words.entry.now) files ports result files' ports'
         (input_of R.remaining input.old) (input_of R.remaining input.new)
         (output_of W.contents output.old) (output_of W.contents output.new)
         (output_of E.contents error.old) (output_of E.contents error.new) }
 {
-    match program(rt.alloc(), words) {
-        Ok(Program::New { database }) => make_in_file(rt, database, start, output),
-        Ok(Program::Do { database, words }) => do_in_file(rt, database, start, &words, output),
-        Ok(Program::Rehearse) => rehearse_anew(rt.alloc(), input, output),
-        Ok(Program::Words { seed, count }) => match words_text(rt.alloc(), seed, count as usize) {
+    let mut files = SystemFiles::new(rt, start);
+    let mut ports = Loopback::new(rt);
+    carry_out_from(
+        rt.alloc(),
+        words,
+        &mut files,
+        rt,
+        &mut ports,
+        input,
+        output,
+        error,
+    )
+}
+
+/// Does what these words after the program's name ask for, and gives the exit status, wherever files of offices and lists lie. A
+/// line over a file opens the file of its path once, is done at its desk, and closes it as that desk left it.
+pub fn carry_out_from<
+    'a,
+    B: Alter,
+    F: Files<B> + Closes<Connection<B>>,
+    L: Lists,
+    P: Ports,
+    R: Read,
+    W: Write,
+    E: Write,
+>(
+    alloc: Global,
+    words: &'a [&'a str],
+    files: &mut F,
+    lists: &L,
+    ports: &mut P,
+    input: &mut Watched<R>,
+    output: &mut Watched<W>,
+    error: &mut Watched<E>,
+) -> u8
+    requires fresh_input { IsFresh input.old }
+    requires fresh_output { IsFresh output.old }
+    requires fresh_error { IsFresh error.old }
+    ensures few { watched_reads input.new ≤ read_limit }
+    ensures no_wasted_read { StopsAtEnd input.old input.new }
+    ensures no_wasted_write { StopsAtFailure output.old output.new }
+    ensures no_wasted_error { StopsAtFailure error.old error.new }
+    ensures carries_out { let shelf = shelf_of L.opens L.fails L.List.remaining lists.now in
+        let access = file_access B.Store F.opens F.finds F.fails F.closes in
+        let network = network_of P.Socket.Stream.reads P.Socket.Stream.writes P.Socket.Stream.flushes
+        P.Socket.Stream.remaining P.Socket.Stream.contents
+        P.Socket.accepts P.Socket.closes P.listens P.fails P.stops in
+        CarriesOut access shelf network
+        (map (λ word. word.now) words.entry.now) files.old ports.old result files.new ports.new
+        (input_of R.remaining input.old) (input_of R.remaining input.new)
+        (output_of W.contents output.old) (output_of W.contents output.new)
+        (output_of E.contents error.old) (output_of E.contents error.new) }
+{
+    match program(alloc, words) {
+        Ok(Program::New { database }) => make_in_file(alloc, files, database, output),
+        Ok(Program::Do { database, words }) => do_in_file(alloc, files, database, &words, output),
+        Ok(Program::Rehearse) => rehearse_anew(alloc, input, output),
+        Ok(Program::Words { seed, count }) => match words_text(alloc, seed, count as usize) {
             Ok(text) => say(output, text.as_str(), ACCEPTED),
             Err(_) => refuse_program_line(WordFault::OutOfMemory, output, error),
         },
@@ -91,9 +161,9 @@ pub fn carry_out_from<'a, S: Start, L: Lists, R: Read, W: Write, E: Write>(
                 label,
                 list,
             },
-        ) => import_in_file(rt, database, start, lists, kind, label, list, output),
+        ) => import_in_file(alloc, files, database, lists, kind, label, list, output),
         Ok(Program::Export { database, kind }) => {
-            export_in_file(rt, database, start, kind, output)
+            export_in_file(alloc, files, database, kind, output)
         }
         Ok(
             Program::Serve {
@@ -101,12 +171,12 @@ pub fn carry_out_from<'a, S: Start, L: Lists, R: Read, W: Write, E: Write>(
                 port,
                 count,
             },
-        ) => serve_in_file(rt, database, start, port, count, output),
+        ) => serve_in_file(alloc, files, database, ports, port, count, output),
         Err(fault) => refuse_program_line(fault, output, error),
     }
 }
 
-// A desk in memory, with an empty office, hears the input. Where memory is wanting for the desk, that is said.
+// Rehearses at a new desk in memory. Where memory is refused for the desk, that is printed.
 fn rehearse_anew<R: Read, W: Write>(
     alloc: Global,
     input: &mut Watched<R>,
@@ -115,14 +185,14 @@ fn rehearse_anew<R: Read, W: Write>(
     requires fresh_input { IsFresh input.old }
     requires fresh_output { IsFresh output.old }
     ensures few { watched_reads input.new ≤ read_limit }
-    ensures no_late_read { StopsAtEnd input.old input.new }
-    ensures no_late_write { StopsAtFailure output.old output.new }
+    ensures no_wasted_read { StopsAtEnd input.old input.new }
+    ensures no_wasted_write { StopsAtFailure output.old output.new }
     ensures rehearses { RehearsesAnew result
         (input_of R.remaining input.old) (input_of R.remaining input.new)
         (output_of W.contents output.old) (output_of W.contents output.new) }
 {
     match Desk::in_memory(alloc) {
-        Ok(mut desk) => rehearse(alloc, &mut desk, input, output).status,
+        Ok(mut desk) => rehearse_in_memory(alloc, &mut desk, input, output).status,
         Err(_) => say_line_unavailable(output),
     }
 }
@@ -135,8 +205,8 @@ pub fn refuse_program_line<W: Write, E: Write>(
 ) -> u8
     requires fresh_output { IsFresh output.old }
     requires fresh_error { IsFresh error.old }
-    ensures no_late_write { StopsAtFailure output.old output.new }
-    ensures no_late_error { StopsAtFailure error.old error.new }
+    ensures no_wasted_write { StopsAtFailure output.old output.new }
+    ensures no_wasted_error { StopsAtFailure error.old error.new }
     ensures refuses { Refuses fault result
         (output_of W.contents output.old) (output_of W.contents output.new)
         (output_of E.contents error.old) (output_of E.contents error.new) }

@@ -3,65 +3,68 @@
 ghost use Rattle.std.specs.Prelude.{map};
 ghost use Rattle.room_types.specs.Streams.{output_of};
 ghost use Rattle.room_types.specs.Watched.{IsFresh, StopsAtFailure};
-ghost use Rattle.sqlite_wal.specs.Files.{image_at};
+ghost use Rattle.office_file.specs.Access.{file_access};
 ghost use Rattle.office_program.specs.InFile.{DoesInFile, ExportsInFile, ImportsInFile, MakesInFile, ServesInFile};
 ghost use Rattle.office_program.specs.Shelves.{shelf_of};
+ghost use Rattle.resident_server.specs.Network.{network_of};
 
 use crate::at_desk::{do_at, export_at, import_at, say_made, serve_at};
 use crate::lists::Lists;
-use office_file::{create_file, let_go, on_file};
+use office_file::{Closes, Files, close, create_in, find_in};
 use office_lists::ExportKind;
+use resident_server::Ports;
 use room_types::{Label, ListKind, Watched};
-use sqlite::{FileFrom, Start};
-use sqlite_disk::Disk;
+use sqlite::{Alter, Connection};
+use std::alloc::Global;
 use std::io::Write;
 
-/// Makes an empty office in the file of this path, and says so, or why there is none. Gives the exit status. What the file and
-/// its log held is what `start` stands for.
-pub fn make_in_file<S: Start, W: Write>(
-    rt: &HostRuntime,
+/// Makes an empty office in the file of this path, and says so, or why there is none. Gives the exit status. The file is opened
+/// once, and closed as its desk left it.
+pub fn make_in_file<B: Alter, F: Files<B> + Closes<Connection<B>>, W: Write>(
+    alloc: Global,
+    files: &mut F,
     path: &str,
-    start: S,
     output: &mut Watched<W>,
 ) -> u8
     requires fresh_output { IsFresh output.old }
-    ensures no_late_write { StopsAtFailure output.old output.new }
-    ensures makes { MakesInFile ⟦<FileFrom<S> as Disk>⟧ (image_at S.Start) result
+    ensures no_wasted_write { StopsAtFailure output.old output.new }
+    ensures makes { let access = file_access B.Store F.opens F.finds F.fails F.closes in
+        MakesInFile access files.old path.now result files.new
         (output_of W.contents output.old) (output_of W.contents output.new) }
 {
-    let made = create_file(rt, path, start);
-    let status = say_made(rt.alloc(), &made, output);
-    let_go(made);
+    let made = create_in(alloc, files, path);
+    let status = say_made(alloc, &made, output);
+    close(files, made);
     status
 }
 
 /// Lets the office in the file of this path do the line that these words are, or says why there is no office. Gives the exit
-/// status. What the file and its log held is what `start` stands for.
-pub fn do_in_file<S: Start, W: Write>(
-    rt: &HostRuntime,
+/// status. The file is opened once, and closed as its desk left it.
+pub fn do_in_file<B: Alter, F: Files<B> + Closes<Connection<B>>, W: Write>(
+    alloc: Global,
+    files: &mut F,
     path: &str,
-    start: S,
     words: &[&str],
     output: &mut Watched<W>,
 ) -> u8
     requires fresh_output { IsFresh output.old }
-    ensures no_late_write { StopsAtFailure output.old output.new }
-    ensures does { DoesInFile ⟦<FileFrom<S> as Disk>⟧ (image_at S.Start)
-        (map (λ word. word.now) words.now) result
+    ensures no_wasted_write { StopsAtFailure output.old output.new }
+    ensures does { let access = file_access B.Store F.opens F.finds F.fails F.closes in
+        DoesInFile access files.old path.now (map (λ word. word.now) words.now) result files.new
         (output_of W.contents output.old) (output_of W.contents output.new) }
 {
-    let mut found = on_file(rt, path, start);
-    let status = do_at(rt.alloc(), &mut found, words, output);
-    let_go(found);
+    let mut found = find_in(alloc, files, path);
+    let status = do_at(alloc, &mut found, words, output);
+    close(files, found);
     status
 }
 
 /// Lets the list of the path `list` come in, under this label, at the office in the file of this path, or says why there is no
-/// office. Gives the exit status. What the office's file and its log held is what `start` stands for.
-pub fn import_in_file<S: Start, L: Lists, W: Write>(
-    rt: &HostRuntime,
+/// office. Gives the exit status. The office's file is opened once, and closed as its desk left it.
+pub fn import_in_file<B: Alter, F: Files<B> + Closes<Connection<B>>, L: Lists, W: Write>(
+    alloc: Global,
+    files: &mut F,
     path: &str,
-    start: S,
     lists: &L,
     kind: ListKind,
     label: Label,
@@ -69,54 +72,61 @@ pub fn import_in_file<S: Start, L: Lists, W: Write>(
     output: &mut Watched<W>,
 ) -> u8
     requires fresh_output { IsFresh output.old }
-    ensures no_late_write { StopsAtFailure output.old output.new }
+    ensures no_wasted_write { StopsAtFailure output.old output.new }
     ensures imports { let shelf = shelf_of L.opens L.fails L.List.remaining lists.now in
-        ImportsInFile ⟦<FileFrom<S> as Disk>⟧ (image_at S.Start) shelf kind label list.now result
+        let access = file_access B.Store F.opens F.finds F.fails F.closes in
+        ImportsInFile access shelf files.old path.now kind label list.now result files.new
         (output_of W.contents output.old) (output_of W.contents output.new) }
 {
-    let mut found = on_file(rt, path, start);
-    let status = import_at(rt.alloc(), &mut found, lists, kind, label, list, output);
-    let_go(found);
+    let mut found = find_in(alloc, files, path);
+    let status = import_at(alloc, &mut found, lists, kind, label, list, output);
+    close(files, found);
     status
 }
 
-/// Writes an export of the office in the file of this path, or says why there is no office. Gives the exit status. What the
-/// file and its log held is what `start` stands for.
-pub fn export_in_file<S: Start, W: Write>(
-    rt: &HostRuntime,
+/// Writes an export of the office in the file of this path, or says why there is no office. Gives the exit status. The file
+/// is opened once, and closed as its desk left it.
+pub fn export_in_file<B: Alter, F: Files<B> + Closes<Connection<B>>, W: Write>(
+    alloc: Global,
+    files: &mut F,
     path: &str,
-    start: S,
     kind: ExportKind,
     output: &mut Watched<W>,
 ) -> u8
     requires fresh_output { IsFresh output.old }
-    ensures no_late_write { StopsAtFailure output.old output.new }
-    ensures exports { ExportsInFile ⟦<FileFrom<S> as Disk>⟧ (image_at S.Start) kind result
+    ensures no_wasted_write { StopsAtFailure output.old output.new }
+    ensures exports { let access = file_access B.Store F.opens F.finds F.fails F.closes in
+        ExportsInFile access files.old path.now kind result files.new
         (output_of W.contents output.old) (output_of W.contents output.new) }
 {
-    let mut found = on_file(rt, path, start);
-    let status = export_at(rt.alloc(), &mut found, kind, output);
-    let_go(found);
+    let mut found = find_in(alloc, files, path);
+    let status = export_at(alloc, &mut found, kind, output);
+    close(files, found);
     status
 }
 
 /// Lets the office in the file of this path serve residents, so many connections on this port, or says why there is no office.
-/// Gives the exit status. What the file and its log held is what `start` stands for.
-pub fn serve_in_file<S: Start, W: Write>(
-    rt: &HostRuntime,
+/// Gives the exit status. The file is opened once, and closed as its desk left it.
+pub fn serve_in_file<B: Alter, F: Files<B> + Closes<Connection<B>>, P: Ports, W: Write>(
+    alloc: Global,
+    files: &mut F,
     path: &str,
-    start: S,
+    ports: &mut P,
     port: u16,
     count: u32,
     output: &mut Watched<W>,
 ) -> u8
     requires fresh_output { IsFresh output.old }
-    ensures no_late_write { StopsAtFailure output.old output.new }
-    ensures serves { ServesInFile ⟦<FileFrom<S> as Disk>⟧ (image_at S.Start) port count result
+    ensures no_wasted_write { StopsAtFailure output.old output.new }
+    ensures serves { let access = file_access B.Store F.opens F.finds F.fails F.closes in
+        let network = network_of P.Socket.Stream.reads P.Socket.Stream.writes P.Socket.Stream.flushes
+        P.Socket.Stream.remaining P.Socket.Stream.contents
+        P.Socket.accepts P.Socket.closes P.listens P.fails P.stops in
+        ServesInFile access network files.old path.now ports.old port count result files.new ports.new
         (output_of W.contents output.old) (output_of W.contents output.new) }
 {
-    let mut found = on_file(rt, path, start);
-    let status = serve_at(rt, &mut found, port, count, output);
-    let_go(found);
+    let mut found = find_in(alloc, files, path);
+    let status = serve_at(alloc, &mut found, ports, port, count, output);
+    close(files, found);
     status
 }

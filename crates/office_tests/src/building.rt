@@ -1,7 +1,7 @@
 //! Values and requests as tests write them. Whoever writes a text that spells no value has the test end.
-use office_core::Command;
+use office_core::{Command, Office};
 use office_store::{Answer, Desk, Request};
-use room_types::{Choices, Grammar, RoomCode, Text};
+use room_types::{Choices, Grammar, Phase, RoomCode, Text};
 use sqlite::MemStore;
 use std::alloc::Global;
 use std::process::Abort;
@@ -57,6 +57,16 @@ pub fn add_person(
 /// A desk in memory, with an empty office.
 pub fn new_desk(rt: &impl Abort, alloc: Global) -> Desk<MemStore> {
     Desk::in_memory(alloc).expect(rt, "a desk in memory")
+}
+
+/// Whether nothing but rooms is in the office, before its first round.
+pub fn is_bare(office: &Office) -> bool {
+    let people = office.people.len() == 0 && office.withdrawn.len() == 0;
+    let lists = office.choices.len() == 0 && office.lists.len() == 0;
+    let draw = office.words.len() == 0 && office.results.len() == 0;
+    let moves = office.moves.iter().next().is_none();
+    let rounds = office.number == 0 && office.phase == Phase::Idle;
+    people && lists && draw && moves && rounds
 }
 
 /// What the desk answers to these requests.

@@ -2,8 +2,8 @@
 use crate::asserting::assert_same;
 use crate::building::{choices, text};
 use office_changes::store_changes;
+use office_core::{Change, Office, apply};
 use office_create::create;
-use office_state::{Change, Office, apply};
 use room_types::{Move, Phase, Wave, Word};
 use sqlite::{Connection, MemStore};
 use std::alloc::Global;

@@ -1,8 +1,8 @@
-//! Offices in files. A desk is let go by one call, since each place where a file may be closed is proved by itself.
+//! Offices in files. One call closes each file, since each place where a file may be closed is proved by itself.
 use crate::asserting::assert_same;
-use crate::building::add_room;
+use crate::building::{add_room, is_bare};
 use office_core::Reply;
-use office_file::{FileDesk, create_file, let_go, on_file};
+use office_file::{FileDesk, close_file, create_file, on_file};
 use office_store::{Answer, DeskFault};
 use sqlite::Wary;
 use std::alloc::Global;
@@ -22,7 +22,7 @@ fn fault(opened: Opened) -> Option<DeskFault> {
         Ok(_) => None,
         Err(fault) => Some(*fault),
     };
-    let_go(opened);
+    close_file(opened);
     fault
 }
 
@@ -32,7 +32,7 @@ fn room_added(rt: &impl Abort, alloc: Global, mut opened: Opened) -> Option<(usi
         Ok(desk) => Some(counts(rt, alloc, desk)),
         Err(_) => None,
     };
-    let_go(opened);
+    close_file(opened);
     counts
 }
 
@@ -50,8 +50,10 @@ fn adds_room(rt: &impl Abort, alloc: Global, desk: &mut FileDesk<Wary>) -> bool 
     matches!(answers.as_slice(), [Answer::Reply(Reply::Done)])
 }
 
+// How many rooms the office in the file has. It must have nothing else.
 fn room_count(rt: &impl Abort, alloc: Global, desk: &mut FileDesk<Wary>) -> usize {
     let office = desk.load(alloc).expect(rt, "an office in the file");
+    assert_same!(rt; is_bare(&office), true);
     office.rooms.len()
 }
 
@@ -59,9 +61,9 @@ fn room_count(rt: &impl Abort, alloc: Global, desk: &mut FileDesk<Wary>) -> usiz
 fn makes_an_office_once(rt: HostRuntime) -> io::Result<()> {
     make_folder(&rt, "office_file_once")?;
     let path = "office_file_once/office.db";
-    assert_same!(rt; fault(create_file(&rt, path, Wary)), None);
+    assert_same!(rt; fault(create_file(&rt, path)), None);
     assert_same!(rt;
-        fault(create_file(&rt, path, Wary)),
+        fault(create_file(&rt, path)),
         Some(DeskFault::AlreadyThere)
     );
     fs::remove_dir_all(&rt, "office_file_once")?;
@@ -77,7 +79,7 @@ fn makes_no_office_of_other_files(rt: HostRuntime) -> io::Result<()> {
         "office_file_other/none/office.db",
         "office_file_other/letter",
     ] {
-        let fault = fault(create_file(&rt, path, Wary));
+        let fault = fault(create_file(&rt, path));
         assert_same!(rt; fault, Some(DeskFault::Unavailable), path);
     }
     let letter = fs::read_to_string(&rt, "office_file_other/letter")?;
@@ -90,17 +92,17 @@ fn makes_no_office_of_other_files(rt: HostRuntime) -> io::Result<()> {
 fn finds_the_office_again(rt: HostRuntime) -> io::Result<()> {
     make_folder(&rt, "office_file_again")?;
     let path = "office_file_again/office.db";
-    assert_same!(rt; fault(create_file(&rt, path, Wary)), None);
+    assert_same!(rt; fault(create_file(&rt, path)), None);
     assert_same!(rt;
-        room_added(&rt, rt.alloc(), on_file(&rt, path, Wary)),
+        room_added(&rt, rt.alloc(), on_file(&rt, path)),
         Some((0, 1))
     );
     assert_same!(rt;
-        fault(create_file(&rt, path, Wary)),
+        fault(create_file(&rt, path)),
         Some(DeskFault::AlreadyThere)
     );
     assert_same!(rt;
-        room_added(&rt, rt.alloc(), on_file(&rt, path, Wary)),
+        room_added(&rt, rt.alloc(), on_file(&rt, path)),
         Some((1, 1))
     );
     fs::remove_dir_all(&rt, "office_file_again")?;
@@ -110,11 +112,11 @@ fn finds_the_office_again(rt: HostRuntime) -> io::Result<()> {
 #[test]
 fn finds_no_office_elsewhere(rt: HostRuntime) -> io::Result<()> {
     make_folder(&rt, "office_file_elsewhere")?;
-    let missing = fault(on_file(&rt, "office_file_elsewhere/office.db", Wary));
+    let missing = fault(on_file(&rt, "office_file_elsewhere/office.db"));
     assert_same!(rt; missing, Some(DeskFault::Unavailable));
     assert!(rt; !fs::exists(&rt, "office_file_elsewhere/office.db")?);
     fs::write(&rt, "office_file_elsewhere/empty", b"".as_slice())?;
-    let empty = fault(on_file(&rt, "office_file_elsewhere/empty", Wary));
+    let empty = fault(on_file(&rt, "office_file_elsewhere/empty"));
     assert_same!(rt; empty, Some(DeskFault::NotAnOffice));
     fs::remove_dir_all(&rt, "office_file_elsewhere")?;
     Ok(())

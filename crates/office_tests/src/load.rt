@@ -1,6 +1,6 @@
 //! Loading what the documented statements wrote, and what is no office.
+use office_core::Office;
 use office_load::held;
-use office_state::Office;
 use room_types::Phase;
 use sqlite::{Connection, MemStore};
 use std::alloc::Global;

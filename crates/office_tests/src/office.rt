@@ -5,8 +5,7 @@ ghost use Rattle.office_state.specs.Change.{applied_all};
 ghost use Rattle.office_state.specs.Office.Invariants.{IsLawful};
 
 use crate::building::{choices, text};
-use office_core::{Command, Query, Refusal, Reply, answer, decide};
-use office_state::{Change, Office, apply, sound};
+use office_core::{Change, Command, Office, Query, Refusal, Reply, answer, apply, decide, sound};
 use room_types::{ListKind, Listing, OutOfMemory, Phase, RoomCode, Wave, Word};
 use std::alloc::{AllocError, Global};
 use std::process::Abort;
@@ -242,6 +241,7 @@ fn copies_lists_and_moves(rt: HostRuntime) {
     import(&rt, alloc, &mut office);
     hold_round(&rt, alloc, &mut office);
     let copy = office.copy().expect(&rt, "memory");
+    assert!(rt; office.participants(alloc).expect(&rt, "memory").len() == 1);
     assert!(rt; is_settled(&rt, alloc, &office));
     assert!(rt; is_settled(&rt, alloc, &copy));
 }

@@ -1,5 +1,5 @@
 //! The test of an office, with ample memory.
-use office_state::{Office, sound};
+use office_core::{Office, sound};
 use room_types::{OutOfMemory, Phase};
 use std::process::Abort;
 

@@ -4,7 +4,7 @@ mod exporting;
 mod importing;
 
 use crate::asserting::assert_same;
-use crate::building::{add_room, answers, new_desk};
+use crate::building::{add_room, answers, is_bare, new_desk};
 use office_core::{Command, Query, Refusal, Reply};
 use office_store::{
     Answer, Back, Desk, DeskFault, Handler, Request, handle_all, handle_all_in_memory,
@@ -62,10 +62,26 @@ fn keeps_an_office_in_tables(rt: HostRuntime) {
         Request::Office(Command::OpenRound),
     ]
     .expect(&rt, "memory");
-    let mut desk = new_desk(&rt, alloc);
+    let mut desk = created(&rt, alloc);
+    assert!(rt; shows_empty_office(&rt, alloc, &mut desk));
     let answers = answers(&rt, alloc, &mut desk, &requests);
     assert!(rt; are_of_an_open_round(&answers));
     assert!(rt; round_number(&rt, alloc, &mut desk) == 1);
+}
+
+// A desk that has made its tables in a new database.
+fn created(rt: &impl Abort, alloc: Global) -> Desk<MemStore> {
+    let conn = Connection::open_in_memory(alloc).expect(rt, "memory");
+    match Desk::create(alloc, conn) {
+        Ok(desk) => desk,
+        Err(_) => panic!(rt; "no desk makes its tables"),
+    }
+}
+
+// Whether the desk's tables hold the empty office.
+fn shows_empty_office(rt: &impl Abort, alloc: Global, desk: &mut Desk<MemStore>) -> bool {
+    let office = desk.load(alloc).expect(rt, "an office in the tables");
+    office.rooms.len() == 0 && is_bare(&office)
 }
 
 // A room is added, and the first round is open.

@@ -4,8 +4,8 @@ use crate::scripts::rehearsed;
 use office_lines::Ending;
 use std::alloc::{AllocError, Global};
 use std::test::Fail;
+use trade_line::Problem;
 use trade_line::plain::top_trading_cycles;
-use trade_line::problem::Problem;
 
 const PEOPLE: usize = 200;
 

@@ -25,8 +25,8 @@ const OTHER_LISTS: [(&str, &str); 9] = [
     ("rooms", "r23456789012345678901234567890123"),
 ];
 
-// Whether the words are told on standard error to be no line of the program.
-fn is_no_line(rt: &HostRuntime, words: &[&str]) -> bool {
+/// Whether the program says on standard error, and there alone, that the words are no line of it.
+pub fn is_no_line(rt: &HostRuntime, words: &[&str]) -> bool {
     let (status, printed, told) = carried(rt, words);
     status == 2 && printed.is_empty() && told.as_slice() == NOT_A_LINE.as_bytes()
 }

@@ -2,7 +2,7 @@
 use crate::asserting::assert_same;
 use crate::failing::{FailingReader, FailingWriter};
 use crate::file_lines::{carried, make_folder};
-use office_program::importing::import_list;
+use office_program::importing::{import_list, read_bytes};
 use office_store::Desk;
 use room_types::{Label, ListKind, Watched};
 use sqlite::MemStore;
@@ -315,5 +315,7 @@ fn reads_lists_from_readers(rt: HostRuntime) -> Result<(), Fail> {
         assert_same!(rt; ended, status);
         assert_same!(rt; text.as_slice(), answer.as_bytes());
     }
+    let bytes = read_bytes(rt.alloc(), &mut Watched::new(ROOMS.as_bytes())).expect(&rt, "bytes");
+    assert_same!(rt; bytes.as_slice(), ROOMS.as_bytes());
     Ok(())
 }

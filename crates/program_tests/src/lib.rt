@@ -25,6 +25,8 @@ mod imports;
 #[cfg(test)]
 mod lines;
 #[cfg(test)]
+mod one_file;
+#[cfg(test)]
 mod refusals;
 #[cfg(test)]
 mod register;
@@ -34,6 +36,8 @@ mod rounds;
 mod scripts;
 #[cfg(test)]
 mod seeds;
+#[cfg(test)]
+mod serve_lines;
 #[cfg(test)]
 mod single_lines;
 #[cfg(test)]

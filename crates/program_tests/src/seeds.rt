@@ -1,5 +1,7 @@
 //! The words of a generator, as the program prints them.
 use office_program::carry_out::carry_out;
+use office_program::seeds::word_line_seed;
+use office_program::word_lines::words_text;
 use room_types::Watched;
 use std::test::Fail;
 
@@ -48,6 +50,8 @@ fn prints_words_of_a_seed(rt: HostRuntime) -> Result<(), Fail> {
     ] {
         assert!(rt; carries_out(&rt, words, 0, printed, ""));
     }
+    let seed = word_line_seed(ZEROS).expect(&rt, "a seed");
+    assert!(rt; words_text(rt.alloc(), seed, 2)?.as_str() == TWO_WORDS);
     Ok(())
 }
 

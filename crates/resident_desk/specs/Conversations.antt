@@ -3,12 +3,14 @@ use Rattle.std.specs.Prelude.{◌≡◌, ◌⊎◌, ℕ, ◌+◌, ◌<◌, ◌�
 use Rattle.std.specs.Prelude.{true, false, if◌then◌else◌, List, [], length, take, Option, OnSome}
 use Rattle.std.specs.Io.KnownBytes.{Consumes, IsAtEnd, Keeps}
 use Rattle.room_types.specs.Streams.{Input, Output, Puts, input_of, output_of}
-use Rattle.room_types.specs.Watched.{counted, watched_ended}
+use Rattle.room_types.specs.Watched.{counted, watched_ended, watched_inner}
+use Rattle.room_types.specs.declared.stream.Stream.{Ghosts as Calls}
 use Rattle.room_types.specs.declared.watched.Watched.{Watched}
 use Rattle.office_store.specs.declared.requests.Answer.{Answer as DeskAnswer}
 use Rattle.office_store.specs.declared.requests.Request.{Request}
 use Rattle.resident_http.specs.Answers.{Answer, bytes_of}
 use Rattle.resident_http.specs.Asks.{Asked, Asks, is_more, more}
+use Rattle.resident_desk.specs.Calls.{FailsToRead, FindsEnd, Reads, ReadsAll, Sends}
 use Rattle.resident_desk.specs.Serving.{Answers}
 use Rattle.resident_desk.specs.declared.served.Served.{Served}
 use Rattle.resident_desk.specs.declared.served.Served.TheVariants.{Answered, ReadFault, Silent, WriteFault}
@@ -17,14 +19,16 @@ use Rattle.resident_desk.specs.declared.served.Served.TheVariants.{Answered, Rea
 abbrev pub connection_limit : ℕ
 connection_limit = 9216
 
--- a stream: as a reader, as a writer, and whether a read has found its end
-pub record Connection : Type 0 where
+-- a stream: itself, as a reader, as a writer, and whether a read has found its end
+pub record Connection (T : Type 0) : Type 0 where
+  pub stream : T
   pub input : Input
   pub output : Output
   pub ended : Bool
 
-abbrev pub connection_of : {T : Type 0} → (T → Option (List ℕ)) → (T → Option (List ℕ)) → Watched T → Connection
+abbrev pub connection_of : {T : Type 0} → (T → Option (List ℕ)) → (T → Option (List ℕ)) → Watched T → Connection T
 connection_of remaining contents w = record {
+  stream = watched_inner w;
   input = input_of remaining w;
   output = output_of contents w;
   ended = watched_ended w;
@@ -60,18 +64,22 @@ Delivers (WriteFault sent) status bytes before after = IsCut sent bytes before a
 Delivers Silent status bytes before after = ⊥
 Delivers ReadFault status bytes before after = ⊥
 
-module _ {H : Type 0} (handles : H → Request → DeskAnswer → H → Type 0) where
-  -- What was asked has an answer, and its bytes went out, or a front of them.
-  pub record Responds (asked : Asked) (old new : H) (served : Served) (before after : Output) : Type 0 where
+module _ {T H : Type 0} (calls : Calls T) (handles : H → Request → DeskAnswer → H → Type 0) where
+  -- What was asked has an answer, and its bytes went out, or a front of them, by writes of the stream and a flush.
+  pub record Responds (asked : Asked) (old new : H) (served : Served) (before after : Output) (first last : T) : Type 0 where
     pub answer : Answer
     pub answers : Answers handles asked old answer new
     pub delivers : Delivers served answer.status (bytes_of answer) before after
+    pub sends : Sends calls served (bytes_of answer) first last
 
   -- These bytes were read, by at most one read a byte, and what they ask was answered. Where they ask for more, one read more
-  -- may have been, and the stream had ended after at least one byte. Else no read has found its end.
-  pub record Replies (old new : H) (served : Served) (before after : Connection) : Type 0 where
+  -- may have been, and the stream had ended after at least one byte. Else no read has found its end. The reads led to the
+  -- stream between, and the writes and the flush from there.
+  pub record Replies (old new : H) (served : Served) (before after : Connection T) : Type 0 where
     pub bytes : List ℕ
     pub asked : Asked
+    pub between : T
+    pub called : ReadsAll calls bytes asked before.stream between
     pub read : Consumes before.input.remaining after.input.remaining bytes
     pub limit : length bytes ≤ connection_limit
     pub each : after.input.reads ≤ length bytes + (if is_more asked then 1 else 0)
@@ -79,10 +87,11 @@ module _ {H : Type 0} (handles : H → Request → DeskAnswer → H → Type 0) 
     pub unended : is_more asked ≡ false → after.ended ≡ before.ended
     pub ended : asked ≡ more → (0 < length bytes) × (after.ended ≡ true)
         × OnSome before.input.remaining (IsAtEnd after.input.remaining)
-    pub responds : Responds asked old new served before.output after.output
+    pub responds : Responds asked old new served before.output after.output between after.stream
 
   -- The stream had ended before any byte, as one read has found.
-  pub record IsSilent (old new : H) (before after : Connection) : Type 0 where
+  pub record IsSilent (old new : H) (before after : Connection T) : Type 0 where
+    pub called : FindsEnd calls before.stream after.stream
     pub read : Consumes before.input.remaining after.input.remaining []
     pub each : after.input.reads ≤ 1
     pub at_end : IsAtEnd after.input.remaining
@@ -91,8 +100,11 @@ module _ {H : Type 0} (handles : H → Request → DeskAnswer → H → Type 0) 
     pub same : new ≡ old
 
   -- The bytes that were read ask for more, and a read failed.
-  pub record CannotRead (old new : H) (before after : Connection) : Type 0 where
+  pub record CannotRead (old new : H) (before after : Connection T) : Type 0 where
     pub bytes : List ℕ
+    pub between : T
+    pub called : Reads calls bytes before.stream between
+    pub fails : FailsToRead calls between after.stream
     pub read : Consumes before.input.remaining after.input.remaining bytes
     pub limit : length bytes ≤ connection_limit
     pub each : after.input.reads ≤ length bytes + 1
@@ -102,7 +114,7 @@ module _ {H : Type 0} (handles : H → Request → DeskAnswer → H → Type 0) 
     pub same : new ≡ old
 
   -- by how it ended
-  abbrev pub Converses : Served → H → H → Connection → Connection → Type 0
+  abbrev pub Converses : Served → H → H → Connection T → Connection T → Type 0
   Converses (Answered status) old new before after = Replies old new (Answered status) before after
   Converses Silent old new before after = IsSilent old new before after
   Converses ReadFault old new before after = CannotRead old new before after

@@ -1,3 +1,4 @@
+pub mod Calls
 pub mod Conversations
 pub mod Dues
 pub mod Letters

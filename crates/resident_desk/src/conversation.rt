@@ -3,7 +3,7 @@ ghost use Rattle.std.specs.Prelude.{◌≡◌, ◌≤◌, false};
 ghost use Rattle.std.specs.Io.KnownBytes.{Keeps};
 ghost use Rattle.room_types.specs.Streams.{output_of};
 ghost use Rattle.room_types.specs.Watched.{IsFresh, StopsAtEnd, watched_ended, watched_failed};
-ghost use Rattle.room_types.specs.Watched.{watched_inner, watched_late, watched_reads};
+ghost use Rattle.room_types.specs.Watched.{watched_inner, watched_wasted, watched_reads};
 ghost use Rattle.resident_http.specs.Asks.{HasEarlyStatus, seen};
 ghost use Rattle.resident_desk.specs.Conversations.{Converses, Responds, connection_limit, connection_of};
 
@@ -23,7 +23,7 @@ pub const CONNECTION_LIMIT: usize = 9_216;
 /// Reads one request from the stream, lets it be handled, and writes its answer with one flush after it. It reads until
 /// the request is whole, refused, or the stream has ended, each time into what is left of a fixed space, and takes no
 /// memory for it. Memory that is refused is answered with 503, and then nothing has changed. Nothing is asked of the stream
-/// once it has failed, and nothing is read once it has ended.
+/// once it has failed, and nothing is read once it has ended. The stream goes through these reads, writes and this flush alone.
 pub fn converse<H: Handler, T: Stream>(
     alloc: Global,
     handler: &mut H,
@@ -32,8 +32,8 @@ pub fn converse<H: Handler, T: Stream>(
     requires ready { H.is_ready handler.old }
     requires fresh { IsFresh stream.old }
     ensures few { watched_reads stream.new ≤ connection_limit }
-    ensures no_late { StopsAtEnd stream.old stream.new }
-    ensures converses { Converses H.handles result handler.old handler.new
+    ensures no_wasted { StopsAtEnd stream.old stream.new }
+    ensures converses { Converses T.Stream.own H.handles result handler.old handler.new
         (connection_of T.remaining T.contents stream.old)
         (connection_of T.remaining T.contents stream.new) }
     ensures ready { H.is_ready handler.new }
@@ -67,13 +67,15 @@ fn respond<H: Handler, T: Stream>(
     requires ready { H.is_ready handler.old }
     requires early { HasEarlyStatus (seen asked.now) }
     requires failed { watched_failed stream.old ≡ false }
-    ensures responds { Responds H.handles (seen asked.now) handler.old handler.new result
-        (output_of T.contents stream.old) (output_of T.contents stream.new) }
+    ensures responds { Responds T.Stream.own H.handles (seen asked.now)
+        handler.old handler.new result
+        (output_of T.contents stream.old) (output_of T.contents stream.new)
+        (watched_inner stream.old) (watched_inner stream.new) }
     ensures kept { Keeps (T.remaining (watched_inner stream.old))
         (T.remaining (watched_inner stream.new)) }
     ensures reads { watched_reads stream.new ≡ watched_reads stream.old }
     ensures ended { watched_ended stream.new ≡ watched_ended stream.old }
-    ensures late { watched_late stream.new ≡ watched_late stream.old }
+    ensures wasted { watched_wasted stream.new ≡ watched_wasted stream.old }
     ensures ready { H.is_ready handler.new }
 {
     match answer_ask(alloc, handler, asked) {

@@ -3,7 +3,8 @@ ghost use Rattle.std.specs.Prelude.{◌≡◌, ◌<◌, length, take, IfErr, OnE
 ghost use Rattle.std.specs.Io.KnownBytes.{Keeps};
 ghost use Rattle.room_types.specs.Streams.{Puts, output_of};
 ghost use Rattle.room_types.specs.Watched.{watched_ended, watched_failed, watched_flushes, watched_inner};
-ghost use Rattle.room_types.specs.Watched.{watched_late, watched_pending, watched_reads};
+ghost use Rattle.room_types.specs.Watched.{watched_wasted, watched_pending, watched_reads};
+ghost use Rattle.resident_desk.specs.Calls.{FailsToWrite, Sends, Writes};
 ghost use Rattle.resident_desk.specs.Conversations.{Delivers};
 
 use crate::served::Served;
@@ -15,11 +16,13 @@ pub fn deliver<T: Stream>(stream: &mut Watched<T>, status: StatusCode, text: &[u
     requires { watched_failed stream.old ≡ false }
     ensures delivers { Delivers result status text.now
         (output_of T.contents stream.old) (output_of T.contents stream.new) }
+    ensures sends { Sends T.Stream.own result text.now
+        (watched_inner stream.old) (watched_inner stream.new) }
     ensures kept { Keeps (T.remaining (watched_inner stream.old))
         (T.remaining (watched_inner stream.new)) }
     ensures reads { watched_reads stream.new ≡ watched_reads stream.old }
     ensures ended { watched_ended stream.new ≡ watched_ended stream.old }
-    ensures late { watched_late stream.new ≡ watched_late stream.old }
+    ensures wasted { watched_wasted stream.new ≡ watched_wasted stream.old }
 {
     if let Err(sent) = send_all(stream, text) {
         return Served::WriteFault { sent };
@@ -38,6 +41,10 @@ fn send_all<T: Stream>(stream: &mut Watched<T>, text: &[u8]) -> Result<(), usize
     ensures front { IfErr result (λ sent. Puts
         (output_of T.contents stream.old) (output_of T.contents stream.new) (take sent text.now)) }
     ensures short { IfErr result (λ sent. sent < length text.now) }
+    ensures writes { OnOk result (Writes T.Stream.own text.now (length text.now)
+        (watched_inner stream.old) (watched_inner stream.new)) }
+    ensures fails { IfErr result (λ sent. FailsToWrite T.Stream.own text.now sent
+        (watched_inner stream.old) (watched_inner stream.new)) }
     ensures well { OnOk result (watched_failed stream.new ≡ false) }
     ensures failed { OnErr result (watched_failed stream.new ≡ true) }
     ensures flushes { watched_flushes stream.new ≡ watched_flushes stream.old }
@@ -46,7 +53,7 @@ fn send_all<T: Stream>(stream: &mut Watched<T>, text: &[u8]) -> Result<(), usize
         (T.remaining (watched_inner stream.new)) }
     ensures reads { watched_reads stream.new ≡ watched_reads stream.old }
     ensures ended { watched_ended stream.new ≡ watched_ended stream.old }
-    ensures late { watched_late stream.new ≡ watched_late stream.old }
+    ensures wasted { watched_wasted stream.new ≡ watched_wasted stream.old }
 {
     // Once it was read, the count is known to fit.
     let _taken = stream.taken();

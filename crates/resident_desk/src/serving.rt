@@ -27,14 +27,14 @@ pub fn serve_one<S: Alter, T: Stream>(
 ) -> Served
     requires fresh { IsFresh stream.old }
     ensures few { watched_reads stream.new ≤ connection_limit }
-    ensures no_late { StopsAtEnd stream.old stream.new }
+    ensures no_wasted { StopsAtEnd stream.old stream.new }
     ensures follows { Follows (state S.Store desk.old.conn) (state S.Store desk.new.conn) }
-    ensures converses { Converses (HandlesAt S.Store) result desk.old desk.new
+    ensures converses { Converses T.Stream.own (HandlesAt S.Store) result desk.old desk.new
         (connection_of T.remaining T.contents stream.old)
         (connection_of T.remaining T.contents stream.new) }
     ensures serves { HasCleanDisk (state S.Store desk.new.conn) → (office : AnyOffice)
         → StandsFor S.Store desk.old office → (next : AnyOffice)
-        × Converses Handles result office next
+        × Converses T.Stream.own Handles result office next
         (connection_of T.remaining T.contents stream.old)
         (connection_of T.remaining T.contents stream.new)
         × StandsFor S.Store desk.new next }
@@ -51,13 +51,13 @@ pub fn serve_one_in_memory<T: Stream>(
 ) -> Served
     requires fresh { IsFresh stream.old }
     ensures few { watched_reads stream.new ≤ connection_limit }
-    ensures no_late { StopsAtEnd stream.old stream.new }
-    ensures converses { Converses (HandlesAt over_memory) result desk.old desk.new
+    ensures no_wasted { StopsAtEnd stream.old stream.new }
+    ensures converses { Converses T.Stream.own (HandlesAt over_memory) result desk.old desk.new
         (connection_of T.remaining T.contents stream.old)
         (connection_of T.remaining T.contents stream.new) }
     ensures serves { (office : AnyOffice) → Shows over_memory desk.old office
         → (next : AnyOffice)
-        × Converses Handles result office next
+        × Converses T.Stream.own Handles result office next
         (connection_of T.remaining T.contents stream.old)
         (connection_of T.remaining T.contents stream.new)
         × Shows over_memory desk.new next }

@@ -1,2 +1,4 @@
+pub mod Network
 pub mod Serving
 pub mod Texts
+pub mod Unused

@@ -1,7 +1,5 @@
 -- Residents who are served, one connection after the other.
-use Rattle.std.specs.Prelude.{◌≡◌, ◌⊎◌, ◌≤◌, ⊤, ℕ, zero, suc, false, List, Option, Some, None}
-use Rattle.std.specs.declared.net.tcp.TcpListener.{TcpListener}
-use Rattle.std.specs.declared.net.tcp.TcpStream.{TcpStream}
+use Rattle.std.specs.Prelude.{◌≡◌, ◌⊎◌, ◌≤◌, ℕ, zero, suc, List, Option, Some, None}
 use Rattle.sqlite.specs.Held.{state}
 use Rattle.sqlite.specs.State.{HasCleanDisk}
 use Rattle.sqlite_trees.specs.declared.store.Store.{Ghosts}
@@ -12,49 +10,41 @@ use Rattle.office_store.specs.Requests.{Handles}
 use Rattle.office_tables.specs.Steps.{Follows}
 use Rattle.resident_desk.specs.Conversations.{Connection, Converses, connection_limit, connection_of}
 use Rattle.resident_desk.specs.declared.served.Served.{Served}
+use Rattle.resident_server.specs.Network.{Network}
 use Rattle.resident_server.specs.Texts.{listening_text, served_text}
+use Rattle.resident_server.specs.Unused.{IsUnused}
 use Rattle.room_types.specs.Streams.{Output}
-use Rattle.room_types.specs.Watched.{StopsAtEnd, watched_inner, watched_late, watched_reads}
+use Rattle.room_types.specs.Watched.{StopsAtEnd, watched_reads}
+use Rattle.room_types.specs.declared.stream.Stream.{Ghosts as Calls}
 use Rattle.room_types.specs.declared.watched.Watched.{Watched}
-
--- a connection that was just accepted: nothing was read from it, written to it or flushed
-pub record IsNew (connection : Connection) : Type 0 where
-  pub failed : connection.input.failed ≡ false
-  pub reads : connection.input.reads ≡ 0
-  pub taken : connection.output.taken ≡ 0
-  pub flushes : connection.output.flushes ≡ 0
-  pub pending : connection.output.pending ≡ false
-  pub ended : connection.ended ≡ false
 
 module _ {S : Type 0} (g : Ghosts S) where
   -- A conversation at a desk. Where the disk returned what was written, the office that the desk stood for has had it, and the
   -- desk stands for the office after it.
-  pub record Talks (old new : DeskState S) (before after : Connection) : Type 0 where
+  pub record Talks {T : Type 0} (calls : Calls T) (old new : DeskState S) (before after : Connection T) : Type 0 where
     pub served : Served
     pub follows : Follows (state g old.conn) (state g new.conn)
-    pub at_desk : Converses (HandlesAt g) served old new before after
+    pub at_desk : Converses calls (HandlesAt g) served old new before after
     pub serves : HasCleanDisk (state g new.conn) → (office : Office) → StandsFor g old office
-        → (next : Office) × Converses Handles served office next before after × StandsFor g new next
+        → (next : Office) × Converses calls Handles served office next before after × StandsFor g new next
 
-  module _ {L T : Type 0} (remaining contents : T → Option (List ℕ)) (comes : L → Output → Option T → L → Type 0) (goes : L → Watched T → L → Type 0) (said : Output) where
-    -- A connection came, it had its conversation, and was let go. Nothing was asked of it after a failure, and nothing read
-    -- after its end.
+  module _ {L T : Type 0} (calls : Calls T) (remaining contents : T → Option (List ℕ)) (accepts : L → Output → Option (Watched T) → L → Type 0) (closes : L → Watched T → L → Type 0) (said : Output) where
+    -- A connection was accepted, unused; it had its conversation, and was closed. No call of it was wasted.
     pub record Serves (listener : L) (old : DeskState S) (listener' : L) (new : DeskState S) : Type 0 where
       pub between : L
       pub before : Watched T
       pub after : Watched T
-      pub came : comes listener said (Some (watched_inner before)) between
-      pub begins : IsNew (connection_of remaining contents before)
-      pub prompt : watched_late before ≡ false
-      pub talks : Talks old new (connection_of remaining contents before) (connection_of remaining contents after)
+      pub accepted : accepts listener said (Some before) between
+      pub begins : IsUnused before
+      pub talks : Talks calls old new (connection_of remaining contents before) (connection_of remaining contents after)
       pub few : watched_reads after ≤ connection_limit
-      pub no_late : StopsAtEnd before after
-      pub gone : goes between after listener'
+      pub no_wasted : StopsAtEnd before after
+      pub closed : closes between after listener'
 
     -- A connection was asked for: one was served, or none could be accepted and nothing happened.
     abbrev pub MeetsOne : L → DeskState S → L → DeskState S → Type 0
     MeetsOne listener old listener' new =
-        Serves listener old listener' new ⊎ (comes listener said None listener' × (new ≡ old))
+        Serves listener old listener' new ⊎ (accepts listener said None listener' × (new ≡ old))
 
     -- so many, one after the other
     unfoldable pub MeetsEach : L → DeskState S → ℕ → L → DeskState S → Type 0
@@ -62,20 +52,21 @@ module _ {S : Type 0} (g : Ghosts S) where
     MeetsEach listener old (suc count) listener' new =
         (middle : L) × (between : DeskState S) × MeetsEach listener old count middle between × MeetsOne middle between listener' new
 
-  module _ {L T : Type 0} (remaining contents : T → Option (List ℕ)) (comes : L → Output → Option T → L → Type 0) (goes : L → Watched T → L → Type 0) where
+  module _ {L T : Type 0} (calls : Calls T) (remaining contents : T → Option (List ℕ)) (accepts : L → Output → Option (Watched T) → L → Type 0) (closes : L → Watched T → L → Type 0) where
     -- It was said on which port the server listens, and flushed; then each connection was met, with nothing more said until it was
     -- said how many they were. Or memory was wanting for what is said, or it could not be said that the server listens; then
     -- no connection was asked for.
     abbrev pub ServesAll : L → DeskState S → L → DeskState S → ℕ → ℕ → ℕ → Output → Output → Type 0
     ServesAll listener old listener' new port count status out out' =
-        ((said : Output) × Says (listening_text port) 0 0 out said × MeetsEach remaining contents comes goes said listener old count listener' new
+        ((said : Output) × Says (listening_text port) 0 0 out said × MeetsEach calls remaining contents accepts closes said listener old count listener' new
         × Says (served_text count) 0 status said out')
         ⊎ ((listener' ≡ listener) × (new ≡ old) × (status ≡ 3) × Says (listening_text port) 0 status out out')
         ⊎ ((listener' ≡ listener) × (new ≡ old) × SaysUnavailable status out out')
 
-  -- the same by a listener of the system, of whose connections nothing is known, or the port can't be listened on
-  abbrev pub ServesPort : DeskState S → DeskState S → ℕ → ℕ → ℕ → Output → Output → Type 0
-  ServesPort old new port count status out out' =
-      ((listener : TcpListener) × (listener' : TcpListener)
-      × ServesAll {L = TcpListener} {T = TcpStream} (λ _. None) (λ _. None) (λ _ _ _ _. ⊤) (λ _ _ _. ⊤) listener old listener' new port count status out out')
-      ⊎ ((new ≡ old) × SaysUnavailable status out out')
+  -- The port is listened on, residents are served on that socket, and it is closed. Or listening on the port failed.
+  abbrev pub ServesPort : {P : Type 0} → Network P → P → DeskState S → P → DeskState S → ℕ → ℕ → ℕ → Output → Output → Type 0
+  ServesPort {P} network ports old ports' new port count status out out' =
+      ((listener : network.Socket) × (listener' : network.Socket) × (between : P) × network.listens ports port listener between
+      × ServesAll network.calls network.remaining network.contents network.accepts network.closes listener old listener' new port count status out out'
+      × network.stops between listener' ports')
+      ⊎ (network.fails ports port ports' × (new ≡ old) × SaysUnavailable status out out')

@@ -1,48 +1,112 @@
-//! Where residents' connections come from, and where they go.
+//! Ports and listeners: where residents' connections come from, and how they are closed.
 ghost use Rattle.std.specs.Prelude.{⊤};
 ghost use Rattle.room_types.specs.Streams.{output_of};
 
+use office_store::Unavailable;
 use room_types::{Stream, Watched};
 use std::io::Write;
-use std::net::{TcpListener, TcpStream};
+use std::net::{Ipv4Addr, SocketAddr, TcpListener, TcpStream};
 
-/// Where connections come from, one at a time. What it does is told by two relations.
+/// A listening socket. Each call is a relation between its states; generic code can show one only by that call.
 pub trait Listener {
-    ghost use Rattle.std.specs.Prelude.{Option, ⊤};
+    ghost use Rattle.std.specs.Prelude.{IfSome, Option, ⊤};
+    ghost use Rattle.resident_server.specs.Unused.{IsUnused};
     ghost use Rattle.room_types.specs.Streams.{Output};
     ghost use Rattle.room_types.specs.declared.watched.Watched.{Watched};
 
     type Stream: Stream + Drop;
 
-    /// After so much was said on an output, this connection came of it, or none, and it is then the new one.
-    ghost comes: { Self → Output → Option Self.Stream → Self → Type 0 } = { λ _ _ _ _. ⊤ };
+    /// After this output was written, an accept returned this connection, or none, and led from the one state to the other.
+    ghost accepts: { Self → Output → Option (Watched Self.Stream) → Self → Type 0 } = { λ _ _ _ _. ⊤ };
 
-    /// This connection was let go, and it is then the new one.
-    ghost goes: { Self → Watched Self.Stream → Self → Type 0 } = { λ _ _ _. ⊤ };
+    /// Closing this connection led from the one state to the other.
+    ghost closes: { Self → Watched Self.Stream → Self → Type 0 } = { λ _ _ _. ⊤ };
 
-    /// The next connection, for which it may wait, or none where one could not be accepted. The output is what was said
-    /// before.
-    fn accept<W: Write>(&mut self, said: &Watched<W>) -> Option<Self::Stream>
-        ensures { comes self.old (output_of W.contents said.now) result self.new };
+    /// The next connection, for which it may wait, or none where one could not be accepted. It is watched from the start, and
+    /// not yet used. The output is what was written before.
+    fn accept<W: Write>(&mut self, said: &Watched<W>) -> Option<Watched<Self::Stream>>
+        ensures accepts { accepts self.old (output_of W.contents said.now) result self.new }
+        ensures unused { IfSome result IsUnused };
 
-    /// Lets a connection go, which ends it.
-    fn let_go(&mut self, connection: Watched<Self::Stream>)
-        ensures { goes self.old connection self.new };
+    /// Closes a connection.
+    fn close(&mut self, connection: Watched<Self::Stream>)
+        ensures { closes self.old connection self.new };
 }
 
 impl Listener for TcpListener {
     type Stream = TcpStream;
 
-    fn accept<W: Write>(&mut self, _said: &Watched<W>) -> Option<TcpStream> {
+    fn accept<W: Write>(&mut self, _said: &Watched<W>) -> Option<Watched<TcpStream>> {
         match TcpListener::accept(self) {
-            Ok((stream, _peer)) => Some(stream),
+            Ok((stream, _peer)) => Some(Watched::new(stream)),
             Err(_) => None,
         }
     }
 
-    fn let_go(&mut self, connection: Watched<TcpStream>)
+    fn close(&mut self, connection: Watched<TcpStream>)
         ensures { ⊤ }
     {
         drop(connection);
+    }
+}
+
+/// The ports that residents connect to. Each call is a relation between the states of the ports; generic code can show one only by
+/// that call.
+pub trait Ports {
+    ghost use Rattle.std.specs.Prelude.{ℕ, IfOk, OnErr, ⊤};
+
+    type Socket: Listener;
+
+    /// Listening on this port gave this socket and led from the one state to the other.
+    ghost listens: { Self → ℕ → Self.Socket → Self → Type 0 } = { λ _ _ _ _. ⊤ };
+
+    /// Listening on this port failed and led from the one state to the other.
+    ghost fails: { Self → ℕ → Self → Type 0 } = { λ _ _ _. ⊤ };
+
+    /// Closing this socket led from the one state to the other.
+    ghost stops: { Self → Self.Socket → Self → Type 0 } = { λ _ _ _. ⊤ };
+
+    /// Listens on a port.
+    ///
+    /// # Errors
+    ///
+    /// `Unavailable` where the port can't be listened on.
+    fn listen(&mut self, port: u16) -> Result<Self::Socket, Unavailable>
+        ensures listening { IfOk result (λ socket. listens self.old port socket self.new) }
+        ensures failed { OnErr result (fails self.old port self.new) };
+
+    /// Closes a listening socket.
+    fn stop(&mut self, socket: Self::Socket)
+        ensures { stops self.old socket self.new };
+}
+
+/// The ports of 127.0.0.1, which no other machine reaches. It alone has the runtime, so that code which is generic in the ports
+/// reaches no others.
+#[derive(Drop)]
+pub struct Loopback<'a> {
+    rt: &'a HostRuntime,
+}
+
+impl<'a> Loopback<'a> {
+    /// The ports of 127.0.0.1, none of which is listened on.
+    pub fn new(rt: &'a HostRuntime) -> Self {
+        Loopback { rt }
+    }
+}
+
+impl<'a> Ports for Loopback<'a> {
+    type Socket = TcpListener;
+
+    fn listen(&mut self, port: u16) -> Result<TcpListener, Unavailable> {
+        match TcpListener::bind(self.rt, SocketAddr::from((Ipv4Addr::LOCALHOST, port))) {
+            Ok(listener) => Ok(listener),
+            Err(_) => Err(Unavailable),
+        }
+    }
+
+    fn stop(&mut self, socket: TcpListener)
+        ensures { ⊤ }
+    {
+        drop(socket);
     }
 }

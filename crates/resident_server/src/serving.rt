@@ -2,36 +2,45 @@
 ghost use Rattle.std.specs.Prelude.{◌≡◌, IfOk, string_bytes};
 ghost use Rattle.room_types.specs.Streams.{output_of};
 ghost use Rattle.room_types.specs.Watched.{StopsAtFailure};
+ghost use Rattle.resident_server.specs.Network.{network_of};
 ghost use Rattle.resident_server.specs.Serving.{MeetsEach, MeetsOne, ServesAll, ServesPort};
 ghost use Rattle.resident_server.specs.Texts.{listening_text, served_text};
 
-use crate::listener::Listener;
+use crate::listener::{Listener, Ports};
 use office_lines::say::say;
-use office_store::Desk;
+use office_store::{Desk, Unavailable};
 use office_texts::{ACCEPTED, UNAVAILABLE};
 use resident_desk::serve_one;
 use room_types::Watched;
 use sqlite::Alter;
 use std::alloc::{AllocError, Global};
 use std::io::Write;
-use std::net::{Ipv4Addr, SocketAddr, TcpListener};
 
-/// Listens on this port of 127.0.0.1, and serves residents as `serve_listener` does. Where the port can't be bound,
-/// `unavailable` is said. Gives the exit status.
-pub fn serve_port<S: Alter, W: Write>(
-    rt: &HostRuntime,
+/// Listens on this port, serves residents as `serve_listener` does, and lets the listener go. Where the port can't be listened
+/// on, `unavailable` is said. Gives the exit status.
+pub fn serve_port<S: Alter, P: Ports, W: Write>(
+    alloc: Global,
     desk: &mut Desk<S>,
+    ports: &mut P,
     port: u16,
     count: u32,
     output: &mut Watched<W>,
 ) -> u8
-    ensures no_late_write { StopsAtFailure output.old output.new }
-    ensures serves { ServesPort S.Store desk.old desk.new port count result
+    ensures no_wasted_write { StopsAtFailure output.old output.new }
+    ensures serves { let network = network_of P.Socket.Stream.reads P.Socket.Stream.writes P.Socket.Stream.flushes
+        P.Socket.Stream.remaining P.Socket.Stream.contents
+        P.Socket.accepts P.Socket.closes P.listens P.fails P.stops in
+        ServesPort S.Store network ports.old desk.old ports.new desk.new port count result
         (output_of W.contents output.old) (output_of W.contents output.new) }
 {
-    match TcpListener::bind(rt, SocketAddr::from((Ipv4Addr::LOCALHOST, port))) {
-        Ok(mut listener) => serve_listener(rt.alloc(), desk, &mut listener, port, count, output),
-        Err(_) => say(output, "unavailable\n", UNAVAILABLE),
+    match ports.listen(port) {
+        Ok(listener) => {
+            let mut listener = listener;
+            let status = serve_listener(alloc, desk, &mut listener, port, count, output);
+            ports.stop(listener);
+            status
+        }
+        Err(Unavailable) => say(output, "unavailable\n", UNAVAILABLE),
     }
 }
 
@@ -46,9 +55,9 @@ pub fn serve_listener<S: Alter, L: Listener, W: Write>(
     count: u32,
     output: &mut Watched<W>,
 ) -> u8
-    ensures no_late_write { StopsAtFailure output.old output.new }
-    ensures serves { ServesAll S.Store L.Stream.remaining L.Stream.contents L.comes L.goes
-        listener.old desk.old listener.new desk.new port count result
+    ensures no_wasted_write { StopsAtFailure output.old output.new }
+    ensures serves { ServesAll S.Store L.Stream.Stream.own L.Stream.remaining L.Stream.contents
+        L.accepts L.closes listener.old desk.old listener.new desk.new port count result
         (output_of W.contents output.old) (output_of W.contents output.new) }
 {
     let Ok(lines) = served_connection_lines(alloc, port, count) else {
@@ -70,8 +79,8 @@ pub fn serve_each<S: Alter, L: Listener, W: Write>(
     said: &Watched<W>,
     count: u32,
 )
-    ensures meets { MeetsEach S.Store L.Stream.remaining L.Stream.contents L.comes L.goes
-        (output_of W.contents said.now) listener.old desk.old count listener.new desk.new }
+    ensures meets { MeetsEach S.Store L.Stream.Stream.own L.Stream.remaining L.Stream.contents
+        L.accepts L.closes (output_of W.contents said.now) listener.old desk.old count listener.new desk.new }
 {
     'connections: for _ in 0..count {
         meet_one(alloc, desk, listener, said);
@@ -85,16 +94,15 @@ fn meet_one<S: Alter, L: Listener, W: Write>(
     listener: &mut L,
     said: &Watched<W>,
 )
-    ensures meets { MeetsOne S.Store L.Stream.remaining L.Stream.contents L.comes L.goes
-        (output_of W.contents said.now) listener.old desk.old listener.new desk.new }
+    ensures meets { MeetsOne S.Store L.Stream.Stream.own L.Stream.remaining L.Stream.contents
+        L.accepts L.closes (output_of W.contents said.now) listener.old desk.old listener.new desk.new }
 {
-    let stream = match listener.accept(said) {
-        Some(stream) => stream,
+    let mut connection = match listener.accept(said) {
+        Some(connection) => connection,
         None => return,
     };
-    let mut connection = Watched::new(stream);
     let _served = serve_one(alloc, desk, &mut connection);
-    listener.let_go(connection);
+    listener.close(connection);
 }
 
 // What is said before and after.

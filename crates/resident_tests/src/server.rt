@@ -5,8 +5,7 @@ use crate::asserting::assert_same;
 use crate::desk::{let_go, read_whole};
 use office_lines::do_line::do_line;
 use office_store::Desk;
-use resident_server::listener::Listener;
-use resident_server::serving::serve_listener;
+use resident_server::{Listener, serve_listener};
 use room_types::Watched;
 use room_types::stream::Pair;
 use sqlite::MemStore;
@@ -16,7 +15,7 @@ use std::net::{Ipv4Addr, Shutdown, SocketAddr, TcpListener, TcpStream};
 use std::process::Abort;
 
 // Connections that come one after the other, each with what is read from it, or fail to come, and what was written to those
-// that were let go.
+// that were closed.
 #[derive(Drop)]
 struct Script<'a> {
     coming: &'a [Option<&'a [u8]>],
@@ -37,14 +36,14 @@ impl<'a> Script<'a> {
 impl<'a> Listener for Script<'a> {
     type Stream = Pair<&'a [u8], Vec<u8>>;
 
-    fn accept<W: Write>(&mut self, _said: &Watched<W>) -> Option<Pair<&'a [u8], Vec<u8>>> {
+    fn accept<W: Write>(&mut self, _said: &Watched<W>) -> Option<Watched<Pair<&'a [u8], Vec<u8>>>> {
         match self.coming {
             [Some(text), rest @ ..] => {
                 self.coming = rest;
-                Some(Pair {
+                Some(Watched::new(Pair {
                     reader: *text,
                     writer: Vec::new(self.alloc),
-                })
+                }))
             }
             [None, rest @ ..] => {
                 self.coming = rest;
@@ -54,7 +53,7 @@ impl<'a> Listener for Script<'a> {
         }
     }
 
-    fn let_go(&mut self, connection: Watched<Pair<&'a [u8], Vec<u8>>>)
+    fn close(&mut self, connection: Watched<Pair<&'a [u8], Vec<u8>>>)
         ensures { ⊤ }
     {
         let _ = self.written.push(connection.into_inner().writer);

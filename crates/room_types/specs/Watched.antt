@@ -1,6 +1,5 @@
--- What a watched reader or writer is seen as: it counts its reads, its flushes and the bytes it took, and remembers a
--- failure that it answered, the end that it told, and a call that came after those. That it passes each call on is not said
--- here, and is tested.
+-- A watched reader or writer counts its reads, its flushes and the bytes it took. It remembers a failure, the end of its
+-- input, and a wasted call. Its calls say that each is one call of the device (`Source`, `Sink`, `Stream`).
 use Rattle.std.specs.Prelude.{◌≡◌, ℕ, ◌+◌, ◌-◌, ◌^◌, min, Bool, true, false}
 use Rattle.std.specs.Prelude.{Result, Ok, Err, List, length, nat_lt, ◌&&◌, ◌==◌}
 use Rattle.room_types.specs.declared.watched.Watched.{Watched}
@@ -33,9 +32,9 @@ watched_pending w = w.pending
 abbrev pub watched_ended : {T : Type 0} → Watched T → Bool
 watched_ended w = w.ended
 
--- whether a call was made after one had failed, or a read after one had found the end
-abbrev pub watched_late : {T : Type 0} → Watched T → Bool
-watched_late w = w.late
+-- whether a call was wasted: made after a failure, a read after the end, or a read or a write with an empty buffer
+abbrev pub watched_wasted : {T : Type 0} → Watched T → Bool
+watched_wasted w = w.wasted
 
 -- a count after n more
 abbrev pub counted : ℕ → ℕ → ℕ
@@ -66,15 +65,21 @@ abbrev pub is_end : {E : Type 0} → List ℕ → Result ℕ E → Bool
 is_end buf (Ok n) = nat_lt 0 (length buf) && n == 0
 is_end buf (Err e) = false
 
--- Nothing was asked of a writer after a failure, if none had failed before.
+-- the buffer of a call is empty
+abbrev pub has_no_room : List ℕ → Bool
+has_no_room buf = length buf == 0
+
+-- No call of a writer that had not failed was wasted: none came after a failure, and no write had an empty buffer.
 abbrev pub StopsAtFailure : {T : Type 0} → Watched T → Watched T → Type 0
-StopsAtFailure old new = watched_failed old ≡ false → watched_late new ≡ watched_late old
+StopsAtFailure old new = watched_failed old ≡ false → watched_wasted new ≡ watched_wasted old
 
--- Nothing was asked of a reader after a failure or its end, if it had met neither before.
+-- No call of a reader that had met neither a failure nor its end was wasted: none came after them, and no read had an empty
+-- buffer.
 abbrev pub StopsAtEnd : {T : Type 0} → Watched T → Watched T → Type 0
-StopsAtEnd old new = watched_failed old ≡ false → watched_ended old ≡ false → watched_late new ≡ watched_late old
+StopsAtEnd old new = watched_failed old ≡ false → watched_ended old ≡ false → watched_wasted new ≡ watched_wasted old
 
--- neither failed nor read
+-- It neither failed nor was read, and so has not ended.
 pub record IsFresh {T : Type 0} (w : Watched T) : Type 0 where
   pub failed : w.failed ≡ false
   pub reads : w.reads ≡ 0
+  pub ended : w.ended ≡ false

@@ -2,6 +2,7 @@
 #![tactic(auto)]
 
 pub mod choices;
+pub mod device;
 pub mod fault;
 pub mod grammars;
 pub mod kinds;
@@ -18,6 +19,7 @@ pub mod watched;
 pub mod word;
 
 pub use crate::choices::{CHOICE_LIMIT, Choices};
+pub use crate::device::{Sink, Source};
 pub use crate::fault::{OutOfMemory, TypeFault};
 pub use crate::grammars::{Key, Label, Name, PersonId, RoomCode};
 pub use crate::kinds::ListKind;

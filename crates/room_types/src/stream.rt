@@ -1,34 +1,55 @@
 //! Streams that are read and written, where neither disturbs the other.
+ghost use Rattle.std.specs.Prelude.{◌≡◌, ℕ, List, Result, ⊤};
 ghost use Rattle.std.specs.Io.{ReadsAtMost, WritesAtMost};
 ghost use Rattle.std.specs.Io.KnownBytes.{Keeps, ReadConsumes, WriteAppends};
+ghost use Rattle.std.specs.declared.io.Error.{Error};
 
+use crate::device::{Sink, Source};
 use std::io::{Read, Result, Write};
 use std::net::TcpStream;
 
 /// A reader and writer in one. `Read` alone says nothing of what was written, and `Write` nothing of what is left to read; here a
-/// read keeps the one and a write the other.
+/// read keeps the one and a write the other. As with `Source` and `Sink`, each call is a relation between the states of the stream.
 pub trait Stream: Read + Write {
+    /// One read filled the buffer to these bytes, had this result, and led from the one state to the other.
+    ghost reads: { Self → List ℕ → Result ℕ Error → Self → Type 0 };
+
+    /// One write of these bytes had this result and led from the one state to the other.
+    ghost writes: { Self → List ℕ → Result ℕ Error → Self → Type 0 };
+
+    /// One flush had this result and led from the one state to the other.
+    ghost flushes: { Self → Result ⊤ Error → Self → Type 0 };
+
     /// `read`, which keeps what was written.
     fn read_some(&mut self, buf: &mut [u8]) -> Result<usize>
         ensures bound { ReadsAtMost result buf.new }
         ensures bytes { ReadConsumes (Self.remaining self.old) (Self.remaining self.new) result
             buf.new }
-        ensures kept { Keeps (Self.contents self.old) (Self.contents self.new) };
+        ensures kept { Keeps (Self.contents self.old) (Self.contents self.new) }
+        ensures called { reads self.old buf.new result self.new };
 
     /// `write`, which keeps what is left to read.
     fn write_some(&mut self, buf: &[u8]) -> Result<usize>
         ensures bound { WritesAtMost result buf.now }
         ensures bytes { WriteAppends (Self.contents self.old) (Self.contents self.new) result
             buf.now }
-        ensures kept { Keeps (Self.remaining self.old) (Self.remaining self.new) };
+        ensures kept { Keeps (Self.remaining self.old) (Self.remaining self.new) }
+        ensures called { writes self.old buf.now result self.new };
 
     /// `flush`, which keeps what was written and what is left to read.
     fn flush_all(&mut self) -> Result<()>
         ensures bytes { Keeps (Self.contents self.old) (Self.contents self.new) }
-        ensures kept { Keeps (Self.remaining self.old) (Self.remaining self.new) };
+        ensures kept { Keeps (Self.remaining self.old) (Self.remaining self.new) }
+        ensures called { flushes self.old result self.new };
 }
 
 impl Stream for TcpStream {
+    ghost reads = { λ _ _ _ _. ⊤ };
+
+    ghost writes = { λ _ _ _ _. ⊤ };
+
+    ghost flushes = { λ _ _ _. ⊤ };
+
     fn read_some(&mut self, buf: &mut [u8]) -> Result<usize> {
         self.read(buf)
     }
@@ -69,16 +90,25 @@ impl<R, W: Write> Write for Pair<R, W> {
     }
 }
 
-impl<R: Read, W: Write> Stream for Pair<R, W> {
+impl<R: Source, W: Sink> Stream for Pair<R, W> {
+    ghost reads = { λ old buf result new. R.reads old.reader buf result new.reader
+        × (new.writer ≡ old.writer) };
+
+    ghost writes = { λ old buf result new. W.writes old.writer buf result new.writer
+        × (new.reader ≡ old.reader) };
+
+    ghost flushes = { λ old result new. W.flushes old.writer result new.writer
+        × (new.reader ≡ old.reader) };
+
     fn read_some(&mut self, buf: &mut [u8]) -> Result<usize> {
-        self.reader.read(buf)
+        self.reader.read_once(buf)
     }
 
     fn write_some(&mut self, buf: &[u8]) -> Result<usize> {
-        self.writer.write(buf)
+        self.writer.write_once(buf)
     }
 
     fn flush_all(&mut self) -> Result<()> {
-        self.writer.flush()
+        self.writer.flush_once()
     }
 }

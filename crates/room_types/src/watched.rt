@@ -1,19 +1,20 @@
-//! A reader or writer that counts its reads, its flushes and the bytes that it took, and remembers a failure that it
-//! answered, the end that it told, a call that came after those, and whether bytes wait for a flush.
+//! A reader or writer that counts its reads, its flushes and the bytes that it took. It remembers a failure, the end of its
+//! input, a wasted call, and whether bytes wait for a flush.
 ghost use Rattle.std.specs.Prelude.{◌≡◌, ◌&&◌, ◌||◌, false};
 ghost use Rattle.std.specs.Io.{ReadsAtMost, WritesAtMost};
 ghost use Rattle.std.specs.Io.KnownBytes.{Keeps, ReadConsumes, WriteAppends};
 ghost use Rattle.room_types.specs.Watched.{watched_inner, watched_failed, watched_reads, watched_taken};
-ghost use Rattle.room_types.specs.Watched.{watched_ended, watched_flushes, watched_late, watched_pending};
-ghost use Rattle.room_types.specs.Watched.{counted, has_taken, is_end, is_failure, is_failed_write, taken_after};
+ghost use Rattle.room_types.specs.Watched.{watched_ended, watched_flushes, watched_wasted, watched_pending};
+ghost use Rattle.room_types.specs.Watched.{counted, has_taken, has_no_room, is_end, is_failure, is_failed_write, taken_after};
 
 mod streams;
 
+use crate::device::{Sink, Source};
 use std::io::{Read, Result, Write};
 
-/// A reader or writer, with whether it answered a failure, how often it was read and flushed, how many bytes it took,
-/// whether it took any since a flush last succeeded, whether a read found its end, and whether a call came too late. It
-/// passes each call on once, and takes no memory.
+/// A reader or writer, with whether it failed, how often it was read and flushed, how many bytes it took, whether it took any
+/// since a flush last succeeded, whether a read found its end, and whether a call was wasted. It passes each call on once, with
+/// the whole buffer, and returns what the device returned. It takes no memory.
 #[derive(Drop)]
 pub struct Watched<T> {
     inner: T,
@@ -23,7 +24,7 @@ pub struct Watched<T> {
     flushes: u64,
     pending: bool,
     ended: bool,
-    late: bool,
+    wasted: bool,
 }
 
 impl<T> Watched<T> {
@@ -36,7 +37,7 @@ impl<T> Watched<T> {
         ensures flushes { watched_flushes result ≡ 0 }
         ensures pending { watched_pending result ≡ false }
         ensures ended { watched_ended result ≡ false }
-        ensures late { watched_late result ≡ false }
+        ensures wasted { watched_wasted result ≡ false }
     {
         Watched {
             inner,
@@ -46,7 +47,7 @@ impl<T> Watched<T> {
             flushes: 0,
             pending: false,
             ended: false,
-            late: false,
+            wasted: false,
         }
     }
 
@@ -92,11 +93,11 @@ impl<T> Watched<T> {
         self.ended
     }
 
-    /// Whether a call was made after one had failed, or a read after one had found the end.
-    pub fn late(&self) -> bool
-        ensures { result ≡ watched_late self.now }
+    /// Whether a call was wasted: made after a failure, a read after the end, or a read or a write with an empty buffer.
+    pub fn wasted(&self) -> bool
+        ensures { result ≡ watched_wasted self.now }
     {
-        self.late
+        self.wasted
     }
 
     /// The reader or writer inside.
@@ -107,7 +108,7 @@ impl<T> Watched<T> {
     }
 }
 
-impl<T: Read> Read for Watched<T> {
+impl<T: Source> Read for Watched<T> {
     ghost remaining = { λ w. T.remaining (watched_inner w) };
 
     fn read(&mut self, buf: &mut [u8]) -> Result<usize>
@@ -120,12 +121,14 @@ impl<T: Read> Read for Watched<T> {
         ensures flushes { watched_flushes self.new ≡ watched_flushes self.old }
         ensures pending { watched_pending self.new ≡ watched_pending self.old }
         ensures ended { watched_ended self.new ≡ watched_ended self.old || is_end buf.new result }
-        ensures late { watched_late self.new
-            ≡ watched_late self.old || watched_failed self.old || watched_ended self.old }
+        ensures wasted { watched_wasted self.new
+            ≡ watched_wasted self.old || watched_failed self.old || watched_ended self.old
+            || has_no_room buf.new }
+        ensures called { T.reads (watched_inner self.old) buf.new result (watched_inner self.new) }
     {
-        self.late = self.late || self.failed || self.ended;
+        self.wasted = self.wasted || self.failed || self.ended || buf.is_empty();
         self.reads = self.reads.saturating_add(1);
-        let result = self.inner.read(buf);
+        let result = self.inner.read_once(buf);
         match result {
             Ok(n) => {
                 self.ended = self.ended || (n == 0 && !buf.is_empty());
@@ -139,7 +142,7 @@ impl<T: Read> Read for Watched<T> {
     }
 }
 
-impl<T: Write> Write for Watched<T> {
+impl<T: Sink> Write for Watched<T> {
     ghost contents = { λ w. T.contents (watched_inner w) };
 
     fn write(&mut self, buf: &[u8]) -> Result<usize>
@@ -153,10 +156,12 @@ impl<T: Write> Write for Watched<T> {
         ensures flushes { watched_flushes self.new ≡ watched_flushes self.old }
         ensures pending { watched_pending self.new ≡ has_taken result || watched_pending self.old }
         ensures ended { watched_ended self.new ≡ watched_ended self.old }
-        ensures late { watched_late self.new ≡ watched_late self.old || watched_failed self.old }
+        ensures wasted { watched_wasted self.new
+            ≡ watched_wasted self.old || watched_failed self.old || has_no_room buf.now }
+        ensures called { T.writes (watched_inner self.old) buf.now result (watched_inner self.new) }
     {
-        self.late = self.late || self.failed;
-        let result = self.inner.write(buf);
+        self.wasted = self.wasted || self.failed || buf.is_empty();
+        let result = self.inner.write_once(buf);
         match result {
             Ok(n) => {
                 if n == 0 && !buf.is_empty() {
@@ -184,11 +189,12 @@ impl<T: Write> Write for Watched<T> {
         ensures flushes { watched_flushes self.new ≡ counted (watched_flushes self.old) 1 }
         ensures pending { watched_pending self.new ≡ is_failure result && watched_pending self.old }
         ensures ended { watched_ended self.new ≡ watched_ended self.old }
-        ensures late { watched_late self.new ≡ watched_late self.old || watched_failed self.old }
+        ensures wasted { watched_wasted self.new ≡ watched_wasted self.old || watched_failed self.old }
+        ensures called { T.flushes (watched_inner self.old) result (watched_inner self.new) }
     {
-        self.late = self.late || self.failed;
+        self.wasted = self.wasted || self.failed;
         self.flushes = self.flushes.saturating_add(1);
-        match self.inner.flush() {
+        match self.inner.flush_once() {
             Ok(()) => {
                 self.pending = false;
                 Ok(())

@@ -1,7 +1,9 @@
 ghost use Rattle.std.specs.Prelude.{◌≡◌, Some};
 
 use crate::asserting::assert_same;
-use office_lists::{Mover, move_day_text, people_text, results_text, rooms_text, waves};
+use office_lists::{
+    Mover, in_moving_order, move_day_text, people_text, results_text, rooms_text, waves,
+};
 use room_types::{Grammar, Move, PersonRow, ResultRow, RoomRow, State, Text, Wave};
 use std::alloc::Global;
 use std::process::Abort;
@@ -100,6 +102,8 @@ fn move_day_of_a_chain(rt: HostRuntime) -> Result<(), Fail> {
         moved(&rt, alloc, 1, "T1", Some("H1"), "H2", Wave::Nth(2)),
         moved(&rt, alloc, 1, "T2", Some("H2"), "V", Wave::Nth(1)),
     ]?;
+    let order = in_moving_order(alloc, &moves)?;
+    assert!(rt; matches!(order.as_slice(), [first, _] if first.person.as_str() == "T2"));
     let table = move_day_text(alloc, &moves)?;
     assert_same!(rt;
         table.as_str(),

@@ -8,13 +8,7 @@ mod literature;
 mod worked;
 
 use std::alloc::Global;
-use trade_line::bench::Bench;
-use trade_line::fault::TradeFault;
-use trade_line::line::Line;
-use trade_line::out_of_memory::OutOfMemory;
-use trade_line::outcome::Outcome;
-use trade_line::problem::Problem;
-use trade_line::trade::run;
+use trade_line::{Bench, Line, OutOfMemory, Outcome, Problem, TradeFault, run};
 
 fn problem_of(
     alloc: Global,

@@ -1,6 +1,7 @@
 //! Each call once with ample memory, and worked values.
 use crate::asserting::assert_same;
 use room_types::grammars::RoomCodes;
+use room_types::rows::copy_optional;
 use room_types::{Listing, Move, PersonId, RoomCode, Table, TypeFault, Watched, Wave, Word};
 use std::alloc::{AllocError, Global};
 use std::io;
@@ -45,6 +46,7 @@ fn copies_moves(rt: HostRuntime) -> Result<(), TypeFault> {
     let copy = moved.copy()?;
     assert!(rt; copy.round == 3 && copy.person == moved.person && copy.from.is_none());
     assert!(rt; copy.to == moved.to && copy.wave == Wave::Nth(2));
+    assert!(rt; copy_optional(&moved.to)? == moved.to);
     Ok(())
 }
 
@@ -163,9 +165,9 @@ fn passes_calls_on(rt: HostRuntime) {
         assert_same!(rt; kind(output.write(b"ab")), wanted);
         assert_same!(rt; kind(flushed.flush()), wanted);
     }
-    assert!(rt; input.failed() && input.late() && input.reads() == 10);
-    assert!(rt; output.failed() && output.late() && output.taken() == 18);
-    assert!(rt; flushed.failed() && flushed.late() && flushed.flushes() == 10);
+    assert!(rt; input.failed() && input.wasted() && input.reads() == 10);
+    assert!(rt; output.failed() && output.wasted() && output.taken() == 18);
+    assert!(rt; flushed.failed() && flushed.wasted() && flushed.flushes() == 10);
     let (input, output, flushed) = (
         input.into_inner(),
         output.into_inner(),
@@ -183,7 +185,7 @@ fn watches_streams(rt: HostRuntime) -> io::Result<()> {
         assert_same!(rt; input.read(&mut byte)?, taken);
     }
     assert!(rt; input.reads() == 3 && !input.failed() && input.taken() == 0);
-    assert!(rt; input.ended() && !input.late());
+    assert!(rt; input.ended() && !input.wasted());
     Ok(())
 }
 
@@ -195,8 +197,9 @@ fn watches_full_streams(rt: HostRuntime) -> io::Result<()> {
     assert!(rt; !output.failed() && output.taken() == 3 && output.pending());
     output.flush()?;
     assert!(rt; output.flushes() == 1 && !output.pending());
+    assert!(rt; !output.wasted());
     assert_same!(rt; output.write(b"")?, 0);
-    assert!(rt; !output.failed());
+    assert!(rt; !output.failed() && output.wasted());
     assert_same!(rt; output.write(b"d")?, 0);
     assert!(rt; output.failed() && output.taken() == 3);
     Ok(())

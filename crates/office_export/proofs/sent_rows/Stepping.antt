@@ -1,5 +1,5 @@
 -- Reading the rows of a query one at a time.
-use Rattle.std.proofs.Common.{◌≡◌, ◌<◌, ◌+◌, ℕ, List, [], ◌∷◌, ◌++◌, length, map, refl, take, Option, Some, None, IsTrue, sym, ap, ◌∙◌, subst, inl, inr, arith}
+use Rattle.std.proofs.Common.{◌≡◌, ◌<◌, ◌+◌, ℕ, List, [], ◌∷◌, ◌++◌, length, map, refl, take, Option, Some, None, IsSome, IsTrue, Result, Ok, Err, true≢false, sym, ap, ◌∙◌, subst, inl, inr, arith}
 use Rattle.sqlite_trees.specs.Tree.{Trees}
 use Rattle.sqlite_trees.specs.declared.store.Store.{Ghosts}
 use Rattle.sqlite_value.specs.Order.{Row}
@@ -8,7 +8,9 @@ use Rattle.sqlite_schema.specs.declared.command.Returning.{Returning}
 use Rattle.sqlite.specs.declared.error.Error.{Error}
 use Rattle.sqlite.specs.Clock.{timed}
 use Rattle.sqlite.specs.Effect.{Answers, Database}
-use Rattle.sqlite.specs.Given.{Advances, HasBegun, HasGiven, IsPlain}
+use Rattle.sqlite_resolve.specs.declared.compiled.Compiled.{Compiled}
+use Rattle.sqlite_resolve.specs.declared.error.CompileError.{CompileError}
+use Rattle.sqlite.specs.Given.{Advances, HasBegun, HasGiven, IsPlain, Returns}
 use Rattle.sqlite.specs.Held.{Held, state}
 use Rattle.sqlite.specs.Listing.{understood}
 use Rattle.sqlite.specs.State.{State, HasCleanDisk, Survives, Shown, ShowsRows, IsUnchanged, FailsToQuery, FailsToShow, IsNotRun, IsRolledBack}
@@ -24,9 +26,11 @@ use Rattle.office_tables.specs.Steps.{Follows}
 use Rattle.office_tables.specs.Tables.{HoldsOffice}
 use Rattle.office_tables.specs.Texts.{alone}
 use Rattle.office_tables.proofs.statements.Steps.{statements-follows_then}
+use Rattle.office_load.specs.Asking.{NeverReturns, OnlyAsks}
 use Rattle.office_load.specs.Reading.{OnlyReads}
 use Rattle.office_export.specs.Asking.{AsksForExport}
-use Rattle.office_export.specs.Ending.{PutsCount, PutsExport, PutsFront}
+use Rattle.office_export.specs.Ending.{EndsBetween, PutsCount, PutsExport, PutsFront}
+use Rattle.office_export.specs.declared.ending.ExportEnd.TheVariants.{Unavailable}
 use Rattle.office_export.specs.Exports.{exported}
 use Rattle.office_export.specs.Stepping.{IsAskedOf, KeepsTables, StandsOn}
 use Rattle.office_export.proofs.sent_rows.Sending.{AreSent, sent_rows-cut_counted, sent_rows-cut_front, sent_rows-cut_short, sent_rows-front_sent, sent_rows-more_sent, sent_rows-one_record, sent_rows-one_then, sent_rows-sent_counted, sent_rows-with_more, sent_rows-with_one}
@@ -84,22 +88,26 @@ pub sent_rows-reads_refused : (sql : List ℕ) (params : Row) (a b : State) (Com
     → (HasCleanDisk b → FailsToQuery sql params a b e) → OnlyReads a b
 sent_rows-reads_refused sql params a b Commits e survives settled h = record {
   follows = sent_rows-export_follows a b Commits survives (λ clean o. (sent_rows-keeps_failed sql params a b e (h clean) o).0);
-  same = λ honest has. let keeps = sent_rows-keeps_failed sql params a b e (h honest.0) honest.1 in (keeps.1 (settled keeps.0)).0;
+  same = λ honest. let keeps = sent_rows-keeps_failed sql params a b e (h honest.0) honest.1 in (keeps.1 (settled keeps.0)).0;
 }
 
+sent_rows-never_both : (r : Result Compiled CompileError) → NeverReturns r → Returns r → ⊥
+sent_rows-never_both (Ok c) never some = true≢false (sym (subst IsSome never some))
+sent_rows-never_both (Err e) never none = none
+
 -- a query that began, and whose rows were read, only reads
-pub sent_rows-reads_through : {S : Type 0} (g : Ghosts S) (sql : List ℕ) (params : Row) (a b c : Held S) (Commits : Trees → Type 0) → IsPlain (understood office_schema sql)
+pub sent_rows-reads_through : {S : Type 0} (g : Ghosts S) (sql : List ℕ) (params : Row) (a b c : Held S) (Commits : Trees → Type 0) → OnlyAsks sql
     → Survives (state g a) (state g b) Commits → (HasCleanDisk (state g b) → HasBegun g sql params a b)
     → (IsTrue (state g a).is_open → (state g a).now ≡ (state g a).committed)
     → Survives (state g b) (state g c) (λ _. ⊥) → (HasCleanDisk (state g c) → KeepsTables (state g b) (state g c)) → OnlyReads (state g a) (state g c)
-sent_rows-reads_through g sql params a b c Commits plain first begun settled next keeps =
+sent_rows-reads_through g sql params a b c Commits asks first begun settled next keeps =
     let before : HasCleanDisk (state g c) → HasCleanDisk (state g b) = λ clean. omega (arith, clean, next.clean) in
     record {
       follows = statements-follows_then (state g a) (state g b) (state g c)
           (sent_rows-export_follows (state g a) (state g b) Commits first (λ clean o. was_open (begun clean)))
           (sent_rows-export_follows (state g b) (state g c) (λ _. ⊥) next (λ clean o. (keeps clean o).0));
-      same = λ honest has.
-          let same = (begun_plain g sql params a b (subst (λ s. IsPlain (understood s sql)) (sym has) plain) (begun (before honest.0))).1 in
+      same = λ honest.
+          let same = unchanged (begun (before honest.0)) in
           let kept = sent_rows-keeps_then (state g a) (state g b) (state g c) (sent_rows-keeps_unchanged _ _ same) (keeps honest.0) honest.1 in
           (kept.1 (settled kept.0)).0;
     }
@@ -107,6 +115,10 @@ sent_rows-reads_through g sql params a b c Commits plain first begun settled nex
     was_open : HasBegun g sql params a b → IsTrue (state g a).is_open
     was_open (inl h) = h.1.0.was_open
     was_open (inr h) = sent_rows-shown_was_open sql params (state g a) (state g b) _ h.1
+
+    unchanged : HasBegun g sql params a b → IsUnchanged (state g a) (state g b)
+    unchanged (inl h) = h.1
+    unchanged (inr h) = absurd (sent_rows-never_both (understood a.schema sql) (asks a.schema) h.0)
 
 -- a query that began over the rows of an office is at its start
 pub sent_rows-asked_of : {S : Type 0} (g : Ghosts S) (text sql : List ℕ) (old now : Held S) (office : Office) → IsPlain (understood office_schema text) → sql ≡ text → StandsOn (state g old) office
@@ -232,6 +244,9 @@ module _ {S : Type 0} (g : Ghosts S) (kind : ExportKind) (text : List ℕ) (fiel
 
     pub sent_rows-formed_sent : PutsExport kind before after
     sent_rows-formed_sent = (map fields way.0, way.1.written)
+
+    pub sent_rows-between_stopped : EndsBetween kind before after (Unavailable sent)
+    sent_rows-between_stopped = (header_of kind ∷ map fields way.0, refl, way.1.written, sym way.1.size)
 
   -- the header was sent
   pub sent_rows-head_sent : (first : Held S) (before after : Output) (bytes : List ℕ) → bytes ≡ record_bytes (header_of kind) → Puts before after bytes → UnderWay g kind text fields first first (length bytes) before after

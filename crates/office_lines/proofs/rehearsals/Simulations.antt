@@ -12,19 +12,7 @@ use Rattle.office_words.specs.Sentences.{begins_request, sentence_of}
 use Rattle.room_types.specs.Streams.{Input, Output}
 use Rattle.office_lines.proofs.heard.Steps.{heard-answers_shown}
 
-module _ {H K : Type 0} (handles : H → Request → Answer → H → Type 0) (does : K → Request → Answer → K → Type 0) (shows : H → K → Type 0)
-    (step : (old new : H) (request : Request) (answer : Answer) → handles old request answer new → (k : K) → shows old k
-    → (next : K) × does k request answer next × shows new next) where
-  rehearsals-run_shown : (old new : H) (lines : List (List ℕ)) (all : List Said) → Run handles old lines all new → (k : K) → shows old k
-      → (last : K) × Run does k lines all last × shows new last
-  rehearsals-run_shown old new [] [] h k s = (k, refl, subst (λ z. shows z k) (sym h) s)
-  rehearsals-run_shown old new (line ∷ lines) (said ∷ others) h k s =
-      let n = heard-answers_shown handles does shows old h.0 (step old h.0) (sentence_of line) (begins_request line) said h.1 k s in
-      let r = rehearsals-run_shown h.0 new lines others h.2 n.0 n.2 in
-      (r.0, (n.0, n.1, r.1), r.2)
-  rehearsals-run_shown old new [] (said ∷ others) h k s = absurd h
-  rehearsals-run_shown old new (line ∷ lines) [] h k s = absurd h
-
+module _ {H K : Type 0} (handles : H → Request → Answer → H → Type 0) (does : K → Request → Answer → K → Type 0) where
   rehearsals-whole_input : (old new : H) (k last : K) (i i' : Input) (o o' : Output) (status : ℕ) → (h : WholeInput handles old new i i' o o' status)
       → Run does k (lines_of h.bytes) h.answers last → WholeInput does k last i i' o o' status
   rehearsals-whole_input old new k last i i' o o' status h run = record {
@@ -78,17 +66,37 @@ module _ {H K : Type 0} (handles : H → Request → Answer → H → Type 0) (d
     cause = h.cause;
   }
 
+  -- a rehearsal whose runs of lines are runs over what is shown
+  module _ (shows : H → K → Type 0) (old new : H) (runs : (lines : List (List ℕ)) (all : List Said) → Run handles old lines all new → (k : K) → shows old k
+      → (last : K) × Run does k lines all last × shows new last) where
+    pub rehearsals-rehearsal_of_runs : (ending : Ending) (status : ℕ) (i i' : Input) (o o' : Output) → Rehearses handles ending status old new i i' o o' → (k : K) → shows old k
+        → (last : K) × Rehearses does ending status k last i i' o o' × shows new last
+    rehearsals-rehearsal_of_runs Ended status i i' o o' h k s =
+        let r = runs (lines_of h.bytes) h.answers h.run k s in
+        (r.0, rehearsals-whole_input old new k r.0 i i' o o' status h r.1, r.2)
+    rehearsals-rehearsal_of_runs ReadFault status i i' o o' h k s =
+        let r = runs (ended_lines h.2.heard) h.2.answers h.2.run k s in
+        (r.0, (h.0, h.1, rehearsals-whole_lines old new k r.0 i i' o o' h.2 r.1), r.2)
+    rehearsals-rehearsal_of_runs (WriteFault sent) status i i' o o' h k s =
+        let r = runs h.3.lines h.3.answers h.3.run k s in
+        (r.0, (h.0, h.1, h.2, part_of_input old new k r.0 i i' o o' sent h.3 r.1), r.2)
+    rehearsals-rehearsal_of_runs (NoMemory sent) status i i' o o' h k s =
+        let r = runs h.3.lines h.3.answers h.3.run k s in
+        (r.0, (h.0, h.1, h.2, part_of_input old new k r.0 i i' o o' sent h.3 r.1, h.4), r.2)
+
+module _ {H K : Type 0} (handles : H → Request → Answer → H → Type 0) (does : K → Request → Answer → K → Type 0) (shows : H → K → Type 0)
+    (step : (old new : H) (request : Request) (answer : Answer) → handles old request answer new → (k : K) → shows old k
+    → (next : K) × does k request answer next × shows new next) where
+  pub rehearsals-run_shown : (old new : H) (lines : List (List ℕ)) (all : List Said) → Run handles old lines all new → (k : K) → shows old k
+      → (last : K) × Run does k lines all last × shows new last
+  rehearsals-run_shown old new [] [] h k s = (k, refl, subst (λ z. shows z k) (sym h) s)
+  rehearsals-run_shown old new (line ∷ lines) (said ∷ others) h k s =
+      let n = heard-answers_shown handles does shows old h.0 (step old h.0) (sentence_of line) (begins_request line) said h.1 k s in
+      let r = rehearsals-run_shown h.0 new lines others h.2 n.0 n.2 in
+      (r.0, (n.0, n.1, r.1), r.2)
+  rehearsals-run_shown old new [] (said ∷ others) h k s = absurd h
+  rehearsals-run_shown old new (line ∷ lines) [] h k s = absurd h
+
   pub rehearsals-rehearsal_shown : (ending : Ending) (status : ℕ) (old new : H) (i i' : Input) (o o' : Output) → Rehearses handles ending status old new i i' o o' → (k : K) → shows old k
       → (last : K) × Rehearses does ending status k last i i' o o' × shows new last
-  rehearsals-rehearsal_shown Ended status old new i i' o o' h k s =
-      let r = rehearsals-run_shown old new (lines_of h.bytes) h.answers h.run k s in
-      (r.0, rehearsals-whole_input old new k r.0 i i' o o' status h r.1, r.2)
-  rehearsals-rehearsal_shown ReadFault status old new i i' o o' h k s =
-      let r = rehearsals-run_shown old new (ended_lines h.2.heard) h.2.answers h.2.run k s in
-      (r.0, (h.0, h.1, rehearsals-whole_lines old new k r.0 i i' o o' h.2 r.1), r.2)
-  rehearsals-rehearsal_shown (WriteFault sent) status old new i i' o o' h k s =
-      let r = rehearsals-run_shown old new h.3.lines h.3.answers h.3.run k s in
-      (r.0, (h.0, h.1, h.2, part_of_input old new k r.0 i i' o o' sent h.3 r.1), r.2)
-  rehearsals-rehearsal_shown (NoMemory sent) status old new i i' o o' h k s =
-      let r = rehearsals-run_shown old new h.3.lines h.3.answers h.3.run k s in
-      (r.0, (h.0, h.1, h.2, part_of_input old new k r.0 i i' o o' sent h.3 r.1, h.4), r.2)
+  rehearsals-rehearsal_shown ending status old new i i' o o' = rehearsals-rehearsal_of_runs handles does shows old new (rehearsals-run_shown old new) ending status i i' o o'

@@ -1,29 +1,47 @@
--- What is done in a file, from what its desk was found to be and what was done at it.
-use Rattle.std.proofs.Common.{ℕ, Result, Ok, Err, IfOk, inl, inr}
-use Rattle.sqlite.specs.Files.{file_state, over_files}
+-- What is done in a file, from what its desk was found to be, what was done at it and how its connection was closed.
+use Rattle.std.proofs.Common.{◌≡◌, ℕ, List, Result, Ok, Err, IfOk, IsErr, OnErr, ◌⊎◌, inl, inr, refl, subst, sym}
+use Rattle.sqlite.specs.Held.{state}
 use Rattle.sqlite.specs.State.{HasCleanDisk}
-use Rattle.sqlite_disk.specs.declared.Disk.{Ghosts}
-use Rattle.sqlite_store.specs.declared.store.FileStore.{FileStore}
-use Rattle.sqlite_wal.specs.Recovery.{Image}
 use Rattle.office_program.specs.AtDesk.{DoneAt, TellsMade}
-use Rattle.office_program.specs.InFile.{DoneInFile, MakesInFile}
+use Rattle.office_program.specs.DeskFaults.{RefusesDesk}
+use Rattle.office_program.specs.InFile.{AtFound, DoneInFile, MakesInFile}
 use Rattle.office_state.specs.Office.{empty_office}
 use Rattle.office_file.specs.Adopted.{BeginsFound, IsFileFault}
-use Rattle.office_file.specs.Files.{BeginsBlank, IsCreateFault}
+use Rattle.office_file.specs.Access.{FileAccess}
+use Rattle.office_file.specs.Created.{BeginsBlank, IsCreateFault}
 use Rattle.office_store.specs.Desk.{DeskState, Shows}
 use Rattle.office_store.specs.declared.desk.faults.DeskFault.{DeskFault}
 use Rattle.room_types.specs.Streams.{Output}
 
-module _ {D : Type 0} (g : Ghosts D) (contents : Image) where
-  pub done_lines-file_desk_made : (made : Result (DeskState (FileStore D g)) DeskFault) (status : ℕ) (out out' : Output) → IfOk made (λ desk. HasCleanDisk (file_state desk.conn) → Shows over_files desk empty_office)
-      → IfOk made (BeginsBlank contents) → IsCreateFault contents made → TellsMade made status out out' → MakesInFile g contents status out out'
-  done_lines-file_desk_made (Ok desk) status out out' shows begins cause tells = inl (record { desk = desk; begins = begins; shows = shows; says = tells })
-  done_lines-file_desk_made (Err fault) status out out' shows begins cause tells = inr (fault, cause, tells)
+module _ {F S : Type 0} (access : FileAccess F S) (files : F) (path : List ℕ) (between files' : F) where
+  pub done_lines-file_desk_made : (made : Result (DeskState S) DeskFault) (status : ℕ) (out out' : Output)
+      → IfOk made (λ desk. HasCleanDisk (state access.base desk.conn) → Shows access.base desk empty_office)
+      → IfOk made (λ desk. BeginsBlank access files path desk between) → IsCreateFault access files path made between → TellsMade made status out out'
+      → IfOk made (λ desk. access.closes between desk.conn files') → OnErr made (files' ≡ between) → MakesInFile access files path status files' out out'
+  done_lines-file_desk_made (Ok desk) status out out' shows begins cause tells closed same =
+      inl (record { desk = desk; between = between; begins = begins; shows = shows; says = tells; closed = closed })
+  done_lines-file_desk_made (Err fault) status out out' shows begins cause tells closed same =
+      inr (fault, subst (λ (f : F). IsCreateFault access files path (Err fault) f) (sym same) cause, tells)
 
   -- what was done at the desk that an opening found is done in the file
-  pub done_lines-done_at_found : (IsDone : DeskState (FileStore D g) → DeskState (FileStore D g) → Type 0) (found last : Result (DeskState (FileStore D g)) DeskFault) (status : ℕ) (out out' : Output)
-      → IfOk found (BeginsFound contents) → IsFileFault contents found → DoneAt IsDone found last status out out' → DoneInFile g contents IsDone status out out'
-  done_lines-done_at_found IsDone (Ok desk) (Ok last) status out out' begins cause done = inl (record { desk = desk; last = last; begins = begins; done = done })
-  done_lines-done_at_found IsDone (Err fault) (Err same) status out out' begins cause done = inr (fault, cause, done.1)
-  done_lines-done_at_found IsDone (Ok desk) (Err fault) status out out' begins cause done = absurd done
-  done_lines-done_at_found IsDone (Err fault) (Ok last) status out out' begins cause done = absurd done
+  pub done_lines-done_at_found : (IsDone : DeskState S → DeskState S → Type 0) (found last : Result (DeskState S) DeskFault) (status : ℕ) (out out' : Output)
+      → IfOk found (λ desk. BeginsFound access files path desk between) → IsFileFault access files path found between → DoneAt IsDone found last status out out'
+      → IfOk last (λ desk. access.closes between desk.conn files') → OnErr last (files' ≡ between) → DoneInFile access IsDone files path status files' out out'
+  done_lines-done_at_found IsDone (Ok desk) (Ok last) status out out' begins cause done closed same =
+      inl (record { desk = desk; between = between; last = last; begins = begins; done = done; closed = closed })
+  done_lines-done_at_found IsDone (Err fault) (Err again) status out out' begins cause done closed same =
+      inr (fault, subst (λ (f : F). IsFileFault access files path (Err fault) f) (sym same) cause, done.1)
+  done_lines-done_at_found IsDone (Ok desk) (Err fault) status out out' begins cause done closed same = absurd done
+  done_lines-done_at_found IsDone (Err fault) (Ok last) status out out' begins cause done closed same = absurd done
+
+  -- residents were served at the desk that an opening found, or no port was listened on
+  pub done_lines-served_at_found : {P : Type 0} (ports ports' : P) (IsDone : DeskState S → DeskState S → Type 0) (found last : Result (DeskState S) DeskFault) (status : ℕ) (out out' : Output)
+      → IfOk found (λ desk. BeginsFound access files path desk between) → IsFileFault access files path found between → DoneAt IsDone found last status out out'
+      → (IsErr found → ports' ≡ ports) → IfOk last (λ desk. access.closes between desk.conn files') → OnErr last (files' ≡ between)
+      → AtFound access IsDone files path files' ⊎ ((fault : DeskFault) × IsFileFault access files path (Err fault) files' × RefusesDesk fault status out out' × (ports' ≡ ports))
+  done_lines-served_at_found ports ports' IsDone (Ok desk) (Ok last) status out out' begins cause done unasked closed same =
+      inl (record { desk = desk; between = between; last = last; begins = begins; done = done; closed = closed })
+  done_lines-served_at_found ports ports' IsDone (Err fault) (Err again) status out out' begins cause done unasked closed same =
+      inr (fault, subst (λ (f : F). IsFileFault access files path (Err fault) f) (sym same) cause, done.1, unasked refl)
+  done_lines-served_at_found ports ports' IsDone (Ok desk) (Err fault) status out out' begins cause done unasked closed same = absurd done
+  done_lines-served_at_found ports ports' IsDone (Err fault) (Ok last) status out out' begins cause done unasked closed same = absurd done

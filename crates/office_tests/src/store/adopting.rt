@@ -1,8 +1,7 @@
 //! Desks over databases that are handed in, with ample memory.
 use crate::asserting::assert_same;
 use crate::building::{add_person, add_room, answers, choices, new_desk, text};
-use office_core::{Command, Query, Reply};
-use office_state::Office;
+use office_core::{Command, Office, Query, Reply};
 use office_store::{Answer, Back, Desk, DeskFault, Handler, Request};
 use room_types::{Listing, Phase, ResultRow, Word};
 use sqlite::{Connection, MemStore};

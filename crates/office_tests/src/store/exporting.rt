@@ -33,12 +33,13 @@ impl Write for Narrow {
     }
 }
 
-// H1, in which E1 lives, and H2. E2 has a name that needs quotes.
+// H1, in which E1 lives, and H2. E2 has a name that needs quotes, and E3 has no home either.
 fn requests(rt: &impl Abort, alloc: Global) -> Vec<Request> {
     vec![in alloc;
         add_room(rt, alloc, "H2"),
         add_room(rt, alloc, "H1"),
         add_person(rt, alloc, "E2", "Bo, B.", "key00000000000e2", None),
+        add_person(rt, alloc, "E3", "Cy Coy", "key00000000000e3", None),
         add_person(rt, alloc, "E1", "Ann Ash", "key00000000000e1", Some("H1")),
     ]
     .expect(rt, "memory")
@@ -79,12 +80,21 @@ fn exports_rooms_and_people(rt: HostRuntime) {
         ),
         (
             ExportKind::People,
-            b"person,name,home\nE1,Ann Ash,H1\nE2,\"Bo, B.\",\n".as_slice(),
+            b"person,name,home\nE1,Ann Ash,H1\nE2,\"Bo, B.\",\nE3,Cy Coy,\n".as_slice(),
         ),
         (ExportKind::Moves, b"round,wave,person,from,to\n".as_slice()),
     ] {
         exports(&rt, alloc, &mut desk, kind, bytes);
     }
+}
+
+// The moves of an empty office are the header alone.
+#[test]
+fn exports_an_empty_office(rt: HostRuntime) {
+    let alloc = rt.alloc();
+    let mut desk = new_desk(&rt, alloc);
+    let header = b"round,wave,person,from,to\n";
+    exports(&rt, alloc, &mut desk, ExportKind::Moves, header);
 }
 
 // The rooms are exported to a writer that takes 20 bytes.

@@ -6,6 +6,7 @@ use Rattle.office_core.specs.declared.command.Command.{Command}
 use Rattle.office_core.specs.declared.command.Command.TheVariants.{SetChoices, Withdraw}
 use Rattle.office_core.specs.declared.reply.Standing.{Standing}
 use Rattle.serde_json.specs.Written.{compact_text}
+use Rattle.room_types.specs.declared.stream.Stream.{Ghosts as Calls}
 use Rattle.office_store.specs.declared.requests.Answer.{Answer as DeskAnswer}
 use Rattle.office_store.specs.declared.requests.Request.{Request}
 use Rattle.resident_http.specs.Answers.{Answer}
@@ -101,9 +102,9 @@ module _ {H K : Type 0} (handles : H → Request → DeskAnswer → H → Type 0
   conversations-answers_carried (ask method path key body used) answer old new h = conversations-wanted_carried (wanted_of method path key) body answer old new h
   conversations-answers_carried (fault status) answer old new h = conversations-tells_carried (one_fault status) answer old new h
 
-  conversations-replies_carried : (served : Served) (old new : H) (before after : Connection) → Replies handles old new served before after
-      → Carried old new (λ k n. Replies does k n served before after)
-  conversations-replies_carried served old new before after h =
+  conversations-replies_carried : {T : Type 0} (calls : Calls T) (served : Served) (old new : H) (before after : Connection T) → Replies calls handles old new served before after
+      → Carried old new (λ k n. Replies calls does k n served before after)
+  conversations-replies_carried calls served old new before after h =
       let c = conversations-answers_carried h.asked h.responds.answer old new h.responds.answers in (
         c.0,
         λ well k s.
@@ -112,26 +113,31 @@ module _ {H K : Type 0} (handles : H → Request → DeskAnswer → H → Type 0
               record {
                 bytes = h.bytes;
                 asked = h.asked;
+                between = h.between;
+                called = h.called;
                 read = h.read;
                 limit = h.limit;
                 each = h.each;
                 asks = h.asks;
                 unended = h.unended;
                 ended = h.ended;
-                responds = record { answer = h.responds.answer; answers = n.1; delivers = h.responds.delivers };
+                responds = record { answer = h.responds.answer; answers = n.1; delivers = h.responds.delivers; sends = h.responds.sends };
               },
               n.2,
             ),
       )
 
   -- a conversation
-  pub conversations-converses_carried : (served : Served) (old new : H) (before after : Connection) → Converses handles served old new before after
-      → Carried old new (λ k n. Converses does served k n before after)
-  conversations-converses_carried (Answered status) old new before after h = conversations-replies_carried (Answered status) old new before after h
-  conversations-converses_carried Silent old new before after h =
-      conversations-carried_same old new _ h.same (λ k. record { read = h.read; each = h.each; at_end = h.at_end; ended = h.ended; untouched = h.untouched; same = refl })
-  conversations-converses_carried ReadFault old new before after h = conversations-carried_same old new _ h.same (λ k. record {
+  pub conversations-converses_carried : {T : Type 0} (calls : Calls T) (served : Served) (old new : H) (before after : Connection T) → Converses calls handles served old new before after
+      → Carried old new (λ k n. Converses calls does served k n before after)
+  conversations-converses_carried calls (Answered status) old new before after h = conversations-replies_carried calls (Answered status) old new before after h
+  conversations-converses_carried calls Silent old new before after h =
+      conversations-carried_same old new _ h.same (λ k. record { called = h.called; read = h.read; each = h.each; at_end = h.at_end; ended = h.ended; untouched = h.untouched; same = refl })
+  conversations-converses_carried calls ReadFault old new before after h = conversations-carried_same old new _ h.same (λ k. record {
     bytes = h.bytes;
+    between = h.between;
+    called = h.called;
+    fails = h.fails;
     read = h.read;
     limit = h.limit;
     each = h.each;
@@ -140,4 +146,4 @@ module _ {H K : Type 0} (handles : H → Request → DeskAnswer → H → Type 0
     untouched = h.untouched;
     same = refl;
   })
-  conversations-converses_carried (WriteFault sent) old new before after h = conversations-replies_carried (WriteFault sent) old new before after h
+  conversations-converses_carried calls (WriteFault sent) old new before after h = conversations-replies_carried calls (WriteFault sent) old new before after h

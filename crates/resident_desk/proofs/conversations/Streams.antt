@@ -1,5 +1,5 @@
 -- What was read of a stream, and what went out on it.
-use Rattle.std.proofs.Common.{◌≡◌, ℕ, ◌+◌, ◌<◌, ◌≤◌, Bool, true, false, List, [], ◌++◌, length, take, drop, refl, sym, ap, ◌∙◌, subst, arith, append-nil, length-append, rules, tests, Option, None, Some, inl, inr}
+use Rattle.std.proofs.Common.{◌≡◌, ℕ, zero, suc, ◌+◌, ◌<◌, ◌≤◌, Bool, true, false, List, [], ◌++◌, length, take, drop, refl, sym, ap, ◌∙◌, subst, arith, append-nil, length-append, rules, tests, Option, None, Some, inl, inr}
 use Rattle.std.specs.Prelude.{◌||◌, ◌&&◌, ◌==◌, nat_lt, if◌then◌else◌, OnSome}
 use Rattle.std.proofs.Math.Bool.{or-true}
 use Rattle.std.specs.Io.KnownBytes.{Appends, Consumes, Keeps, IsAtEnd}
@@ -9,29 +9,32 @@ use Rattle.std.proofs.Math.Seq.{take-append-add}
 use borrow.Rule.Slice.PartMut.{put_mid, post_of}
 use Rattle.room_types.specs.Streams.{Output, Puts, count_after}
 use Rattle.room_types.specs.Watched.{counted}
+use Rattle.room_types.specs.declared.stream.Stream.{Ghosts as Calls}
+use Rattle.room_types.proofs.watched_bytes.Streams.{watched_bytes-or_known}
 use Rattle.office_store.specs.declared.requests.Answer.{Answer as DeskAnswer}
 use Rattle.office_store.specs.declared.requests.Request.{Request}
-use Rattle.resident_http.specs.Asks.{Asked, Asks, is_more, more, seen}
+use Rattle.resident_http.specs.Asks.{Asked, Asks, ask, fault, is_more, more, seen}
 use Rattle.resident_http.specs.declared.ask.AskState.{AskState}
 use Rattle.resident_http.specs.declared.ask.AskState.TheVariants as state
+use Rattle.resident_desk.specs.Calls.{Reads, ReadsAll}
 use Rattle.resident_desk.specs.Conversations.{Connection, Converses, Delivers, IsUntouched, Replies, Responds}
 use Rattle.resident_desk.specs.declared.served.Served.{Served}
 use Rattle.resident_desk.specs.declared.served.Served.TheVariants.{Answered, ReadFault, Silent, WriteFault}
 
 -- ---- what was read
 
--- a read behind the bytes read so far
-conversations-read_more : (a b c : Option (List ℕ)) (buf tail : List ℕ) (len n : ℕ) → len ≤ length buf → Consumes a b (take len buf) → Consumes b c (take n tail) → Consumes a c (take (len + n) (take len buf ++ tail))
-conversations-read_more a b c buf tail len n within p q =
+-- the bytes read so far, and those that are read into the buffer behind them
+pub conversations-put_into : (buf new : List ℕ) (len n k : ℕ) → len ≤ length buf → n ≤ length new → take (len + n) (put_mid len k buf new) ≡ take len buf ++ take n new
+conversations-put_into buf new len n k within fits =
     let count = length-take-le len buf within in
-    let joined : take (len + n) (take len buf ++ tail) ≡ take len buf ++ take n tail =
-    ap (λ k. take (k + n) (take len buf ++ tail)) (sym count) ∙ take-append-add (take len buf) tail n in
-    rw joined (Consumes-trans a b c _ _ p q)
+    ap (λ m. take (m + n) (take len buf ++ (new ++ post_of len k buf))) (sym count)
+    ∙ take-append-add (take len buf) (new ++ post_of len k buf) n
+    ∙ ap (λ t. take len buf ++ t) (take-append-le n new (post_of len k buf) fits)
 
 -- a read into the buffer behind the bytes read so far
 pub conversations-read_into : (a b c : Option (List ℕ)) (buf new : List ℕ) (len n k : ℕ) → len ≤ length buf → n ≤ length new → Consumes a b (take len buf) → Consumes b c (take n new)
     → Consumes a c (take (len + n) (put_mid len k buf new))
-conversations-read_into a b c buf new len n k within fits p q = conversations-read_more a b c buf (new ++ post_of len k buf) len n within p (rw (take-append-le n new (post_of len k buf) fits) q)
+conversations-read_into a b c buf new len n k within fits p q = rw (conversations-put_into buf new len n k within fits) (Consumes-trans a b c _ _ p q)
 
 conversations-length-parts : (xs ys zs : List ℕ) → length (xs ++ (ys ++ zs)) ≡ length xs + (length ys + length zs)
 conversations-length-parts xs ys zs = omega (arith, length-append xs (ys ++ zs), length-append ys zs)
@@ -72,6 +75,25 @@ conversations-ended_told before after buf n told none some =
     let room : nat_lt 0 (length buf) ≡ true = search (rules, tests) in
     let nothing : (n == 0) ≡ true = search (rules, tests) in
     told ∙ ap (λ t. before || (t && n == 0)) room ∙ ap (λ t. before || (true && t)) nothing ∙ or-true before
+
+-- a call after neither a failure nor the end, into some room, is not wasted
+pub conversations-not_wasted : (after before failed ended full : Bool) → after ≡ (before || failed || ended || full) → failed ≡ false → ended ≡ false → full ≡ false → after ≡ before
+conversations-not_wasted after before failed ended full told f e r =
+    told ∙ watched_bytes-or_known (before || failed || ended) full r ∙ watched_bytes-or_known (before || failed) ended e ∙ watched_bytes-or_known before failed f
+
+module _ {T : Type 0} (calls : Calls T) where
+  -- the stream as it was, where reads gave no byte
+  pub conversations-reads_none : (bytes : List ℕ) (old new : T) → Reads calls bytes old new → bytes ≡ [] → new ≡ old
+  conversations-reads_none bytes old new (zero, h) none = h.1
+  conversations-reads_none bytes old new (suc times, h) none =
+      let read = h.3 in
+      absurd (omega (arith, read.some, read.within, ap length (sym read.joined ∙ none), length-append h.0 (take read.count read.buffer), length-take-le read.count read.buffer read.within))
+
+  -- all that is asked was read
+  pub conversations-reads_all : (bytes : List ℕ) (asked : Asked) (old new : T) → (asked ≡ more → ⊥) → Reads calls bytes old new → ReadsAll calls bytes asked old new
+  conversations-reads_all bytes more old new h reads = absurd (h refl)
+  conversations-reads_all bytes (ask method path key body used) old new h reads = reads
+  conversations-reads_all bytes (fault status) old new h reads = reads
 
 -- ---- what went out
 
@@ -118,16 +140,18 @@ conversations-delivers-after (WriteFault sent) status bs a b c u d = (
 conversations-delivers-after Silent status bs a b c u d = absurd d
 conversations-delivers-after ReadFault status bs a b c u d = absurd d
 
-module _ {H : Type 0} (handles : H → Request → DeskAnswer → H → Type 0) where
-  conversations-replies-responded : (served : Served) (old new : H) (before mid after : Connection) (bytes : List ℕ) (asked : Asked)
-      → Consumes before.input.remaining mid.input.remaining bytes → Keeps mid.input.remaining after.input.remaining → IsUntouched before.output mid.output
+module _ {T H : Type 0} (calls : Calls T) (handles : H → Request → DeskAnswer → H → Type 0) where
+  conversations-replies-responded : (served : Served) (old new : H) (before mid after : Connection T) (bytes : List ℕ) (asked : Asked)
+      → ReadsAll calls bytes asked before.stream mid.stream → Consumes before.input.remaining mid.input.remaining bytes → Keeps mid.input.remaining after.input.remaining → IsUntouched before.output mid.output
       → length bytes ≤ 9216 → after.input.reads ≤ length bytes + (if is_more asked then 1 else 0) → Asks bytes asked
       → (is_more asked ≡ false → after.ended ≡ before.ended)
       → (asked ≡ more → (0 < length bytes) × (after.ended ≡ true) × IsAtEnd mid.input.remaining)
-      → Responds handles asked old new served mid.output after.output → Replies handles old new served before after
-  conversations-replies-responded served old new before mid after bytes asked read kept untouched limit each asks unended ended responds = record {
+      → Responds calls handles asked old new served mid.output after.output mid.stream after.stream → Replies calls handles old new served before after
+  conversations-replies-responded served old new before mid after bytes asked called read kept untouched limit each asks unended ended responds = record {
     bytes = bytes;
     asked = asked;
+    between = mid.stream;
+    called = called;
     read = Consumes-kept _ _ _ bytes read kept;
     limit = limit;
     each = each;
@@ -138,19 +162,20 @@ module _ {H : Type 0} (handles : H → Request → DeskAnswer → H → Type 0) 
       answer = responds.answer;
       answers = responds.answers;
       delivers = conversations-delivers-after served _ _ before.output mid.output after.output untouched responds.delivers;
+      sends = responds.sends;
     };
   }
 
   -- what was asked by the bytes that were read was answered
-  pub conversations-converses-responded : (served : Served) (old new : H) (before mid after : Connection) (bytes : List ℕ) (asked : Asked)
-      → Consumes before.input.remaining mid.input.remaining bytes → Keeps mid.input.remaining after.input.remaining → IsUntouched before.output mid.output
+  pub conversations-converses-responded : (served : Served) (old new : H) (before mid after : Connection T) (bytes : List ℕ) (asked : Asked)
+      → ReadsAll calls bytes asked before.stream mid.stream → Consumes before.input.remaining mid.input.remaining bytes → Keeps mid.input.remaining after.input.remaining → IsUntouched before.output mid.output
       → length bytes ≤ 9216 → after.input.reads ≤ length bytes + (if is_more asked then 1 else 0) → Asks bytes asked
       → (is_more asked ≡ false → after.ended ≡ before.ended)
       → (asked ≡ more → (0 < length bytes) × (after.ended ≡ true) × IsAtEnd mid.input.remaining)
-      → Responds handles asked old new served mid.output after.output → Converses handles served old new before after
-  conversations-converses-responded (Answered status) old new before mid after bytes asked read kept untouched limit each asks unended ended responds =
-      conversations-replies-responded (Answered status) old new before mid after bytes asked read kept untouched limit each asks unended ended responds
-  conversations-converses-responded (WriteFault sent) old new before mid after bytes asked read kept untouched limit each asks unended ended responds =
-      conversations-replies-responded (WriteFault sent) old new before mid after bytes asked read kept untouched limit each asks unended ended responds
-  conversations-converses-responded Silent old new before mid after bytes asked read kept untouched limit each asks unended ended responds = absurd responds.delivers
-  conversations-converses-responded ReadFault old new before mid after bytes asked read kept untouched limit each asks unended ended responds = absurd responds.delivers
+      → Responds calls handles asked old new served mid.output after.output mid.stream after.stream → Converses calls handles served old new before after
+  conversations-converses-responded (Answered status) old new before mid after bytes asked called read kept untouched limit each asks unended ended responds =
+      conversations-replies-responded (Answered status) old new before mid after bytes asked called read kept untouched limit each asks unended ended responds
+  conversations-converses-responded (WriteFault sent) old new before mid after bytes asked called read kept untouched limit each asks unended ended responds =
+      conversations-replies-responded (WriteFault sent) old new before mid after bytes asked called read kept untouched limit each asks unended ended responds
+  conversations-converses-responded Silent old new before mid after bytes asked called read kept untouched limit each asks unended ended responds = absurd responds.delivers
+  conversations-converses-responded ReadFault old new before mid after bytes asked called read kept untouched limit each asks unended ended responds = absurd responds.delivers

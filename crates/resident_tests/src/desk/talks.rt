@@ -178,6 +178,25 @@ const STORY: [Step; 38] = [
     ),
 ];
 
+// In the first round T2 withdraws twice, and hands in a list too late.
+const WITHDRAWALS: [Step; 3] = [
+    Step::Talk(
+        "POST /me/withdraw HTTP/1.1\r\nHost: a\r\nRoom-Key: key00000000000t2\r\n\r\n",
+        200,
+        "{\"withdrawn\":true}",
+    ),
+    Step::Talk(
+        "POST /me/withdraw HTTP/1.1\r\nHost: a\r\nRoom-Key: key00000000000t2\r\n\r\n",
+        200,
+        "{\"withdrawn\":true}",
+    ),
+    Step::Talk(
+        "PUT /me/choices HTTP/1.1\r\nHost: a\r\nRoom-Key: key00000000000t2\r\nContent-Length: 5\r\n\r\n[\"V\"]",
+        409,
+        "{\"error\":\"Withdrawn\"}",
+    ),
+];
+
 // The answer to a wrong method.
 const WRONG_METHOD: &str = "HTTP/1.1 405 Method Not Allowed\r\n\
     Content-Type: application/json\r\n\
@@ -195,11 +214,18 @@ fn status_told(how: &Served) -> Option<u16> {
     }
 }
 
+// Each story begins at a desk of its own.
 #[test]
-fn tells_a_year(rt: HostRuntime) {
-    let mut desk = open_round(&rt, rt.alloc());
-    for step in &STORY {
-        take_step(&rt, rt.alloc(), &mut desk, step);
+fn tells_stories(rt: HostRuntime) {
+    for story in [STORY.as_slice(), WITHDRAWALS.as_slice()] {
+        tell(&rt, rt.alloc(), story);
+    }
+}
+
+fn tell(rt: &impl Abort, alloc: Global, story: &[Step]) {
+    let mut desk = open_round(rt, alloc);
+    for step in story {
+        take_step(rt, alloc, &mut desk, step);
     }
     let_go(desk);
 }
@@ -210,12 +236,16 @@ fn take_step(rt: &impl Abort, alloc: Global, desk: &mut Desk<MemStore>, step: &S
         Step::Talk(request, status, body) => {
             let talk = served(alloc, desk, request.as_bytes());
             has_status(rt, alloc, &talk, *status, request);
-            holds(
-                rt,
-                talk.written.as_slice().ends_with(body.as_bytes()),
-                request,
-            );
+            holds(rt, has_body(&talk.written, body), request);
         }
+    }
+}
+
+// Whether the answer ends in an empty line and this body.
+fn has_body(written: &[u8], body: &str) -> bool {
+    match written.strip_suffix(body.as_bytes()) {
+        Some(head) => head.ends_with(b"\r\n\r\n"),
+        None => false,
     }
 }
 

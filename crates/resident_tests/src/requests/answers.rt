@@ -6,7 +6,7 @@ use crate::asserting::{assert_same, same};
 use http::StatusCode;
 use office_core::Standing;
 use resident_http::answer::{HttpAnswer, UNAVAILABLE, answer_bytes};
-use resident_http::bodies::{choices_body, rooms_body, standing_body, withdrawn_body};
+use resident_http::bodies::{choices_body, fault_body, rooms_body, standing_body, withdrawn_body};
 use resident_http::choices::choices_of_body;
 use resident_http::faults::http_fault_name;
 use resident_http::method::Method;
@@ -147,6 +147,8 @@ fn a_desk_that_is_unavailable(rt: HostRuntime) {
     let status = StatusCode::SERVICE_UNAVAILABLE;
     let unavailable = HttpAnswer::fault(alloc, status, "Unavailable").expect(&rt, "memory");
     is_written(&rt, alloc, &unavailable, UNAVAILABLE);
+    let body = fault_body(alloc, "Unavailable").expect(&rt, "memory");
+    assert_same!(rt; body.as_slice(), b"{\"error\":\"Unavailable\"}".as_slice());
 }
 
 // That the fault's answer has this status line, and this name in its body.

@@ -5,7 +5,7 @@ use Rattle.std.specs.Io.KnownBytes.{Keeps, Appends}
 use Rattle.std.proofs.KnownBytes.{Appends-trans, Appends-nil, Appends-kept}
 use Rattle.std.proofs.lemmas.List.{take_all, length-drop}
 use Rattle.std.proofs.Math.Bool.{or-false}
-use Rattle.room_types.specs.Watched.{counted}
+use Rattle.room_types.specs.Watched.{counted, has_no_room}
 use Rattle.room_types.specs.Streams.{Output, Puts, count_after}
 
 -- two counts in a row
@@ -61,6 +61,10 @@ watched_bytes-Puts-none a b c xs ys n p fits k t none =
 -- nothing that was not before
 pub watched_bytes-or_known : (a b : Bool) → b ≡ false → (a || b) ≡ a
 watched_bytes-or_known a b e = ap (λ c. a || c) e ∙ or-false a
+
+-- a buffer with room
+pub watched_bytes-some_room : (xs : List ℕ) → 0 < length xs → has_no_room xs ≡ false
+watched_bytes-some_room xs h = search (rules, tests)
 
 watched_bytes-and_or_false : (b c : Bool) → (b || (c && false)) ≡ b
 watched_bytes-and_or_false true c = refl

@@ -3,8 +3,8 @@ ghost use Rattle.std.specs.Prelude.{◌≡◌, ◌&&◌, ◌||◌};
 ghost use Rattle.std.specs.Io.{ReadsAtMost, WritesAtMost};
 ghost use Rattle.std.specs.Io.KnownBytes.{Keeps, ReadConsumes, WriteAppends};
 ghost use Rattle.room_types.specs.Watched.{watched_inner, watched_failed, watched_reads, watched_taken, watched_flushes, watched_pending};
-ghost use Rattle.room_types.specs.Watched.{watched_ended, watched_late};
-ghost use Rattle.room_types.specs.Watched.{counted, has_taken, is_end, is_failure, is_failed_write, taken_after};
+ghost use Rattle.room_types.specs.Watched.{watched_ended, watched_wasted};
+ghost use Rattle.room_types.specs.Watched.{counted, has_taken, has_no_room, is_end, is_failure, is_failed_write, taken_after};
 
 use crate::stream::Stream;
 use crate::watched::Watched;
@@ -24,10 +24,12 @@ impl<T: Stream> Watched<T> {
         ensures flushes { watched_flushes self.new ≡ watched_flushes self.old }
         ensures pending { watched_pending self.new ≡ watched_pending self.old }
         ensures ended { watched_ended self.new ≡ watched_ended self.old || is_end buf.new result }
-        ensures late { watched_late self.new
-            ≡ watched_late self.old || watched_failed self.old || watched_ended self.old }
+        ensures wasted { watched_wasted self.new
+            ≡ watched_wasted self.old || watched_failed self.old || watched_ended self.old
+            || has_no_room buf.new }
+        ensures called { T.reads (watched_inner self.old) buf.new result (watched_inner self.new) }
     {
-        self.late = self.late || self.failed || self.ended;
+        self.wasted = self.wasted || self.failed || self.ended || buf.is_empty();
         self.reads = self.reads.saturating_add(1);
         let result = self.inner.read_some(buf);
         match result {
@@ -56,9 +58,11 @@ impl<T: Stream> Watched<T> {
         ensures flushes { watched_flushes self.new ≡ watched_flushes self.old }
         ensures pending { watched_pending self.new ≡ has_taken result || watched_pending self.old }
         ensures ended { watched_ended self.new ≡ watched_ended self.old }
-        ensures late { watched_late self.new ≡ watched_late self.old || watched_failed self.old }
+        ensures wasted { watched_wasted self.new
+            ≡ watched_wasted self.old || watched_failed self.old || has_no_room buf.now }
+        ensures called { T.writes (watched_inner self.old) buf.now result (watched_inner self.new) }
     {
-        self.late = self.late || self.failed;
+        self.wasted = self.wasted || self.failed || buf.is_empty();
         let result = self.inner.write_some(buf);
         match result {
             Ok(n) => {
@@ -90,9 +94,10 @@ impl<T: Stream> Watched<T> {
         ensures flushes { watched_flushes self.new ≡ counted (watched_flushes self.old) 1 }
         ensures pending { watched_pending self.new ≡ is_failure result && watched_pending self.old }
         ensures ended { watched_ended self.new ≡ watched_ended self.old }
-        ensures late { watched_late self.new ≡ watched_late self.old || watched_failed self.old }
+        ensures wasted { watched_wasted self.new ≡ watched_wasted self.old || watched_failed self.old }
+        ensures called { T.flushes (watched_inner self.old) result (watched_inner self.new) }
     {
-        self.late = self.late || self.failed;
+        self.wasted = self.wasted || self.failed;
         self.flushes = self.flushes.saturating_add(1);
         match self.inner.flush_all() {
             Ok(()) => {

@@ -118,7 +118,7 @@ fn a_device_that_is_full(rt: HostRuntime) -> Result<(), Fail> {
         write_rooms(alloc, &rows, &mut output),
         Err(WriteEnd::Fault { sent: 20 })
     );
-    assert!(rt; output.failed() && !output.late());
+    assert!(rt; output.failed() && !output.wasted());
     assert_same!(rt;
         output.into_inner().written.as_slice(),
         b"room,state,tenant\nH1".as_slice()
@@ -165,7 +165,7 @@ fn people_to_a_device_that_fails(rt: HostRuntime) -> Result<(), Fail> {
                 write_people(alloc, &rows, &mut output),
                 Err(WriteEnd::Fault { sent: sent as u128 })
             );
-            assert!(rt; output.failed() && !output.late());
+            assert!(rt; output.failed() && !output.wasted());
             assert_same!(rt; output.into_inner().written.as_slice(), &PEOPLE[..sent]);
         }
     }

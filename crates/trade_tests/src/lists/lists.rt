@@ -17,6 +17,8 @@ fn a_list_of_rooms(rt: HostRuntime) -> Result<(), Fail> {
         let rooms = read(&rt, read_rooms(alloc, list));
         assert!(rt; are_codes(&rooms, "H1", "A-2"));
     }
+    let only = read(&rt, read_rooms(alloc, b"room\nH1"));
+    assert!(rt; matches!(only.as_slice(), [room] if room.as_str() == "H1"));
     let none = read(&rt, read_rooms(alloc, b"room"));
     assert!(rt; none.is_empty());
     Ok(())

@@ -5,11 +5,8 @@ use super::{outcome_over, problem_of, rooms_of};
 use crate::asserting::assert_same;
 use std::alloc::Global;
 use std::test::Fail;
-use trade_line::fault::TradeFault;
-use trade_line::line::VecLine;
-use trade_line::linked_line::LinkedLine;
 use trade_line::plain::top_trading_cycles;
-use trade_line::problem::Problem;
+use trade_line::{LinkedLine, Problem, TradeFault, VecLine};
 
 // All lists of different rooms out of three.
 const LISTS: [&[usize]; 16] = [

@@ -3,10 +3,7 @@ use super::{outcome_over, problem_of, rooms_of};
 use crate::asserting::assert_same;
 use std::alloc::Global;
 use std::test::Fail;
-use trade_line::fault::TradeFault;
-use trade_line::line::VecLine;
-use trade_line::out_of_memory::OutOfMemory;
-use trade_line::what_if::run_with_list;
+use trade_line::{OutOfMemory, TradeFault, VecLine, run_with_list};
 
 // Homes and lists of two rooms, and the fault that is found first.
 const BAD: [(&[Option<usize>], &[&[usize]], TradeFault); 7] = [

@@ -3,7 +3,7 @@ use super::problem_of;
 use crate::asserting::assert_same;
 use std::alloc::Global;
 use std::process::Abort;
-use trade_line::fault::TradeFault;
+use trade_line::TradeFault;
 use trade_line::plain::top_trading_cycles;
 
 struct Twice {

@@ -2,9 +2,7 @@
 use crate::asserting::assert_same;
 use std::alloc::Global;
 use std::process::Abort;
-use trade_line::line::{Line, VecLine};
-use trade_line::linked_line::LinkedLine;
-use trade_line::out_of_memory::OutOfMemory;
+use trade_line::{Line, LinkedLine, OutOfMemory, VecLine};
 
 const PEOPLE: usize = 5;
 

@@ -4,12 +4,8 @@ use crate::asserting::assert_same;
 use std::alloc::Global;
 use std::process::Abort;
 use std::test::Fail;
-use trade_line::fault::TradeFault;
-use trade_line::line::{Line, VecLine};
-use trade_line::linked_line::LinkedLine;
 use trade_line::plain::top_trading_cycles;
-use trade_line::problem::Problem;
-use trade_line::what_if::run_with_list;
+use trade_line::{Line, LinkedLine, Problem, TradeFault, VecLine, run_with_list};
 
 struct Worked<'a> {
     story: &'a str,

@@ -3,7 +3,7 @@ use Rattle.std.proofs.lemmas.Result.{err_from_is_err_and}
 use Rattle.std.proofs.lemmas.Grind.{common_steps}
 use Rattle.std.proofs.Math.Bool.{or-true, or-false}
 use Rattle.room_types.specs.Watched.{counted}
-use Rattle.room_types.proofs.watched_bytes.Streams.{watched_bytes-counted_one, watched_bytes-kept_by_write, watched_bytes-or_known}
+use Rattle.room_types.proofs.watched_bytes.Streams.{watched_bytes-counted_one, watched_bytes-kept_by_write, watched_bytes-or_known, watched_bytes-some_room}
 use Rattle.office_lines.proofs.heard.Sessions.{heard-Listened-nil, heard-Listened-more, heard-Listened-longer, heard-Listened-end, heard-Stopped-halted, heard-Stopped-failed, heard-Stopped-cut, heard-OnlyWhereFailed-since, heard-read_once}
 use Rattle.office_lines.proofs.rehearse.listen.Goals as goal
 
@@ -42,8 +42,9 @@ reads-preserved g c = record {
   failed = c.in-Ok.ensures.failed ∙ or-false _ ∙ c.reads.invariant.failed;
   ended = c.in-Ok.ensures.ended ∙ watched_bytes-kept_by_write _ _ c.in-Ok.n (search (rules, tests)) ∙ c.reads.invariant.ended;
   begun = omega (arith, c.take_piece.new.self.partial_line.ok.0, c.take_piece.new.self.short);
-  no_late_read = λ e d. c.in-Ok.ensures.late ∙ watched_bytes-or_known _ _ (c.reads.invariant.ended ∙ d) ∙ watched_bytes-or_known _ _ (c.reads.invariant.failed ∙ e) ∙ c.reads.invariant.no_late_read e d;
-  no_late_write = λ e. c.in_ok-take_piece-in-Ok.ensures.no_late_write (c.reads.invariant.heard.heard.failed ∙ e) ∙ c.reads.invariant.no_late_write e;
+  no_wasted_read = λ e d. c.in-Ok.ensures.wasted ∙ watched_bytes-or_known _ _ (watched_bytes-some_room c.read.new.buf (grind (arith, common_steps, c.in-Ok.ensures.bound)))
+      ∙ watched_bytes-or_known _ _ (c.reads.invariant.ended ∙ d) ∙ watched_bytes-or_known _ _ (c.reads.invariant.failed ∙ e) ∙ c.reads.invariant.no_wasted_read e d;
+  no_wasted_write = λ e. c.in_ok-take_piece-in-Ok.ensures.no_wasted_write (c.reads.invariant.heard.heard.failed ∙ e) ∙ c.reads.invariant.no_wasted_write e;
   count = c.in-Ok.ensures.reads ∙ ap (λ n. counted n 1) c.reads.invariant.count ∙ watched_bytes-counted_one c.reads.counter (omega (arith, c.reads-test.true));
   ready = c.in_ok-take_piece-in-Ok.ensures.ready;
 }
@@ -63,7 +64,7 @@ reads-init g c = record {
   failed = refl;
   ended = refl;
   begun = omega (arith, c.args.session.now.partial_line.ok.0, c.args.session.now.short);
-  no_late_read = λ e d. refl;
-  no_late_write = λ e. refl;
+  no_wasted_read = λ e d. refl;
+  no_wasted_write = λ e. refl;
   ready = c.requires.ready;
 }

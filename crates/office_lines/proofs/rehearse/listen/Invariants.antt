@@ -21,7 +21,7 @@ invariant-reads g l =
       failed : watched_failed l.input ≡ watched_failed l.fn.input;
       ended : watched_ended l.input ≡ watched_ended l.fn.input;
       begun : length l.session.partial_line.items ≤ line_limit;
-      no_late_read : StopsAtEnd l.fn.input l.input;
-      no_late_write : StopsAtFailure l.fn.output l.output;
+      no_wasted_read : StopsAtEnd l.fn.input l.input;
+      no_wasted_write : StopsAtFailure l.fn.output l.output;
       ready : g.H.Handler.is_ready l.handler;
     }

@@ -1,6 +1,5 @@
 use Rattle.std.proofs.Common.{◌≡◌, ◌-◌}
-use Rattle.office_lists.specs.Waves.{followed}
-use Rattle.office_lists.specs.declared.leaving.TheConstants.{MOVE_LIMIT}
+use Rattle.office_lists.specs.Waves.{followed, move_limit}
 use Rattle.office_lists.proofs.move_days.Chains.{IsNumberedTo}
 use Rattle.office_lists.proofs.leaving.number_chain.Given as goal
 
@@ -12,4 +11,4 @@ invariant-loop-at l =
     }
 
 abbrev pub decreases-loop-at : goal.decreases-loop-at
-decreases-loop-at l = MOVE_LIMIT - l.count
+decreases-loop-at l = move_limit - l.count

@@ -1,4 +1,5 @@
 use Rattle.std.proofs.Common.{◌≡◌, Some, map}
+use Rattle.office_file.specs.Access.{file_access}
 use Rattle.office_program.proofs.done_lines.Done.{done_lines-done_in_file}
 use Rattle.office_program.specs.Programs.{program_of}
 use Rattle.office_program.specs.Programs.Line.{does}
@@ -11,4 +12,4 @@ returns-in-Ok-Do-clause-carries_out g c =
     let line = map (λ word. word.now) c.in-Ok-Do.words.items in
     let is : program_of words ≡ Some (does c.in-Ok-Do.database.now line) = rw c.in-Ok-Do.field-0-is at c.in-Ok-Do.ensures.understands in
     let shelf = shelf_of g.L.Lists.opens g.L.Lists.fails g.L.List.Read.remaining c.args.lists.now in
-    done_lines-done_in_file _ _ shelf words c.in-Ok-Do.database.now line c.do_in_file.result _ _ _ _ is (rw c.deref.ensures.value at c.do_in_file.ensures.does)
+    done_lines-done_in_file _ shelf _ words c.in-Ok-Do.database.now line _ _ c.do_in_file.result _ _ _ _ _ is (rw c.deref.ensures.value at c.do_in_file.ensures.does)

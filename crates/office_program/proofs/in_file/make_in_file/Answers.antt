@@ -3,5 +3,6 @@ use Rattle.office_program.proofs.in_file.make_in_file.Goals as goal
 
 pub returns-clause-makes : goal.returns-clause-makes
 returns-clause-makes g c =
-    let made = c.create_file-made.ensures in
-    done_lines-file_desk_made _ _ c.create_file-made.result c.say_made-status.result _ _ made.shows made.blank made.cause c.say_made-status.ensures.tells
+    let made = c.create_in-made.ensures in
+    let closed = c.close.ensures in
+    done_lines-file_desk_made _ _ _ _ _ c.create_in-made.result c.say_made-status.result _ _ made.shows made.blank made.cause c.say_made-status.ensures.tells closed.closed closed.none

@@ -1,11 +1,12 @@
-use Rattle.std.proofs.Common.{◌≡◌, ◌<◌, ◌-◌, length, take, drop, rules, tests, arith, ◌∙◌, refl, true≢false}
+use Rattle.std.proofs.Common.{◌≡◌, ◌<◌, ◌-◌, zero, suc, false, [], Ok, ap, subst, length, take, drop, rules, tests, arith, ◌∙◌, refl, true≢false}
 use Rattle.std.proofs.KnownBytes.{Consumes-kept, Consumes-nil}
 use Rattle.std.proofs.Math.Bool.{or-false}
 use Rattle.std.proofs.lemmas.List.{length-take-le, length-take, length-drop}
-use Rattle.room_types.proofs.watched_bytes.Streams.{watched_bytes-kept_by_write, watched_bytes-or_known}
+use Rattle.room_types.specs.Watched.{has_no_room, watched_inner}
+use Rattle.room_types.proofs.watched_bytes.Streams.{watched_bytes-kept_by_write, watched_bytes-some_room}
 use Rattle.resident_http.specs.Asks.{more, seen}
 use Rattle.resident_desk.specs.Conversations.{connection_of}
-use Rattle.resident_desk.proofs.conversations.Streams.{conversations-converses-responded, conversations-counted_last, conversations-counted_within, conversations-ended_told, conversations-length-put_into, conversations-not_more, conversations-read_into, conversations-read_none, conversations-untouched-more, conversations-untouched-refl}
+use Rattle.resident_desk.proofs.conversations.Streams.{conversations-converses-responded, conversations-counted_last, conversations-counted_within, conversations-ended_told, conversations-length-put_into, conversations-not_more, conversations-not_wasted, conversations-put_into, conversations-read_into, conversations-reads_all, conversations-reads_none, conversations-read_none, conversations-untouched-more, conversations-untouched-refl}
 use Rattle.resident_desk.proofs.conversation.converse.Goals as goal
 
 pub returns-then-filled-eq0-clause-few : goal.returns-then-filled-eq0-clause-few
@@ -22,7 +23,15 @@ returns-then-filled-eq0-clause-converses g c =
     let i = c.reads.invariant in
     let h = c.in-Ok-eq0.ensures in
     let room : 0 < length c.read_some.new.buf = omega (arith, c.read_some.auto.buf) in
+    let none : take c.reads.filled c.reads.buffer ≡ [] = ap (λ n. take n c.reads.buffer) c.if-filled-eq0.true in
+    let same = conversations-reads_none g.T.Stream _ _ _ i.called none in
     record {
+      called = (
+        c.read_some.new.buf,
+        room,
+        subst (λ n. g.T.Stream.reads (watched_inner c.args.stream.now) c.read_some.new.buf (Ok n) (watched_inner c.read_some.new.self)) c.in-Ok-eq0.field-0-test
+            (subst (λ t. g.T.Stream.reads t c.read_some.new.buf (Ok c.in-Ok-eq0.field-0) (watched_inner c.read_some.new.self)) same h.called),
+      );
       read = conversations-read_none _ _ _ _ _ _ c.in-Ok-eq0.field-0-test (rw c.if-filled-eq0.true at i.read) h.bytes.0;
       each = rw h.reads (omega (arith, i.reads, c.if-filled-eq0.true));
       at_end = h.bytes.1 c.in-Ok-eq0.field-0-test room;
@@ -58,9 +67,11 @@ returns-in-Ok-eq0-clause-converses g c =
     let once = h.reads in
     let then_none = c.respond.ensures.reads in
     let told = conversations-ended_told _ _ c.read_some.new.buf c.in-Ok-eq0.field-0 (c.respond.ensures.ended ∙ h.ended) c.in-Ok-eq0.field-0-test room in
-    conversations-converses-responded g.H.Handler.handles c.respond.result _ _
+    let found = subst (λ n. g.T.Stream.reads (watched_inner c.reads.stream) c.read_some.new.buf (Ok n) (watched_inner c.read_some.new.self)) c.in-Ok-eq0.field-0-test h.called in
+    conversations-converses-responded g.T.Stream g.H.Handler.handles c.respond.result _ _
     (connection_of remaining contents c.args.stream.now) (connection_of remaining contents c.read_some.new.self) (connection_of remaining contents c.respond.new.stream)
     bytes more
+    (watched_inner c.reads.stream, i.called, (c.read_some.new.buf, room, found))
     (conversations-read_none _ _ _ bytes _ _ c.in-Ok-eq0.field-0-test i.read h.bytes.0)
     c.respond.ensures.kept
     (conversations-untouched-more _ _ _ i.untouched h.kept h.taken h.flushes h.pending)
@@ -75,12 +86,13 @@ pub reads-init : goal.reads-init
 reads-init g c = record {
   size = search rules;
   within = omega arith;
+  called = (zero, (refl, refl));
   read = Consumes-nil _;
   untouched = conversations-untouched-refl _;
   reads = omega (arith, c.requires.fresh.reads);
   failed = c.requires.fresh.failed;
   ended = refl;
-  no_late = λ e d. refl;
+  no_wasted = λ e d. refl;
   same = refl;
   ready = c.requires.ready;
 }
@@ -96,15 +108,33 @@ reads-preserved g c =
     let kept : length c.read_some.new.buf ≡ 9216 - filled = omega (arith, c.read_some.auto.buf, length-take (9216 - filled) (drop filled c.reads.buffer), length-drop filled c.reads.buffer) in
     let some : c.in-Ok.n ≡ 0 → ⊥ = search (rules, tests) in
     let more_than_none : 0 < c.in-Ok.n = search (rules, tests) in
+    let room : has_no_room c.read_some.new.buf ≡ false = watched_bytes-some_room c.read_some.new.buf (omega (arith, more_than_none, fits)) in
     record {
       size = conversations-length-put_into c.reads.buffer c.read_some.new.buf filled (9216 - filled) (omega arith) kept ∙ i.size;
       within = omega (arith, fits, kept);
+      called = (
+        suc i.called.0,
+        (
+          take filled c.reads.buffer,
+          watched_inner c.reads.stream,
+          i.called.1,
+          record {
+            buffer = c.read_some.new.buf;
+            count = c.in-Ok.n;
+            asks = c.in-More.ensures.asks;
+            called = h.called;
+            some = more_than_none;
+            within = fits;
+            joined = conversations-put_into c.reads.buffer c.read_some.new.buf filled c.in-Ok.n _ (omega arith) fits;
+          },
+        ),
+      );
       read = conversations-read_into _ _ _ c.reads.buffer c.read_some.new.buf filled c.in-Ok.n _ (omega arith) fits i.read h.bytes.0;
       untouched = conversations-untouched-more _ _ _ i.untouched h.kept h.taken h.flushes h.pending;
       reads = rw h.reads (conversations-counted_within _ _ _ i.reads i.within some);
       failed = h.failed ∙ or-false _ ∙ i.failed;
       ended = h.ended ∙ watched_bytes-kept_by_write _ _ c.in-Ok.n more_than_none ∙ i.ended;
-      no_late = λ e d. h.late ∙ watched_bytes-or_known _ _ (i.ended ∙ d) ∙ watched_bytes-or_known _ _ i.failed ∙ i.no_late e d;
+      no_wasted = λ e d. conversations-not_wasted _ _ _ _ _ h.wasted i.failed (i.ended ∙ d) room ∙ i.no_wasted e d;
       same = i.same;
       ready = i.ready;
     }
@@ -131,10 +161,11 @@ returns-in_default g c =
     let count : length bytes ≡ c.reads.filled = length-take-le c.reads.filled c.reads.buffer (omega arith) in
     record {
       few = rw then_none (omega (arith, read_before, within));
-      no_late = λ e d. c.respond-in_default.ensures.late ∙ i.no_late e d;
-      converses = conversations-converses-responded g.H.Handler.handles c.respond-in_default.result _ _
+      no_wasted = λ e d. c.respond-in_default.ensures.wasted ∙ i.no_wasted e d;
+      converses = conversations-converses-responded g.T.Stream g.H.Handler.handles c.respond-in_default.result _ _
           (connection_of remaining contents c.args.stream.now) (connection_of remaining contents c.reads.stream) (connection_of remaining contents c.respond-in_default.new.stream)
-          bytes (seen c.read_ask.result) i.read c.respond-in_default.ensures.kept i.untouched
+          bytes (seen c.read_ask.result)
+          (conversations-reads_all g.T.Stream _ _ _ _ (conversations-not_more c.read_ask.result c.in_default.not-More) i.called) i.read c.respond-in_default.ensures.kept i.untouched
           (omega (arith, within, count))
           (omega (arith, then_none, read_before, count))
           c.read_ask.ensures.asks
@@ -154,8 +185,13 @@ returns-in-Err-clause-converses g c =
     let once = h.reads in
     let bytes = take c.reads.filled c.reads.buffer in
     let count : length bytes ≡ c.reads.filled = length-take-le c.reads.filled c.reads.buffer (omega arith) in
+    let few = c.in-More.ensures.few refl in
+    let room : 0 < length c.read_some.new.buf = omega (arith, c.read_some.auto.buf, few, count) in
     record {
       bytes = bytes;
+      between = watched_inner c.reads.stream;
+      called = i.called;
+      fails = (c.read_some.new.buf, _, room, h.called);
       read = Consumes-kept _ _ _ bytes i.read h.bytes;
       limit = omega (arith, within, count);
       each = omega (arith, once, read_before, count);

@@ -2,6 +2,7 @@ use Rattle.std.proofs.Common.{length, ◌-◌, ◌≡◌, ◌≤◌, take, false
 use Rattle.std.specs.Io.KnownBytes.{Consumes}
 use Rattle.room_types.specs.Streams.{output_of}
 use Rattle.room_types.specs.Watched.{StopsAtEnd, watched_ended, watched_failed, watched_inner, watched_reads}
+use Rattle.resident_desk.specs.Calls.{Reads}
 use Rattle.resident_desk.specs.Conversations.{IsUntouched}
 use Rattle.resident_desk.proofs.conversation.converse.Given as goal
 
@@ -13,12 +14,13 @@ invariant-reads g l =
     record {
       size : length l.buffer ≡ 9216;
       within : l.filled ≤ 9216;
+      called : Reads g.T.Stream (take l.filled l.buffer) (watched_inner l.fn.stream) (watched_inner l.stream);
       read : Consumes (remaining (watched_inner l.fn.stream)) (remaining (watched_inner l.stream)) (take l.filled l.buffer);
       untouched : IsUntouched (output_of contents l.fn.stream) (output_of contents l.stream);
       reads : watched_reads l.stream ≤ l.filled;
       failed : watched_failed l.stream ≡ false;
       ended : watched_ended l.stream ≡ watched_ended l.fn.stream;
-      no_late : StopsAtEnd l.fn.stream l.stream;
+      no_wasted : StopsAtEnd l.fn.stream l.stream;
       same : l.handler ≡ l.fn.handler;
       ready : g.H.Handler.is_ready l.handler;
     }

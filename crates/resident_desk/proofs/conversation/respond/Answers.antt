@@ -1,5 +1,7 @@
 use Rattle.std.proofs.Common.{subst}
 use Rattle.room_types.specs.Streams.{output_of}
+use Rattle.room_types.specs.Watched.{watched_inner}
+use Rattle.resident_desk.specs.Calls.{Sends}
 use Rattle.resident_desk.specs.Conversations.{Delivers}
 use Rattle.resident_desk.specs.Dues.{unavailable_answer}
 use Rattle.resident_desk.proofs.conversation.respond.Goals as goal
@@ -12,4 +14,6 @@ returns-in-Err-clause-responds g c =
       answers = c.in-Err.ensures.answers;
       delivers = subst (λ bytes. Delivers c.deliver-in-Err.result 503 bytes (output_of contents c.args.stream.now) (output_of contents c.deliver-in-Err.new.stream))
           c.unavailable_is_an_answer.ensures c.deliver-in-Err.ensures.delivers;
+      sends = subst (λ bytes. Sends g.T.Stream c.deliver-in-Err.result bytes (watched_inner c.args.stream.now) (watched_inner c.deliver-in-Err.new.stream))
+          c.unavailable_is_an_answer.ensures c.deliver-in-Err.ensures.sends;
     }

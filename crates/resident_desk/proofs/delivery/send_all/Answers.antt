@@ -1,11 +1,11 @@
-use Rattle.std.proofs.Common.{◌≡◌, ◌≤◌, ◌<◌, ◌+◌, ◌-◌, true, length, take, drop, arith, refl, ap, ◌∙◌, rules, tests}
+use Rattle.std.proofs.Common.{◌≡◌, ◌≤◌, ◌<◌, ◌+◌, ◌-◌, true, zero, suc, length, take, drop, arith, refl, ap, ◌∙◌, rules, tests}
 use Rattle.std.proofs.KnownBytes.{Appends-trans, Keeps-refl, Keeps-trans}
 use Rattle.std.proofs.Math.Seq.{take-add}
 use Rattle.std.proofs.lemmas.List.{length-drop, length-take}
-use Rattle.std.specs.Prelude.{◌||◌, nat_lt}
-use Rattle.room_types.specs.Watched.{counted, watched_pending}
+use Rattle.std.specs.Prelude.{◌||◌, nat_lt, false}
+use Rattle.room_types.specs.Watched.{counted, has_no_room, watched_inner, watched_pending}
 use Rattle.room_types.specs.Streams.{count_after}
-use Rattle.room_types.proofs.watched_bytes.Streams.{watched_bytes-Puts-nil, watched_bytes-Puts-none, watched_bytes-count_after-counted, watched_bytes-take_rest, watched_bytes-kept_by_write, watched_bytes-or_known}
+use Rattle.room_types.proofs.watched_bytes.Streams.{watched_bytes-Puts-nil, watched_bytes-Puts-none, watched_bytes-count_after-counted, watched_bytes-take_rest, watched_bytes-kept_by_write, watched_bytes-or_known, watched_bytes-some_room}
 use Rattle.resident_desk.proofs.delivery.send_all.Goals as goal
 
 pub loop-sent-init : goal.loop-sent-init
@@ -18,7 +18,8 @@ loop-sent-init g c = record {
   kept = Keeps-refl _;
   reads = refl;
   ended = refl;
-  late = refl;
+  wasted = refl;
+  writes = (zero, (refl, refl));
 }
 
 pub loop-sent-preserved : goal.loop-sent-preserved
@@ -33,6 +34,8 @@ loop-sent-preserved g c =
     let all : sent + n ≤ length text = omega (arith, bound, length-drop sent text) in
     let some : 0 < n = search (rules, tests) in
     let took : nat_lt 0 n ≡ true = search (rules, tests) in
+    let room : has_no_room (take (length text - sent) (drop sent text)) ≡ false =
+    rw rest (watched_bytes-some_room (drop sent text) (omega (arith, length-drop sent text))) in
     let counts : length (take sent text) + n ≡ length (take (sent + n) text) = omega (arith, length-take sent text, length-take (sent + n) text) in
     record {
       within = all;
@@ -47,7 +50,8 @@ loop-sent-preserved g c =
       kept = Keeps-trans _ _ _ i.kept clauses.kept;
       reads = clauses.reads ∙ i.reads;
       ended = clauses.ended ∙ i.ended;
-      late = clauses.late ∙ watched_bytes-or_known _ _ i.failed ∙ i.late;
+      wasted = clauses.wasted ∙ watched_bytes-or_known _ _ room ∙ watched_bytes-or_known _ _ i.failed ∙ i.wasted;
+      writes = (suc i.writes.0, (sent, watched_inner c.loop-sent.stream, i.writes.1, record { count = n; called = rw rest at clauses.called; some = some; sum = refl }));
     }
 
 pub returns-in-Ok-eq0-clause-front : goal.returns-in-Ok-eq0-clause-front

@@ -1,7 +1,8 @@
 use Rattle.std.proofs.Common.{length, ◌-◌, ◌≡◌, ◌<◌, ◌≤◌, take, true, false}
 use Rattle.std.specs.Io.KnownBytes.{Keeps}
-use Rattle.room_types.specs.Watched.{watched_ended, watched_failed, watched_flushes, watched_inner, watched_late, watched_pending, watched_reads}
+use Rattle.room_types.specs.Watched.{watched_ended, watched_failed, watched_flushes, watched_inner, watched_wasted, watched_pending, watched_reads}
 use Rattle.room_types.specs.Streams.{Puts, output_of}
+use Rattle.resident_desk.specs.Calls.{Writes}
 use Rattle.resident_desk.proofs.delivery.send_all.Given as goal
 
 -- the first bytes went out
@@ -18,7 +19,8 @@ invariant-loop-sent g l =
       kept : Keeps (remaining (watched_inner l.fn.stream)) (remaining (watched_inner l.stream));
       reads : watched_reads l.stream ≡ watched_reads l.fn.stream;
       ended : watched_ended l.stream ≡ watched_ended l.fn.stream;
-      late : watched_late l.stream ≡ watched_late l.fn.stream;
+      wasted : watched_wasted l.stream ≡ watched_wasted l.fn.stream;
+      writes : Writes g.T.Stream l.text l.sent (watched_inner l.fn.stream) (watched_inner l.stream);
     }
 
 abbrev pub decreases-loop-sent : goal.decreases-loop-sent

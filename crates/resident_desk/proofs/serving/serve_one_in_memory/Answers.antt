@@ -2,4 +2,4 @@ use Rattle.resident_desk.proofs.conversations.AtDesk.{conversations-conversation
 use Rattle.resident_desk.proofs.serving.serve_one_in_memory.Goals as goal
 
 pub returns-clause-serves : goal.returns-clause-serves
-returns-clause-serves g c = conversations-conversation_in_memory _ _ _ _ _ c.converse.ensures.converses
+returns-clause-serves g c = conversations-conversation_in_memory g.T.Stream _ _ _ _ _ c.converse.ensures.converses

@@ -1,10 +1,11 @@
+use Rattle.std.specs.Prelude.{false}
 use Rattle.std.proofs.Common.{◌≡◌, ◌≤◌, ◌<◌, ◌+◌, ◌-◌, length, take, drop, arith, refl, ap, ◌∙◌, rules, tests}
 use Rattle.std.proofs.KnownBytes.{Appends-trans}
 use Rattle.std.proofs.Math.Seq.{take-add}
 use Rattle.std.proofs.lemmas.List.{length-drop, length-take}
-use Rattle.room_types.specs.Watched.{counted}
+use Rattle.room_types.specs.Watched.{counted, has_no_room}
 use Rattle.room_types.specs.Streams.{count_after}
-use Rattle.room_types.proofs.watched_bytes.Streams.{watched_bytes-Puts-nil, watched_bytes-Puts-none, watched_bytes-count_after-counted, watched_bytes-take_rest, watched_bytes-kept_by_write, watched_bytes-or_known}
+use Rattle.room_types.proofs.watched_bytes.Streams.{watched_bytes-Puts-nil, watched_bytes-Puts-none, watched_bytes-count_after-counted, watched_bytes-take_rest, watched_bytes-kept_by_write, watched_bytes-or_known, watched_bytes-some_room}
 use Rattle.room_types.proofs.send.send.Goals as goal
 
 pub loop-sent-init : goal.loop-sent-init
@@ -20,6 +21,8 @@ loop-sent-preserved g c =
     let bound = rw rest at clauses.bound in
     let all : sent + n ≤ length text = omega (arith, bound, length-drop sent text) in
     let some : 0 < n = search (rules, tests) in
+    let room : has_no_room (take (length text - sent) (drop sent text)) ≡ false =
+    rw rest (watched_bytes-some_room (drop sent text) (omega (arith, length-drop sent text))) in
     let counts : length (take sent text) + n ≡ length (take (sent + n) text) = omega (arith, length-take sent text, length-take (sent + n) text) in
     record {
       within = all;
@@ -30,7 +33,7 @@ loop-sent-preserved g c =
       };
       flushes = clauses.flushes ∙ c.loop-sent.invariant.flushes;
       failed = clauses.failed ∙ watched_bytes-kept_by_write _ _ n some ∙ c.loop-sent.invariant.failed;
-      stops = λ e. clauses.late ∙ watched_bytes-or_known _ _ (c.loop-sent.invariant.failed ∙ e) ∙ c.loop-sent.invariant.stops e;
+      stops = λ e. clauses.wasted ∙ watched_bytes-or_known _ _ room ∙ watched_bytes-or_known _ _ (c.loop-sent.invariant.failed ∙ e) ∙ c.loop-sent.invariant.stops e;
     }
 
 pub returns-in-Ok-eq0-clause-front : goal.returns-in-Ok-eq0-clause-front

@@ -26,6 +26,6 @@ loop-byte-preserved g c =
     record {
       heard = rw more (heard-Heard-append _ _ _ _ (take i piece) _ c.loop-byte.invariant.heard c.in_ok-take_byte.ensures.heard);
       bound = omega (arith, c.in_ok-take_byte.ensures.bound);
-      stops = λ e. c.take_byte.ensures.no_late_write (c.loop-byte.invariant.heard.failed ∙ e) ∙ c.loop-byte.invariant.stops e;
+      stops = λ e. c.take_byte.ensures.no_wasted_write (c.loop-byte.invariant.heard.failed ∙ e) ∙ c.loop-byte.invariant.stops e;
       ready = c.take_byte.ensures.ready;
     }

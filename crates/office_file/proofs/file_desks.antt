@@ -1,2 +1,0 @@
--- Lemmas on desks over a file.
-pub mod Opened

@@ -1,0 +1,19 @@
+use Rattle.std.proofs.Common.{inr}
+use Rattle.office_file.proofs.finding.find_in.Goals as goal
+
+pub returns-in-Err-adopt-clause-cause : goal.returns-in-Err-adopt-clause-cause
+returns-in-Err-adopt-clause-cause g c = inr (record {
+  connection = c.in-Ok.connection;
+  between = c.open_present.new.self;
+  opened = c.in-Ok.ensures.found;
+  refused = c.in-Err-adopt.back.connection;
+  refuses = record {
+    follows = c.in-Err-adopt.ensures.followed;
+    undone = c.in-Err-adopt.ensures.undone;
+    unread = c.in-Err-adopt.ensures.unread;
+    absent = λ none. (c.in-Err-adopt.ensures.absent none).0;
+    allowed = c.in-Err-adopt.ensures.allowed;
+    cause = c.in-Err-adopt.ensures.cause;
+  };
+  closed = c.close.ensures;
+})

@@ -1,0 +1,2 @@
+-- Lemmas on desks over the files of the system.
+pub mod Opened

@@ -1,0 +1,45 @@
+-- What is said of any place of files, said of the system's, whose states tell nothing.
+use Rattle.std.specs.Prelude.{⊤}
+use Rattle.std.proofs.Common.{ℕ, List, Result, Ok, Err, IfOk, inl, inr}
+use Rattle.sqlite.specs.Held.{Held}
+use Rattle.sqlite_trees.specs.declared.store.Store.{Ghosts}
+use Rattle.office_file.specs.Access.{FileAccess, file_access}
+use Rattle.office_file.specs.Adopted.{BeginsFound, IsFileFault}
+use Rattle.office_file.specs.Created.{BeginsBlank, IsCreateFault}
+use Rattle.office_store.specs.Desk.{DeskState}
+use Rattle.office_store.specs.declared.desk.faults.DeskFault.{DeskFault}
+
+module _ {F S : Type 0} (base : Ghosts S) (opens finds : Held S → Type 0) (fails : F → List ℕ → F → Type 0) (closes : F → Held S → F → Type 0) (files files' : F) (path : List ℕ) where
+  abbrev place : FileAccess F S
+  place = file_access base (λ _ _ connection _. opens connection) (λ _ _ connection _. finds connection) fails closes
+
+  abbrev system : FileAccess ⊤ S
+  system = file_access base (λ _ _ connection _. opens connection) (λ _ _ connection _. finds connection) (λ _ _ _. ⊤) (λ _ _ _. ⊤)
+
+  pub system_files-begins_blank : (made : Result (DeskState S) DeskFault) → IfOk made (λ desk. BeginsBlank place files path desk files') → IfOk made (λ desk. BeginsBlank system tt path desk tt)
+  system_files-begins_blank (Ok desk) h = record { connection = h.connection; opened = h.opened; blank = h.blank; follows = h.follows }
+  system_files-begins_blank (Err fault) h = tt
+
+  pub system_files-create_fault : (made : Result (DeskState S) DeskFault) → IsCreateFault place files path made files' → IsCreateFault system tt path made tt
+  system_files-create_fault (Ok desk) h = tt
+  system_files-create_fault (Err fault) (inl h) = inl (h.0, tt)
+  system_files-create_fault (Err fault) (inr h) =
+      inr (record { connection = h.connection; between = tt; opened = h.opened; refused = h.refused; refuses = h.refuses; closed = tt })
+
+  pub system_files-begins_found : (found : Result (DeskState S) DeskFault) → IfOk found (λ desk. BeginsFound place files path desk files') → IfOk found (λ desk. BeginsFound system tt path desk tt)
+  system_files-begins_found (Ok desk) h = record {
+    connection = h.connection;
+    opened = h.opened;
+    laid = h.laid;
+    follows = h.follows;
+    kept = h.kept;
+    shows = h.shows;
+    unchanged = h.unchanged;
+  }
+  system_files-begins_found (Err fault) h = tt
+
+  pub system_files-file_fault : (found : Result (DeskState S) DeskFault) → IsFileFault place files path found files' → IsFileFault system tt path found tt
+  system_files-file_fault (Ok desk) h = tt
+  system_files-file_fault (Err fault) (inl h) = inl (h.0, tt)
+  system_files-file_fault (Err fault) (inr h) =
+      inr (record { connection = h.connection; between = tt; opened = h.opened; refused = h.refused; refuses = h.refuses; closed = tt })

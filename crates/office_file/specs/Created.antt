@@ -1,0 +1,44 @@
+-- An office that is made in a file, and why there is none.
+use Rattle.std.specs.Prelude.{◌≡◌, ◌≢◌, ◌⊎◌, ℕ, List, IfErr, Result}
+use Rattle.sqlite.specs.Held.{Held, state}
+use Rattle.sqlite_trees.specs.declared.store.Store.{Ghosts}
+use Rattle.office_create.specs.Names.{NameIsTaken}
+use Rattle.office_file.specs.Access.{FileAccess}
+use Rattle.office_store.specs.Desk.{DeskState}
+use Rattle.office_store.specs.declared.desk.faults.DeskFault.{DeskFault}
+use Rattle.office_store.specs.declared.desk.faults.DeskFault.TheVariants.{AlreadyThere, Unavailable}
+use Rattle.office_tables.specs.Schema.{no_schema}
+use Rattle.office_tables.specs.Steps.{Follows, IsHonest}
+
+module _ {S : Type 0} (g : Ghosts S) where
+  -- The database of a connection is refused for this, and the connection is then the other one: `AlreadyThere` exactly where a
+  -- name is taken. Then, and where anything else is declared, no statement ran. Its tables are as they were.
+  pub record RefusesNew (connection refused : Held S) (fault : DeskFault) : Type 0 where
+    pub follows : Follows (state g connection) (state g refused)
+    pub undone : IsHonest (state g refused) → (state g refused).now ≡ (state g connection).now
+    pub cause : (fault ≡ Unavailable) ⊎ ((fault ≡ AlreadyThere) × NameIsTaken (state g connection).now)
+    pub taken : NameIsTaken (state g connection).now → (fault ≡ AlreadyThere) × (refused ≡ connection)
+    pub foreign : ¬ NameIsTaken (state g connection).now → (state g connection).now.schema ≢ no_schema
+        → (fault ≡ Unavailable) × (refused ≡ connection)
+
+module _ {F S : Type 0} (access : FileAccess F S) where
+  -- the desk goes on from the database that was opened, in which nothing was declared
+  pub record BeginsBlank (files : F) (path : List ℕ) (desk : DeskState S) (files' : F) : Type 0 where
+    pub connection : Held S
+    pub opened : access.opens files path connection files'
+    pub blank : (state access.base connection).now.schema ≡ no_schema
+    pub follows : Follows (state access.base connection) (state access.base desk.conn)
+
+  -- the database that was opened is refused, and its connection is closed
+  pub record ClosesNew (files : F) (path : List ℕ) (fault : DeskFault) (files' : F) : Type 0 where
+    pub connection : Held S
+    pub between : F
+    pub opened : access.opens files path connection between
+    pub refused : Held S
+    pub refuses : RefusesNew access.base connection refused fault
+    pub closed : access.closes between refused files'
+
+  -- the file was not opened, or what was opened is refused
+  abbrev pub IsCreateFault : F → List ℕ → Result (DeskState S) DeskFault → F → Type 0
+  IsCreateFault files path result files' =
+      IfErr result (λ fault. ((fault ≡ Unavailable) × access.fails files path files') ⊎ ClosesNew files path fault files')

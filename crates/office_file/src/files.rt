@@ -1,0 +1,105 @@
+//! Places where files of offices are kept.
+ghost use Rattle.std.specs.Prelude.{⊤};
+ghost use Rattle.sqlite_wal.specs.Files.{image_at};
+ghost use Rattle.office_file.specs.Files.{IsOpenedOver};
+
+use crate::opening::{FileConnection, open_file, open_present_file};
+use office_store::Unavailable;
+use sqlite::{Alter, Connection, FileFrom, FileStore, Start};
+
+/// A place where files of offices are kept: each is opened by its path, as a database over the store `B`. Each call is a relation
+/// between the states of the place; generic code can show one only by that call.
+pub trait Files<B: Alter> {
+    ghost use Rattle.std.specs.Prelude.{◌≡◌, false, List, ℕ, IfOk, OnErr, ⊤};
+    ghost use Rattle.sqlite.specs.Held.{Held};
+
+    /// Opening the file of this path, made where it was missing, gave this connection and led from the one state to the other.
+    ghost opens: { Self → List ℕ → Held B → Self → Type 0 } = { λ _ _ _ _. ⊤ };
+
+    /// Opening the file of this path, which was there, gave this connection and led from the one state to the other.
+    ghost finds: { Self → List ℕ → Held B → Self → Type 0 } = { λ _ _ _ _. ⊤ };
+
+    /// Opening the file of this path failed and led from the one state to the other.
+    ghost fails: { Self → List ℕ → Self → Type 0 } = { λ _ _ _. ⊤ };
+
+    /// The database in the file of this path, which is made where it is missing.
+    ///
+    /// # Errors
+    ///
+    /// `Unavailable` where the file cannot be opened.
+    fn open(&mut self, path: &str) -> Result<Connection<B>, Unavailable>
+        ensures outside { IfOk result (λ connection. connection.in_transaction ≡ false) }
+        ensures opened { IfOk result (λ connection. opens self.old path.now connection self.new) }
+        ensures failed { OnErr result (fails self.old path.now self.new) };
+
+    /// The database in the file of this path. A missing file is not made.
+    ///
+    /// # Errors
+    ///
+    /// `Unavailable` where there is no file, or it cannot be opened.
+    fn open_present(&mut self, path: &str) -> Result<Connection<B>, Unavailable>
+        ensures outside { IfOk result (λ connection. connection.in_transaction ≡ false) }
+        ensures found { IfOk result (λ connection. finds self.old path.now connection self.new) }
+        ensures failed { OnErr result (fails self.old path.now self.new) };
+}
+
+/// A place where connections are closed.
+pub trait Closes<C> {
+    ghost use Rattle.std.specs.Prelude.{⊤};
+
+    /// Closing this connection led from the one state to the other.
+    ghost closes: { Self → C → Self → Type 0 } = { λ _ _ _. ⊤ };
+
+    /// Closes a connection and its file.
+    fn close(&mut self, connection: C)
+        ensures { closes self.old connection self.new };
+}
+
+/// The files of the system, of which one is opened: it and its log held what `S` stands for. Which file a path names is not
+/// known. It alone has the runtime, so that code which is generic in the files reaches no others.
+#[derive(Drop)]
+pub struct SystemFiles<'a, S: Start> {
+    opening: Option<(&'a HostRuntime, S)>,
+}
+
+impl<'a, S: Start> SystemFiles<'a, S> {
+    /// The files of the system, of which none was opened.
+    pub fn new(rt: &'a HostRuntime, start: S) -> Self {
+        SystemFiles {
+            opening: Some((rt, start)),
+        }
+    }
+
+    // The files of the system, of which none can be opened: for closing alone.
+    pub(crate) fn unopened() -> Self {
+        SystemFiles { opening: None }
+    }
+}
+
+impl<'a, S: Start> Files<FileStore<FileFrom<S>>> for SystemFiles<'a, S> {
+    ghost opens = { λ _ _ connection _. IsOpenedOver (image_at S.Start) connection };
+
+    ghost finds = { λ _ _ connection _. IsOpenedOver (image_at S.Start) connection };
+
+    fn open(&mut self, path: &str) -> Result<FileConnection<S>, Unavailable> {
+        match self.opening.take() {
+            Some((rt, start)) => open_file(rt, path, start),
+            None => Err(Unavailable),
+        }
+    }
+
+    fn open_present(&mut self, path: &str) -> Result<FileConnection<S>, Unavailable> {
+        match self.opening.take() {
+            Some((rt, start)) => open_present_file(rt, path, start),
+            None => Err(Unavailable),
+        }
+    }
+}
+
+impl<'a, S: Start> Closes<FileConnection<S>> for SystemFiles<'a, S> {
+    fn close(&mut self, connection: FileConnection<S>)
+        ensures { ⊤ }
+    {
+        drop(connection);
+    }
+}

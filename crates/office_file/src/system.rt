@@ -1,0 +1,91 @@
+//! Desks over the files of the system.
+ghost use Rattle.std.specs.Prelude.{◌≡◌, IfOk, Some};
+ghost use Rattle.sqlite_wal.specs.Files.{image_at};
+ghost use Rattle.sqlite.specs.Files.{file_state, over_files};
+ghost use Rattle.sqlite.specs.State.{HasCleanDisk};
+ghost use Rattle.office_state.specs.Office.{empty_office};
+ghost use Rattle.office_file.specs.Adopted.{BeginsFound, IsFileFault};
+ghost use Rattle.office_file.specs.Created.{BeginsBlank, IsCreateFault};
+ghost use Rattle.office_file.specs.System.{system_access};
+ghost use Rattle.office_store.specs.Desk.{Shows};
+
+use crate::closing::close;
+use crate::creating::create_in;
+use crate::files::SystemFiles;
+use crate::finding::find_in;
+use office_store::{Desk, DeskFault};
+use sqlite::{FileFrom, FileStore, Start, Wary};
+
+/// A desk over a file of the system and its log, which held what `S` stands for.
+pub type FileDesk<S> = Desk<FileStore<FileFrom<S>>>;
+
+/// A desk over the file at this path, in which it makes the tables of the empty office. A missing file is made.
+///
+/// # Errors
+///
+/// Those of `create_in`.
+pub fn create_file(rt: &HostRuntime, path: &str) -> Result<FileDesk<Wary>, DeskFault>
+    ensures shows { IfOk result
+        (λ desk. HasCleanDisk (file_state desk.conn) → Shows over_files desk empty_office) }
+    ensures kept { IfOk result (λ desk. desk.kept ≡ Some empty_office) }
+    ensures blank { IfOk result
+        (λ desk. BeginsBlank (system_access (image_at ⟦<Wary as Start>⟧)) tt path.now desk tt) }
+    ensures cause { IsCreateFault (system_access (image_at ⟦<Wary as Start>⟧)) tt path.now result tt }
+{
+    create_over(rt, path, Wary)
+}
+
+/// `create_file`, whatever the file and its log held, for which `start` stands.
+///
+/// # Errors
+///
+/// Those of `create_in`.
+pub fn create_over<S: Start>(
+    rt: &HostRuntime,
+    path: &str,
+    start: S,
+) -> Result<FileDesk<S>, DeskFault>
+    ensures shows { IfOk result
+        (λ desk. HasCleanDisk (file_state desk.conn) → Shows over_files desk empty_office) }
+    ensures kept { IfOk result (λ desk. desk.kept ≡ Some empty_office) }
+    ensures blank { IfOk result
+        (λ desk. BeginsBlank (system_access (image_at S.Start)) tt path.now desk tt) }
+    ensures cause { IsCreateFault (system_access (image_at S.Start)) tt path.now result tt }
+{
+    let mut files = SystemFiles::new(rt, start);
+    create_in(rt.alloc(), &mut files, path)
+}
+
+/// A desk over the office that the file at this path holds. A missing file is not made.
+///
+/// # Errors
+///
+/// Those of `find_in`.
+pub fn on_file(rt: &HostRuntime, path: &str) -> Result<FileDesk<Wary>, DeskFault>
+    ensures shows { IfOk result
+        (λ desk. BeginsFound (system_access (image_at ⟦<Wary as Start>⟧)) tt path.now desk tt) }
+    ensures cause { IsFileFault (system_access (image_at ⟦<Wary as Start>⟧)) tt path.now result tt }
+{
+    find_over(rt, path, Wary)
+}
+
+/// `on_file`, whatever the file and its log held, for which `start` stands.
+///
+/// # Errors
+///
+/// Those of `find_in`.
+pub fn find_over<S: Start>(rt: &HostRuntime, path: &str, start: S) -> Result<FileDesk<S>, DeskFault>
+    ensures shows { IfOk result
+        (λ desk. BeginsFound (system_access (image_at S.Start)) tt path.now desk tt) }
+    ensures cause { IsFileFault (system_access (image_at S.Start)) tt path.now result tt }
+{
+    let mut files = SystemFiles::new(rt, start);
+    find_in(rt.alloc(), &mut files, path)
+}
+
+/// Closes the file of a desk, if there is one. A caller hands the desk to here, since the proof that an open file can be dropped
+/// takes minutes in each crate that drops one.
+pub fn close_file<S: Start>(desk: Result<FileDesk<S>, DeskFault>) {
+    let mut files = SystemFiles::unopened();
+    close(&mut files, desk);
+}

@@ -1,0 +1,75 @@
+//! A rehearsal at a desk: lines from a reader, answered on a writer.
+ghost use Rattle.std.specs.Prelude.{◌≤◌};
+ghost use Rattle.sqlite.specs.Held.{state};
+ghost use Rattle.sqlite.specs.State.{HasCleanDisk};
+ghost use Rattle.sqlite.specs.Steps.{over_memory};
+ghost use Rattle.office_lines.specs.Lines.{read_limit};
+ghost use Rattle.office_lines.specs.Rehearsals.{Rehearses};
+ghost use Rattle.office_state.specs.declared.office.Office.{Office as AnyOffice};
+ghost use Rattle.office_store.specs.Desk.{HandlesAt, Shows, StandsFor};
+ghost use Rattle.office_store.specs.LawfulSteps.{HandlesLawfully};
+ghost use Rattle.office_tables.specs.Steps.{Follows};
+ghost use Rattle.room_types.specs.Streams.{input_of, output_of};
+ghost use Rattle.room_types.specs.Watched.{IsFresh, StopsAtEnd, StopsAtFailure, watched_reads};
+
+use office_lines::Rehearsed;
+use office_lines::rehearse::rehearse as rehearse_with;
+use office_store::Desk;
+use room_types::Watched;
+use sqlite::{Alter, MemStore};
+use std::alloc::Global;
+use std::io::{Read, Write};
+
+/// Carries out each line of the input at the desk and writes its answer, as the rehearsal with any handler does. Where the
+/// disk returned what was written, the answers are those of the office that the desk stands for, and then the desk stands for the
+/// office after the lines that were handled, on every ending.
+pub fn rehearse<S: Alter, R: Read, W: Write>(
+    alloc: Global,
+    desk: &mut Desk<S>,
+    input: &mut Watched<R>,
+    output: &mut Watched<W>,
+) -> Rehearsed
+    requires fresh_input { IsFresh input.old }
+    requires fresh_output { IsFresh output.old }
+    ensures few { watched_reads input.new ≤ read_limit }
+    ensures no_wasted_read { StopsAtEnd input.old input.new }
+    ensures no_wasted_write { StopsAtFailure output.old output.new }
+    ensures follows { Follows (state S.Store desk.old.conn) (state S.Store desk.new.conn) }
+    ensures rehearses { Rehearses (HandlesAt S.Store) result.ending result.status desk.old desk.new
+        (input_of R.remaining input.old) (input_of R.remaining input.new)
+        (output_of W.contents output.old) (output_of W.contents output.new) }
+    ensures lawful { HasCleanDisk (state S.Store desk.new.conn) → (office : AnyOffice)
+        → StandsFor S.Store desk.old office → (next : AnyOffice)
+        × Rehearses HandlesLawfully result.ending result.status office next
+        (input_of R.remaining input.old) (input_of R.remaining input.new)
+        (output_of W.contents output.old) (output_of W.contents output.new)
+        × StandsFor S.Store desk.new next }
+{
+    rehearse_with(alloc, desk, input, output)
+}
+
+/// The same over a database in memory, which needs no premise on a disk: the answers are those of the office that the desk shows,
+/// and then the desk shows the office after the lines that were handled.
+pub fn rehearse_in_memory<R: Read, W: Write>(
+    alloc: Global,
+    desk: &mut Desk<MemStore>,
+    input: &mut Watched<R>,
+    output: &mut Watched<W>,
+) -> Rehearsed
+    requires fresh_input { IsFresh input.old }
+    requires fresh_output { IsFresh output.old }
+    ensures few { watched_reads input.new ≤ read_limit }
+    ensures no_wasted_read { StopsAtEnd input.old input.new }
+    ensures no_wasted_write { StopsAtFailure output.old output.new }
+    ensures rehearses { Rehearses (HandlesAt over_memory) result.ending result.status desk.old
+        desk.new (input_of R.remaining input.old) (input_of R.remaining input.new)
+        (output_of W.contents output.old) (output_of W.contents output.new) }
+    ensures lawful { (office : AnyOffice) → Shows over_memory desk.old office
+        → (next : AnyOffice)
+        × Rehearses HandlesLawfully result.ending result.status office next
+        (input_of R.remaining input.old) (input_of R.remaining input.new)
+        (output_of W.contents output.old) (output_of W.contents output.new)
+        × Shows over_memory desk.new next }
+{
+    rehearse_with(alloc, desk, input, output)
+}

@@ -1,0 +1,235 @@
+//! Lines of the program over a file that is a database in memory, with a list and a port that are no more than scripts. Each line
+//! opens the file once, and closes it once.
+ghost use Rattle.std.specs.Prelude.{◌≡◌, false, IfOk, ⊤};
+
+use crate::asserting::assert_same;
+use office_file::{Closes, Files};
+use office_program::carry_out::carry_out_from;
+use office_program::lists::Lists;
+use office_store::Unavailable;
+use resident_server::{Listener, Ports};
+use room_types::Watched;
+use room_types::stream::Pair;
+use sqlite::{Connection, MemStore};
+use std::alloc::Global;
+use std::io::Write;
+use std::test::Fail;
+
+const OFFICE: &str = "office.db";
+
+// One file, which is made by its first opening: its connection while nobody has it, and how often it was opened and closed.
+#[derive(Drop)]
+struct OneFile {
+    is_made: bool,
+    connection: Option<Connection<MemStore>>,
+    opened: u32,
+    closed: u32,
+}
+
+impl OneFile {
+    // The file of this path, if nobody has it and it was left outside of a transaction.
+    fn take(&mut self, path: &str) -> Result<Connection<MemStore>, Unavailable>
+        ensures { IfOk result (λ connection. connection.in_transaction ≡ false) }
+    {
+        if path != OFFICE {
+            return Err(Unavailable);
+        }
+        let Some(connection) = self.connection.take() else {
+            return Err(Unavailable);
+        };
+        let outside = connection.is_autocommit();
+        if !outside {
+            return Err(Unavailable);
+        }
+        self.opened = self.opened.saturating_add(1);
+        Ok(connection)
+    }
+}
+
+impl Files<MemStore> for OneFile {
+    fn open(&mut self, path: &str) -> Result<Connection<MemStore>, Unavailable> {
+        self.is_made = self.is_made || path == OFFICE;
+        self.take(path)
+    }
+
+    fn open_present(&mut self, path: &str) -> Result<Connection<MemStore>, Unavailable> {
+        if !self.is_made {
+            return Err(Unavailable);
+        }
+        self.take(path)
+    }
+}
+
+impl Closes<Connection<MemStore>> for OneFile {
+    fn close(&mut self, connection: Connection<MemStore>)
+        ensures { ⊤ }
+    {
+        self.closed = self.closed.saturating_add(1);
+        self.connection = Some(connection);
+    }
+}
+
+// A list of two rooms, at one path.
+#[derive(Drop)]
+struct OneList;
+
+impl Lists for OneList {
+    type List = &'static [u8];
+
+    fn open(&self, path: &str) -> Result<&'static [u8], Unavailable> {
+        if path == "rooms.csv" {
+            Ok(b"room\nH1\nH2\n".as_slice())
+        } else {
+            Err(Unavailable)
+        }
+    }
+}
+
+// A port at which nobody can be accepted: how often it was listened on, how often an accept was asked for, and how often it was
+// closed.
+#[derive(Drop)]
+struct OnePort {
+    listened: u32,
+    asked: u32,
+    stopped: u32,
+}
+
+// A socket of it, and how often an accept was asked for.
+#[derive(Drop)]
+struct OneSocket {
+    asked: u32,
+}
+
+impl Listener for OneSocket {
+    type Stream = Pair<&'static [u8], Vec<u8>>;
+
+    fn accept<W: Write>(
+        &mut self,
+        _said: &Watched<W>,
+    ) -> Option<Watched<Pair<&'static [u8], Vec<u8>>>> {
+        self.asked = self.asked.saturating_add(1);
+        None
+    }
+
+    fn close(&mut self, connection: Watched<Pair<&'static [u8], Vec<u8>>>)
+        ensures { ⊤ }
+    {
+        drop(connection);
+    }
+}
+
+impl Ports for OnePort {
+    type Socket = OneSocket;
+
+    fn listen(&mut self, port: u16) -> Result<OneSocket, Unavailable> {
+        if port != 8080 {
+            return Err(Unavailable);
+        }
+        self.listened = self.listened.saturating_add(1);
+        Ok(OneSocket { asked: 0 })
+    }
+
+    fn stop(&mut self, socket: OneSocket)
+        ensures { ⊤ }
+    {
+        self.asked = self.asked.saturating_add(socket.asked);
+        self.stopped = self.stopped.saturating_add(1);
+    }
+}
+
+// Lines in turn, with their status and what each prints, and how often it opens the file and closes it.
+const LINES: [(&[&str], u8, &str, u32); 15] = [
+    (&["do", "--db", OFFICE, "rooms"], 3, "unavailable\n", 0),
+    (&["new", "--db", "other.db"], 3, "unavailable\n", 0),
+    (&["export", "--db", OFFICE, "rooms"], 3, "unavailable\n", 0),
+    (&["new", "--db", OFFICE], 0, "ok\n", 1),
+    (&["new", "--db", OFFICE], 1, "refused 23 AlreadyThere\n", 1),
+    (&["do", "--db", OFFICE, "room", "V"], 0, "ok\n", 1),
+    (
+        &["do", "--db", OFFICE, "room", "V"],
+        1,
+        "refused 4 DuplicateRoom\n",
+        1,
+    ),
+    (&["do", "--db", OFFICE, "help"], 2, "not understood\n", 1),
+    (
+        &["import", "--db", OFFICE, "rooms", "r-1", "missing.csv"],
+        3,
+        "unavailable\n",
+        1,
+    ),
+    (
+        &["import", "--db", OFFICE, "rooms", "r-1", "rooms.csv"],
+        0,
+        "added 2\n",
+        1,
+    ),
+    (
+        &["serve", "--db", OFFICE, "--port", "80", "--count", "2"],
+        3,
+        "unavailable\n",
+        1,
+    ),
+    (
+        &["serve", "--db", OFFICE, "--port", "8080", "--count", "2"],
+        0,
+        "listening on 127.0.0.1:8080\nserved 2\n",
+        1,
+    ),
+    (
+        &["export", "--db", OFFICE, "rooms"],
+        0,
+        "room,state,tenant\nH1,free,\nH2,free,\nV,free,\n",
+        1,
+    ),
+    (&["do", "--db", "other.db", "rooms"], 3, "unavailable\n", 0),
+    (&["rehearse"], 0, "ok\n", 0),
+];
+
+// The status of this line, and what it prints.
+fn carried(
+    alloc: Global,
+    words: &[&str],
+    files: &mut OneFile,
+    ports: &mut OnePort,
+) -> (u8, Vec<u8>) {
+    let mut input = Watched::new(b"room H1\n".as_slice());
+    let mut output = Watched::new(Vec::new(alloc));
+    let mut error = Watched::new(Vec::new(alloc));
+    let status = carry_out_from(
+        alloc,
+        words,
+        files,
+        &OneList,
+        ports,
+        &mut input,
+        &mut output,
+        &mut error,
+    );
+    (status, output.into_inner())
+}
+
+#[test]
+fn opens_and_closes_a_file_once_a_line(rt: HostRuntime) -> Result<(), Fail> {
+    let mut files = OneFile {
+        is_made: false,
+        connection: Some(Connection::open_in_memory(rt.alloc())?),
+        opened: 0,
+        closed: 0,
+    };
+    let mut ports = OnePort {
+        listened: 0,
+        asked: 0,
+        stopped: 0,
+    };
+    for (words, status, printed, times) in LINES {
+        let before = (files.opened, files.closed);
+        let (ended, text) = carried(rt.alloc(), words, &mut files, &mut ports);
+        assert_same!(rt; ended, status, printed);
+        assert_same!(rt; text.as_slice(), printed.as_bytes());
+        assert_same!(rt; files.opened.saturating_sub(before.0), times, printed);
+        assert_same!(rt; files.closed.saturating_sub(before.1), times, printed);
+    }
+    assert_same!(rt; (ports.listened, ports.asked, ports.stopped), (1, 2, 1));
+    Ok(())
+}
