@@ -80,6 +80,14 @@ fn reads_serve_lines(rt: HostRuntime) {
     }
 }
 
+// What `serve` over the file of this path, at this port, for one connection, ends with, and what it prints.
+fn served<'a>(rt: &HostRuntime, path: &'a str, port: &'a str) -> (u8, Vec<u8>, Vec<u8>) {
+    carried(
+        rt,
+        &["serve", "--db", path, "--port", port, "--count", "1"],
+    )
+}
+
 // Where there is no office nobody is served, and no file is made. Nor is anybody where the port is taken.
 #[test]
 fn tells_why_nobody_is_served(rt: HostRuntime) -> Result<(), Fail> {
@@ -93,16 +101,7 @@ fn tells_why_nobody_is_served(rt: HostRuntime) -> Result<(), Fail> {
         ("serve_none/empty", 1, "refused 21 NotAnOffice\n"),
         ("serve_none/office.db", 3, "unavailable\n"),
     ] {
-        let words = [
-            "serve",
-            "--db",
-            path,
-            "--port",
-            port.as_str(),
-            "--count",
-            "1",
-        ];
-        let (ended, text, told) = carried(&rt, &words);
+        let (ended, text, told) = served(&rt, path, port.as_str());
         assert_same!(rt; ended, status, path);
         assert_same!(rt; text.as_slice(), printed.as_bytes(), path);
         assert_same!(rt; told.len(), 0, path);
