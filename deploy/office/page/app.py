@@ -1,0 +1,202 @@
+"""The frame of all pages: who asks, whether a form is this page's own, the headers, and what a clerk reads next.
+
+HAProxy stands before the page. It checks the clerk's password and names the clerk in the field X-Office-User; nobody else can open the
+page's socket. The page has no script: all is HTML and forms. Each form carries a token, and where the office was when it was made.
+"""
+
+import functools
+import hmac
+import io
+import secrets
+import sys
+import traceback
+from collections.abc import Callable, Iterable
+from pathlib import Path
+from typing import Any, NoReturn
+
+import bottle  # type: ignore[import]  # Debian's bottle has no types
+from bottle import HTTPResponse, request
+
+import keeper_client
+import plain
+from keeper_client import Answer, KeeperFault
+from memory import Memory
+from office import Office
+
+HERE = Path(__file__).resolve().parent
+# A list of 262,144 bytes in a form.
+LONGEST_FORM = 400_000
+HEADERS = {
+    "Content-Security-Policy": "default-src 'none'; style-src 'self'; img-src data:; form-action 'self'; base-uri 'none'; "
+                               "frame-ancestors 'none'",
+    "Referrer-Policy": "same-origin",
+    "X-Content-Type-Options": "nosniff",
+    "Cache-Control": "no-store",
+    "Cross-Origin-Opener-Policy": "same-origin",
+    "Cross-Origin-Resource-Policy": "same-origin",
+}
+STALE = "This form was made before the page was restarted, or on another page. Nothing was changed. Fill it in again."
+
+# A form that was made before a restart has another token, and is refused.
+SECRET = secrets.token_bytes(32)
+
+app = bottle.Bottle()
+memory = Memory()
+
+
+# --- who asks
+
+def clerk() -> str:
+    """The clerk whom HAProxy names."""
+    return str(request.get_header("X-Office-User", ""))
+
+
+def token() -> str:
+    """What makes a form this clerk's own."""
+    return hmac.new(SECRET, clerk().encode(), "sha256").hexdigest()
+
+
+@app.hook("before_request")
+def guard() -> None:
+    """Lets in named clerks, and forms of this page alone. A form of another site lacks the token, and the browser says so."""
+    if not clerk():
+        bottle.abort(403, "no clerk")
+    if request.method != "POST":
+        return
+    site = request.get_header("Sec-Fetch-Site", "same-origin")
+    if site != "same-origin" or not hmac.compare_digest(field("token").encode(), token().encode()):
+        tell("bad", STALE)
+        go("/office/")
+
+
+# --- forms and answers
+
+def field(name: str) -> str:
+    """A field of a form as it was sent."""
+    return request.forms.getunicode(name) or ""
+
+
+def text_of(name: str) -> str:
+    """A field of a form, with one space in place of many."""
+    return " ".join(field(name).split())
+
+
+def tell(kind: str, text: str) -> None:
+    """Keeps a piece of news for the clerk's next page."""
+    memory.tell(clerk(), kind, text)
+
+
+def go(address: str) -> NoReturn:
+    """Leads the browser to another page."""
+    raise HTTPResponse(status=303, headers={"Location": address})
+
+
+def show(view: str, **values: Any) -> str:
+    """A page of a template."""
+    values = {"office": None, **values}
+    return str(bottle.template(view, template_lookup=[str(HERE / "views")], token=token(), clerk=clerk(), plain=plain,
+                               news=memory.news(clerk()), here=request.path, **values))
+
+
+def download(body: str | bytes, name: str, kind: str = "text/csv; charset=utf-8") -> HTTPResponse:
+    """A file for the clerk to keep."""
+    data = body.encode() if isinstance(body, str) else body
+    return HTTPResponse(data, 200, {"Content-Type": kind, "Content-Disposition": f'attachment; filename="{name}"'})
+
+
+# --- the keeper
+
+def ask(question: str, **fields: Any) -> dict[str, Any]:
+    """Asks the keeper in this clerk's name."""
+    return keeper_client.ask(question, clerk(), **fields)
+
+
+def office_now() -> Office:
+    """The office at this moment."""
+    return Office(ask("view"))
+
+
+def attempt(*lines: str) -> list[Answer]:
+    """What the program answers to these lines, on a copy that is thrown away."""
+    return keeper_client.answers_of(ask("try", lines=list(lines)))
+
+
+def change(question: str, **fields: Any) -> bool:
+    """Changes the office, and tells the clerk what came of it. Whether all of it was carried out."""
+    try:
+        reply = ask(question, seen=field("seen"), **fields)
+    except KeeperFault as fault:
+        tell("bad", f"This could not be done. {fault}")
+        return False
+    answers = keeper_client.answers_of(reply)
+    if reply["done"]:
+        tell("good", "Done: " + ", ".join(answer.text.strip() for answer in answers) + ".")
+        return True
+    before = "Nothing was changed." if len(answers) == 1 else "Not all of this was carried out: look how far it came."
+    tell("bad", f"{before} {plain.meaning(answers[-1].text)}")
+    return False
+
+
+# --- what goes wrong
+
+def down(why: str) -> str:
+    """The page of what cannot be shown or done."""
+    return str(bottle.template("down", template_lookup=[str(HERE / "views")], why=why[:1].upper() + why[1:]))
+
+
+def tell_keeper_faults(callback: Callable[..., Any]) -> Callable[..., Any]:
+    """Shows the keeper's fault in place of a page that needs it."""
+    @functools.wraps(callback)
+    def shown(*words: Any, **named: Any) -> Any:
+        try:
+            return callback(*words, **named)
+        except KeeperFault as fault:
+            return HTTPResponse(down(str(fault)), 503)
+    return shown
+
+
+app.install(tell_keeper_faults)
+
+
+@app.error(403)
+@app.error(404)
+@app.error(405)
+@app.error(413)
+@app.error(400)
+def refused(error: bottle.HTTPError) -> str:
+    """The page of a request that leads nowhere."""
+    texts = {404: "There is no such page.", 405: "There is no such page.", 403: "The proxy names no clerk.",
+             413: "This list is too long: split it in two."}
+    return down(texts.get(error.status_code, "The page does not understand this request."))
+
+
+class Guarded:
+    """The app with its headers on each answer. A fault of the page leaves its place in the log, and no value."""
+
+    def __init__(self, inner: Callable[..., Iterable[bytes]]) -> None:
+        self.inner = inner
+
+    def __call__(self, environ: dict[str, Any], start_response: Callable[..., Any]) -> Iterable[bytes]:
+        def start(status: str, headers: list[tuple[str, str]], exc_info: Any = None) -> Any:
+            own = [(name, value) for name, value in headers if name not in HEADERS]
+            return start_response(status, [*own, *HEADERS.items()], exc_info)
+        try:
+            return self.inner(environ, start)
+        except Exception as fault:  # pylint: disable=broad-except  # the clerk gets a page whatever went wrong
+            place = traceback.extract_tb(fault.__traceback__)[-1]
+            print(f"rooms-page: {type(fault).__name__} at {Path(place.filename).name}:{place.lineno}", file=sys.stderr, flush=True)
+            body = down("The page failed at this request. Look in the journal whether anything was changed.").encode()
+            start("500 Internal Server Error", [("Content-Type", "text/html; charset=utf-8"), ("Content-Length", str(len(body)))])
+            return [body]
+
+
+def keep_uploads_in_memory() -> None:
+    """Lists have keys. By itself Python's `cgi`, which bottle 0.12 uses, would put them into a file below /tmp."""
+    bottle.BaseRequest.MEMFILE_MAX = LONGEST_FORM
+    if hasattr(bottle, "cgi"):
+        bottle.cgi.FieldStorage.make_file = lambda self: (
+            io.BytesIO() if getattr(self, "_binary_file") else io.StringIO(newline="\n"))
+
+
+app.catchall = False
+keep_uploads_in_memory()

@@ -1,0 +1,95 @@
+"""How one person's result came about: facts out of the independent audit, and two sets of sentences made of them.
+
+The office reads who got a room that somebody asked for. A letter to a resident names nobody else.
+"""
+
+import importlib
+from typing import Any, NamedTuple
+
+from office import Office
+
+
+class Gone(NamedTuple):
+    """A room of somebody's list that went to another person: which choice it was, to whom, when, and whether that person lives there."""
+
+    room: str
+    choice: int
+    step: int
+    other: str
+    place: int
+    kept: bool
+
+
+class Facts(NamedTuple):
+    """What the audit knows of one participant. `out` has the rooms of the list that were not in the round."""
+
+    ident: str
+    place: int
+    places: int
+    home: str | None
+    wishes: list[str]
+    out: list[str]
+    gone: list[Gone]
+    got: str | None
+    choice: int | None
+    step: int
+
+
+def audit_of(office: Office) -> Any | None:
+    """The audit of the office's results, where the program of the audit is installed."""
+    try:
+        module = importlib.import_module("audit")
+    except ImportError:
+        return None
+    return module.Audit(office.view)
+
+
+def facts_of(audit: Any, office: Office, ident: str) -> Facts | None:
+    """The facts of one person; nothing where the person takes no part."""
+    if ident not in audit.got:
+        return None
+    order = {person: place for place, person in enumerate(audit.order, 1)}
+    home, got, wishes = audit.home[ident], audit.got[ident], office.choices.get(ident, [])
+    out, gone = [], []
+    for choice, room in enumerate(wishes, 1):
+        if room in (got, home):
+            break
+        if room in audit.taken:
+            other, step = audit.taken[room]
+            gone.append(Gone(room, choice, step, other, order[other], audit.home[other] == room))
+        else:
+            out.append(room)
+    return Facts(ident, order[ident], len(order), home, wishes, out, gone, got, office.choice_number(ident), audit.step[ident])
+
+
+def about(office: Office, ident: str) -> list[str]:
+    """The sentences for the office."""
+    audit = audit_of(office)
+    facts = facts_of(audit, office, ident) if audit else None
+    if facts is None:
+        return []
+    said = [f"{ident} had place {facts.place} of {facts.places} in the order"
+            + (f", and lived in {facts.home}, which nobody could take away." if facts.home else ", and had no room.")]
+    said += [f"{room}, on the list, was not in the round." for room in facts.out]
+    for gone in facts.gone:
+        said.append(f"{gone.room}, choice {gone.choice}, went in step {gone.step} to {gone.other}, at place {gone.place}"
+                    + (", who lived there and kept it." if gone.kept else "."))
+    if facts.choice:
+        return said + [f"In step {facts.step}, {ident} got {facts.got}, choice {facts.choice}."]
+    why = "Nothing better on the list was left" if facts.wishes else f"{ident} handed in no list"
+    return said + [f"{why}, so {ident} " + (f"keeps {facts.got}." if facts.got else "gets no room.")]
+
+
+def to_resident(facts: Facts) -> list[str]:
+    """The sentences of a letter. Other people appear by their place in the order alone."""
+    said = [f"Your place in the order was {facts.place} of {facts.places}."
+            + (f" You lived in {facts.home}, and nobody could take it from you." if facts.home else "")]
+    said += [f"{room}, on your list, was not in the exchange." for room in facts.out]
+    for gone in facts.gone:
+        said.append(f"{gone.room}, your choice {gone.choice}, " + (
+            "stayed with the resident who lives there." if gone.kept else f"went to the resident at place {gone.place}."))
+    if facts.choice:
+        return said + [f"{facts.got}, your choice {facts.choice}, was the best room on your list that you could get."]
+    if facts.got:
+        return said + [f"You keep {facts.got}, since " + ("nothing better on your list was left." if facts.wishes else "you handed in no list.")]
+    return said + ["You get no room, since " + ("nothing on your list was left." if facts.wishes else "you handed in no list.")]

@@ -1,0 +1,148 @@
+"""What leaves the office: exports, the public record, copies and the way back, and the journal."""
+
+import csv
+import io
+from collections.abc import Iterable
+from pathlib import Path
+from typing import Any
+from urllib.parse import quote
+
+import bottle  # type: ignore[import]  # Debian's bottle has no types
+
+import explaining
+import plain
+from app import HERE, app, ask, change, download, field, go, office_now, show, tell
+from keeper_client import answers_of
+from office import Office
+from questions import Question, put_question
+
+SHOWN_ENTRIES = 1000
+
+
+@app.get("/office/office.css")
+def css() -> bottle.HTTPResponse:
+    """The style of the page."""
+    return bottle.static_file("office.css", root=str(HERE), mimetype="text/css")
+
+
+# --- print and export
+
+@app.get("/office/print")
+def print_page() -> str:
+    """All that can be printed or downloaded."""
+    return show("print", office=office_now())
+
+
+def csv_of(header: list[str], rows: Iterable[list[Any]]) -> str:
+    """A list in CSV, as the program writes its own."""
+    text = io.StringIO(newline="")
+    csv.writer(text, lineterminator="\n").writerows([header, *rows])
+    return text.getvalue()
+
+
+def own_export(office: Office, name: str) -> str | None:
+    """The exports that the program does not have, made of the rows that the page shows."""
+    if name == "results":
+        return csv_of(["person", "name", "old", "new", "outcome"], (
+            [ident, office.people[ident].name, office.people[ident].home or "", room or "", office.outcome(ident)]
+            for ident, room in office.results.items()))
+    if name == "choices":
+        return csv_of(["person", "choices"], ([ident, " ".join(rooms)] for ident, rooms in sorted(office.choices.items())))
+    if name == "missing":
+        return csv_of(["person", "name", "home"], ([one.ident, one.name, one.home or ""] for one in office.without_list))
+    return None
+
+
+@app.get("/office/export/<name>.csv")
+def export(name: str) -> bottle.HTTPResponse:
+    """One export."""
+    if name in plain.EXPORTS:
+        text, status = answers_of(ask("export", kind=name))[0]
+        if status == 0:
+            return download(text, f"{name}.csv")
+    own = own_export(office_now(), name)
+    return bottle.HTTPError(404) if own is None else download(own, f"{name}.csv")
+
+
+# --- the public record
+
+@app.get("/office/record")
+def record_page() -> str:
+    """What the public record is, and what it shows of people's wishes."""
+    return show("record", office=office_now())
+
+
+@app.post("/office/record")
+def record() -> bottle.HTTPResponse:
+    """The public record of the round."""
+    return download(ask("record")["body"], f"round-{office_now().number}.txt", "text/plain; charset=utf-8")
+
+
+@app.get("/office/audit.py")
+def audit_program() -> bottle.HTTPResponse:
+    """The program of the audit."""
+    try:
+        module = explaining.importlib.import_module("audit")
+    except ImportError:
+        bottle.abort(404, "no audit")
+    return download(Path(str(module.__file__)).read_bytes(), "audit.py", "text/plain; charset=utf-8")
+
+
+# --- copies and the way back
+
+@app.get("/office/copies")
+def copies() -> str:
+    """The copies that are kept, the newest first."""
+    return show("copies", office=office_now(), copies=[Copy(*row) for row in ask("backups")["backups"]][::-1])
+
+
+class Copy:
+    """A copy of the office: its name, its size, and why it was taken."""
+
+    def __init__(self, name: str, size: int, why: str = "", *_: Any) -> None:
+        self.name, self.kilobytes, self.why = name, size // 1024, why
+        self.address = quote(name)
+
+    @property
+    def made(self) -> str:
+        """When it was made, by its name."""
+        stamp = self.name
+        return f"{stamp[:4]}-{stamp[4:6]}-{stamp[6:8]} {stamp[9:11]}:{stamp[11:13]}:{stamp[13:15]}"
+
+
+@app.post("/office/copies")
+def copy() -> None:
+    """Makes a copy of the office."""
+    tell("good", f"The copy {ask('backup')['name']} is made.")
+    go("/office/copies")
+
+
+@app.get("/office/copies/<name>/back")
+def ask_back(name: str) -> str:
+    """Asks before the office goes back to a copy."""
+    office = office_now()
+    says = [f"The office becomes again what it was when the copy {name} was made. All that happened since then is undone: lists that "
+            "residents handed in, steps of the round, lists that came in.",
+            "The keeper makes a copy of the present office first, so you can come back from this too.",
+            "Tell the residents if they handed in lists after the copy: they have to hand them in again."]
+    return put_question(office, Question(f"Go back to the copy {name}?", says, "Yes: go back to this copy", "/office/copies"))
+
+
+@app.post("/office/copies/<name>/back")
+def back(name: str) -> None:
+    """Puts a copy back."""
+    made = ask("back", name=name, seen=field("seen"))["name"]
+    tell("good", f"The office is back at the copy {name}. What it was before is in the copy {made}.")
+    go("/office/")
+
+
+# --- the journal
+
+@app.get("/office/journal")
+def journal() -> str:
+    """What was done, the newest first. Two lines of the journal, before and after a change, are one row."""
+    merged: dict[str, dict[str, Any]] = {}
+    for at, entry in enumerate(ask("journal", last=SHOWN_ENTRIES)["journal"]):
+        row = merged.setdefault(str(entry.get("n", f"entry {at}")), {"at": entry["at"]})
+        row.update({name: value for name, value in entry.items() if name != "at"})
+    return show("journal", office=office_now(), entries=list(merged.values())[::-1])

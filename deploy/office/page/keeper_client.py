@@ -1,0 +1,46 @@
+"""Asks the keeper over its Unix socket: one line of JSON a connection, and one line back."""
+
+import json
+import os
+import socket
+from typing import Any, NamedTuple
+
+SOCKET = os.environ.get("ROOMS_SOCKET", "/run/rooms-keeper.sock")
+# The keeper gives up earlier than this, and says so itself.
+PATIENCE = 110
+
+
+class KeeperFault(Exception):
+    """The keeper did not answer, or could not do what it was asked to do. The text is for the clerk."""
+
+
+class Answer(NamedTuple):
+    """What the program printed for one line, and its exit status."""
+
+    text: str
+    status: int
+
+
+def ask(question: str, who: str, **fields: Any) -> dict[str, Any]:
+    """Asks in the name of a clerk, and gives the keeper's reply."""
+    line = json.dumps({"ask": question, "who": who, **fields}).encode() + b"\n"
+    try:
+        with socket.socket(socket.AF_UNIX) as connection:
+            connection.settimeout(PATIENCE)
+            connection.connect(SOCKET)
+            connection.sendall(line)
+            reply = json.loads(connection.makefile("rb").readline() or b"null")
+    except (OSError, ValueError) as fault:
+        raise KeeperFault("The keeper of the office's file does not answer. Nobody knows whether the last step was carried "
+                          "out. Wait a minute, and look before you try again.") from fault
+    if not isinstance(reply, dict):
+        raise KeeperFault("The keeper of the office's file ended during this step. Nobody knows whether it was carried out. "
+                          "Look before you try again.")
+    if "fault" in reply:
+        raise KeeperFault(str(reply["fault"]))
+    return reply
+
+
+def answers_of(reply: dict[str, Any]) -> list[Answer]:
+    """The program's answers in a reply."""
+    return [Answer(text, status) for text, status in reply["answers"]]

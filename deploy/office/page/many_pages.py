@@ -1,0 +1,87 @@
+"""Many people at once, by a list of their identifiers."""
+
+import re
+from typing import Any, NamedTuple
+
+import plain
+from app import app, ask, attempt, clerk, field, go, memory, office_now, show, tell, text_of
+from office import Office
+
+MOST_AT_ONCE = 500
+# So many lines under one stop of the residents' server: a few seconds.
+PORTION = 20
+
+
+class Many(NamedTuple):
+    """Lines for many people that were tried and wait for the clerk's yes."""
+
+    act: str
+    idents: list[str]
+    lines: list[str]
+
+
+ACTS = {
+    "withdraw": (("open",), "Withdraw them from the round"),
+    "leave": (("idle",), "Let them leave their rooms"),
+    "remove": (("idle",), "Remove them from the register"),
+}
+
+
+def lines_for(office: Office, act: str, ident: str) -> list[str]:
+    """The lines that do something to one person of many."""
+    if act == "withdraw":
+        return [f"withdraw {ident}"]
+    leave = [f"leave {ident}"] if office.people[ident].home else []
+    return leave if act == "leave" else [*leave, f"remove {ident}"]
+
+
+@app.get("/office/many")
+def many() -> str:
+    """The form for a list of identifiers."""
+    office = office_now()
+    acts = {act: text for act, (phases, text) in ACTS.items() if office.phase in phases}
+    return show("many", office=office, acts=acts, text="", faults=[], job=None, held="")
+
+
+@app.post("/office/many")
+def look_at_many() -> str:
+    """Shows whom the identifiers name, and tries the change on a copy."""
+    office, act, text = office_now(), text_of("act"), field("text")
+    acts = {name: title for name, (phases, title) in ACTS.items() if office.phase in phases}
+    idents = list(dict.fromkeys(re.split(r"[\s,;]+", text.upper().strip(" \t\r\n,;"))))
+    faults = [f"No person has the identifier {ident[:20]}." for ident in idents if ident not in office.people]
+    if act not in acts:
+        faults = ["This cannot be done now."]
+    elif len(idents) > MOST_AT_ONCE:
+        faults = [f"These are {len(idents)} identifiers: send at most {MOST_AT_ONCE} at once."]
+    if act == "withdraw":
+        faults += [f"{ident} has withdrawn already." for ident in idents if ident in office.people and office.people[ident].withdrawn]
+    job = None
+    if not faults:
+        job = Many(act, idents, [line for ident in idents for line in lines_for(office, act, ident)])
+        if job.lines and (last := attempt(*job.lines)[-1]).status:
+            faults, job = [str(plain.meaning(last.text))], None
+    held = memory.hold(clerk(), job) if job else ""
+    return show("many", office=office, acts=acts, text=text, faults=faults[:20], job=job, held=held)
+
+
+@app.post("/office/many/do")
+def do_many() -> None:
+    """Carries out what was tried, in portions, so that residents never wait for long."""
+    name = text_of("held")
+    job: Any = memory.held(clerk(), name)
+    if not isinstance(job, Many):
+        tell("bad", "The page no longer holds these identifiers. Nothing was changed: send them again.")
+        go("/office/many")
+    memory.let_go(name)
+    done = 0
+    for start in range(0, len(job.lines), PORTION):
+        portion = job.lines[start:start + PORTION]
+        reply = ask("do", lines=portion, seen=field("seen"))
+        if not reply["done"]:
+            tell("bad", f"{done} of {len(job.lines)} lines were carried out, and then one was refused. "
+                        f"{plain.meaning(reply['answers'][-1][0])} Look how far it came.")
+            go("/office/register")
+        done += len(portion)
+    tell("good", f"Done for {len(job.idents)} people.")
+    go("/office/register")

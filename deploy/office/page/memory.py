@@ -1,0 +1,79 @@
+"""What the page remembers between two requests of a clerk. It stays in memory, and a restart forgets it."""
+
+import secrets
+import threading
+import time
+from collections import defaultdict
+from typing import Any, NamedTuple
+
+HOUR = 3600
+# A list has up to 262,144 bytes: twenty of them are five megabytes.
+MOST = 20
+
+
+class News(NamedTuple):
+    """What the next page of a clerk says at its head: `good` or `bad`, and the text."""
+
+    kind: str
+    text: str
+
+
+class Held(NamedTuple):
+    """Something that waits for the clerk's answer."""
+
+    owner: str
+    until: float
+    what: Any
+
+
+class Memory:
+    """News, searches, and what waits for a yes. Several requests may use it at once."""
+
+    def __init__(self) -> None:
+        self._lock = threading.Lock()
+        self._news: dict[str, list[News]] = defaultdict(list)
+        self._held: dict[str, Held] = {}
+        self._searches: dict[str, str] = {}
+
+    def tell(self, clerk: str, kind: str, text: str) -> None:
+        """Keeps a piece of news for the clerk's next page."""
+        with self._lock:
+            self._news[clerk].append(News(kind, text))
+
+    def news(self, clerk: str) -> list[News]:
+        """Gives the clerk's news, once."""
+        with self._lock:
+            return self._news.pop(clerk, [])
+
+    def search(self, clerk: str, text: str | None = None) -> str:
+        """Keeps what a clerk searches for, or gives it."""
+        with self._lock:
+            if text is not None:
+                self._searches[clerk] = text
+            return self._searches.get(clerk, "")
+
+    def hold(self, clerk: str, what: Any) -> str:
+        """Holds something for an hour, and gives the name under which it can be had. The oldest go first."""
+        name = secrets.token_hex(16)
+        with self._lock:
+            self._forget()
+            while len(self._held) >= MOST:
+                del self._held[next(iter(self._held))]
+            self._held[name] = Held(clerk, time.monotonic() + HOUR, what)
+        return name
+
+    def held(self, clerk: str, name: str) -> Any | None:
+        """What is held under a name, for its owner alone."""
+        with self._lock:
+            self._forget()
+            found = self._held.get(name)
+            return found.what if found and found.owner == clerk else None
+
+    def let_go(self, name: str) -> None:
+        """Forgets what was held."""
+        with self._lock:
+            self._held.pop(name, None)
+
+    def _forget(self) -> None:
+        for name in [name for name, held in self._held.items() if held.until < time.monotonic()]:
+            del self._held[name]

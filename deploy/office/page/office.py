@@ -1,0 +1,99 @@
+"""The office as the keeper showed it at one moment."""
+
+from typing import Any, NamedTuple
+
+import plain
+
+
+class Person(NamedTuple):
+    """A person of the register."""
+
+    ident: str
+    name: str
+    home: str | None
+    withdrawn: bool
+
+
+class Room(NamedTuple):
+    """A room of the register, with the identifier of the person who lives there."""
+
+    code: str
+    shut: bool
+    tenant: str | None
+
+
+class KeptList(NamedTuple):
+    """A list that came in, and how many records it added."""
+
+    label: str
+    kind: str
+    added: int
+
+
+class Office:
+    """The rows of the keeper's `view`, under names. Columns that a later version adds are passed over."""
+
+    def __init__(self, view: dict[str, Any]) -> None:
+        self.view = view
+        self.version: int = view["version"]
+        self.number: int = view["number"]
+        self.phase: str = view["phase"]
+        self.people = {row[0]: Person(row[0], row[1], row[2], bool(row[3])) for row in view["people"]}
+        self.rooms = {row[0]: Room(row[0], bool(row[1]), row[2]) for row in view["rooms"]}
+        self.choices: dict[str, list[str]] = view["choices"]
+        self.results: dict[str, str | None] = {row[0]: row[1] for row in view["results"]}
+        self.lists = [KeptList(row[0], row[1], row[2]) for row in view["lists"]]
+        self.settled: list[int] = view["settled"]
+        # Whether the residents' server runs, and the status with which it ended.
+        self.serves: bool = view.get("server", True)
+        self.ended: int | None = view.get("status")
+
+    @property
+    def stamp(self) -> str:
+        """Where the office is. A form carries it, and the keeper refuses a change that was meant for another moment."""
+        return f"round {self.number} {self.phase}"
+
+    @property
+    def next_step(self) -> str | None:
+        """The step that comes next."""
+        return next((name for name, step in plain.STEPS.items() if self.phase in step.phases), None)
+
+    @property
+    def withdrawn(self) -> list[Person]:
+        """Who has withdrawn from the round."""
+        return [person for person in self.people.values() if person.withdrawn]
+
+    @property
+    def participants(self) -> list[Person]:
+        """Who takes part in the round."""
+        return [person for person in self.people.values() if not person.withdrawn]
+
+    @property
+    def without_list(self) -> list[Person]:
+        """Who takes part and has handed in no list, or an empty one."""
+        return [person for person in self.participants if not self.choices.get(person.ident)]
+
+    def has_label(self, label: str) -> bool:
+        """Whether a list came in under this label."""
+        return any(kept.label == label for kept in self.lists)
+
+    def new_label(self, stem: str) -> str:
+        """A label that is not taken."""
+        number = 1
+        while self.has_label(f"{stem}-{number}"):
+            number += 1
+        return f"{stem}-{number}"
+
+    def choice_number(self, ident: str) -> int | None:
+        """Which room of the own list this person gets, from 1; nothing where they keep their room or get none."""
+        room, wishes = self.results.get(ident), self.choices.get(ident, [])
+        if room is None or room == self.people[ident].home or room not in wishes:
+            return None
+        return wishes.index(room) + 1
+
+    def outcome(self, ident: str) -> str:
+        """What this person gets, in a word or two."""
+        room, number = self.results.get(ident), self.choice_number(ident)
+        if room is None:
+            return "no room"
+        return f"choice {number}" if number else "keeps the room"

@@ -1,0 +1,45 @@
+#!/usr/bin/python3
+"""rooms-page: the office's page. It has neither the office's file nor its keys, and asks the keeper for all that it shows and does.
+
+It listens on the socket that systemd hands over (rooms-page.socket), or on that of ROOMS_PAGE_SOCKET.
+"""
+
+import os
+import socket
+import sys
+from pathlib import Path
+
+# The audit stands beside the folder of the page.
+sys.path.insert(1, str(Path(__file__).resolve().parent.parent))
+
+# pylint: disable=wrong-import-position  # each module adds its pages to the app
+import waitress  # type: ignore[import]  # Debian's waitress has no types
+
+import file_pages  # noqa: F401  # pylint: disable=unused-import
+import list_pages  # noqa: F401  # pylint: disable=unused-import
+import many_pages  # noqa: F401  # pylint: disable=unused-import
+import people_pages  # noqa: F401  # pylint: disable=unused-import
+import result_pages  # noqa: F401  # pylint: disable=unused-import
+import room_pages  # noqa: F401  # pylint: disable=unused-import
+import round_pages  # noqa: F401  # pylint: disable=unused-import
+from app import LONGEST_FORM, Guarded, app
+
+PLACE = os.environ.get("ROOMS_PAGE_SOCKET", "/run/rooms-page.sock")
+# Bodies and answers stay in memory: waitress writes what is longer into a file.
+IN_MEMORY = 16_000_000
+
+
+def main() -> None:
+    """Serves the page until it is ended."""
+    os.umask(0o077)
+    options = {"threads": 4, "max_request_body_size": LONGEST_FORM, "inbuf_overflow": IN_MEMORY, "outbuf_overflow": IN_MEMORY,
+               "clear_untrusted_proxy_headers": True, "ident": None}
+    if "LISTEN_FDS" in os.environ:
+        waitress.serve(Guarded(app), sockets=[socket.socket(fileno=3)], **options)
+    else:
+        Path(PLACE).unlink(missing_ok=True)
+        waitress.serve(Guarded(app), unix_socket=PLACE, **options)
+
+
+if __name__ == "__main__":
+    main()

@@ -1,0 +1,171 @@
+"""The page's texts: the phases of a round, its steps, kinds of lists, and what the program's answers mean."""
+
+from typing import NamedTuple
+
+
+class Phase(NamedTuple):
+    """Where a round is, and what comes next."""
+
+    title: str
+    following: str
+
+
+class Step(NamedTuple):
+    """A step of the round: when it can be taken, what it does, and whether it can be taken back."""
+
+    phases: tuple[str, ...]
+    name: str
+    does: str
+    undo: str
+    final: bool
+
+
+class Kind(NamedTuple):
+    """A kind of list: its first line, what stands in its columns, and when it can come in."""
+
+    header: str
+    columns: str
+    phases: tuple[str, ...]
+    since: int  # the version of the office's file that knows it
+
+
+class Meaning(NamedTuple):
+    """What an answer says, and what to do."""
+
+    says: str
+    to_do: str
+
+    def __str__(self) -> str:
+        return f"{self.says} {self.to_do}".strip()
+
+
+PAGES = {
+    "/office/": "Overview", "/office/lists": "Lists in", "/office/register": "People", "/office/rooms": "Rooms",
+    "/office/draw": "Draw", "/office/results": "Results", "/office/print": "Print and export", "/office/copies": "Copies",
+    "/office/journal": "Journal",
+}
+
+PHASES = {
+    "idle": Phase("No round is under way", "Bring rooms, people and homes up to date. Then open the round."),
+    "open": Phase("The round is open", "Residents hand in their lists. When the time is over, close the round."),
+    "closed": Phase("The round is closed", "The lists are final. Next, draw the order of the participants."),
+    "drawn": Phase("The order is drawn", "Next, let the program give the rooms by the lists and the order."),
+    "ran": Phase("The rooms are given", "Only the office sees who gets which room. Check the results, then publish them."),
+    "published": Phase("The results are published", "Each resident sees their own result. Print the letters and the plan of moves. "
+                       "On the day of moving, settle the round."),
+}
+
+# `cancel` stands last: it is never the step that comes next.
+STEPS = {
+    "open": Step(("idle",), "Open the next round",
+                 "Residents can hand in lists from then on. Homes cannot change until the round is over.",
+                 "To take it back, give the round up. Lists that residents have handed in by then are lost.", False),
+    "close": Step(("open",), "Close the round",
+                  "Nobody can hand in or change a list any more. No person and no room can be added.",
+                  "You cannot open the round again. Giving it up loses all lists.", True),
+    "draw": Step(("closed",), "Draw the order", "Each participant gets a place in the order.",
+                 "You cannot draw again in this round.", True),
+    "run": Step(("drawn",), "Give the rooms",
+                "The program works out who gets which room. Only the office sees the results.",
+                "The program always gives the same rooms. You can still give the round up.", True),
+    "publish": Step(("ran",), "Publish the results", "Each resident sees their own result from then on.",
+                    "You cannot take it back, and you cannot give the round up any more.", True),
+    "settle": Step(("published",), "Settle the round",
+                   "The new rooms become the homes, the moves are recorded, and the round is over.",
+                   "You cannot take it back. The lists, the order and the results of this round are deleted; the moves stay. "
+                   "First download the public record, and print the letters.", True),
+    "cancel": Step((), "Give the round up",
+                   "All lists, withdrawals, the order and the results of this round are deleted. The number of the round stays used.",
+                   "You cannot take it back. To bring lists of choices in again, send them under a new label: under the old label "
+                   "nothing comes in.", True),
+}
+CANCELLABLE = ("open", "closed", "drawn", "ran")
+COPY_FIRST = "The keeper makes a copy of the office first. The page Copies brings you back to it; what happens after the copy is then lost."
+
+REGISTER = ("idle", "open")
+KINDS = {
+    "rooms": Kind("room", "One room code a line.", REGISTER, 1),
+    "people": Kind("person,name,key,home", "Identifier, name, key, and the room where the person lives, or nothing.", REGISTER, 1),
+    "choices": Kind("person,choices", "Identifier, and the room codes, the best first, with one space between two.", ("open",), 1),
+}
+EXPORTS = {"rooms": "Rooms", "people": "People, without keys", "moves": "Moves of all settled rounds"}
+
+# By the number of a refusal.
+REFUSALS = {
+    1: Meaning("The round is not where this step belongs.", "Open the overview to see what comes next."),
+    2: Meaning("No person has this identifier.", "Look the person up on the page People."),
+    3: Meaning("No room has this code.", "Look at the page Rooms, or add the room first."),
+    4: Meaning("This room is in the register already.", "Take the line out of the list."),
+    5: Meaning("This person is in the register already.", "Take the line out, or give the other person another identifier."),
+    6: Meaning("Another person has this key.", "Give this person a key of their own, or leave the field empty to get a new one."),
+    7: Meaning("This room is out of use.", "Bring it back on the page Rooms, or write another room."),
+    8: Meaning("Another person lives in this room.", "Look up the room on the page Rooms to see who."),
+    9: Meaning("This person has a room already.", "First let the person leave it."),
+    10: Meaning("This person has no room.", "There is nothing to leave."),
+    11: Meaning("This person has withdrawn from the round.", "Take the line out of the list."),
+    12: Meaning("The number of words is not the number of participants.", "Draw again."),
+    13: Meaning("A limit is reached: 2,000 rooms, 2,000 people, 200 lists, or 262,144 bytes in a list.", "Split a long list in two."),
+    14: Meaning("Another list came in under this label.", "Choose another label."),
+    16: Meaning("This person takes no part in the round.", "Choose a participant."),
+    17: Meaning("This round is not over, or there was no such round.", "Choose a round that is settled."),
+    18: Meaning("This room is in use.", "There is nothing to bring back."),
+    21: Meaning("The file is not an office's file.", "Stop, and call whoever looks after the machine."),
+    22: Meaning("The office's file has another version than the program.", "Call whoever looks after the machine."),
+}
+
+CODE = "Write a room code: up to eight capital letters, digits and hyphens, the first no hyphen."
+IDENTIFIER = "Write an identifier: up to twelve capital letters and digits."
+FIELDS = {
+    "rooms": (CODE,),
+    "people": (IDENTIFIER,
+               "Write a name of up to 60 bytes, without a space at an end, two spaces in a row, or a line break.",
+               "Write a key of 16 to 64 small letters and digits, or leave the field empty to get a new key.",
+               CODE + " Leave the field empty for a person without a room."),
+    "choices": (IDENTIFIER, "Write up to 40 room codes, each once, with one space between two."),
+}
+# What a list as a whole can be refused for, by the word after the record's number.
+CAUSES = {
+    "header": Meaning("The first line is not the first line of this kind of list.",
+                      "Check that you chose the right kind. Save the list as CSV with the character set UTF-8 and commas, not semicolons."),
+    "many": Meaning("The list has more than 10,000 records.", "Split it in two."),
+    "fields": Meaning("This line has more or fewer fields than the first line.",
+                      "Put a name with a comma in double quotes. Keep the comma of an empty field."),
+    "text": Meaning("This line has signs that are not UTF-8.", "Save the list again with the character set UTF-8."),
+}
+
+
+def kinds(version: int) -> dict[str, Kind]:
+    """The kinds of lists that an office of this version takes."""
+    return {name: kind for name, kind in KINDS.items() if kind.since <= version}
+
+
+def cause(words: list[str], kind: str) -> Meaning:
+    """What a record was refused for: the words of the answer after the record's number."""
+    if words[0] in CAUSES:
+        return CAUSES[words[0]]
+    number = int(words[1])
+    if words[0] == "refusal":
+        return REFUSALS.get(number, Meaning(f"The office refuses this line (refusal {number}).", "Look it up in the guide."))
+    texts = FIELDS.get(kind, ())
+    columns = KINDS[kind].header.split(",") if kind in KINDS else []
+    name = columns[number - 1] if number <= len(columns) else f"field {number}"
+    return Meaning(f"The field {name} is not well written.", texts[number - 1] if number <= len(texts) else "Correct it.")
+
+
+def meaning(text: str) -> Meaning:
+    """What an answer of the program says; the answer itself where it is no refusal."""
+    words = text.split()
+    if not words or words[0] == "unavailable":
+        return Meaning("The file, the disk or the memory did not serve.",
+                       "Look whether the change was made. If it was not, try again; if it fails again, call whoever looks after the machine.")
+    if text.startswith(("not understood", "rooms: not")):
+        return Meaning("The program does not understand this.", "Check capital letters, signs and spaces.")
+    if words[0] != "refused":
+        return Meaning(text.strip(), "")
+    number = int(words[1])
+    if number == 15:
+        return cause(words[4:], "")
+    says, to_do = REFUSALS.get(number, Meaning(text.strip(), "Look it up in the guide."))
+    if number == 1 and words[3] in PHASES:
+        return Meaning(f"{says} {PHASES[words[3]].title}.", to_do)
+    return Meaning(says + (f" ({' '.join(words[3:])})" if number in (3, 7, 12) else ""), to_do)

@@ -1,0 +1,21 @@
+"""The question before a change that cannot be taken back."""
+
+from typing import NamedTuple
+
+from app import show
+from office import Office
+
+
+class Question(NamedTuple):
+    """A question: what happens, what the button of yes says, and where no leads. Yes goes to the address of the question itself."""
+
+    title: str
+    says: list[str]
+    yes: str
+    back: str
+    link: tuple[str, str] | None = None
+
+
+def put_question(office: Office, question: Question) -> str:
+    """The page of a question."""
+    return show("question", office=office, question=question)

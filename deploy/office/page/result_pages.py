@@ -1,0 +1,126 @@
+"""Results: the audit's verdict, figures, letters, and the plan of moves."""
+
+from typing import NamedTuple
+
+import explaining
+import figures
+import plain
+from app import app, attempt, field, go, office_now, show, tell
+from office import Office
+
+LONGEST_CLOSING = 1000
+
+
+@app.get("/office/results")
+def results() -> str:
+    """Who gets which room, and whether the audit agrees."""
+    office = office_now()
+    if not office.results:
+        return show("no_results", office=office)
+    audit = explaining.audit_of(office)
+    return show("results", office=office, figures=figures.figures_of(office), faults=audit.faults() if audit else None)
+
+
+# --- letters
+
+class Letter(NamedTuple):
+    """A letter to one participant."""
+
+    ident: str
+    name: str
+    result: str
+    told: list[str]
+
+
+def letter_of(office: Office, ident: str, told: list[str]) -> Letter:
+    """The letter with one person's result and how it came about."""
+    room = office.results[ident]
+    if room is None:
+        result = "You get no room in this round."
+    elif room == office.people[ident].home:
+        result = f"You keep your room {room}."
+    else:
+        result = f"Your new room is {room}."
+    return Letter(ident, office.people[ident].name, result, told)
+
+
+@app.get("/office/letters")
+@app.post("/office/letters")
+def letters() -> str:
+    """A letter for each participant, one a sheet, with the clerk's own text at its end."""
+    office = office_now()
+    if office.phase != "published":
+        tell("bad", "Letters can be printed while the results are published, until the round is settled.")
+        go("/office/print")
+    audit = explaining.audit_of(office)
+    if audit and audit.faults():
+        tell("bad", "The audit finds other results. Send no letters, and call whoever looks after the program.")
+        go("/office/results")
+    written = []
+    for ident in office.results:
+        facts = explaining.facts_of(audit, office, ident) if audit else None
+        written.append(letter_of(office, ident, explaining.to_resident(facts) if facts else []))
+    written.sort(key=lambda letter: letter.name)
+    closing = [line for line in field("closing")[:LONGEST_CLOSING].splitlines() if line.strip()]
+    return show("letters", office=office, letters=written, closing=closing)
+
+
+# --- the day of moving
+
+class Move(NamedTuple):
+    """One move: who, and from where to where."""
+
+    ident: str
+    name: str
+    old: str
+    new: str
+
+
+class Group(NamedTuple):
+    """Moves that belong together: a wave, or a circle of people who pass their rooms round."""
+
+    title: str
+    note: str
+    moves: list[Move]
+
+
+def circles_of(swaps: list[Move]) -> list[list[Move]]:
+    """The swaps by circle: each person is followed by the one who leaves the room that this person enters."""
+    leaving = {move.old: move for move in swaps}
+    circles = []
+    while leaving:
+        room = next(iter(leaving))
+        circle = []
+        while room in leaving:
+            circle.append(leaving.pop(room))
+            room = circle[-1].new
+        circles.append(circle)
+    return circles
+
+
+def groups_of(office: Office, table: str) -> list[Group]:
+    """The move-day list of the program, by waves and circles."""
+    waves: dict[str, list[Move]] = {}
+    for line in table.splitlines()[1:]:
+        wave, ident, old, new = line.split()
+        name = office.people[ident].name if ident in office.people else ""
+        waves.setdefault(wave, []).append(Move(ident, name, old, new))
+    circles = circles_of(waves.pop("swap", []))
+    groups = [Group(f"Wave {wave}", "They move into rooms that nobody leaves." if wave == "1"
+                    else f"They move once wave {int(wave) - 1} has left.", moves) for wave, moves in waves.items()]
+    groups += [Group(f"Circle {number}", "They move at the same time: each one goes where the next one in the list comes from, and "
+                     "the last one goes where the first one comes from.", moves) for number, moves in enumerate(circles, 1)]
+    return groups
+
+
+@app.get("/office/moves/<number:int>")
+def moves(number: int) -> str:
+    """The plan of moves: of a round that is over, or on a copy of the round under way."""
+    office = office_now()
+    ahead = {"ran": ("publish", "settle"), "published": ("settle",)}.get(office.phase, ())
+    planned = bool(ahead) and number == office.number
+    answer = attempt(*(ahead if planned else ()), f"moves {number}")[-1]
+    if answer.status != 0:
+        tell("bad", str(plain.meaning(answer.text)))
+        go("/office/print")
+    return show("moves", office=office, number=number, groups=groups_of(office, answer.text), planned=planned)

@@ -1,0 +1,128 @@
+"""Where the round is, its steps, and the draw."""
+
+import hashlib
+import re
+import secrets
+from typing import Any, NamedTuple
+
+import plain
+from app import app, ask, attempt, change, field, go, office_now, show, tell, text_of
+from office import Office
+from questions import Question, put_question
+
+SEED = re.compile(r"[0-9a-f]{64}")
+# A die's fifty throws are 129 bits.
+SHORTEST_TEXT, LONGEST_TEXT = 8, 400
+
+
+# --- the round
+
+@app.get("/office")
+def without_slash() -> None:
+    """The page's address without its slash."""
+    go("/office/")
+
+
+@app.get("/office/")
+def overview() -> str:
+    """Where the round is, what comes next, and who has handed in no list."""
+    return show("overview", office=office_now())
+
+
+@app.get("/office/step/<name>")
+def ask_step(name: str) -> str:
+    """Asks before a step."""
+    office = office_now()
+    step = plain.STEPS.get(name)
+    if step is None or office.phase not in (plain.CANCELLABLE if name == "cancel" else step.phases):
+        tell("bad", f"This step does not come now. {plain.PHASES[office.phase].title}.")
+        go("/office/")
+    if name == "draw":
+        go("/office/draw")
+    says = [step.does, step.undo, *([plain.COPY_FIRST] if step.final else [])]
+    if name == "close" and office.without_list:
+        says.insert(0, f"{len(office.without_list)} of {len(office.participants)} participants have handed in no list.")
+    link = ("/office/record", "The public record, letters and plans") if name == "settle" else None
+    title = f"{step.name}?"
+    return put_question(office, Question(title, says, f"Yes: {step.name[0].lower()}{step.name[1:]}", "/office/", link))
+
+
+@app.post("/office/step/<name>")
+def take_step(name: str) -> None:
+    """Takes a step."""
+    if name in plain.STEPS and name != "draw":
+        change("do", lines=[name])
+    go("/office/")
+
+
+# --- the draw
+
+class Noted(NamedTuple):
+    """A seed in the journal: when, by whom, and how it came about."""
+
+    at: str
+    who: str
+    seed: str
+    source: str
+
+
+def noted_seeds(office: Office) -> list[Noted]:
+    """The seeds in the journal since this round was closed, the first one first."""
+    found: list[Noted] = []
+    entries: list[dict[str, Any]] = ask("journal", last=1000)["journal"]
+    for entry in entries:
+        words = str(entry.get("line", "")).split(" ", 3)
+        if words[0] == "close":
+            found = []
+        elif words[0] == "seed" and len(words) > 1 and SEED.fullmatch(words[1]):
+            found.append(Noted(entry["at"], entry.get("who", ""), words[1], " ".join(words[2:])))
+    return found if office.phase != "idle" else []
+
+
+@app.get("/office/draw")
+def draw_page() -> str:
+    """The forms for a seed, or the drawn order."""
+    office = office_now()
+    order = []
+    if office.phase in ("drawn", "ran", "published"):
+        order = [line.split() for line in attempt("order")[0].text.splitlines()]
+    return show("draw", office=office, order=order, seeds=noted_seeds(office))
+
+
+def seed_of(way: str, text: str) -> tuple[str, str] | str:
+    """The seed of what was entered, and how it came about; or what is wrong with it."""
+    if way == "machine":
+        return secrets.token_hex(32), "made by the machine"
+    if way == "seed":
+        seed = "".join(text.split()).lower()
+        if SEED.fullmatch(seed):
+            return seed, "entered as it stands"
+        return f"A seed has 64 signs out of 0 to 9 and a to f. You entered {len(seed)} signs."
+    if not SHORTEST_TEXT <= len(text) <= LONGEST_TEXT:
+        return f"Enter {SHORTEST_TEXT} to {LONGEST_TEXT} signs: the throws of the dice, or the public number."
+    return hashlib.sha256(text.encode()).hexdigest(), f'SHA-256 of "{text}"'
+
+
+@app.post("/office/seed")
+def note_seed() -> None:
+    """Writes a seed into the journal before anything is drawn with it, so that nobody can try seeds in secret."""
+    office = office_now()
+    made = seed_of(field("way"), text_of("text"))
+    if office.phase != "closed":
+        tell("bad", f"There is nothing to draw now. {plain.PHASES[office.phase].title}.")
+    elif isinstance(made, str):
+        tell("bad", made)
+    else:
+        ask("note", line=f"seed {made[0]} {made[1]}")
+    go("/office/draw")
+
+
+@app.post("/office/draw")
+def draw() -> None:
+    """Draws with a seed that stands in the journal."""
+    seed = text_of("seed")
+    if seed not in [noted.seed for noted in noted_seeds(office_now())]:
+        tell("bad", "This seed does not stand in the journal. Enter it first.")
+    else:
+        change("draw", seed=seed)
+    go("/office/draw")
