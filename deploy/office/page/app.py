@@ -1,7 +1,8 @@
 """The frame of all pages: who asks, whether a form is this page's own, the headers, and what a clerk reads next.
 
-HAProxy stands before the page. It checks the clerk's password and names the clerk in the field X-Office-User; nobody else can open the
-page's socket. The page has no script: all is HTML and forms. Each form carries a token, and where the office was when it was made.
+HAProxy stands before the page. It checks the clerk's password and names the clerk in the field X-Office-User; nobody
+else can open the page's socket. The page has no script: all is HTML and forms. Each form carries a token, and where the
+office was when the form was made.
 """
 
 import functools
@@ -24,11 +25,11 @@ from memory import Memory
 from office import Office
 
 HERE = Path(__file__).resolve().parent
-# A list of 262,144 bytes in a form.
+LONGEST_LIST = 262_144
 LONGEST_FORM = 400_000
 HEADERS = {
-    "Content-Security-Policy": "default-src 'none'; style-src 'self'; img-src data:; form-action 'self'; base-uri 'none'; "
-                               "frame-ancestors 'none'",
+    "Content-Security-Policy": "default-src 'none'; style-src 'self'; img-src data:; form-action 'self'; "
+                               "base-uri 'none'; frame-ancestors 'none'",
     "Referrer-Policy": "same-origin",
     "X-Content-Type-Options": "nosniff",
     "Cache-Control": "no-store",
@@ -58,7 +59,7 @@ def token() -> str:
 
 @app.hook("before_request")
 def guard() -> None:
-    """Lets in named clerks, and forms of this page alone. A form of another site lacks the token, and the browser says so."""
+    """Lets in named clerks, and forms of this page alone: a form of another site has no token."""
     if not clerk():
         bottle.abort(403, "no clerk")
     if request.method != "POST":
@@ -79,6 +80,12 @@ def field(name: str) -> str:
 def text_of(name: str) -> str:
     """A field of a form, with one space in place of many."""
     return " ".join(field(name).split())
+
+
+def upload_of(name: str) -> bytes:
+    """The bytes of a file in a form. A longer one than the program takes is cut behind its limit, which the program finds."""
+    upload = request.files.get(name)  # pylint: disable=no-member  # bottle makes it when it is asked for
+    return bytes(upload.file.read(LONGEST_LIST + 1)) if upload else b""
 
 
 def tell(kind: str, text: str) -> None:
@@ -129,12 +136,11 @@ def change(question: str, **fields: Any) -> bool:
         tell("bad", f"This could not be done. {fault}")
         return False
     answers = keeper_client.answers_of(reply)
-    if reply["done"]:
-        tell("good", "Done: " + ", ".join(answer.text.strip() for answer in answers) + ".")
-        return True
-    before = "Nothing was changed." if len(answers) == 1 else "Not all of this was carried out: look how far it came."
-    tell("bad", f"{before} {plain.meaning(answers[-1].text)}")
-    return False
+    if not reply["done"]:
+        tell("bad", f"Nothing was changed. {plain.meaning(answers[-1].text)}")
+        return False
+    tell("good", plain.done(answers[-1].text))
+    return True
 
 
 # --- what goes wrong
@@ -184,9 +190,11 @@ class Guarded:
             return self.inner(environ, start)
         except Exception as fault:  # pylint: disable=broad-except  # the clerk gets a page whatever went wrong
             place = traceback.extract_tb(fault.__traceback__)[-1]
-            print(f"rooms-page: {type(fault).__name__} at {Path(place.filename).name}:{place.lineno}", file=sys.stderr, flush=True)
+            where = f"{Path(place.filename).name}:{place.lineno}"
+            print(f"rooms-page: {type(fault).__name__} at {where}", file=sys.stderr, flush=True)
             body = down("The page failed at this request. Look in the journal whether anything was changed.").encode()
-            start("500 Internal Server Error", [("Content-Type", "text/html; charset=utf-8"), ("Content-Length", str(len(body)))])
+            start("500 Internal Server Error",
+                  [("Content-Type", "text/html; charset=utf-8"), ("Content-Length", str(len(body)))])
             return [body]
 
 

@@ -46,7 +46,8 @@ class CsvList:
         for number in without or ():
             record = self.records[number]
             skipped.update(range(record.start, record.end))
-        return "".join(line for at, line in enumerate(self.lines) if at not in skipped).encode("utf-8", "surrogateescape")
+        left = "".join(line for at, line in enumerate(self.lines) if at not in skipped)
+        return left.encode("utf-8", "surrogateescape")
 
     def fill_keys(self) -> list[tuple[str, str, str]]:
         """Gives a new key to each person of the list who has none: identifier, name and key of each."""

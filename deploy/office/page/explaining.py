@@ -10,7 +10,7 @@ from office import Office
 
 
 class Gone(NamedTuple):
-    """A room of somebody's list that went to another person: which choice it was, to whom, when, and whether that person lives there."""
+    """A room of somebody's list that another person got: which choice it was, who got it, when, and who lives there."""
 
     room: str
     choice: int
@@ -35,13 +35,30 @@ class Facts(NamedTuple):
     step: int
 
 
-def audit_of(office: Office) -> Any | None:
-    """The audit of the office's results, where the program of the audit is installed."""
+class Last:  # pylint: disable=too-few-public-methods  # a place for one audit
+    """The last audit, and the rows that it was made of. At 2,000 people an audit takes most of a second."""
+
+    audit: tuple[dict[str, Any], Any] | None = None
+
+
+def audit_program() -> Any | None:
+    """The program of the audit, where it is installed."""
     try:
-        module = importlib.import_module("audit")
+        return importlib.import_module("audit")
     except ImportError:
         return None
-    return module.Audit(office.view)
+
+
+def audit_of(office: Office) -> Any | None:
+    """The audit of the office's results, where the program of the audit is installed."""
+    module, last = audit_program(), Last.audit
+    if module is None:
+        return None
+    if last is not None and last[0] == office.view:
+        return last[1]
+    audit = module.Audit(office.view)
+    Last.audit = (office.view, audit)
+    return audit
 
 
 def facts_of(audit: Any, office: Office, ident: str) -> Facts | None:
@@ -59,7 +76,8 @@ def facts_of(audit: Any, office: Office, ident: str) -> Facts | None:
             gone.append(Gone(room, choice, step, other, order[other], audit.home[other] == room))
         else:
             out.append(room)
-    return Facts(ident, order[ident], len(order), home, wishes, out, gone, got, office.choice_number(ident), audit.step[ident])
+    number, left = office.choice_number(ident), audit.step[ident]
+    return Facts(ident, order[ident], len(order), home, wishes, out, gone, got, number, left)
 
 
 def about(office: Office, ident: str) -> list[str]:
@@ -72,8 +90,8 @@ def about(office: Office, ident: str) -> list[str]:
             + (f", and lived in {facts.home}, which nobody could take away." if facts.home else ", and had no room.")]
     said += [f"{room}, on the list, was not in the round." for room in facts.out]
     for gone in facts.gone:
-        said.append(f"{gone.room}, choice {gone.choice}, went in step {gone.step} to {gone.other}, at place {gone.place}"
-                    + (", who lived there and kept it." if gone.kept else "."))
+        said.append(f"{gone.room}, choice {gone.choice}, went in step {gone.step} to {gone.other}, at place "
+                    f"{gone.place}{', who lived there and kept it' if gone.kept else ''}.")
     if facts.choice:
         return said + [f"In step {facts.step}, {ident} got {facts.got}, choice {facts.choice}."]
     why = "Nothing better on the list was left" if facts.wishes else f"{ident} handed in no list"
@@ -86,10 +104,12 @@ def to_resident(facts: Facts) -> list[str]:
             + (f" You lived in {facts.home}, and nobody could take it from you." if facts.home else "")]
     said += [f"{room}, on your list, was not in the exchange." for room in facts.out]
     for gone in facts.gone:
-        said.append(f"{gone.room}, your choice {gone.choice}, " + (
-            "stayed with the resident who lives there." if gone.kept else f"went to the resident at place {gone.place}."))
+        to_other = f"went to the resident at place {gone.place}"
+        went = "stayed with the resident who lives there" if gone.kept else to_other
+        said.append(f"{gone.room}, your choice {gone.choice}, {went}.")
     if facts.choice:
         return said + [f"{facts.got}, your choice {facts.choice}, was the best room on your list that you could get."]
+    why = "nothing better on your list was left" if facts.wishes else "you handed in no list"
     if facts.got:
-        return said + [f"You keep {facts.got}, since " + ("nothing better on your list was left." if facts.wishes else "you handed in no list.")]
-    return said + ["You get no room, since " + ("nothing on your list was left." if facts.wishes else "you handed in no list.")]
+        return said + [f"You keep {facts.got}, since {why}."]
+    return said + [f"You get no room, since {why.replace('better ', '')}."]

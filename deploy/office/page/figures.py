@@ -41,7 +41,8 @@ def figures_of(office: Office) -> Figures:
     free = [room.code for room in office.rooms.values() if not room.shut and room.code not in given]
     mean = sum(number * count for number, count in choices.items()) / (choices.total() or 1)
     with_list = len(office.participants) - len(office.without_list)
-    return Figures(len(office.results), with_list, choices.total(), mean, keep, none, free, bars_of(choices, keep, len(none)))
+    bars = bars_of(choices, keep, len(none))
+    return Figures(len(office.results), with_list, choices.total(), mean, keep, none, free, bars)
 
 
 def bars_of(choices: Counter[int], keep: int, none: int) -> list[Bar]:

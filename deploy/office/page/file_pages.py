@@ -4,14 +4,13 @@ import csv
 import io
 from collections.abc import Iterable
 from pathlib import Path
-from typing import Any
-from urllib.parse import quote
+from typing import Any, NamedTuple
 
 import bottle  # type: ignore[import]  # Debian's bottle has no types
 
 import explaining
 import plain
-from app import HERE, app, ask, change, download, field, go, office_now, show, tell
+from app import HERE, app, ask, download, field, go, office_now, show, tell
 from keeper_client import answers_of
 from office import Office
 from questions import Question, put_question
@@ -47,9 +46,11 @@ def own_export(office: Office, name: str) -> str | None:
             [ident, office.people[ident].name, office.people[ident].home or "", room or "", office.outcome(ident)]
             for ident, room in office.results.items()))
     if name == "choices":
-        return csv_of(["person", "choices"], ([ident, " ".join(rooms)] for ident, rooms in sorted(office.choices.items())))
+        lists = sorted(office.choices.items())
+        return csv_of(["person", "choices"], ([ident, " ".join(rooms)] for ident, rooms in lists))
     if name == "missing":
-        return csv_of(["person", "name", "home"], ([one.ident, one.name, one.home or ""] for one in office.without_list))
+        people = office.without_list
+        return csv_of(["person", "name", "home"], ([one.ident, one.name, one.home or ""] for one in people))
     return None
 
 
@@ -79,35 +80,36 @@ def record() -> bottle.HTTPResponse:
 
 
 @app.get("/office/audit.py")
-def audit_program() -> bottle.HTTPResponse:
+def audit_download() -> bottle.HTTPResponse:
     """The program of the audit."""
-    try:
-        module = explaining.importlib.import_module("audit")
-    except ImportError:
-        bottle.abort(404, "no audit")
+    module = explaining.audit_program()
+    if module is None:
+        return bottle.HTTPError(404)
     return download(Path(str(module.__file__)).read_bytes(), "audit.py", "text/plain; charset=utf-8")
 
 
 # --- copies and the way back
 
+class Copy(NamedTuple):
+    """A copy of the office: its name, when it was made, its size, and why it was taken."""
+
+    name: str
+    made: str
+    kilobytes: int
+    why: str
+
+
+def copy_of(row: list[Any]) -> Copy:
+    """A copy as the keeper lists it. Its name is the time when it was made."""
+    name, size, why = str(row[0]), int(row[1]), str(row[2])
+    made = f"{name[:4]}-{name[4:6]}-{name[6:8]} {name[9:11]}:{name[11:13]}:{name[13:15]}"
+    return Copy(name, made, size // 1024, why)
+
+
 @app.get("/office/copies")
 def copies() -> str:
     """The copies that are kept, the newest first."""
-    return show("copies", office=office_now(), copies=[Copy(*row) for row in ask("backups")["backups"]][::-1])
-
-
-class Copy:
-    """A copy of the office: its name, its size, and why it was taken."""
-
-    def __init__(self, name: str, size: int, why: str = "", *_: Any) -> None:
-        self.name, self.kilobytes, self.why = name, size // 1024, why
-        self.address = quote(name)
-
-    @property
-    def made(self) -> str:
-        """When it was made, by its name."""
-        stamp = self.name
-        return f"{stamp[:4]}-{stamp[4:6]}-{stamp[6:8]} {stamp[9:11]}:{stamp[11:13]}:{stamp[13:15]}"
+    return show("copies", office=office_now(), copies=[copy_of(row) for row in ask("backups")["backups"]][::-1])
 
 
 @app.post("/office/copies")
@@ -121,11 +123,12 @@ def copy() -> None:
 def ask_back(name: str) -> str:
     """Asks before the office goes back to a copy."""
     office = office_now()
-    says = [f"The office becomes again what it was when the copy {name} was made. All that happened since then is undone: lists that "
-            "residents handed in, steps of the round, lists that came in.",
+    says = [f"The office becomes again what it was when the copy {name} was made. All that happened since then is "
+            "undone: lists that residents handed in, steps of the round, lists that came in.",
             "The keeper makes a copy of the present office first, so you can come back from this too.",
             "Tell the residents if they handed in lists after the copy: they have to hand them in again."]
-    return put_question(office, Question(f"Go back to the copy {name}?", says, "Yes: go back to this copy", "/office/copies"))
+    title = f"Go back to the copy {name}?"
+    return put_question(office, Question(title, says, "Yes: go back to this copy", "/office/copies"))
 
 
 @app.post("/office/copies/<name>/back")
@@ -142,7 +145,7 @@ def back(name: str) -> None:
 def journal() -> str:
     """What was done, the newest first. Two lines of the journal, before and after a change, are one row."""
     merged: dict[str, dict[str, Any]] = {}
-    for at, entry in enumerate(ask("journal", last=SHOWN_ENTRIES)["journal"]):
-        row = merged.setdefault(str(entry.get("n", f"entry {at}")), {"at": entry["at"]})
+    for number, entry in enumerate(ask("journal", last=SHOWN_ENTRIES)["journal"]):
+        row = merged.setdefault(str(entry.get("n", f"entry {number}")), {"at": entry["at"]})
         row.update({name: value for name, value in entry.items() if name != "at"})
     return show("journal", office=office_now(), entries=list(merged.values())[::-1])

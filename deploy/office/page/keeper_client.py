@@ -31,11 +31,11 @@ def ask(question: str, who: str, **fields: Any) -> dict[str, Any]:
             connection.sendall(line)
             reply = json.loads(connection.makefile("rb").readline() or b"null")
     except (OSError, ValueError) as fault:
-        raise KeeperFault("The keeper of the office's file does not answer. Nobody knows whether the last step was carried "
-                          "out. Wait a minute, and look before you try again.") from fault
+        raise KeeperFault("The keeper of the office's file does not answer. Nobody knows whether the last step was "
+                          "carried out. Wait a minute, and look before you try again.") from fault
     if not isinstance(reply, dict):
-        raise KeeperFault("The keeper of the office's file ended during this step. Nobody knows whether it was carried out. "
-                          "Look before you try again.")
+        raise KeeperFault("The keeper of the office's file ended during this step. Nobody knows whether it was "
+                          "carried out. Look before you try again.")
     if "fault" in reply:
         raise KeeperFault(str(reply["fault"]))
     return reply

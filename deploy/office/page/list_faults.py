@@ -1,4 +1,4 @@
-"""Finds the faults of a list: the list is tried on a copy, the record that was refused is taken out, and the rest is tried again."""
+"""Finds the faults of a list: it is tried on a copy, the refused record is taken out, and the rest is tried again."""
 
 import time
 from collections.abc import Callable
@@ -23,7 +23,7 @@ class Fault(NamedTuple):
 
 
 class Findings(NamedTuple):
-    """What was found: the faults of single records, what stands against the list as a whole, and whether more may be there."""
+    """The faults of single records, what stands against the list as a whole, and whether there may be more faults."""
 
     faults: list[Fault]
     whole: Meaning | None
@@ -56,14 +56,14 @@ def find(table: CsvList, kind: str, attempt: Callable[[bytes], Answer]) -> Findi
         found = bad_record(answer)
         if found is None:
             return Findings(sorted(faults), refusal(answer), False)
-        at, words = found
+        place, words = found
         left = [number for number in range(len(table.records)) if number not in taken]
-        if at == 0 or words[0] == "many" or at >= len(left):
+        if place == 0 or words[0] == "many" or place >= len(left):
             return Findings(sorted(faults), plain.cause(words, kind), False)
-        record = table.records[left[at]]
-        faults.append(Fault(record.row, record.fields[0].encode("utf-8", "replace").decode(), shown(record.fields, kind),
-                            plain.cause(words, kind)))
-        taken.add(left[at])
+        record = table.records[left[place]]
+        ident = record.fields[0].encode("utf-8", "replace").decode()
+        faults.append(Fault(record.row, ident, shown(record.fields, kind), plain.cause(words, kind)))
+        taken.add(left[place])
         if len(faults) == MOST or time.monotonic() > end:
             return Findings(sorted(faults), None, True)
 
@@ -71,5 +71,6 @@ def find(table: CsvList, kind: str, attempt: Callable[[bytes], Answer]) -> Findi
 def refusal(answer: Answer) -> Meaning:
     """Why a list was refused as a whole."""
     if answer.text.startswith("rooms: not"):
-        return Meaning("The label is not well written.", "Write up to 32 small letters, digits and hyphens, the first no hyphen.")
+        return Meaning("The label is not well written.",
+                       "Write up to 32 small letters, digits and hyphens, the first no hyphen.")
     return plain.meaning(answer.text)

@@ -3,18 +3,14 @@
 import base64
 import csv
 from typing import Any, NamedTuple
-from urllib.parse import quote
 
 import list_faults
 import plain
-from app import app, ask, change, clerk, field, go, memory, office_now, show, tell, text_of
-from bottle import request  # type: ignore[import]  # Debian's bottle has no types
+from app import app, ask, change, clerk, field, go, memory, office_now, show, tell, text_of, upload_of
 from csv_list import CsvList
 from keeper_client import Answer, answers_of
 from office import Office
 from questions import Question, put_question
-
-LONGEST = 262_144
 
 
 class Job(NamedTuple):
@@ -43,8 +39,7 @@ def lists() -> str:
 @app.post("/office/lists")
 def look_at_list() -> str:
     """Tries a list. Where it fits, it is held until the clerk says to bring it in."""
-    office, kind, label, upload = office_now(), text_of("kind"), text_of("label"), request.files.get("list")
-    body = upload.file.read(LONGEST + 1) if upload else b""
+    office, kind, label, body = office_now(), text_of("kind"), text_of("label"), upload_of("list")
     if kind not in plain.kinds(office.version) or not body:
         tell("bad", "Choose a list first.")
         go("/office/lists")
@@ -71,7 +66,7 @@ def known_list(office: Office, job: Job) -> str:
 
 
 def fitting_list(office: Office, job: Job, table: CsvList, made: list[tuple[str, str, str]]) -> str:
-    """The page of a list that fits: what it would replace, the slips with new keys, and the question whether to bring it in."""
+    """The page of a list that fits: what it replaces, the slips with new keys, and whether to bring it in."""
     replaced: dict[str, int] = {}
     if job.kind == "choices":
         for number, record in enumerate(table.records):
@@ -101,8 +96,8 @@ def bring_list() -> None:
 @app.get("/office/blank/<label>")
 def ask_blank(label: str) -> str:
     """Asks before the bytes of a kept list are deleted."""
-    says = [f"The office keeps the list {label} as it came in, with names, keys, homes or wishes. Blanking deletes what stands in "
-            "it. The register does not change, and the label stays taken.",
+    says = [f"The office keeps the list {label} as it came in, with names, keys, homes or wishes. Blanking deletes "
+            "what stands in it. The register does not change, and the label stays taken.",
             "You cannot take it back. Older copies still hold the list until they are deleted."]
     return put_question(office_now(), Question(f"Blank the list {label}?", says, "Yes: blank it", "/office/lists"))
 
@@ -110,6 +105,6 @@ def ask_blank(label: str) -> str:
 @app.post("/office/blank/<label>")
 def blank(label: str) -> None:
     """Deletes the bytes of a kept list."""
-    ask("blank", label=label)
+    ask("blank", label=label, seen=field("seen"))
     tell("good", f"The list {label} is blank.")
-    go("/office/lists#" + quote(f"list-{label}"))
+    go("/office/lists")

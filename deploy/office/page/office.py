@@ -30,7 +30,7 @@ class KeptList(NamedTuple):
     added: int
 
 
-class Office:
+class Office:  # pylint: disable=too-many-instance-attributes  # each is a part of the office
     """The rows of the keeper's `view`, under names. Columns that a later version adds are passed over."""
 
     def __init__(self, view: dict[str, Any]) -> None:

@@ -1,5 +1,5 @@
 #!/usr/bin/python3
-"""rooms-page: the office's page. It has neither the office's file nor its keys, and asks the keeper for all that it shows and does.
+"""rooms-page: the office's page. It has neither the office's file nor its keys, and asks the keeper for all of it.
 
 It listens on the socket that systemd hands over (rooms-page.socket), or on that of ROOMS_PAGE_SOCKET.
 """
@@ -32,8 +32,8 @@ IN_MEMORY = 16_000_000
 def main() -> None:
     """Serves the page until it is ended."""
     os.umask(0o077)
-    options = {"threads": 4, "max_request_body_size": LONGEST_FORM, "inbuf_overflow": IN_MEMORY, "outbuf_overflow": IN_MEMORY,
-               "clear_untrusted_proxy_headers": True, "ident": None}
+    options = {"threads": 4, "max_request_body_size": LONGEST_FORM, "inbuf_overflow": IN_MEMORY,
+               "outbuf_overflow": IN_MEMORY, "clear_untrusted_proxy_headers": True, "ident": None}
     if "LISTEN_FDS" in os.environ:
         waitress.serve(Guarded(app), sockets=[socket.socket(fileno=3)], **options)
     else:

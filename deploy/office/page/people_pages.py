@@ -1,13 +1,10 @@
 """The people of the register: search, one person, and what can be done to one person."""
 
-import re
 import secrets
 
 import explaining
 import plain
 from app import app, attempt, change, clerk, go, memory, office_now, show, tell, text_of
-from csv_list import line_of
-from list_pages import Job
 from office import Office
 from questions import Question, put_question
 
@@ -53,8 +50,10 @@ def what_if(ident: str) -> None:
     place = person_of(office_now(), ident)
     wishes = text_of("text").upper()
     answer = attempt(f"whatif {ident} {wishes}".strip())[0]
-    told = f"By the list {wishes or '(empty)'} this person {answer.text.strip()}." if answer.status == 0 else str(plain.meaning(answer.text))
-    tell("good" if answer.status == 0 else "bad", told)
+    if answer.status == 0:
+        tell("good", f"By the list {wishes or '(empty)'} this person {answer.text.strip()}.")
+    else:
+        tell("bad", str(plain.meaning(answer.text)))
     go(place)
 
 
@@ -77,20 +76,22 @@ def question_of(office: Office, ident: str, act: str) -> Question | None:
     person = office.people[ident]
     who, place = f"{person.name} ({ident})", f"/office/person/{ident}"
     if act == "leave" and person.home:
-        return Question(f"Does {who} leave {person.home}?", [f"{person.home} becomes free. The person stays in the register.",
-                        "To take it back, let the person move in again, as long as nobody else lives there."], "Yes: leave the room", place)
+        says = [f"{person.home} becomes free. The person stays in the register.",
+                "To take it back, let the person move in again, as long as nobody else lives there."]
+        return Question(f"Does {who} leave {person.home}?", says, "Yes: leave the room", place)
     if act == "remove":
-        return Question(f"Remove {who} from the register?", ["The room becomes free, and the program forgets name and key. "
-                        "Recorded moves stay.", plain.COPY_FIRST,
-                        "Kept lists still hold the name and the key until you blank them (page Lists in)."], "Yes: remove this person", place)
+        says = ["The room becomes free, and the program forgets name and key. Recorded moves stay.", plain.COPY_FIRST,
+                "Kept lists and copies still hold the name and the key. Blank the lists on the page Lists in."]
+        return Question(f"Remove {who} from the register?", says, "Yes: remove this person", place)
     if act == "withdraw":
-        return Question(f"Does {who} withdraw from the round?", ["The person takes no part in this round"
-                        + (f", keeps {person.home}, and nobody else can get it." if person.home else ", and gets no room in it."),
-                        "You cannot take it back within this round.", plain.COPY_FIRST], "Yes: withdraw from the round", place)
+        keeps = f"keeps {person.home}, and nobody else can get it" if person.home else "gets no room in it"
+        says = [f"The person takes no part in this round and {keeps}.", "You cannot take it back within this round.",
+                plain.COPY_FIRST]
+        return Question(f"Does {who} withdraw from the round?", says, "Yes: withdraw from the round", place)
     if act == "key":
-        return Question(f"Make a new key for {who}?", ["The old key stops working. The next page shows the new key, once.",
-                        "For a moment the person leaves the register: the page removes the person and brings them in again with the "
-                        "same name and room.", plain.COPY_FIRST], "Yes: make a new key", place)
+        says = ["The old key stops working. The next page shows the new key, once.",
+                "Identifier, name and room stay as they are."]
+        return Question(f"Make a new key for {who}?", says, "Yes: make a new key", place)
     return None
 
 
@@ -117,22 +118,20 @@ def change_person(ident: str, act: str) -> str:
         go("/office/register")
     elif act == "key":
         person = office.people[ident]
-        if change("do", lines=[*leave, f"remove {ident}"]):
-            return bring_person(office, ident, person.name, person.home or "")
+        return add_person(ident, person.name, person.home or "", before=[*leave, f"remove {ident}"])
     go(place)
 
 
 @app.post("/office/person")
 def new_person() -> str:
     """Adds a person, and shows the key."""
-    return bring_person(office_now(), text_of("ident").upper(), text_of("name"), text_of("room").upper())
+    return add_person(text_of("ident").upper(), text_of("name"), text_of("room").upper(), before=[])
 
 
-def bring_person(office: Office, ident: str, name: str, home: str) -> str:
-    """Brings one person in by a list of one line, since a key may stand in no line of the program. The key is shown here, once."""
+def add_person(ident: str, name: str, home: str, before: list[str]) -> str:
+    """Adds a person with a new key after other lines, all or none of them. The answer shows the key, once."""
     key = secrets.token_hex(16)
-    stem = re.sub("[^a-z0-9]", "", ident.lower())[:12] or "person"
-    body = b"person,name,key,home\n" + line_of([ident, name, key, home]).encode()
-    if not change("import", **Job("people", office.new_label(stem), body).fields()):
+    lines = [*before, f"person {ident} {key} {name}", *([f"home {ident} {home}"] if home else [])]
+    if not change("do", lines=lines):
         go("/office/register")
     return show("key", office=office_now(), ident=ident, slips=[(ident, name, key)])

@@ -41,8 +41,8 @@ class Meaning(NamedTuple):
 
 PAGES = {
     "/office/": "Overview", "/office/lists": "Lists in", "/office/register": "People", "/office/rooms": "Rooms",
-    "/office/draw": "Draw", "/office/results": "Results", "/office/print": "Print and export", "/office/copies": "Copies",
-    "/office/journal": "Journal",
+    "/office/draw": "Draw", "/office/results": "Results", "/office/print": "Print and export",
+    "/office/copies": "Copies", "/office/journal": "Journal",
 }
 
 PHASES = {
@@ -50,9 +50,11 @@ PHASES = {
     "open": Phase("The round is open", "Residents hand in their lists. When the time is over, close the round."),
     "closed": Phase("The round is closed", "The lists are final. Next, draw the order of the participants."),
     "drawn": Phase("The order is drawn", "Next, let the program give the rooms by the lists and the order."),
-    "ran": Phase("The rooms are given", "Only the office sees who gets which room. Check the results, then publish them."),
-    "published": Phase("The results are published", "Each resident sees their own result. Print the letters and the plan of moves. "
-                       "On the day of moving, settle the round."),
+    "ran": Phase("The rooms are given",
+                 "Only the office sees who gets which room. Check the results, then publish them."),
+    "published": Phase("The results are published",
+                       "Each resident sees their own result. Print the letters and the plan of moves. On the day of "
+                       "moving, settle the round."),
 }
 
 # `cancel` stands last: it is never the step that comes next.
@@ -72,21 +74,25 @@ STEPS = {
                     "You cannot take it back, and you cannot give the round up any more.", True),
     "settle": Step(("published",), "Settle the round",
                    "The new rooms become the homes, the moves are recorded, and the round is over.",
-                   "You cannot take it back. The lists, the order and the results of this round are deleted; the moves stay. "
-                   "First download the public record, and print the letters.", True),
+                   "You cannot take it back. The lists, the order and the results of this round are deleted; the moves "
+                   "stay. First download the public record, and print the letters.", True),
     "cancel": Step((), "Give the round up",
-                   "All lists, withdrawals, the order and the results of this round are deleted. The number of the round stays used.",
-                   "You cannot take it back. To bring lists of choices in again, send them under a new label: under the old label "
-                   "nothing comes in.", True),
+                   "All lists, withdrawals, the order and the results of this round are deleted. The number of the "
+                   "round stays used.",
+                   "You cannot take it back. To bring lists of choices in again, send them under a new label: under "
+                   "the old label nothing comes in.", True),
 }
 CANCELLABLE = ("open", "closed", "drawn", "ran")
-COPY_FIRST = "The keeper makes a copy of the office first. The page Copies brings you back to it; what happens after the copy is then lost."
+COPY_FIRST = ("The keeper makes a copy of the office first. The page Copies brings you back to it; what happens after "
+              "the copy is then lost.")
 
 REGISTER = ("idle", "open")
 KINDS = {
     "rooms": Kind("room", "One room code a line.", REGISTER, 1),
-    "people": Kind("person,name,key,home", "Identifier, name, key, and the room where the person lives, or nothing.", REGISTER, 1),
-    "choices": Kind("person,choices", "Identifier, and the room codes, the best first, with one space between two.", ("open",), 1),
+    "people": Kind("person,name,key,home", "Identifier, name, key, and the room where the person lives, or nothing.",
+                   REGISTER, 1),
+    "choices": Kind("person,choices", "Identifier, and the room codes, the best first, with one space between two.",
+                    ("open",), 1),
 }
 EXPORTS = {"rooms": "Rooms", "people": "People, without keys", "moves": "Moves of all settled rounds"}
 
@@ -96,15 +102,18 @@ REFUSALS = {
     2: Meaning("No person has this identifier.", "Look the person up on the page People."),
     3: Meaning("No room has this code.", "Look at the page Rooms, or add the room first."),
     4: Meaning("This room is in the register already.", "Take the line out of the list."),
-    5: Meaning("This person is in the register already.", "Take the line out, or give the other person another identifier."),
-    6: Meaning("Another person has this key.", "Give this person a key of their own, or leave the field empty to get a new one."),
+    5: Meaning("This person is in the register already.",
+               "Take the line out, or give the other person another identifier."),
+    6: Meaning("Another person has this key.",
+               "Give this person a key of their own, or leave the field empty to get a new one."),
     7: Meaning("This room is out of use.", "Bring it back on the page Rooms, or write another room."),
     8: Meaning("Another person lives in this room.", "Look up the room on the page Rooms to see who."),
     9: Meaning("This person has a room already.", "First let the person leave it."),
     10: Meaning("This person has no room.", "There is nothing to leave."),
     11: Meaning("This person has withdrawn from the round.", "Take the line out of the list."),
     12: Meaning("The number of words is not the number of participants.", "Draw again."),
-    13: Meaning("A limit is reached: 2,000 rooms, 2,000 people, 200 lists, or 262,144 bytes in a list.", "Split a long list in two."),
+    13: Meaning("A limit is reached: 2,000 rooms, 2,000 people, 200 lists, or 262,144 bytes in a list.",
+                "Split a long list in two."),
     14: Meaning("Another list came in under this label.", "Choose another label."),
     16: Meaning("This person takes no part in the round.", "Choose a participant."),
     17: Meaning("This round is not over, or there was no such round.", "Choose a round that is settled."),
@@ -126,7 +135,8 @@ FIELDS = {
 # What a list as a whole can be refused for, by the word after the record's number.
 CAUSES = {
     "header": Meaning("The first line is not the first line of this kind of list.",
-                      "Check that you chose the right kind. Save the list as CSV with the character set UTF-8 and commas, not semicolons."),
+                      "Check that you chose the right kind. Save the list as CSV with the character set UTF-8 and "
+                      "commas, not semicolons."),
     "many": Meaning("The list has more than 10,000 records.", "Split it in two."),
     "fields": Meaning("This line has more or fewer fields than the first line.",
                       "Put a name with a comma in double quotes. Keep the comma of an empty field."),
@@ -145,11 +155,34 @@ def cause(words: list[str], kind: str) -> Meaning:
         return CAUSES[words[0]]
     number = int(words[1])
     if words[0] == "refusal":
-        return REFUSALS.get(number, Meaning(f"The office refuses this line (refusal {number}).", "Look it up in the guide."))
+        unknown = Meaning(f"The office refuses this line (refusal {number}).", "Look it up in the guide.")
+        return REFUSALS.get(number, unknown)
     texts = FIELDS.get(kind, ())
     columns = KINDS[kind].header.split(",") if kind in KINDS else []
     name = columns[number - 1] if number <= len(columns) else f"field {number}"
-    return Meaning(f"The field {name} is not well written.", texts[number - 1] if number <= len(texts) else "Correct it.")
+    to_do = texts[number - 1] if number <= len(texts) else "Correct it."
+    return Meaning(f"The field {name} is not well written.", to_do)
+
+
+def done(text: str) -> str:
+    """What an accepted line did, by its answer."""
+    words = text.split() or ["ok"]
+    number = words[1] if len(words) > 1 else ""
+    texts = {
+        "ok": "Done.",
+        "shut": f"The room is out of use{f', and {words[-1]} has lost it' if 'displaced' in words else ''}.",
+        "round": f"Round {number} is open.",
+        "chosen": f"The list is on record: {' '.join(words[1:]) or 'an empty list'}.",
+        "withdrawn": "The person has withdrawn from the round.",
+        "cancelled": "The round is given up.",
+        "closed": f"The round is closed, with {number} participants.",
+        "drawn": f"The order of {number} participants is drawn.",
+        "ran": f"The rooms are given to {number} participants.",
+        "published": f"The results of {number} participants are published.",
+        "settled": f"The round is settled, with {number} moves.",
+        "added": f"The list is in, with {number} lines.",
+    }
+    return texts.get(words[0], text.strip())
 
 
 def meaning(text: str) -> Meaning:
@@ -157,7 +190,8 @@ def meaning(text: str) -> Meaning:
     words = text.split()
     if not words or words[0] == "unavailable":
         return Meaning("The file, the disk or the memory did not serve.",
-                       "Look whether the change was made. If it was not, try again; if it fails again, call whoever looks after the machine.")
+                       "Look whether the change was made. If it was not, try again; if it fails again, call whoever "
+                       "looks after the machine.")
     if text.startswith(("not understood", "rooms: not")):
         return Meaning("The program does not understand this.", "Check capital letters, signs and spaces.")
     if words[0] != "refused":

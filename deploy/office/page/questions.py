@@ -7,7 +7,7 @@ from office import Office
 
 
 class Question(NamedTuple):
-    """A question: what happens, what the button of yes says, and where no leads. Yes goes to the address of the question itself."""
+    """What happens, what the button of yes says, and where no leads. Yes goes to the question's own address."""
 
     title: str
     says: list[str]

@@ -29,6 +29,7 @@ class Letter(NamedTuple):
     ident: str
     name: str
     result: str
+    room: str
     told: list[str]
 
 
@@ -38,10 +39,10 @@ def letter_of(office: Office, ident: str, told: list[str]) -> Letter:
     if room is None:
         result = "You get no room in this round."
     elif room == office.people[ident].home:
-        result = f"You keep your room {room}."
+        result = "You keep your room"
     else:
-        result = f"Your new room is {room}."
-    return Letter(ident, office.people[ident].name, result, told)
+        result = "Your new room is"
+    return Letter(ident, office.people[ident].name, result, room or "", told)
 
 
 @app.get("/office/letters")
@@ -108,9 +109,9 @@ def groups_of(office: Office, table: str) -> list[Group]:
     circles = circles_of(waves.pop("swap", []))
     groups = [Group(f"Wave {wave}", "They move into rooms that nobody leaves." if wave == "1"
                     else f"They move once wave {int(wave) - 1} has left.", moves) for wave, moves in waves.items()]
-    groups += [Group(f"Circle {number}", "They move at the same time: each one goes where the next one in the list comes from, and "
-                     "the last one goes where the first one comes from.", moves) for number, moves in enumerate(circles, 1)]
-    return groups
+    note = ("They move at the same time: each one goes where the next one in the list comes from, and the last one "
+            "goes where the first one comes from.")
+    return groups + [Group(f"Circle {number}", note, circle) for number, circle in enumerate(circles, 1)]
 
 
 @app.get("/office/moves/<number:int>")

@@ -29,10 +29,12 @@ def ask_shut(code: str) -> str:
     if room is None or room.tenant is None:
         go("/office/rooms")
     name = f"{office.people[room.tenant].name} ({room.tenant})"
-    says = [f"{name} lives in {code} and loses the room at once. In a round this person takes part like somebody without a room, and "
-            "may end without one.", "While a round is open nobody can be given the room back, not even by bringing it back into use.",
+    says = [f"{name} lives in {code} and loses the room at once. In a round this person takes part like somebody "
+            "without a room, and may end without one.",
+            "While a round is open nobody can be given the room back, not even by bringing it back into use.",
             plain.COPY_FIRST]
-    return put_question(office, Question(f"Take {code} out of use?", says, f"Yes: take {code} out of use", "/office/rooms"))
+    title = f"Take {code} out of use?"
+    return put_question(office, Question(title, says, f"Yes: take {code} out of use", "/office/rooms"))
 
 
 @app.post("/office/rooms/<code>/shut")

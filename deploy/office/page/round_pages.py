@@ -3,6 +3,7 @@
 import hashlib
 import re
 import secrets
+import shlex
 from typing import Any, NamedTuple
 
 import plain
@@ -11,8 +12,13 @@ from office import Office
 from questions import Question, put_question
 
 SEED = re.compile(r"[0-9a-f]{64}")
-# A die's fifty throws are 129 bits.
+NOTED = re.compile(r"seed ([0-9a-f]{64}) (.*)")
+DRAWN = re.compile(r"draw \$\(rooms words --seed ([0-9A-Fa-f]{64})")
+OF_TEXT = "SHA-256 of "
+# Fifty throws of a die are 129 bits.
 SHORTEST_TEXT, LONGEST_TEXT = 8, 400
+# The journal masks what may be a key: 16 letters and digits in a row.
+LIKE_A_KEY = re.compile(r"[A-Za-z0-9]{16}")
 
 
 # --- the round
@@ -58,25 +64,32 @@ def take_step(name: str) -> None:
 # --- the draw
 
 class Noted(NamedTuple):
-    """A seed in the journal: when, by whom, and how it came about."""
+    """A seed in the journal: when, by whom, how it came about, and the line that works it out again from a text."""
 
     at: str
     who: str
     seed: str
     source: str
+    check: str
 
 
-def noted_seeds(office: Office) -> list[Noted]:
-    """The seeds in the journal since this round was closed, the first one first."""
+def noted_seeds(office: Office) -> tuple[list[Noted], str]:
+    """The seeds in the journal since this round was closed, the first one first; and the seed of the draw."""
     found: list[Noted] = []
+    drawn = ""
     entries: list[dict[str, Any]] = ask("journal", last=1000)["journal"]
     for entry in entries:
-        words = str(entry.get("line", "")).split(" ", 3)
-        if words[0] == "close":
-            found = []
-        elif words[0] == "seed" and len(words) > 1 and SEED.fullmatch(words[1]):
-            found.append(Noted(entry["at"], entry.get("who", ""), words[1], " ".join(words[2:])))
-    return found if office.phase != "idle" else []
+        line = str(entry.get("line", ""))
+        if line == "close":
+            found, drawn = [], ""
+        elif match := NOTED.fullmatch(line):
+            seed, source = match.groups()
+            text = source.removeprefix(OF_TEXT)
+            check = f"printf %s {shlex.quote(text)} | sha256sum" if text != source else ""
+            found.append(Noted(entry["at"].replace("T", " ")[:19], entry.get("who", ""), seed, source, check))
+        elif match := DRAWN.search(line):
+            drawn = match[1].lower()
+    return (found, drawn) if office.phase != "idle" else ([], "")
 
 
 @app.get("/office/draw")
@@ -86,7 +99,8 @@ def draw_page() -> str:
     order = []
     if office.phase in ("drawn", "ran", "published"):
         order = [line.split() for line in attempt("order")[0].text.splitlines()]
-    return show("draw", office=office, order=order, seeds=noted_seeds(office))
+    seeds, drawn = noted_seeds(office)
+    return show("draw", office=office, order=order, seeds=seeds, drawn=drawn)
 
 
 def seed_of(way: str, text: str) -> tuple[str, str] | str:
@@ -100,7 +114,10 @@ def seed_of(way: str, text: str) -> tuple[str, str] | str:
         return f"A seed has 64 signs out of 0 to 9 and a to f. You entered {len(seed)} signs."
     if not SHORTEST_TEXT <= len(text) <= LONGEST_TEXT:
         return f"Enter {SHORTEST_TEXT} to {LONGEST_TEXT} signs: the throws of the dice, or the public number."
-    return hashlib.sha256(text.encode()).hexdigest(), f'SHA-256 of "{text}"'
+    if LIKE_A_KEY.search(text):
+        return ("Write a space between two throws or numbers. Sixteen letters and digits in a row look like a key, and "
+                "the journal takes no keys.")
+    return hashlib.sha256(text.encode()).hexdigest(), OF_TEXT + text
 
 
 @app.post("/office/seed")
@@ -121,7 +138,7 @@ def note_seed() -> None:
 def draw() -> None:
     """Draws with a seed that stands in the journal."""
     seed = text_of("seed")
-    if seed not in [noted.seed for noted in noted_seeds(office_now())]:
+    if seed not in [noted.seed for noted in noted_seeds(office_now())[0]]:
         tell("bad", "This seed does not stand in the journal. Enter it first.")
     else:
         change("draw", seed=seed)
