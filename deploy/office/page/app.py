@@ -67,14 +67,14 @@ def guard() -> None:
     site = request.get_header("Sec-Fetch-Site", "same-origin")
     if site != "same-origin" or not hmac.compare_digest(field("token").encode(), token().encode()):
         tell("bad", STALE)
-        go("/office/")
+        go_to("/office/")
 
 
 # --- forms and answers
 
 def field(name: str) -> str:
     """A field of a form as it was sent."""
-    return request.forms.getunicode(name) or ""
+    return request.forms.getunicode(name) or ""  # pylint: disable=no-member  # bottle makes it when it is asked for
 
 
 def text_of(name: str) -> str:
@@ -83,7 +83,7 @@ def text_of(name: str) -> str:
 
 
 def upload_of(name: str) -> bytes:
-    """The bytes of a file in a form. A longer one than the program takes is cut behind its limit, which the program finds."""
+    """The bytes of a file in a form. One that is too long is cut behind the limit, and the program refuses it."""
     upload = request.files.get(name)  # pylint: disable=no-member  # bottle makes it when it is asked for
     return bytes(upload.file.read(LONGEST_LIST + 1)) if upload else b""
 
@@ -93,7 +93,7 @@ def tell(kind: str, text: str) -> None:
     memory.tell(clerk(), kind, text)
 
 
-def go(address: str) -> NoReturn:
+def go_to(address: str) -> NoReturn:
     """Leads the browser to another page."""
     raise HTTPResponse(status=303, headers={"Location": address})
 
@@ -176,7 +176,7 @@ def refused(error: bottle.HTTPError) -> str:
     return down(texts.get(error.status_code, "The page does not understand this request."))
 
 
-class Guarded:
+class Guarded:  # pylint: disable=too-few-public-methods  # a WSGI application is one method
     """The app with its headers on each answer. A fault of the page leaves its place in the log, and no value."""
 
     def __init__(self, inner: Callable[..., Iterable[bytes]]) -> None:

@@ -4,6 +4,7 @@ The office reads who got a room that somebody asked for. A letter to a resident 
 """
 
 import importlib
+import threading
 from typing import Any, NamedTuple
 
 from office import Office
@@ -35,10 +36,23 @@ class Facts(NamedTuple):
     step: int
 
 
-class Last:  # pylint: disable=too-few-public-methods  # a place for one audit
-    """The last audit, and the rows that it was made of. At 2,000 people an audit takes most of a second."""
+class LastAudit:  # pylint: disable=too-few-public-methods  # it keeps what it has worked out
+    """The audit of the rows that were shown last. At 2,000 people an audit takes most of a second."""
 
-    audit: tuple[dict[str, Any], Any] | None = None
+    def __init__(self) -> None:
+        self.lock = threading.Lock()
+        self.view: dict[str, Any] = {}
+        self.audit: Any = None
+
+    def audit_of(self, module: Any, office: Office) -> Any:
+        """The audit of an office."""
+        with self.lock:
+            if self.audit is None or self.view != office.view:
+                self.view, self.audit = office.view, module.Audit(office.view)
+            return self.audit
+
+
+LAST = LastAudit()
 
 
 def audit_program() -> Any | None:
@@ -51,14 +65,8 @@ def audit_program() -> Any | None:
 
 def audit_of(office: Office) -> Any | None:
     """The audit of the office's results, where the program of the audit is installed."""
-    module, last = audit_program(), Last.audit
-    if module is None:
-        return None
-    if last is not None and last[0] == office.view:
-        return last[1]
-    audit = module.Audit(office.view)
-    Last.audit = (office.view, audit)
-    return audit
+    module = audit_program()
+    return None if module is None else LAST.audit_of(module, office)
 
 
 def facts_of(audit: Any, office: Office, ident: str) -> Facts | None:

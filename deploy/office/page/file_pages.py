@@ -10,7 +10,7 @@ import bottle  # type: ignore[import]  # Debian's bottle has no types
 
 import explaining
 import plain
-from app import HERE, app, ask, download, field, go, office_now, show, tell
+from app import HERE, app, ask, download, field, go_to, office_now, show, tell
 from keeper_client import answers_of
 from office import Office
 from questions import Question, put_question
@@ -116,7 +116,7 @@ def copies() -> str:
 def copy() -> None:
     """Makes a copy of the office."""
     tell("good", f"The copy {ask('backup')['name']} is made.")
-    go("/office/copies")
+    go_to("/office/copies")
 
 
 @app.get("/office/copies/<name>/back")
@@ -136,7 +136,7 @@ def back(name: str) -> None:
     """Puts a copy back."""
     made = ask("back", name=name, seen=field("seen"))["name"]
     tell("good", f"The office is back at the copy {name}. What it was before is in the copy {made}.")
-    go("/office/")
+    go_to("/office/")
 
 
 # --- the journal

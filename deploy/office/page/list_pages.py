@@ -6,7 +6,7 @@ from typing import Any, NamedTuple
 
 import list_faults
 import plain
-from app import app, ask, change, clerk, field, go, memory, office_now, show, tell, text_of, upload_of
+from app import app, ask, change, clerk, field, go_to, memory, office_now, show, tell, text_of, upload_of
 from csv_list import CsvList
 from keeper_client import Answer, answers_of
 from office import Office
@@ -42,12 +42,12 @@ def look_at_list() -> str:
     office, kind, label, body = office_now(), text_of("kind"), text_of("label"), upload_of("list")
     if kind not in plain.kinds(office.version) or not body:
         tell("bad", "Choose a list first.")
-        go("/office/lists")
+        go_to("/office/lists")
     try:
         table = CsvList(body)
     except csv.Error:
         tell("bad", "This file is no list in CSV. Save it from the spreadsheet as CSV, UTF-8, with commas.")
-        go("/office/lists")
+        go_to("/office/lists")
     made = []
     if kind == "people" and field("keys") and table.header == plain.KINDS["people"].header.split(","):
         made = table.fill_keys()
@@ -90,7 +90,7 @@ def bring_list() -> None:
         tell("bad", f"A list came in under the label {job.label} meanwhile. Send the list again under another label.")
     elif change("import", **job.fields()):
         memory.let_go(name)
-    go("/office/lists")
+    go_to("/office/lists")
 
 
 @app.get("/office/blank/<label>")
@@ -107,4 +107,4 @@ def blank(label: str) -> None:
     """Deletes the bytes of a kept list."""
     ask("blank", label=label, seen=field("seen"))
     tell("good", f"The list {label} is blank.")
-    go("/office/lists")
+    go_to("/office/lists")

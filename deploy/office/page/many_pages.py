@@ -4,7 +4,7 @@ import re
 from typing import Any, NamedTuple
 
 import plain
-from app import app, ask, attempt, clerk, field, go, memory, office_now, show, tell, text_of
+from app import app, ask, attempt, clerk, field, go_to, memory, office_now, show, tell, text_of
 from office import Office
 
 MOST_AT_ONCE = 500
@@ -73,7 +73,7 @@ def do_many() -> None:
     job: Any = memory.held(clerk(), name)
     if not isinstance(job, Many):
         tell("bad", "The page no longer holds these identifiers. Nothing was changed: send them again.")
-        go("/office/many")
+        go_to("/office/many")
     memory.let_go(name)
     done = 0
     for start in range(0, len(job.lines), PORTION):
@@ -82,7 +82,7 @@ def do_many() -> None:
         if not reply["done"]:
             tell("bad", f"{done} of {len(job.lines)} lines were carried out, and then one was refused. "
                         f"{plain.meaning(reply['answers'][-1][0])} Look how far it came.")
-            go("/office/register")
+            go_to("/office/register")
         done += len(portion)
     tell("good", f"Done for {len(job.idents)} people.")
-    go("/office/register")
+    go_to("/office/register")

@@ -4,7 +4,7 @@ import secrets
 
 import explaining
 import plain
-from app import app, attempt, change, clerk, go, memory, office_now, show, tell, text_of
+from app import app, attempt, change, clerk, go_to, memory, office_now, show, tell, text_of
 from office import Office
 from questions import Question, put_question
 
@@ -24,14 +24,14 @@ def register() -> str:
 def search() -> None:
     """Keeps what the clerk searches for."""
     memory.search(clerk(), text_of("text")[:100])
-    go("/office/register")
+    go_to("/office/register")
 
 
 def person_of(office: Office, ident: str) -> str:
     """The address of a person's page, or the register with the news that there is no such person."""
     if ident not in office.people:
         tell("bad", f"No person has the identifier {ident[:12]}.")
-        go("/office/register")
+        go_to("/office/register")
     return f"/office/person/{ident}"
 
 
@@ -54,21 +54,21 @@ def what_if(ident: str) -> None:
         tell("good", f"By the list {wishes or '(empty)'} this person {answer.text.strip()}.")
     else:
         tell("bad", str(plain.meaning(answer.text)))
-    go(place)
+    go_to(place)
 
 
 @app.post("/office/person/<ident>/home")
 def move_in(ident: str) -> None:
     """Records where a person lives."""
     change("do", lines=[f"home {ident} {text_of('text').upper()}"])
-    go(person_of(office_now(), ident))
+    go_to(person_of(office_now(), ident))
 
 
 @app.post("/office/person/<ident>/choose")
 def choose(ident: str) -> None:
     """Puts a person's list on record."""
     change("do", lines=[f"choose {ident} {text_of('text').upper()}".strip()])
-    go(person_of(office_now(), ident))
+    go_to(person_of(office_now(), ident))
 
 
 def question_of(office: Office, ident: str, act: str) -> Question | None:
@@ -102,7 +102,7 @@ def ask_person(ident: str, act: str) -> str:
     place = person_of(office, ident)
     question = question_of(office, ident, act)
     if question is None:
-        go(place)
+        go_to(place)
     return put_question(office, question)
 
 
@@ -115,11 +115,11 @@ def change_person(ident: str, act: str) -> str:
     if act in ("leave", "withdraw"):
         change("do", lines=[f"{act} {ident}"])
     elif act == "remove" and change("do", lines=[*leave, f"remove {ident}"]):
-        go("/office/register")
+        go_to("/office/register")
     elif act == "key":
         person = office.people[ident]
         return add_person(ident, person.name, person.home or "", before=[*leave, f"remove {ident}"])
-    go(place)
+    go_to(place)
 
 
 @app.post("/office/person")
@@ -133,5 +133,5 @@ def add_person(ident: str, name: str, home: str, before: list[str]) -> str:
     key = secrets.token_hex(16)
     lines = [*before, f"person {ident} {key} {name}", *([f"home {ident} {home}"] if home else [])]
     if not change("do", lines=lines):
-        go("/office/register")
+        go_to("/office/register")
     return show("key", office=office_now(), ident=ident, slips=[(ident, name, key)])

@@ -5,7 +5,7 @@ from typing import NamedTuple
 import explaining
 import figures
 import plain
-from app import app, attempt, field, go, office_now, show, tell
+from app import app, attempt, field, go_to, office_now, show, tell
 from office import Office
 
 LONGEST_CLOSING = 1000
@@ -52,11 +52,11 @@ def letters() -> str:
     office = office_now()
     if office.phase != "published":
         tell("bad", "Letters can be printed while the results are published, until the round is settled.")
-        go("/office/print")
+        go_to("/office/print")
     audit = explaining.audit_of(office)
     if audit and audit.faults():
         tell("bad", "The audit finds other results. Send no letters, and call whoever looks after the program.")
-        go("/office/results")
+        go_to("/office/results")
     written = []
     for ident in office.results:
         facts = explaining.facts_of(audit, office, ident) if audit else None
@@ -123,5 +123,5 @@ def moves(number: int) -> str:
     answer = attempt(*(ahead if planned else ()), f"moves {number}")[-1]
     if answer.status != 0:
         tell("bad", str(plain.meaning(answer.text)))
-        go("/office/print")
+        go_to("/office/print")
     return show("moves", office=office, number=number, groups=groups_of(office, answer.text), planned=planned)

@@ -1,7 +1,7 @@
 """The rooms of the register."""
 
 import plain
-from app import app, change, go, office_now, show, text_of
+from app import app, change, go_to, office_now, show, text_of
 from questions import Question, put_question
 
 
@@ -18,7 +18,7 @@ def change_room() -> None:
     code = code or text_of("code").upper()
     if verb in ("room", "shut", "reopen"):
         change("do", lines=[f"{verb} {code}"])
-    go("/office/rooms")
+    go_to("/office/rooms")
 
 
 @app.get("/office/rooms/<code>/shut")
@@ -27,7 +27,7 @@ def ask_shut(code: str) -> str:
     office = office_now()
     room = office.rooms.get(code)
     if room is None or room.tenant is None:
-        go("/office/rooms")
+        go_to("/office/rooms")
     name = f"{office.people[room.tenant].name} ({room.tenant})"
     says = [f"{name} lives in {code} and loses the room at once. In a round this person takes part like somebody "
             "without a room, and may end without one.",
@@ -41,4 +41,4 @@ def ask_shut(code: str) -> str:
 def shut(code: str) -> None:
     """Takes a room out of use in which somebody lives."""
     change("do", lines=[f"shut {code}"])
-    go("/office/rooms")
+    go_to("/office/rooms")

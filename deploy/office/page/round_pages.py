@@ -7,7 +7,7 @@ import shlex
 from typing import Any, NamedTuple
 
 import plain
-from app import app, ask, attempt, change, field, go, office_now, show, tell, text_of
+from app import app, ask, attempt, change, field, go_to, office_now, show, tell, text_of
 from office import Office
 from questions import Question, put_question
 
@@ -26,7 +26,7 @@ LIKE_A_KEY = re.compile(r"[A-Za-z0-9]{16}")
 @app.get("/office")
 def without_slash() -> None:
     """The page's address without its slash."""
-    go("/office/")
+    go_to("/office/")
 
 
 @app.get("/office/")
@@ -42,9 +42,9 @@ def ask_step(name: str) -> str:
     step = plain.STEPS.get(name)
     if step is None or office.phase not in (plain.CANCELLABLE if name == "cancel" else step.phases):
         tell("bad", f"This step does not come now. {plain.PHASES[office.phase].title}.")
-        go("/office/")
+        go_to("/office/")
     if name == "draw":
-        go("/office/draw")
+        go_to("/office/draw")
     says = [step.does, step.undo, *([plain.COPY_FIRST] if step.final else [])]
     if name == "close" and office.without_list:
         says.insert(0, f"{len(office.without_list)} of {len(office.participants)} participants have handed in no list.")
@@ -58,7 +58,7 @@ def take_step(name: str) -> None:
     """Takes a step."""
     if name in plain.STEPS and name != "draw":
         change("do", lines=[name])
-    go("/office/")
+    go_to("/office/")
 
 
 # --- the draw
@@ -131,7 +131,7 @@ def note_seed() -> None:
         tell("bad", made)
     else:
         ask("note", line=f"seed {made[0]} {made[1]}")
-    go("/office/draw")
+    go_to("/office/draw")
 
 
 @app.post("/office/draw")
@@ -142,4 +142,4 @@ def draw() -> None:
         tell("bad", "This seed does not stand in the journal. Enter it first.")
     else:
         change("draw", seed=seed)
-    go("/office/draw")
+    go_to("/office/draw")
