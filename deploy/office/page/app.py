@@ -22,7 +22,7 @@ import keeper_client
 import plain
 from keeper_client import Answer, KeeperFault
 from memory import Memory
-from office import Office
+from office_view import Office
 
 HERE = Path(__file__).resolve().parent
 LONGEST_LIST = 262_144

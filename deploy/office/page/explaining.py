@@ -7,7 +7,7 @@ import importlib
 import threading
 from typing import Any, NamedTuple
 
-from office import Office
+from office_view import Office
 
 
 class Gone(NamedTuple):

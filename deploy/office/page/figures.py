@@ -3,7 +3,7 @@
 from collections import Counter
 from typing import NamedTuple
 
-from office import Office
+from office_view import Office
 
 # Choices beyond this one share a bar.
 LAST_BAR = 12

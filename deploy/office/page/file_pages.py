@@ -12,7 +12,7 @@ import explaining
 import plain
 from app import HERE, app, ask, download, field, go_to, office_now, show, tell
 from keeper_client import answers_of
-from office import Office
+from office_view import Office
 from questions import Question, put_question
 
 SHOWN_ENTRIES = 1000

@@ -9,7 +9,7 @@ import plain
 from app import app, ask, change, clerk, field, go_to, memory, office_now, show, tell, text_of, upload_of
 from csv_list import CsvList
 from keeper_client import Answer, answers_of
-from office import Office
+from office_view import Office
 from questions import Question, put_question
 
 

@@ -5,7 +5,7 @@ from typing import Any, NamedTuple
 
 import plain
 from app import app, ask, attempt, clerk, field, go_to, memory, office_now, show, tell, text_of
-from office import Office
+from office_view import Office
 
 MOST_AT_ONCE = 500
 # So many lines under one stop of the residents' server: a few seconds. Of a portion all lines come to stand, or none.

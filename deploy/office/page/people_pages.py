@@ -5,7 +5,7 @@ import secrets
 import explaining
 import plain
 from app import app, attempt, change, clerk, go_to, memory, office_now, show, tell, text_of
-from office import Office
+from office_view import Office
 from questions import Question, put_question
 
 MOST_SHOWN = 200

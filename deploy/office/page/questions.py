@@ -3,7 +3,7 @@
 from typing import NamedTuple
 
 from app import show
-from office import Office
+from office_view import Office
 
 
 class Question(NamedTuple):

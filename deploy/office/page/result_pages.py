@@ -6,7 +6,7 @@ import explaining
 import figures
 import plain
 from app import app, attempt, field, go_to, office_now, show, tell
-from office import Office
+from office_view import Office
 
 LONGEST_CLOSING = 1000
 

@@ -8,7 +8,7 @@ from typing import Any, NamedTuple
 
 import plain
 from app import app, ask, attempt, change, field, go_to, office_now, show, tell, text_of
-from office import Office
+from office_view import Office
 from questions import Question, put_question
 
 SEED = re.compile(r"[0-9a-f]{64}")
