@@ -1,0 +1,64 @@
+"""Requests to the office's page through the proxy, without a browser."""
+
+import base64
+import http.client
+import re
+import socket
+import urllib.parse
+
+from stand import CLERKS, HOST, unchecked
+
+EDGE = "edge-of-a-part-8472"
+
+
+def multipart(form, files):
+    """A form with files, as a browser sends it."""
+    parts = [f'--{EDGE}\r\nContent-Disposition: form-data; name="{name}"\r\n\r\n{value}\r\n'.encode()
+             for name, value in form.items()]
+    parts += [f'--{EDGE}\r\nContent-Disposition: form-data; name="{name}"; filename="list.csv"\r\n'
+              f'Content-Type: text/csv\r\n\r\n'.encode() + body + b"\r\n" for name, body in files.items()]
+    return b"".join(parts) + f"--{EDGE}--\r\n".encode()
+
+
+class Page:
+    """The office's page, as a clerk without a browser asks for it."""
+
+    def __init__(self, stand, clerk="anna", password=None):
+        self.stand = stand
+        self.clerk, self.password = clerk, CLERKS.get(clerk, "") if password is None else password
+
+    def ask(self, method, path, body=None, headers=None):
+        """One request: the status, the fields and the text of its answer."""
+        connection = http.client.HTTPSConnection("127.0.0.1", self.stand.port, context=unchecked(), timeout=130)
+        raw = socket.create_connection(("127.0.0.1", self.stand.port), 130)
+        connection.sock = unchecked().wrap_socket(raw, server_hostname=HOST)
+        fields = {"Host": HOST, **(headers or {})}
+        if self.clerk:
+            secret = base64.b64encode(f"{self.clerk}:{self.password}".encode()).decode()
+            fields["Authorization"] = f"Basic {secret}"
+        try:
+            connection.request(method, path, body, fields)
+            answer = connection.getresponse()
+            return answer.status, dict(answer.getheaders()), answer.read().decode("utf-8", "replace")
+        finally:
+            connection.close()
+
+    def get(self, path, headers=None):
+        """A page."""
+        return self.ask("GET", path, headers=headers)
+
+    def hidden(self, page):
+        """What the forms of a page carry."""
+        text = self.get(page)[2]
+        found = {name: re.search(f'name="{name}" value="([^"]*)"', text) for name in ("token", "seen")}
+        return {name: match[1] for name, match in found.items() if match}
+
+    def post(self, path, form, headers=None, files=None):
+        """A form just as it is given."""
+        kind = f"multipart/form-data; boundary={EDGE}" if files else "application/x-www-form-urlencoded"
+        body = multipart(form, files) if files else urllib.parse.urlencode(form).encode()
+        return self.ask("POST", path, body, {"Content-Type": kind, **(headers or {})})
+
+    def form(self, path, form=None, page="/office/lists", files=None):
+        """A form of a page, with all that the page puts into it."""
+        return self.post(path, {**self.hidden(page), **(form or {})}, files=files)
