@@ -16,7 +16,7 @@ from selenium.webdriver.common.action_chains import ActionChains
 from selenium.webdriver.common.by import By
 from selenium.webdriver.common.keys import Keys
 
-from stand import CLERKS, HOST, check, fail
+from stand import CLERKS, HOST, check, fail, until
 
 WIDTHS = (360, 1280)
 TALLEST = 2600
@@ -208,9 +208,15 @@ class Clerk:
 
     def look_at_large_text(self, name):
         """With text of twice the size nothing is wider than a narrow window."""
-        self.command("Page.setFontSizes", fontSizes={"standard": 32, "fixed": 26})
+        self.text_size(32)
         self.photograph(f"{name}-360-text200", 360)
-        self.command("Page.setFontSizes", fontSizes={"standard": 16, "fixed": 13})
+        self.text_size(16)
+
+    def text_size(self, pixels):
+        """Sets the size of text that the browser takes by itself, and waits until the page has it."""
+        self.command("Page.setFontSizes", fontSizes={"standard": pixels, "fixed": pixels})
+        until(lambda: self.driver.execute_script("return getComputedStyle(document.documentElement).fontSize") == f"{pixels}px",
+              20, f"text of {pixels} pixels")
 
     def pdf(self, name):
         """The page as it is printed, and how many sheets that is."""
