@@ -28,7 +28,7 @@ class Page:
         self.clerk, self.password = clerk, CLERKS.get(clerk, "") if password is None else password
 
     def ask(self, method, path, body=None, headers=None):
-        """One request: the status, the fields and the text of its answer."""
+        """One request: the status, the fields (in small letters) and the text of its answer."""
         connection = http.client.HTTPSConnection("127.0.0.1", self.stand.port, context=unchecked(), timeout=130)
         raw = socket.create_connection(("127.0.0.1", self.stand.port), 130)
         connection.sock = unchecked().wrap_socket(raw, server_hostname=HOST)
@@ -39,7 +39,8 @@ class Page:
         try:
             connection.request(method, path, body, fields)
             answer = connection.getresponse()
-            return answer.status, dict(answer.getheaders()), answer.read().decode("utf-8", "replace")
+            found = {name.lower(): value for name, value in answer.getheaders()}
+            return answer.status, found, answer.read().decode("utf-8", "replace")
         finally:
             connection.close()
 

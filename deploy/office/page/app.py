@@ -64,8 +64,12 @@ def guard() -> None:
         bottle.abort(403, "no clerk")
     if request.method != "POST":
         return
+    try:
+        sent = field("token")
+    except ValueError:  # of a body that is no form
+        bottle.abort(400, "no form")
     site = request.get_header("Sec-Fetch-Site", "same-origin")
-    if site != "same-origin" or not hmac.compare_digest(field("token").encode(), token().encode()):
+    if site != "same-origin" or not hmac.compare_digest(sent.encode(), token().encode()):
         tell("bad", STALE)
         go_to("/office/")
 

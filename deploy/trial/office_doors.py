@@ -1,0 +1,231 @@
+"""What must not get through the office's page: /usr/bin/python3 deploy/trial/office_doors.py PROGRAM.
+
+Forged and stale forms, 1,000 random requests, two clerks at once, bad lists, markup in names, and the page or the keeper killed.
+"""
+
+import http.client
+import random
+import string
+import subprocess
+import sys
+import threading
+from pathlib import Path
+
+# The repository stays as it is.
+sys.dont_write_bytecode = True
+
+from office_requests import Page, multipart
+from stand import PAGE, PYTHON, Stand, check, until
+
+ROOMS = [f"A-{number}" for number in range(101, 131)]
+PEOPLE = [f"T{number:02}" for number in range(1, 21)]
+FIELDS = ("content-security-policy", "referrer-policy", "x-content-type-options", "cache-control", "cross-origin-opener-policy")
+CHANGES = ["/office/step/open", "/office/step/cancel", "/office/lists", "/office/lists/bring", "/office/blank/people-1",
+           "/office/person", "/office/person/T01/remove", "/office/person/T01/key", "/office/person/T01/home",
+           "/office/person/T01/choose", "/office/rooms", "/office/rooms/A-101/shut", "/office/many", "/office/many/do",
+           "/office/seed", "/office/draw", "/office/copies", "/office/copies/20270101T000000Z/back", "/office/record",
+           "/office/register", "/office/letters"]
+READS = ["/office/", "/office/lists", "/office/register", "/office/rooms", "/office/draw", "/office/results", "/office/print",
+         "/office/copies", "/office/journal", "/office/record", "/office/many", "/office/moves/1", "/office/person/T01",
+         "/office/export/people.csv", "/office/office.css", "/office/step/open"]
+NAMES = ("token", "seen", "kind", "label", "list", "held", "ident", "name", "room", "text", "act", "change", "code", "way", "seed")
+# A list is read into memory: these lines take the place of the page where a temporary file would end them.
+UPLOAD = """
+import io, sys, tempfile
+sys.path.insert(0, sys.argv[1])
+def never(*_, **__):
+    raise SystemExit("a temporary file was asked for")
+tempfile.TemporaryFile = never
+import app, bottle
+body = sys.stdin.buffer.read()
+bottle.request.bind({"REQUEST_METHOD": "POST", "CONTENT_TYPE": sys.argv[2], "CONTENT_LENGTH": str(len(body)),
+                     "wsgi.input": io.BytesIO(body)})
+print(len(app.upload_of("list")), len(app.field("text")))
+"""
+
+
+def rows(stand):
+    """The office as it is."""
+    return {name: value for name, value in stand.ask(ask="view").items() if name not in ("server", "status")}
+
+
+def try_forms(stand, page):
+    """Forms of other sites, of nobody, and of another clerk."""
+    before = rows(stand)
+    good = page.hidden("/office/lists")
+    tries = {
+        "without a token": ({"seen": good["seen"]}, {}),
+        "with a made-up token": ({**good, "token": "0" * 64}, {}),
+        "with another clerk's token": ({**good, "token": Page(stand, "bert").hidden("/office/lists")["token"]}, {}),
+        "with signs that are no token": ({**good, "token": "ä€"}, {}),
+        "of another site": (good, {"Sec-Fetch-Site": "cross-site"}),
+    }
+    for what, (form, headers) in tries.items():
+        answers = {page.post(path, form, headers)[0] for path in CHANGES}
+        check(f"a form {what} changes nothing", answers == {303} and rows(stand) == before, answers)
+    check("a step by GET changes nothing", page.get("/office/step/open")[0] == 200 and rows(stand) == before)
+    status, fields, _ = page.get("/office/")
+    check("each page has its policy, and no cookie", all(name in fields for name in FIELDS) and "set-cookie" not in fields, fields)
+    check("so has what is not there", all(name in page.get("/office/none")[1] for name in FIELDS) and status == 200)
+
+
+def try_random(stand, page, count=1000):
+    """Random requests: each has an answer of the page's own, and nothing changes."""
+    chance, before, statuses = random.Random(42), rows(stand), {}
+    good = page.hidden("/office/lists")
+    signs = string.printable + "äß€\u202e\0"
+    def word():
+        return "".join(chance.choice(signs) for _ in range(chance.choice((0, 1, 8, 40, 2000))))
+    for number in range(count):
+        path = chance.choice(READS + CHANGES) if chance.random() < 0.8 else "/office/" + "".join(
+            chance.choice(string.ascii_letters + "%/.?=&-") for _ in range(chance.randint(0, 60)))
+        form = {name: word() for name in chance.sample(NAMES, chance.randint(0, 6))}
+        if chance.random() < 0.4:  # a form of this page, for an office that is elsewhere
+            form.update(token=good["token"], seen="round 7 closed")
+            form.pop("text", None)
+        way = chance.random()
+        if way < 0.35:
+            status, fields, text = page.get(path)
+        elif way < 0.7:
+            status, fields, text = page.post(path, form)
+        elif way < 0.85:
+            files = {"list": bytes(chance.randrange(256) for _ in range(chance.choice((0, 10, 3000))))}
+            status, fields, text = page.post(path, form, files=files)
+        else:
+            status, fields, text = page.ask(chance.choice(("PUT", "DELETE", "POST", "HEAD", "OPTIONS")), path,
+                                            word().encode(), {"Content-Type": chance.choice(("text/plain", "multipart/form-data; "
+                                                              "boundary=x", "application/json", "multipart/form-data"))})
+        statuses[status] = statuses.get(status, 0) + 1
+        check_answer(number, path, status, fields, text)
+    after = rows(stand)
+    check(f"{count} random requests have an answer, and change nothing: {dict(sorted(statuses.items()))}", after == before)
+    check("the page has written nothing but places of faults", "Traceback" not in stand.log("page"), stand.log("page")[-2000:])
+    print(f"      faults of the page: {stand.log('page').count('rooms-page:')}")
+
+
+def check_answer(number, path, status, fields, text):
+    """Whether an answer is one of the page's own."""
+    if status not in (200, 303, 400, 403, 404, 405, 413, 431, 501, 503) or "Traceback" in text:
+        check(f"request {number}, {path!r}, is answered", False, (status, fields, text[:300]))
+
+
+def try_lists(stand, page):
+    """Bad lists are told with what to do, and the residents' server is not stopped; lists stay in memory."""
+    before, server = rows(stand), stand.server()
+    lists = {
+        "another header": (b"room;x\nA-1\n", "first line"), "no UTF-8": ("room\nZ-1\nÄ\n".encode("latin-1"), "not UTF-8"),
+        "UTF-16": ("room\nZ-1\n".encode("utf-16"), "first line"), "a room twice": (b"room\nZ-1\nZ-1\n", "in the register already"),
+        "small letters": (b"room\nz-1\n", "capital letters"), "too many fields": (b"room\nZ-1,\n", "more or fewer fields"),
+        "a null": (b"room\nZ-1\0\n", "well written"), "an open quote": (b'room\n"Z-1\nZ-2\n', "well written"),
+        "too long": (b"room\n" + b"Z-1\n" * 70_000, "limit"), "nothing": (b"", "Choose a list first"),
+    }
+    for name, (body, text) in lists.items():
+        status, _, shown = page.form("/office/lists", {"kind": "rooms", "label": "bad"}, files={"list": body})
+        if status == 303:
+            shown = page.get("/office/lists")[2]
+        check(f"a list with {name} is told: {text}", text in shown, (status, shown[:1500]))
+    check("the server was not stopped, and nothing came in", stand.server() == server and rows(stand) == before)
+    _, _, shown = page.form("/office/lists", {"kind": "rooms", "label": "rows"}, files={"list": b"room\n\n\nZ-1\nz-2\n\nA-101\n"})
+    check("rows are those of the spreadsheet, with empty lines", ">5</td>" in shown and ">7</td>" in shown, shown[-2500:])
+    kind = "multipart/form-data; boundary=edge-of-a-part-8472"
+    body = multipart({"text": "y" * 90_000}, {"list": b"x" * 250_000})
+    done = subprocess.run([PYTHON, "-c", UPLOAD, PAGE.parent, kind], input=body, capture_output=True, check=False)
+    check("a list of 250,000 bytes is held in memory alone", done.stdout.split() == [b"250000", b"90000"], done)
+
+
+def try_markup(stand, page):
+    """Markup in names and lines stays text; a line cannot hide another, nor an option."""
+    page.form("/office/person", {"ident": "X1", "name": "Eve <script>alert(1)</script>"}, page="/office/register")
+    shown = page.get("/office/person/X1")[2]
+    check("markup in a name is text", "&lt;script&gt;" in shown and "<script>" not in shown, shown[:1500])
+    before = rows(stand)
+    for text in ("A-102\nroom Z-9", "--db /etc/passwd", "A-102 A-103", "-h", "A-102;open"):
+        page.form("/office/person/X1/home", {"text": text}, page="/office/person/X1")
+    check("a room's field takes a room alone", rows(stand) == before)
+    for path in ("/office/../etc/passwd", "/office/%2e%2e/app.py", "/office/office.css/../app.py", "/office/export/..%2fkeeper.csv"):
+        status, _, text = page.get(path)
+        check(f"{path} leads nowhere", status in (400, 404) and "import " not in text, (status, text[:100]))
+
+
+def try_two_clerks(stand, anna, bert):
+    """The older form of two is refused with the reason; changes at the same time all come to stand."""
+    bert.form("/office/step/open", page="/office/step/open")
+    old = anna.hidden("/office/step/cancel")
+    bert.form("/office/step/close", page="/office/step/close")
+    anna.post("/office/step/cancel", old)
+    check("the older form of two clerks changes nothing", rows(stand)["phase"] == "closed")
+    check("and says why", "has gone on" in anna.get("/office/")[2])
+    anna.form("/office/step/cancel", page="/office/step/cancel")
+    forms = [(clerk, clerk.hidden("/office/rooms"), f"N-{number}") for number, clerk in enumerate([anna, bert] * 6)]
+    threads = [threading.Thread(target=clerk.post, args=("/office/rooms", {**form, "change": "room", "code": code}))
+               for clerk, form, code in forms]
+    for thread in threads:
+        thread.start()
+    for thread in threads:
+        thread.join()
+    codes = {row[0] for row in rows(stand)["rooms"]}
+    check("12 changes at once by two clerks all stand", codes >= {code for _, _, code in forms}, codes)
+    bert.get("/office/")
+    anna.form("/office/register", {"text": "T05"}, page="/office/register")
+    check("a search is its clerk's own", "T05" in anna.get("/office/register")[2]
+          and 'value="T05"' not in bert.get("/office/register")[2])
+
+
+def try_kills(stand, page):
+    """The page or the keeper is killed: the clerk reads so, and old forms change nothing."""
+    old = page.hidden("/office/step/open")
+    stand.page.kill()
+    stand.page.wait()
+    check("without the page the clerk gets an answer of the proxy", page.get("/office/")[0] in (502, 503, 504))
+    stand.start_page()
+    until(lambda: page.get("/office/")[0] == 200, 20, "the page")
+    page.post("/office/step/open", old)
+    check("a form of before the restart changes nothing, and says so", rows(stand)["phase"] == "idle"
+          and "before the page was restarted" in page.get("/office/")[2])
+    form = page.hidden("/office/step/open")
+    stand.kill_keeper()
+    status, _, text = page.get("/office/")
+    check("without the keeper the page says so", status == 503 and "keeper" in text, (status, text[:300]))
+    status, _, text = page.post("/office/step/open", form)
+    stand.start_keeper()
+    news = page.get("/office/")[2]
+    check("a step without the keeper is told as unknown", "Nobody knows" in news and rows(stand)["phase"] == "idle", (status, news))
+    stops = threading.Thread(target=lambda: suppressed(page, form))
+    stops.start()
+    stand.kill_keeper()
+    stops.join()
+    stand.start_keeper()
+    phase, news = rows(stand)["phase"], page.get("/office/")[2]
+    check(f"a keeper killed in a step leaves it done or not ({phase}), and the page says so", phase in ("idle", "open")
+          and ("Nobody knows" in news or "Round 1 is open" in news or "is open" in news), news)
+
+
+def suppressed(page, form):
+    """A step during which the keeper is killed."""
+    try:
+        page.post("/office/step/open", form)
+    except (OSError, http.client.HTTPException):
+        pass
+
+
+def try_office_doors(program):
+    """All of it."""
+    with Stand(program) as stand:
+        stand.fill(ROOMS, PEOPLE)
+        stand.start()
+        stand.start_page()
+        stand.start_proxy()
+        anna, bert = Page(stand), Page(stand, "bert")
+        try_forms(stand, anna)
+        try_lists(stand, anna)
+        try_markup(stand, anna)
+        try_random(stand, anna)
+        try_two_clerks(stand, anna, bert)
+        try_kills(stand, anna)
+        check("no wrong password came to the page", "Authorization" not in stand.log("page"))
+
+
+if __name__ == "__main__":
+    if len(sys.argv) != 2 or not Path(sys.argv[1]).exists():
+        sys.exit("usage: /usr/bin/python3 deploy/trial/office_doors.py PROGRAM")
+    try_office_doors(sys.argv[1])
