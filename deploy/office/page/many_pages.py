@@ -5,11 +5,12 @@ from typing import Any, NamedTuple
 
 import plain
 from app import app, ask, attempt, clerk, field, go_to, memory, office_now, show, tell, text_of
+from keeper_client import KeeperFault, answers_of
 from office_view import Office
 
-MOST_AT_ONCE = 500
-# So many lines under one stop of the residents' server: a few seconds. Of a portion all lines come to stand, or none.
-PORTION = 50
+MOST_AT_ONCE = 300
+# So many people under one stop of the residents' server: a second or two. Of a group all lines come to stand, or none.
+GROUP = 15
 
 
 class Many(NamedTuple):
@@ -17,7 +18,7 @@ class Many(NamedTuple):
 
     act: str
     idents: list[str]
-    lines: list[str]
+    groups: list[list[str]]
 
 
 ACTS = {
@@ -33,6 +34,13 @@ def lines_for(office: Office, act: str, ident: str) -> list[str]:
         return [f"withdraw {ident}"]
     leave = [f"leave {ident}"] if office.people[ident].home else []
     return leave if act == "leave" else [*leave, f"remove {ident}"]
+
+
+def groups_of(office: Office, act: str, idents: list[str]) -> list[list[str]]:
+    """The lines for all of these people, in groups."""
+    groups = [[line for ident in idents[start:start + GROUP] for line in lines_for(office, act, ident)]
+              for start in range(0, len(idents), GROUP)]
+    return [lines for lines in groups if lines]
 
 
 @app.get("/office/many")
@@ -59,30 +67,36 @@ def look_at_many() -> str:
         faults += [f"{ident} has withdrawn already." for ident in idents if ident in gone]
     job = None
     if not faults:
-        job = Many(act, idents, [line for ident in idents for line in lines_for(office, act, ident)])
-        if job.lines and (last := attempt(*job.lines)[-1]).status:
-            faults, job = [str(plain.meaning(last.text))], None
+        job = Many(act, idents, groups_of(office, act, idents))
+        refused = [last for last in (attempt(*lines)[-1] for lines in job.groups) if last.status]
+        if refused:
+            faults, job = [str(plain.meaning(refused[0].text))], None
     held = memory.hold(clerk(), job) if job else ""
     return show("many", office=office, acts=acts, text=text, faults=faults[:20], job=job, held=held)
 
 
 @app.post("/office/many/do")
 def do_many() -> None:
-    """Carries out what was tried, in portions, so that residents never wait for long."""
+    """Carries out what was tried, group by group, so that residents never wait for long."""
     name = text_of("held")
     job: Any = memory.held(clerk(), name)
     if not isinstance(job, Many):
         tell("bad", "The page no longer holds these identifiers. Nothing was changed: send them again.")
         go_to("/office/many")
     memory.let_go(name)
-    done = 0
-    for start in range(0, len(job.lines), PORTION):
-        portion = job.lines[start:start + PORTION]
-        reply = ask("do", lines=portion, seen=field("seen"))
-        if not reply["done"]:
-            tell("bad", f"{done} of {len(job.lines)} lines were carried out, and then one was refused. "
-                        f"{plain.meaning(reply['answers'][-1][0])} Look how far it came.")
+    for number, lines in enumerate(job.groups):
+        if fault := fault_of(lines):
+            tell("bad", f"{number} of {len(job.groups)} groups of up to {GROUP} people were carried out, and then this "
+                        f"came: {fault} Look how far it came before you go on.")
             go_to("/office/register")
-        done += len(portion)
     tell("good", f"Done for {len(job.idents)} people.")
     go_to("/office/register")
+
+
+def fault_of(lines: list[str]) -> str:
+    """Carries out a group. What went wrong, or nothing."""
+    try:
+        reply = ask("do", lines=lines, seen=field("seen"))
+    except KeeperFault as fault:
+        return str(fault)
+    return "" if reply["done"] else str(plain.meaning(answers_of(reply)[-1].text))
