@@ -1,7 +1,7 @@
 """A clerk's browser in the trial: headless Chromium without scripts, and what every page of the office has to keep.
 
-Each photograph looks at the page as well: its width at 360 and at 1,280 pixels, the name of each control, the contrast of its
-text in both colour schemes, and its width with text of twice the size.
+Each photograph looks at the page as well: its width at 360 and at 1,280 pixels, the name of each control, the contrast
+of its text in both colour schemes, and its width with text of twice the size.
 """
 
 import base64
@@ -21,13 +21,26 @@ from stand import CLERKS, HOST, check, fail, until
 WIDTHS = (360, 1280)
 TALLEST = 2600
 # What needs a name for people who do not see it.
-CONTROLS = {"link", "button", "textbox", "searchbox", "checkbox", "radio", "combobox", "region", "img", "table", "navigation",
-            "DisclosureTriangle"}
+CONTROLS = {
+    "link",
+    "button",
+    "textbox",
+    "searchbox",
+    "checkbox",
+    "radio",
+    "combobox",
+    "region",
+    "img",
+    "table",
+    "navigation",
+    "DisclosureTriangle",
+}
 NAMELESS_IS_FINE = {"table"}
 # The least contrast of text, and of large text (24 pixels, or 18.66 in bold).
 CONTRAST = """
     const parse = text => (text.match(/[\\d.]+/g) || []).map(Number);
-    const light = ([r, g, b]) => [r, g, b].map(v => v / 255).map(v => v <= 0.03928 ? v / 12.92 : ((v + 0.055) / 1.055) ** 2.4)
+    const linear = v => v <= 0.03928 ? v / 12.92 : ((v + 0.055) / 1.055) ** 2.4;
+    const light = ([r, g, b]) => [r, g, b].map(v => linear(v / 255))
         .reduce((sum, v, i) => sum + v * [0.2126, 0.7152, 0.0722][i], 0);
     const behind = element => {
         for (let e = element; e; e = e.parentElement) {
@@ -50,7 +63,8 @@ CONTRAST = """
     const worst = found.filter(([had, least]) => had < least);
     return [found.length, Math.min(...found.filter(f => f[1] === 4.5).map(f => f[0])), worst.slice(0, 5)];"""
 WIDE = """
-    return [...document.querySelectorAll("body *")].filter(e => !e.closest(".wide, .skip") && e.getBoundingClientRect().right > innerWidth)
+    return [...document.querySelectorAll("body *")]
+        .filter(e => !e.closest(".wide, .skip") && e.getBoundingClientRect().right > innerWidth)
         .map(e => e.outerHTML.slice(0, 60)).slice(0, 5);"""
 SMALL = """
     return [...document.querySelectorAll("button, .button, input:not([type=hidden]), nav a")].filter(e => {
@@ -64,10 +78,18 @@ class Clerk:
 
     def __init__(self, stand, name, shots):
         options = webdriver.ChromeOptions()
-        for word in ("--headless=new", "--no-sandbox", "--disable-gpu", "--ignore-certificate-errors",
-                     "--disable-dev-shm-usage", f"--host-resolver-rules=MAP {HOST} 127.0.0.1", "--no-first-run",
-                     "--disable-background-networking", "--disable-component-update",
-                     f"--user-data-dir={stand.folder}/chromium-{name}"):
+        for word in (
+            "--headless=new",
+            "--no-sandbox",
+            "--disable-gpu",
+            "--ignore-certificate-errors",
+            "--disable-dev-shm-usage",
+            f"--host-resolver-rules=MAP {HOST} 127.0.0.1",
+            "--no-first-run",
+            "--disable-background-networking",
+            "--disable-component-update",
+            f"--user-data-dir={stand.folder}/chromium-{name}",
+        ):
             options.add_argument(word)
         options.add_experimental_option("prefs", {"profile.managed_default_content_settings.javascript": 2})
         options.set_capability("goog:loggingPrefs", {"browser": "ALL"})
@@ -84,7 +106,7 @@ class Clerk:
 
     # --- what a clerk does
 
-    def go(self, path):
+    def visit(self, path):
         """Goes to an address of the page."""
         self.driver.get(self.base + path)
 
@@ -117,27 +139,32 @@ class Clerk:
     def press(self, text):
         """Presses the first button or link with this text."""
         quoted = f'"{text}"'
-        found = self.driver.find_elements(By.XPATH, f"//button[contains(normalize-space(.),{quoted})]"
-                                                    f"|//a[contains(normalize-space(.),{quoted})]")
+        found = self.driver.find_elements(
+            By.XPATH, f"//button[contains(normalize-space(.),{quoted})]" f"|//a[contains(normalize-space(.),{quoted})]"
+        )
         found = [element for element in found if element.is_displayed()]
         check(f"there is {text!r} to press", found, self.text()[:500])
         self.submit(found[0])
 
     def put(self, name, text):
         """Fills in a field."""
-        field = next(one for one in self.driver.find_elements(By.NAME, name)
-                     if one.get_attribute("type") != "hidden" and one.is_displayed())
+        field = next(
+            one
+            for one in self.driver.find_elements(By.NAME, name)
+            if one.get_attribute("type") != "hidden" and one.is_displayed()
+        )
         field.clear()
         field.send_keys(text)
 
     def tick(self, value=None):
         """Ticks a box, or the choice with this value."""
-        self.driver.find_element(By.CSS_SELECTOR, f'main input[value="{value}"]' if value
-                                 else "main input[type=checkbox][required]").click()
+        self.driver.find_element(
+            By.CSS_SELECTOR, f'main input[value="{value}"]' if value else "main input[type=checkbox][required]"
+        ).click()
 
     def try_list(self, kind, path, label=None):
         """Sends a list on the page of lists."""
-        self.go("/office/lists")
+        self.visit("/office/lists")
         form = self.driver.find_element(By.XPATH, f"//form[.//input[@value='{kind}' and @name='kind']]")
         form.find_element(By.NAME, "list").send_keys(str(path))
         if label:
@@ -165,14 +192,16 @@ class Clerk:
         """Photographs of the page, and a look at what each page has to keep."""
         for width in WIDTHS:
             self.photograph(f"{name}-{width}", width)
-        self.look_at_names(name)
-        self.look_at_colours(name)
-        self.look_at_large_text(name)
+        self._look_at_names(name)
+        self._look_at_colours(name)
+        self._look_at_large_text(name)
         self.seen.append(name)
 
     def photograph(self, name, width):
         """A photograph at one width. Nothing may be wider than the window."""
-        self.command("Emulation.setDeviceMetricsOverride", width=width, height=900, deviceScaleFactor=1, mobile=width < 500)
+        self.command(
+            "Emulation.setDeviceMetricsOverride", width=width, height=900, deviceScaleFactor=1, mobile=width < 500
+        )
         size = self.command("Page.getLayoutMetrics")["cssContentSize"]
         if size["width"] > width:
             fail(f"{name} is {size['width']} pixels wide: {self.driver.execute_script(WIDE)}")
@@ -181,11 +210,16 @@ class Clerk:
         (self.shots / f"office-{name}.png").write_bytes(base64.b64decode(taken["data"]))
         self.command("Emulation.clearDeviceMetricsOverride")
 
-    def look_at_names(self, name):
+    def _look_at_names(self, name):
         """Each control has a name, there is one main heading, and nothing is too small to be hit."""
         nodes = self.command("Accessibility.getFullAXTree")["nodes"]
-        without = [node["role"]["value"] for node in nodes if not node.get("ignored")
-                   and node["role"]["value"] in CONTROLS - NAMELESS_IS_FINE and not node.get("name", {}).get("value")]
+        without = [
+            node["role"]["value"]
+            for node in nodes
+            if not node.get("ignored")
+            and node["role"]["value"] in CONTROLS - NAMELESS_IS_FINE
+            and not node.get("name", {}).get("value")
+        ]
         if without:
             fail(f"{name} has controls without a name: {without}")
         if len(self.driver.find_elements(By.TAG_NAME, "h1")) != 1 or not self.driver.title:
@@ -193,34 +227,40 @@ class Clerk:
         if small := self.driver.execute_script(SMALL):
             fail(f"{name} has controls that are too small: {small}")
 
-    def look_at_colours(self, name):
-        """The contrast of text is 4.5 to 1 in both schemes, and 3 to 1 where it is large; so is that of borders of fields."""
+    def _look_at_colours(self, name):
+        """In both schemes the contrast of text is 4.5 to 1, and that of large text and of borders of fields 3 to 1."""
         for scheme in ("light", "dark"):
-            self.colours(scheme)
+            self._colours(scheme)
             count, least, worst = self.driver.execute_script(CONTRAST)
             if worst:
                 fail(f"{name}, {scheme}: too little contrast in {worst} of {count}; least {least}")
-        self.colours("light")
+        self._colours("light")
 
-    def colours(self, scheme):
+    def _colours(self, scheme):
         """Sets the scheme that the browser prefers."""
         self.command("Emulation.setEmulatedMedia", features=[{"name": "prefers-color-scheme", "value": scheme}])
 
-    def look_at_large_text(self, name):
+    def _look_at_large_text(self, name):
         """With text of twice the size nothing is wider than a narrow window."""
-        self.text_size(32)
+        self._text_size(32)
         self.photograph(f"{name}-360-text200", 360)
-        self.text_size(16)
+        self._text_size(16)
 
-    def text_size(self, pixels):
+    def _text_size(self, pixels):
         """Sets the size of text that the browser takes by itself, and waits until the page has it."""
         self.command("Page.setFontSizes", fontSizes={"standard": pixels, "fixed": pixels})
-        until(lambda: self.driver.execute_script("return getComputedStyle(document.documentElement).fontSize") == f"{pixels}px",
-              20, f"text of {pixels} pixels")
+        until(
+            lambda: self.driver.execute_script("return getComputedStyle(document.documentElement).fontSize")
+            == f"{pixels}px",
+            20,
+            f"text of {pixels} pixels",
+        )
 
     def pdf(self, name):
         """The page as it is printed, and how many sheets that is."""
-        printed = base64.b64decode(self.command("Page.printToPDF", preferCSSPageSize=True, paperWidth=8.27, paperHeight=11.69)["data"])
+        printed = base64.b64decode(
+            self.command("Page.printToPDF", preferCSSPageSize=True, paperWidth=8.27, paperHeight=11.69)["data"]
+        )
         (self.shots / f"office-{name}.pdf").write_bytes(printed)
         return printed.count(b"/Type /Page\n") or printed.count(b"/Type /Page") - printed.count(b"/Type /Pages")
 
@@ -230,4 +270,8 @@ class Clerk:
 
     def complaints(self):
         """What the browser found wrong, but for the first answer that asks for the password."""
-        return [entry for entry in self.driver.get_log("browser") if entry["level"] == "SEVERE" and "401" not in entry["message"]]
+        return [
+            entry
+            for entry in self.driver.get_log("browser")
+            if entry["level"] == "SEVERE" and "401" not in entry["message"]
+        ]

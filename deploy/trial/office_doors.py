@@ -1,6 +1,7 @@
 """What must not get through the office's page: /usr/bin/python3 deploy/trial/office_doors.py PROGRAM.
 
-Forged and stale forms, 1,000 random requests, two clerks at once, bad lists, markup in names, and the page or the keeper killed.
+Forged and stale forms, 1,000 random requests, two clerks at once, bad lists, markup in names, and the page or the
+keeper killed.
 """
 
 import http.client
@@ -14,21 +15,77 @@ from pathlib import Path
 # The repository stays as it is.
 sys.dont_write_bytecode = True
 
+# pylint: disable=wrong-import-position  # nothing may be written before
 from office_requests import Page, multipart
 from stand import PAGE, PYTHON, Stand, check, until
 
 ROOMS = [f"A-{number}" for number in range(101, 131)]
 PEOPLE = [f"T{number:02}" for number in range(1, 21)]
-FIELDS = ("content-security-policy", "referrer-policy", "x-content-type-options", "cache-control", "cross-origin-opener-policy")
-CHANGES = ["/office/step/open", "/office/step/cancel", "/office/lists", "/office/lists/bring", "/office/blank/people-1",
-           "/office/person", "/office/person/T01/remove", "/office/person/T01/key", "/office/person/T01/home",
-           "/office/person/T01/choose", "/office/rooms", "/office/rooms/A-101/shut", "/office/many", "/office/many/do",
-           "/office/seed", "/office/draw", "/office/copies", "/office/copies/20270101T000000Z/back", "/office/record",
-           "/office/register", "/office/letters"]
-READS = ["/office/", "/office/lists", "/office/register", "/office/rooms", "/office/draw", "/office/results", "/office/print",
-         "/office/copies", "/office/journal", "/office/record", "/office/many", "/office/moves/1", "/office/person/T01",
-         "/office/export/people.csv", "/office/office.css", "/office/step/open"]
-NAMES = ("token", "seen", "kind", "label", "list", "held", "ident", "name", "room", "text", "act", "change", "code", "way", "seed")
+FIELDS = (
+    "content-security-policy",
+    "referrer-policy",
+    "x-content-type-options",
+    "cache-control",
+    "cross-origin-opener-policy",
+)
+CHANGES = [
+    "/office/step/open",
+    "/office/step/cancel",
+    "/office/lists",
+    "/office/lists/bring",
+    "/office/blank/people-1",
+    "/office/person",
+    "/office/person/T01/remove",
+    "/office/person/T01/key",
+    "/office/person/T01/home",
+    "/office/person/T01/choose",
+    "/office/rooms",
+    "/office/rooms/A-101/shut",
+    "/office/many",
+    "/office/many/do",
+    "/office/seed",
+    "/office/draw",
+    "/office/copies",
+    "/office/copies/20270101T000000Z/back",
+    "/office/record",
+    "/office/register",
+    "/office/letters",
+]
+READS = [
+    "/office/",
+    "/office/lists",
+    "/office/register",
+    "/office/rooms",
+    "/office/draw",
+    "/office/results",
+    "/office/print",
+    "/office/copies",
+    "/office/journal",
+    "/office/record",
+    "/office/many",
+    "/office/moves/1",
+    "/office/person/T01",
+    "/office/export/people.csv",
+    "/office/office.css",
+    "/office/step/open",
+]
+NAMES = (
+    "token",
+    "seen",
+    "kind",
+    "label",
+    "list",
+    "held",
+    "ident",
+    "name",
+    "room",
+    "text",
+    "act",
+    "change",
+    "code",
+    "way",
+    "seed",
+)
 # A list is read into memory: these lines take the place of the page where a temporary file would end them.
 UPLOAD = """
 import io, sys, tempfile
@@ -65,42 +122,68 @@ def try_forms(stand, page):
         check(f"a form {what} changes nothing", answers == {303} and rows(stand) == before, answers)
     check("a step by GET changes nothing", page.get("/office/step/open")[0] == 200 and rows(stand) == before)
     status, fields, _ = page.get("/office/")
-    check("each page has its policy, and no cookie", all(name in fields for name in FIELDS) and "set-cookie" not in fields, fields)
+    check(
+        "each page has its policy, and no cookie",
+        all(name in fields for name in FIELDS) and "set-cookie" not in fields,
+        fields,
+    )
     check("so has what is not there", all(name in page.get("/office/none")[1] for name in FIELDS) and status == 200)
+
+
+class Chance:
+    """Requests by chance, the same ones each time."""
+
+    SIGNS = string.printable + "äß€\u202e\0"
+    KINDS = ("text/plain", "multipart/form-data; boundary=x", "application/json", "multipart/form-data")
+    METHODS = ("PUT", "DELETE", "POST", "HEAD", "OPTIONS")
+
+    def __init__(self, good):
+        self.random, self.good = random.Random(42), good
+
+    def word(self):
+        """Signs of all kinds."""
+        return "".join(self.random.choice(self.SIGNS) for _ in range(self.random.choice((0, 1, 8, 40, 2000))))
+
+    def path(self):
+        """An address, mostly one that is there."""
+        if self.random.random() < 0.8:
+            return self.random.choice(READS + CHANGES)
+        signs = string.ascii_letters + "%/.?=&-"
+        return "/office/" + "".join(self.random.choice(signs) for _ in range(self.random.randint(0, 60)))
+
+    def form(self):
+        """A form, often one of this page, for an office that is elsewhere."""
+        form = {name: self.word() for name in self.random.sample(NAMES, self.random.randint(0, 6))}
+        if self.random.random() < 0.4:
+            form.update(token=self.good["token"], seen="round 7 closed")
+            form.pop("text", None)
+        return form
+
+    def request(self, page, path):
+        """Sends a request, and gives its answer."""
+        way = self.random.random()
+        if way < 0.35:
+            return page.get(path)
+        if way < 0.7:
+            return page.post(path, self.form())
+        if way < 0.85:
+            length = self.random.choice((0, 10, 3000))
+            return page.post(path, self.form(), files={"list": self.random.randbytes(length)})
+        fields = {"Content-Type": self.random.choice(self.KINDS)}
+        return page.ask(self.random.choice(self.METHODS), path, self.word().encode(), fields)
 
 
 def try_random(stand, page, count=1000):
     """Random requests: each has an answer of the page's own, and nothing changes."""
-    chance, before, statuses = random.Random(42), rows(stand), {}
-    good = page.hidden("/office/lists")
-    signs = string.printable + "äß€\u202e\0"
-    def word():
-        return "".join(chance.choice(signs) for _ in range(chance.choice((0, 1, 8, 40, 2000))))
+    chance, before, statuses = Chance(page.hidden("/office/lists")), rows(stand), {}
     for number in range(count):
-        path = chance.choice(READS + CHANGES) if chance.random() < 0.8 else "/office/" + "".join(
-            chance.choice(string.ascii_letters + "%/.?=&-") for _ in range(chance.randint(0, 60)))
-        form = {name: word() for name in chance.sample(NAMES, chance.randint(0, 6))}
-        if chance.random() < 0.4:  # a form of this page, for an office that is elsewhere
-            form.update(token=good["token"], seen="round 7 closed")
-            form.pop("text", None)
-        way = chance.random()
-        if way < 0.35:
-            status, fields, text = page.get(path)
-        elif way < 0.7:
-            status, fields, text = page.post(path, form)
-        elif way < 0.85:
-            files = {"list": bytes(chance.randrange(256) for _ in range(chance.choice((0, 10, 3000))))}
-            status, fields, text = page.post(path, form, files=files)
-        else:
-            status, fields, text = page.ask(chance.choice(("PUT", "DELETE", "POST", "HEAD", "OPTIONS")), path,
-                                            word().encode(), {"Content-Type": chance.choice(("text/plain", "multipart/form-data; "
-                                                              "boundary=x", "application/json", "multipart/form-data"))})
+        path = chance.path()
+        status, fields, text = chance.request(page, path)
         statuses[status] = statuses.get(status, 0) + 1
         check_answer(number, path, status, fields, text)
-    after = rows(stand)
-    check(f"{count} random requests have an answer, and change nothing: {dict(sorted(statuses.items()))}", after == before)
-    check("the page has written nothing but places of faults", "Traceback" not in stand.log("page"), stand.log("page")[-2000:])
-    print(f"      faults of the page: {stand.log('page').count('rooms-page:')}")
+    told = dict(sorted(statuses.items()))
+    check(f"{count} random requests have an answer, and change nothing: {told}", rows(stand) == before)
+    check("the page has noted no fault of its own", "rooms-page:" not in stand.log("page"), stand.log("page")[-2000:])
 
 
 def check_answer(number, path, status, fields, text):
@@ -113,11 +196,16 @@ def try_lists(stand, page):
     """Bad lists are told with what to do, and the residents' server is not stopped; lists stay in memory."""
     before, server = rows(stand), stand.server()
     lists = {
-        "another header": (b"room;x\nA-1\n", "first line"), "no UTF-8": ("room\nZ-1\nÄ\n".encode("latin-1"), "not UTF-8"),
-        "UTF-16": ("room\nZ-1\n".encode("utf-16"), "first line"), "a room twice": (b"room\nZ-1\nZ-1\n", "in the register already"),
-        "small letters": (b"room\nz-1\n", "capital letters"), "too many fields": (b"room\nZ-1,\n", "more or fewer fields"),
-        "a null": (b"room\nZ-1\0\n", "well written"), "an open quote": (b'room\n"Z-1\nZ-2\n', "well written"),
-        "too long": (b"room\n" + b"Z-1\n" * 70_000, "limit"), "nothing": (b"", "Choose a list first"),
+        "another header": (b"room;x\nA-1\n", "first line"),
+        "no UTF-8": ("room\nZ-1\nÄ\n".encode("latin-1"), "not UTF-8"),
+        "UTF-16": ("room\nZ-1\n".encode("utf-16"), "first line"),
+        "a room twice": (b"room\nZ-1\nZ-1\n", "in the register already"),
+        "small letters": (b"room\nz-1\n", "capital letters"),
+        "too many fields": (b"room\nZ-1,\n", "more or fewer fields"),
+        "a null": (b"room\nZ-1\0\n", "well written"),
+        "an open quote": (b'room\n"Z-1\nZ-2\n', "well written"),
+        "too long": (b"room\n" + b"Z-1\n" * 70_000, "limit"),
+        "nothing": (b"", "Choose a list first"),
     }
     for name, (body, text) in lists.items():
         status, _, shown = page.form("/office/lists", {"kind": "rooms", "label": "bad"}, files={"list": body})
@@ -125,8 +213,12 @@ def try_lists(stand, page):
             shown = page.get("/office/lists")[2]
         check(f"a list with {name} is told: {text}", text in shown, (status, shown[:1500]))
     check("the server was not stopped, and nothing came in", stand.server() == server and rows(stand) == before)
-    _, _, shown = page.form("/office/lists", {"kind": "rooms", "label": "rows"}, files={"list": b"room\n\n\nZ-1\nz-2\n\nA-101\n"})
-    check("rows are those of the spreadsheet, with empty lines", ">5</td>" in shown and ">7</td>" in shown, shown[-2500:])
+    _, _, shown = page.form(
+        "/office/lists", {"kind": "rooms", "label": "rows"}, files={"list": b"room\n\n\nZ-1\nz-2\n\nA-101\n"}
+    )
+    check(
+        "rows are those of the spreadsheet, with empty lines", ">5</td>" in shown and ">7</td>" in shown, shown[-2500:]
+    )
     kind = "multipart/form-data; boundary=edge-of-a-part-8472"
     body = multipart({"text": "y" * 90_000}, {"list": b"x" * 250_000})
     done = subprocess.run([PYTHON, "-c", UPLOAD, PAGE.parent, kind], input=body, capture_output=True, check=False)
@@ -142,7 +234,12 @@ def try_markup(stand, page):
     for text in ("A-102\nroom Z-9", "--db /etc/passwd", "A-102 A-103", "-h", "A-102;open"):
         page.form("/office/person/X1/home", {"text": text}, page="/office/person/X1")
     check("a room's field takes a room alone", rows(stand) == before)
-    for path in ("/office/../etc/passwd", "/office/%2e%2e/app.py", "/office/office.css/../app.py", "/office/export/..%2fkeeper.csv"):
+    for path in (
+        "/office/../etc/passwd",
+        "/office/%2e%2e/app.py",
+        "/office/office.css/../app.py",
+        "/office/export/..%2fkeeper.csv",
+    ):
         status, _, text = page.get(path)
         check(f"{path} leads nowhere", status in (400, 404) and "import " not in text, (status, text[:100]))
 
@@ -157,8 +254,10 @@ def try_two_clerks(stand, anna, bert):
     check("and says why", "has gone on" in anna.get("/office/")[2])
     anna.form("/office/step/cancel", page="/office/step/cancel")
     forms = [(clerk, clerk.hidden("/office/rooms"), f"N-{number}") for number, clerk in enumerate([anna, bert] * 6)]
-    threads = [threading.Thread(target=clerk.post, args=("/office/rooms", {**form, "change": "room", "code": code}))
-               for clerk, form, code in forms]
+    threads = [
+        threading.Thread(target=clerk.post, args=("/office/rooms", {**form, "change": "room", "code": code}))
+        for clerk, form, code in forms
+    ]
     for thread in threads:
         thread.start()
     for thread in threads:
@@ -167,8 +266,10 @@ def try_two_clerks(stand, anna, bert):
     check("12 changes at once by two clerks all stand", codes >= {code for _, _, code in forms}, codes)
     bert.get("/office/")
     anna.form("/office/register", {"text": "T05"}, page="/office/register")
-    check("a search is its clerk's own", "T05" in anna.get("/office/register")[2]
-          and 'value="T05"' not in bert.get("/office/register")[2])
+    check(
+        "a search is its clerk's own",
+        "T05" in anna.get("/office/register")[2] and 'value="T05"' not in bert.get("/office/register")[2],
+    )
 
 
 def try_kills(stand, page):
@@ -180,8 +281,10 @@ def try_kills(stand, page):
     stand.start_page()
     until(lambda: page.get("/office/")[0] == 200, 20, "the page")
     page.post("/office/step/open", old)
-    check("a form of before the restart changes nothing, and says so", rows(stand)["phase"] == "idle"
-          and "before the page was restarted" in page.get("/office/")[2])
+    check(
+        "a form of before the restart changes nothing, and says so",
+        rows(stand)["phase"] == "idle" and "before the page was restarted" in page.get("/office/")[2],
+    )
     form = page.hidden("/office/step/open")
     stand.kill_keeper()
     status, _, text = page.get("/office/")
@@ -189,15 +292,22 @@ def try_kills(stand, page):
     status, _, text = page.post("/office/step/open", form)
     stand.start_keeper()
     news = page.get("/office/")[2]
-    check("a step without the keeper is told as unknown", "Nobody knows" in news and rows(stand)["phase"] == "idle", (status, news))
+    check(
+        "a step without the keeper is told as unknown",
+        "Nobody knows" in news and rows(stand)["phase"] == "idle",
+        (status, news),
+    )
     stops = threading.Thread(target=lambda: suppressed(page, form))
     stops.start()
     stand.kill_keeper()
     stops.join()
     stand.start_keeper()
     phase, news = rows(stand)["phase"], page.get("/office/")[2]
-    check(f"a keeper killed in a step leaves it done or not ({phase}), and the page says so", phase in ("idle", "open")
-          and ("Nobody knows" in news or "Round 1 is open" in news or "is open" in news), news)
+    check(
+        f"a keeper killed in a step leaves it done or not ({phase}), and the page says so",
+        phase in ("idle", "open") and ("Nobody knows" in news or "Round 1 is open" in news or "is open" in news),
+        news,
+    )
 
 
 def suppressed(page, form):

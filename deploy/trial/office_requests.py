@@ -13,10 +13,15 @@ EDGE = "edge-of-a-part-8472"
 
 def multipart(form, files):
     """A form with files, as a browser sends it."""
-    parts = [f'--{EDGE}\r\nContent-Disposition: form-data; name="{name}"\r\n\r\n{value}\r\n'.encode()
-             for name, value in form.items()]
-    parts += [f'--{EDGE}\r\nContent-Disposition: form-data; name="{name}"; filename="list.csv"\r\n'
-              f'Content-Type: text/csv\r\n\r\n'.encode() + body + b"\r\n" for name, body in files.items()]
+    parts = [
+        f'--{EDGE}\r\nContent-Disposition: form-data; name="{name}"\r\n\r\n{value}\r\n'.encode()
+        for name, value in form.items()
+    ]
+    parts += [
+        f'--{EDGE}\r\nContent-Disposition: form-data; name="{name}"; filename="list.csv"\r\n'
+        f'Content-Type: text/csv\r\n\r\n'.encode() + body + b"\r\n"
+        for name, body in files.items()
+    ]
     return b"".join(parts) + f"--{EDGE}--\r\n".encode()
 
 
