@@ -1,7 +1,7 @@
 """A clerk's browser in the trial: headless Chromium without scripts, and what every page of the office has to keep.
 
-Each photograph looks at the page as well: its width at 360 and at 1,280 pixels, the name of each control, the contrast
-of its text in both colour schemes, and its width with text of twice the size.
+Each photograph looks at the page as well: its width at 360 and at 1,280 pixels, the name of each control, and the
+contrast of its text in both colour schemes. A clerk may have text of another size than browsers have by themselves.
 """
 
 import base64
@@ -16,7 +16,7 @@ from selenium.webdriver.common.action_chains import ActionChains
 from selenium.webdriver.common.by import By
 from selenium.webdriver.common.keys import Keys
 
-from stand import CLERKS, HOST, check, fail, until
+from stand import CLERKS, HOST, check, fail
 
 WIDTHS = (360, 1280)
 TALLEST = 2600
@@ -76,7 +76,7 @@ SMALL = """
 class Clerk:
     """A clerk in a browser of their own, signed in."""
 
-    def __init__(self, stand, name, shots):
+    def __init__(self, stand, name, shots, text=16):
         options = webdriver.ChromeOptions()
         for word in (
             "--headless=new",
@@ -91,7 +91,13 @@ class Clerk:
             f"--user-data-dir={stand.folder}/chromium-{name}",
         ):
             options.add_argument(word)
-        options.add_experimental_option("prefs", {"profile.managed_default_content_settings.javascript": 2})
+        self.text_size = text
+        settings = {
+            "profile.managed_default_content_settings.javascript": 2,
+            "webkit.webprefs.default_font_size": text,
+            "webkit.webprefs.default_fixed_font_size": text,
+        }
+        options.add_experimental_option("prefs", settings)
         options.set_capability("goog:loggingPrefs", {"browser": "ALL"})
         self.driver = webdriver.Chrome(service=Service("/usr/bin/chromedriver"), options=options)
         self.base, self.shots, self.seen = f"https://{HOST}:{stand.port}", shots, []
@@ -194,7 +200,6 @@ class Clerk:
             self.photograph(f"{name}-{width}", width)
         self._look_at_names(name)
         self._look_at_colours(name)
-        self._look_at_large_text(name)
         self.seen.append(name)
 
     def photograph(self, name, width):
@@ -202,6 +207,9 @@ class Clerk:
         self.command(
             "Emulation.setDeviceMetricsOverride", width=width, height=900, deviceScaleFactor=1, mobile=width < 500
         )
+        rem = self.driver.execute_script("return getComputedStyle(document.documentElement).fontSize")
+        if rem != f"{self.text_size}px":
+            fail(f"{name} has text of {rem}")
         size = self.command("Page.getLayoutMetrics")["cssContentSize"]
         if size["width"] > width:
             fail(f"{name} is {size['width']} pixels wide: {self.driver.execute_script(WIDE)}")
@@ -239,22 +247,6 @@ class Clerk:
     def _colours(self, scheme):
         """Sets the scheme that the browser prefers."""
         self.command("Emulation.setEmulatedMedia", features=[{"name": "prefers-color-scheme", "value": scheme}])
-
-    def _look_at_large_text(self, name):
-        """With text of twice the size nothing is wider than a narrow window."""
-        self._text_size(32)
-        self.photograph(f"{name}-360-text200", 360)
-        self._text_size(16)
-
-    def _text_size(self, pixels):
-        """Sets the size of text that the browser takes by itself, and waits until the page has it."""
-        self.command("Page.setFontSizes", fontSizes={"standard": pixels, "fixed": pixels})
-        until(
-            lambda: self.driver.execute_script("return getComputedStyle(document.documentElement).fontSize")
-            == f"{pixels}px",
-            20,
-            f"text of {pixels} pixels",
-        )
 
     def pdf(self, name):
         """The page as it is printed, and how many sheets that is."""

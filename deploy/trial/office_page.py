@@ -188,6 +188,30 @@ def open_round(clerk, stand, college):
     clerk.reads("Done for 2 people")
 
 
+def look_at_large_text(stand, shots, phase):
+    """With text of twice the size no page is wider than a narrow window."""
+    pages = [
+        "",
+        "lists",
+        "register",
+        "rooms",
+        "person/R264",
+        "many",
+        "draw",
+        "results",
+        "print",
+        "record",
+        "copies",
+        "journal",
+    ]
+    pages += {"open": ["step/close", "person/R264/withdraw"], "published": ["letters", "moves/1", "step/settle"]}[phase]
+    with Clerk(stand, "bert", shots, text=32) as clerk:
+        for page in pages:
+            clerk.visit(f"/office/{page}")
+            clerk.photograph(f"large-{phase}-{page.replace('/', '-') or 'overview'}", 360)
+    check(f"with large text {len(pages)} pages fit a narrow window while the round is {phase}", True)
+
+
 def draw_and_run(clerk, stand):
     """The round is closed, the seed of the dice is noted and drawn with, and the rooms are given."""
     clerk.visit("/office/step/close")
@@ -340,12 +364,14 @@ def try_office_page(program, shots):
             bring_lists_in(clerk, college)
             keep_the_register(clerk, college)
             open_round(clerk, stand, college)
+            look_at_large_text(stand, shots, "open")
             seed = draw_and_run(clerk, stand)
             results = look_at_results(clerk, stand, page, college, seed)
             publish_and_print(clerk, stand, page, results)
             go_back(clerk, stand)
+            look_at_large_text(stand, shots, "published")
             check("the browser found nothing wrong", not clerk.complaints(), clerk.complaints())
-            print(f"      {len(clerk.seen)} pages looked at: width, names, contrast, text of twice the size")
+            print(f"      {len(clerk.seen)} pages looked at: width, names, contrast")
         journal = (stand.data / "journal").read_text(encoding="utf-8")
         logs = stand.proxy_log() + stand.log("page") + stand.log("keeper") + journal
         check("no key stands in a log or in the journal", not any(key in logs for key in college.keys.values()))
