@@ -36,9 +36,9 @@ class Memory:
         self._searches: dict[str, str] = {}
 
     def tell(self, clerk: str, kind: str, text: str) -> None:
-        """Keeps a piece of news for the clerk's next page."""
+        """Keeps a piece of news for the clerk's next page, and the four before it."""
         with self._lock:
-            self._news[clerk].append(News(kind, text))
+            self._news[clerk] = [*self._news[clerk][-4:], News(kind, text)]
 
     def news(self, clerk: str) -> list[News]:
         """Gives the clerk's news, once."""
