@@ -16,8 +16,8 @@ from pathlib import Path
 sys.dont_write_bytecode = True
 
 # pylint: disable=wrong-import-position  # nothing may be written before
-from office_requests import Page, multipart
-from stand import PAGE, PYTHON, Stand, check, until
+from office_requests import Page, hand_in, multipart
+from stand import PAGE, PYTHON, Stand, check, key_of, until
 
 ROOMS = [f"A-{number}" for number in range(101, 131)]
 PEOPLE = [f"T{number:02}" for number in range(1, 21)]
@@ -272,6 +272,31 @@ def try_two_clerks(stand, anna, bert):
     )
 
 
+def try_burst(stand, page):
+    """All residents hand in at once while the clerk closes the round. What was answered stands."""
+    page.form("/office/step/open", page="/office/step/open")
+    answers, lists = {}, {person: ROOMS[number : number + 5] for number, person in enumerate(PEOPLE)}
+
+    def resident(person):
+        answers[person] = [hand_in(stand, key_of(person), lists[person]) for _ in range(3)]
+
+    threads = [threading.Thread(target=resident, args=(person,)) for person in PEOPLE]
+    for thread in threads:
+        thread.start()
+    page.form("/office/step/close", page="/office/step/close")
+    for thread in threads:
+        thread.join()
+    kept = stand.ask(ask="view")["choices"]
+    check("the clerk closes the round during a burst", rows(stand)["phase"] == "closed")
+    statuses = [status for given in answers.values() for status in given]
+    check(
+        f"{statuses.count(200)} lists came in, {statuses.count(409)} residents read that the round is closed",
+        set(statuses) <= {200, 409} and all(kept.get(one) == lists[one] for one in PEOPLE if 200 in answers[one]),
+        statuses,
+    )
+    page.form("/office/step/cancel", page="/office/step/cancel")
+
+
 def try_kills(stand, page):
     """The page or the keeper is killed: the clerk reads so, and old forms change nothing."""
     old = page.hidden("/office/step/open")
@@ -331,6 +356,7 @@ def try_office_doors(program):
         try_markup(stand, anna)
         try_random(stand, anna)
         try_two_clerks(stand, anna, bert)
+        try_burst(stand, anna)
         try_kills(stand, anna)
         check("no wrong password came to the page", "Authorization" not in stand.log("page"))
 

@@ -6,12 +6,9 @@ and the audit have to agree with what the page shows, and no key may stand in an
 """
 
 import csv
-import http.client
 import io
-import json
 import random
 import re
-import socket
 import subprocess
 import sys
 from pathlib import Path
@@ -21,8 +18,8 @@ sys.dont_write_bytecode = True
 
 # pylint: disable=wrong-import-position  # nothing may be written before
 from office_browser import Clerk
-from office_requests import Page
-from stand import HOST, OFFICE, PYTHON, Stand, check, unchecked
+from office_requests import Page, hand_in
+from stand import OFFICE, PYTHON, Stand, check
 
 PEOPLE, HOMELESS, HOUSES, ROOMS_A_HOUSE = 300, 40, "ABCD", 80
 FIRST = "Ann Bo Zoë Li Mia Jo Ola Tim Ömer Ida Kai Eva Nell Siân Ravi Noor".split()
@@ -59,16 +56,6 @@ class College:
     def people_rows(self):
         """The list of people, without keys."""
         return [[person, self.names[person], "", self.homes.get(person, "")] for person in self.people]
-
-
-def hand_in(stand, key, rooms):
-    """A resident hands a list in, through the proxy."""
-    connection = http.client.HTTPSConnection("127.0.0.1", stand.port, context=unchecked(), timeout=90)
-    connection.sock = unchecked().wrap_socket(socket.create_connection(("127.0.0.1", stand.port)), server_hostname=HOST)
-    connection.request("PUT", "/me/choices", json.dumps(rooms), {"Host": HOST, "Room-Key": key})
-    status = connection.getresponse().status
-    connection.close()
-    return status
 
 
 def bring_lists_in(clerk, college):

@@ -2,6 +2,7 @@
 
 import base64
 import http.client
+import json
 import re
 import socket
 import urllib.parse
@@ -68,3 +69,13 @@ class Page:
     def form(self, path, form=None, page="/office/lists", files=None):
         """A form of a page, with all that the page puts into it."""
         return self.post(path, {**self.hidden(page), **(form or {})}, files=files)
+
+
+def hand_in(stand, key, rooms):
+    """A resident hands a list in, through the proxy."""
+    connection = http.client.HTTPSConnection("127.0.0.1", stand.port, context=unchecked(), timeout=90)
+    connection.sock = unchecked().wrap_socket(socket.create_connection(("127.0.0.1", stand.port)), server_hostname=HOST)
+    connection.request("PUT", "/me/choices", json.dumps(rooms), {"Host": HOST, "Room-Key": key})
+    status = connection.getresponse().status
+    connection.close()
+    return status
