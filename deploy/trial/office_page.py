@@ -17,7 +17,7 @@ from pathlib import Path
 sys.dont_write_bytecode = True
 
 # pylint: disable=wrong-import-position  # nothing may be written before
-from office_browser import Clerk
+from office_browser import WIDTHS, Clerk
 from office_requests import Page, hand_in
 from stand import OFFICE, PYTHON, Stand, check
 
@@ -305,7 +305,8 @@ def publish_and_print(clerk, stand, page, results):
             for letter in letters
         ),
     )
-    clerk.shot("22-letters")
+    for width in WIDTHS:  # too many letters for more than photographs
+        clerk.photograph(f"22-letters-{width}", width)
     check("each letter is a sheet", clerk.pdf("22-letters") == 295, "sheets")
     clerk.visit("/office/moves/1")
     clerk.reads("The round is not settled yet")
