@@ -11,14 +11,17 @@ from office_view import Office
 
 
 class Gone(NamedTuple):
-    """A room of somebody's list that another person got: which choice it was, who got it, when, and who lives there."""
+    """A room of somebody's list that another person got: which choice it was, who got it, and when.
+
+    `tenant` is who lived there and let it go in an exchange; the person who got it, where it is their own room.
+    """
 
     room: str
     choice: int
     step: int
     other: str
     place: int
-    kept: bool
+    tenant: str
 
 
 class Facts(NamedTuple):
@@ -69,41 +72,73 @@ def audit_of(office: Office) -> Any | None:
     return None if module is None else LAST.audit_of(module, office)
 
 
-def facts_of(audit: Any, office: Office, ident: str) -> Facts | None:
-    """The facts of one person; nothing where the person takes no part."""
-    if ident not in audit.got:
-        return None
-    order = {person: place for place, person in enumerate(audit.order, 1)}
-    home, got, wishes = audit.home[ident], audit.got[ident], office.choices.get(ident, [])
-    out, gone = [], []
-    for choice, room in enumerate(wishes, 1):
-        if room in (got, home):
-            break
-        if room in audit.taken:
-            other, step = audit.taken[room]
-            gone.append(Gone(room, choice, step, other, order[other], audit.home[other] == room))
-        else:
-            out.append(room)
-    number, left = office.choice_number(ident), audit.step[ident]
-    return Facts(ident, order[ident], len(order), home, wishes, out, gone, got, number, left)
+class Explainer:  # pylint: disable=too-few-public-methods  # what is worked out once for all people
+    """Gives the facts of the participants of a round."""
+
+    def __init__(self, audit: Any, office: Office) -> None:
+        self.audit, self.office = audit, office
+        self.place = {person: place for place, person in enumerate(audit.order, 1)}
+        # Whose room went in an exchange, or stayed: a tenant leaves in the step in which the room goes.
+        taken = {room: step for room, (_, step) in audit.taken.items()}
+        self.tenants = {room: person for person, room in audit.home.items()
+                        if room in taken and audit.step[person] == taken[room]}
+
+    def facts_of(self, ident: str) -> Facts | None:
+        """The facts of one person; nothing where the person takes no part."""
+        audit, office = self.audit, self.office
+        if ident not in audit.got:
+            return None
+        home, got, wishes = audit.home[ident], audit.got[ident], office.choices.get(ident, [])
+        out, gone = [], []
+        for choice, room in enumerate(wishes, 1):
+            if room in (got, home):
+                break
+            if room in audit.taken:
+                other, step = audit.taken[room]
+                gone.append(Gone(room, choice, step, other, self.place[other], self.tenants.get(room, "")))
+            else:
+                out.append(room)
+        return Facts(ident, self.place[ident], len(self.place), home, wishes, out, gone, got,
+                     office.choice_number(ident), audit.step[ident])
+
+
+def explainer_of(office: Office) -> Explainer | None:
+    """What explains the office's results, where the program of the audit is installed."""
+    audit = audit_of(office)
+    return Explainer(audit, office) if audit else None
 
 
 def about(office: Office, ident: str) -> list[str]:
     """The sentences for the office."""
-    audit = audit_of(office)
-    facts = facts_of(audit, office, ident) if audit else None
+    explainer = explainer_of(office)
+    facts = explainer.facts_of(ident) if explainer else None
     if facts is None:
         return []
     said = [f"{ident} had place {facts.place} of {facts.places} in the order"
             + (f", and lived in {facts.home}, which nobody could take away." if facts.home else ", and had no room.")]
     said += [f"{room}, on the list, was not in the round." for room in facts.out]
     for gone in facts.gone:
-        said.append(f"{gone.room}, choice {gone.choice}, went in step {gone.step} to {gone.other}, at place "
-                    f"{gone.place}{', who lived there and kept it' if gone.kept else ''}.")
+        said.append(f"{gone.room}, choice {gone.choice}, {to_whom(gone)}.")
     if facts.choice:
         return said + [f"In step {facts.step}, {ident} got {facts.got}, choice {facts.choice}."]
     why = "Nothing better on the list was left" if facts.wishes else f"{ident} handed in no list"
     return said + [f"{why}, so {ident} " + (f"keeps {facts.got}." if facts.got else "gets no room.")]
+
+
+def to_whom(gone: Gone) -> str:
+    """Who got a room, for the office."""
+    if gone.tenant == gone.other:
+        return f"stayed in step {gone.step} with {gone.other}, who lives there"
+    went = f"went in step {gone.step} to {gone.other}, at place {gone.place}"
+    return f"{went}, in an exchange with {gone.tenant}, who lived there" if gone.tenant else went
+
+
+def to_a_resident(gone: Gone) -> str:
+    """Who got a room, for a letter."""
+    if gone.tenant == gone.other:
+        return "stayed with the resident who lives there"
+    went = f"went to the resident at place {gone.place}"
+    return f"{went}, in an exchange with the resident who lived there" if gone.tenant else went
 
 
 def to_resident(facts: Facts) -> list[str]:
@@ -112,9 +147,7 @@ def to_resident(facts: Facts) -> list[str]:
             + (f" You lived in {facts.home}, and nobody could take it from you." if facts.home else "")]
     said += [f"{room}, on your list, was not in the exchange." for room in facts.out]
     for gone in facts.gone:
-        to_other = f"went to the resident at place {gone.place}"
-        went = "stayed with the resident who lives there" if gone.kept else to_other
-        said.append(f"{gone.room}, your choice {gone.choice}, {went}.")
+        said.append(f"{gone.room}, your choice {gone.choice}, {to_a_resident(gone)}.")
     if facts.choice:
         return said + [f"{facts.got}, your choice {facts.choice}, was the best room on your list that you could get."]
     why = "nothing better on your list was left" if facts.wishes else "you handed in no list"

@@ -57,9 +57,9 @@ def letters() -> str:
     if audit and audit.faults():
         tell("bad", "The audit finds other results. Send no letters, and call whoever looks after the program.")
         go_to("/office/results")
-    written = []
+    written, explainer = [], explaining.explainer_of(office)
     for ident in office.results:
-        facts = explaining.facts_of(audit, office, ident) if audit else None
+        facts = explainer.facts_of(ident) if explainer else None
         written.append(letter_of(office, ident, explaining.to_resident(facts) if facts else []))
     written.sort(key=lambda letter: letter.name)
     closing = [line for line in field("closing")[:LONGEST_CLOSING].splitlines() if line.strip()]
