@@ -121,7 +121,8 @@ def about(office: Office, ident: str) -> list[str]:
         said.append(f"{gone.room}, choice {gone.choice}, {to_whom(gone)}.")
     if facts.choice:
         return said + [f"In step {facts.step}, {ident} got {facts.got}, choice {facts.choice}."]
-    why = "Nothing better on the list was left" if facts.wishes else f"{ident} handed in no list"
+    better = "Nothing better" if facts.got else "Nothing"
+    why = f"{better} on the list was left" if facts.wishes else f"{ident} handed in no list"
     return said + [f"{why}, so {ident} " + (f"keeps {facts.got}." if facts.got else "gets no room.")]
 
 
