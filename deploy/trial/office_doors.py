@@ -211,7 +211,7 @@ def try_lists(stand, page):
         status, _, shown = page.form("/office/lists", {"kind": "rooms", "label": "bad"}, files={"list": body})
         if status == 303:
             shown = page.get("/office/lists")[2]
-        check(f"a list with {name} is told: {text}", text in shown, (status, shown[:1500]))
+        check(f"a list with {name} reads: {text}", text in shown, (status, shown[:1500]))
     check("the server was not stopped, and nothing came in", stand.server() == server and rows(stand) == before)
     _, _, shown = page.form(
         "/office/lists", {"kind": "rooms", "label": "rows"}, files={"list": b"room\n\n\nZ-1\nz-2\n\nA-101\n"}
@@ -318,7 +318,7 @@ def try_kills(stand, page):
     stand.start_keeper()
     news = page.get("/office/")[2]
     check(
-        "a step without the keeper is told as unknown",
+        "after a step without the keeper the page says that nobody knows",
         "Nobody knows" in news and rows(stand)["phase"] == "idle",
         (status, news),
     )

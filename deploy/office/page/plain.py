@@ -118,8 +118,8 @@ REFUSALS = {
     16: Meaning("This person takes no part in the round.", "Choose a participant."),
     17: Meaning("This round is not over, or there was no such round.", "Choose a round that is settled."),
     18: Meaning("This room is in use.", "There is nothing to bring back."),
-    21: Meaning("The file is not an office's file.", "Stop, and call whoever looks after the machine."),
-    22: Meaning("The office's file has another version than the program.", "Call whoever looks after the machine."),
+    21: Meaning("The file is not an office's file.", "Stop, and call the administrator."),
+    22: Meaning("The office's file has another version than the program.", "Call the administrator."),
 }
 
 CODE = "Write a room code: up to eight capital letters, digits and hyphens, the first no hyphen."
@@ -190,8 +190,8 @@ def meaning(text: str) -> Meaning:
     words = text.split()
     if not words or words[0] == "unavailable":
         return Meaning("The file, the disk or the memory did not serve.",
-                       "Look whether the change was made. If it was not, try again; if it fails again, call whoever "
-                       "looks after the machine.")
+                       "Look whether the change was made. If it was not, try again; if it fails again, call the "
+                       "administrator.")
     if text.startswith(("not understood", "rooms: not")):
         return Meaning("The program does not understand this.", "Check capital letters, signs and spaces.")
     if words[0] != "refused":

@@ -55,7 +55,7 @@ def letters() -> str:
         go_to("/office/print")
     audit = explaining.audit_of(office)
     if audit and audit.faults():
-        tell("bad", "The audit finds other results. Send no letters, and call whoever looks after the program.")
+        tell("bad", "The audit finds other results. Send no letters, and call the administrator.")
         go_to("/office/results")
     written, explainer = [], explaining.explainer_of(office)
     for ident in office.results:
