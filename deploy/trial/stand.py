@@ -1,27 +1,33 @@
-"""What the trial stands on: an office in a folder of its own, `rooms serve`, and HAProxy with the file of this repository.
+"""What the trial stands on: an office in a folder of its own, the keeper, HAProxy with the file of this repository, and the
+office's page where it is there.
 
-Ports, paths and the certificate are the trial's own. The unit is played by a thread, which starts the server again whenever it
-ends, and by bin/systemctl. Whatever was started has ended when the `with` block does.
+Ports, paths, certificate and clerks are the trial's own. Whatever was started has ended when the `with` block does.
 """
 
 import contextlib
+import json
 import os
 import random
 import shutil
+import signal
 import socket
 import sqlite3
 import ssl
 import subprocess
 import sys
 import tempfile
-import threading
 import time
 from pathlib import Path
 
 HERE = Path(__file__).resolve().parent
 DEPLOY = HERE.parent
+OFFICE = DEPLOY / "office"
+PAGE = OFFICE / "page" / "page.py"
 HOST = "rooms.example.org"
 CONNECTIONS = 1_000_000
+# The clerks of the trial, and their passwords.
+CLERKS = {"anna": "correct horse battery", "bert": "another long phrase"}
+PYTHON = "/usr/bin/python3"
 
 
 def fail(what):
@@ -39,8 +45,8 @@ def check(what, holds, more=""):
 def free_ports(count):
     """So many ports that nobody uses now, below those that the system gives to connections.
 
-    The system may give a port of its own range to any connection while the server is stopped. The server cannot have the port
-    back as long as that connection lasts, and for a minute after its end.
+    The system may give a port of its own range to any connection while the server is stopped. The server cannot have the
+    port back as long as that connection lasts, and for a minute after its end.
     """
     lowest = int(Path("/proc/sys/net/ipv4/ip_local_port_range").read_text(encoding="ascii").split()[0])
     free = []
@@ -75,28 +81,40 @@ def unchecked():
     return context
 
 
-class Stand:
-    """An office, its server and the proxy before it."""
+def command_of(process):
+    """The command line of a process, or nothing once it is gone."""
+    with contextlib.suppress(OSError):
+        return Path(f"/proc/{process}/cmdline").read_bytes().decode("utf-8", "replace").split("\0")
+    return []
 
-    def __init__(self, program, connections=CONNECTIONS):
+
+class Stand:  # pylint: disable=too-many-instance-attributes,too-many-public-methods  # all that a trial starts
+    """An office, its keeper with the server, the office's page, and the proxy before them."""
+
+    def __init__(self, program, connections=CONNECTIONS, data=None, **settings):
         self.program, self.connections = str(Path(program).resolve()), connections
         self.folder = Path(tempfile.mkdtemp(prefix="rooms-trial-"))
-        self.file = self.folder / "rooms.db"
+        self.data = Path(data) if data else self.folder / "data"
+        self.file = self.data / "rooms.db"
         self.server_port, self.plain_port, self.port = free_ports(3)
-        self.wanted, self.running = self.folder / "wanted", self.folder / "running"
-        self.over, self.proxy, self.unit = threading.Event(), None, None
-        self.starts = 0
+        self.scratch = Path(tempfile.mkdtemp(prefix="rooms-trial-", dir="/dev/shm"))
+        self.keeper = self.page = self.proxy = None
         self.environment = {
             **os.environ,
-            "PATH": f"{HERE / 'bin'}:{os.environ['PATH']}",
-            "TRIAL": str(self.folder),
+            "PYTHONDONTWRITEBYTECODE": "1",
             "ROOMS_FILE": str(self.file),
             "ROOMS_PROGRAM": self.program,
-            "ROOMS_LOCK": str(self.folder / "lock"),
+            "ROOMS_PORT": str(self.server_port),
+            "ROOMS_SOCKET": str(self.folder / "keeper.sock"),
+            "ROOMS_PAGE_SOCKET": str(self.folder / "page.sock"),
+            "ROOMS_SCRATCH": str(self.scratch / "copies"),
+            "ROOMS_SPEAKERS": "root",
+            **settings,
         }
 
     def __enter__(self):
         try:
+            self.data.mkdir(exist_ok=True)
             subprocess.run([self.program, "new", "--db", self.file], check=True, stdout=subprocess.DEVNULL)
         except BaseException:
             self.__exit__()
@@ -104,50 +122,69 @@ class Stand:
         return self
 
     def __exit__(self, *_):
-        self.wanted.unlink(missing_ok=True)
-        self.over.set()
-        self.kill()
-        if self.unit:
-            self.unit.join()
-        if self.proxy:
-            self.proxy.terminate()
-            self.proxy.wait()
+        for process in (self.proxy, self.page, self.keeper):
+            if process:
+                self.end(process)
         shutil.rmtree(self.folder)
+        shutil.rmtree(self.scratch)
 
-    # --- the server
+    @staticmethod
+    def end(process):
+        """Ends what was started, and waits for its end."""
+        process.terminate()
+        try:
+            process.wait(20)
+        except subprocess.TimeoutExpired:
+            process.kill()
+            process.wait()
 
-    def kill(self):
-        """Ends the server at once; the unit starts it again as long as it is wanted."""
-        with contextlib.suppress(FileNotFoundError, ValueError, ProcessLookupError):
-            os.kill(int(self.running.read_text()), 15)
+    def launch(self, name, *words):
+        """Starts something that writes into a log of its own."""
+        with open(self.folder / f"{name}.log", "a", encoding="utf-8") as log:
+            return subprocess.Popen(words, stdout=log, stderr=log, stdin=subprocess.DEVNULL, env=self.environment)
 
-    def serve(self):
-        """The unit: `rooms serve`. Where it ends by itself it is started again after 200 milliseconds, and else once it is wanted."""
-        line = [self.program, "serve", "--db", str(self.file), "--port", str(self.server_port),
-                "--count", str(self.connections)]
-        while not self.over.is_set():
-            if not self.wanted.exists():
-                time.sleep(0.02)
-                continue
-            with open(self.folder / "server.log", "a", encoding="utf-8") as log:
-                server = subprocess.Popen(line, stdout=log, stderr=log)
-                self.starts += 1
-                self.running.write_text(str(server.pid))
-                server.wait()
-            self.running.unlink()
-            if self.wanted.exists():
-                time.sleep(0.2)
+    def log(self, name):
+        """What it wrote down."""
+        return (self.folder / f"{name}.log").read_text(encoding="utf-8")
+
+    # --- the keeper and the server
 
     def start(self):
-        """Starts the unit and waits for its port."""
-        self.wanted.touch()
-        self.unit = threading.Thread(target=self.serve)
-        self.unit.start()
+        """Starts the keeper, which starts the server, and waits for both."""
+        self.start_keeper()
         self.until_listening(self.server_port)
 
-    def unit_ended(self):
-        """Waits until no server runs any more."""
-        until(lambda: not self.running.exists(), 30, "the end of the server")
+    def start_keeper(self):
+        """Starts the keeper, and waits until it answers."""
+        self.keeper = self.launch("keeper", PYTHON, str(OFFICE / "keeper.py"))
+        until(self.keeper_answers, 30, "the keeper")
+
+    def keeper_answers(self):
+        """Whether the keeper is there."""
+        with contextlib.suppress(OSError, ValueError):
+            return "journal" in self.ask(ask="journal", last=1)
+        return False
+
+    def stop_keeper(self):
+        """Ends the keeper, and the server with it."""
+        self.end(self.keeper)
+        self.keeper = None
+
+    def kill_keeper(self):
+        """Ends the keeper at once, wherever it is. The system ends the server with it."""
+        self.keeper.kill()
+        self.keeper.wait()
+        self.keeper = None
+
+    def server(self):
+        """The process of the server, or nothing where none runs."""
+        children = Path(f"/proc/{self.keeper.pid}/task/{self.keeper.pid}/children").read_text(encoding="ascii").split()
+        return next((int(child) for child in children if "serve" in command_of(child)), None)
+
+    def kill(self):
+        """Ends the server; the keeper starts it again."""
+        with contextlib.suppress(ProcessLookupError, TypeError):
+            os.kill(self.server(), signal.SIGTERM)
 
     def until_listening(self, port):
         """Waits for a port. This takes one connection of it."""
@@ -157,18 +194,38 @@ class Stand:
             return False
         until(listens, 30, f"port {port}")
 
+    def ask(self, **job):
+        """Asks the keeper."""
+        with socket.socket(socket.AF_UNIX) as door:
+            door.settimeout(150)
+            door.connect(self.environment["ROOMS_SOCKET"])
+            door.sendall(json.dumps(job).encode() + b"\n")
+            return json.loads(door.makefile().readline())
+
+    # --- the office's page
+
+    def start_page(self):
+        """Starts the office's page, where it is there. Whether it is."""
+        if PAGE.exists():
+            self.page = self.launch("page", PYTHON, str(PAGE))
+            until(Path(self.environment["ROOMS_PAGE_SOCKET"]).exists, 30, "the office's page")
+        return PAGE.exists()
+
     # --- the proxy
 
     def start_proxy(self, *changes):
-        """Starts HAProxy over the repository's file, with the trial's ports and paths, and further changes: an old text and a new."""
+        """Starts HAProxy over the repository's file, with the trial's ports and paths, and further changes: an old text and
+        a new. The addresses are of IPv4 alone, so that nothing is reached from outside."""
         self.make_certificate()
         text = (DEPLOY / "haproxy.cfg").read_text(encoding="utf-8")
         for old, new in [
             ("    log /dev/log local0\n    user haproxy\n    group haproxy\n", "    log stdout format raw local0\n"),
-            ("bind :80\n", f"bind 127.0.0.1:{self.plain_port}\n"),
-            ("bind :443 ", f"bind 127.0.0.1:{self.port} "),
+            ("bind :::80 v4v6\n", f"bind 127.0.0.1:{self.plain_port}\n"),
+            ("bind :::443 v4v6 ", f"bind 127.0.0.1:{self.port} "),
             ("/etc/haproxy/rooms.pem", str(self.folder / "rooms.pem")),
             ("127.0.0.1:8080", f"127.0.0.1:{self.server_port}"),
+            ("/run/rooms-page.sock", self.environment["ROOMS_PAGE_SOCKET"]),
+            ("    # user anna password $6$..\n", self.userlist()),
             *changes,
         ]:
             if text.count(old) != 1:
@@ -178,22 +235,28 @@ class Stand:
         settings = self.folder / "haproxy.cfg"
         settings.write_text(text, encoding="utf-8")
         subprocess.run(["haproxy", "-q", "-c", "-f", settings], check=True)
-        with open(self.folder / "proxy.log", "w", encoding="utf-8") as log:
-            self.proxy = subprocess.Popen(["haproxy", "-db", "-f", settings], stdout=log, stderr=log)
+        self.proxy = self.launch("proxy", "haproxy", "-db", "-f", str(settings))
         self.until_listening(self.port)
+
+    @staticmethod
+    def userlist():
+        """The clerks, as haproxy.cfg has them."""
+        hashed = {name: subprocess.run(["openssl", "passwd", "-6", "-stdin"], input=password, text=True, check=True,
+                                       capture_output=True).stdout.strip() for name, password in CLERKS.items()}
+        return "".join(f"    user {name} password {one}\n" for name, one in hashed.items())
 
     def make_certificate(self):
         """A certificate of the trial's own, with its key."""
         key, certificate = self.folder / "key.pem", self.folder / "certificate.pem"
         subprocess.run(
-            ["openssl", "req", "-x509", "-newkey", "ec", "-pkeyopt", "ec_paramgen_curve:prime256v1", "-nodes", "-days", "2",
-             "-subj", f"/CN={HOST}", "-addext", f"subjectAltName=DNS:{HOST}", "-keyout", key, "-out", certificate],
-            check=True, stderr=subprocess.DEVNULL)
+            ["openssl", "req", "-x509", "-newkey", "ec", "-pkeyopt", "ec_paramgen_curve:prime256v1", "-nodes",
+             "-days", "2", "-subj", f"/CN={HOST}", "-addext", f"subjectAltName=DNS:{HOST}", "-keyout", key,
+             "-out", certificate], check=True, stderr=subprocess.DEVNULL)
         (self.folder / "rooms.pem").write_text(certificate.read_text() + key.read_text())
 
     def proxy_log(self):
         """What the proxy wrote down."""
-        return (self.folder / "proxy.log").read_text(encoding="utf-8")
+        return self.log("proxy")
 
     # --- the office
 
@@ -212,10 +275,8 @@ class Stand:
                                   for place, room in enumerate(random.sample(rooms, count))])
 
     def recorded(self):
-        """The lists that the file has, by person."""
-        with contextlib.closing(sqlite3.connect(self.file)) as database:
-            rows = database.execute("SELECT person, room FROM choice ORDER BY person, place").fetchall()
-        return {person: [room for owner, room in rows if owner == person] for person, _ in rows}
+        """The lists that are on record, by person."""
+        return self.ask(ask="view")["choices"]
 
     def tell(self, line):
         """A line to the file, while no server holds it."""
@@ -225,13 +286,21 @@ class Stand:
             fail(f"{line}: {done.stdout}{done.stderr}")
         return done.stdout
 
-    def script(self, name, *words):
-        """Runs a script of deploy/ as the office does, and gives what it printed."""
-        done = subprocess.run([DEPLOY / name, *words], env=self.environment, capture_output=True, text=True, check=False)
-        if done.returncode != 0:
-            fail(f"{name} {words}: {done.returncode} {done.stdout}{done.stderr}")
-        return done.stdout
+    def command(self, *words, given=""):
+        """Runs the clerk's command, and gives its status, what it printed, and what it said beside."""
+        done = subprocess.run([PYTHON, OFFICE / "rooms-office", *words], env=self.environment, input=given.encode(),
+                              capture_output=True, check=False)
+        return done.returncode, done.stdout.decode(), done.stderr.decode()
+
+    def script(self, name, *words, given=""):
+        """Runs the clerk's command, which has to be accepted, and gives what it printed."""
+        if name != "rooms-office":
+            fail(f"there is no script {name}")
+        status, printed, beside = self.command(*words, given=given)
+        if status != 0:
+            fail(f"{name} {words}: {status} {printed}{beside}")
+        return printed
 
     def office(self, line):
-        """A line to the file by the office's script, which stops the server meanwhile."""
+        """A line of the office, by the clerk's command."""
         return self.script("rooms-office", "do", *line.split())

@@ -1,0 +1,229 @@
+"""What can be asked of the keeper. A request is an object of JSON with its name in `ask`, and so is the answer.
+
+| ask | fields | answer |
+|---|---|---|
+| view | | the rows of the office (rows.py); server: whether it runs; status: of the last one that ended by itself |
+| try | lines | answers: of a copy, which is thrown away |
+| do | lines, seen | answers, done, took, copy |
+| draw | seed, seen | as `do` |
+| import | kind, label, body, only_try, seen | as `do`; `body` in base 64 |
+| export | kind | answers |
+| copy | | body: the office without keys and names, a database in base 64 |
+| record | | body: the public record of the round |
+| backup, backups | | name; backups: name, bytes and reason of each |
+| back | name, seen | name: of the copy that was taken of the present office before |
+| blank | label, seen | blanked: the label |
+| note, journal | line; last | nothing; journal: the last entries |
+
+An answer is a text and a status of the program. What cannot be done is answered `fault`, with the reason.
+"""
+
+import base64
+import binascii
+import importlib
+from collections.abc import Callable
+from pathlib import Path
+from typing import Any
+
+import lines as told
+from backups import ASKED_FOR, blank, without_names
+from hand import CarryOut, Change, Hand
+from journal import masked, masked_line, masked_note
+from office import Office
+from program import NOT_UNDERSTOOD, Answer, is_refused
+from rows import Rows
+from settings import Fault
+
+Job = dict[str, Any]
+SPOKEN = 400  # signs of a line, or of several, that the journal keeps
+
+
+def text(job: Job, name: str) -> str:
+    """A field that has to be a text."""
+    value = job[name]
+    if not isinstance(value, str):
+        raise Fault(f"not understood: {name} is no text")
+    return value
+
+
+def seen_in(job: Job) -> str | None:
+    """Where the sender saw the office, if that is said."""
+    return text(job, "seen") if job.get("seen") is not None else None
+
+
+def lines_of(job: Job) -> list[str]:
+    """The lines of a request."""
+    lines = job["lines"]
+    if not isinstance(lines, list) or not lines or not all(isinstance(line, str) for line in lines):
+        raise Fault("not understood: lines are no list of texts")
+    return lines
+
+
+def body_of(job: Job) -> bytes:
+    """The bytes of a list."""
+    try:
+        return base64.b64decode(text(job, "body"), validate=True)
+    except binascii.Error as fault:
+        raise Fault("not understood: the body is not in base 64") from fault
+
+
+def participants(rows: Rows) -> int:
+    """How many take part in the round."""
+    return sum(not withdrawn for _, _, _, withdrawn in rows["people"])
+
+
+def only(answer: Answer) -> Job:
+    """One answer that changed nothing."""
+    return {"answers": [answer], "done": False}
+
+
+class Asks:
+    """Answers what is asked of the keeper."""
+
+    def __init__(self, office: Office, hand: Hand) -> None:
+        self.program, self.copies, self.hand = office.program, office.copies, hand
+        self.backups, self.journal = office.backups, office.journal
+        self.known: dict[str, Callable[[Job], Job]] = {
+            "view": self.view, "try": self.try_out, "do": self.do_lines, "draw": self.draw, "import": self.bring_in,
+            "export": self.export, "copy": self.copy, "record": self.record, "backup": self.backup,
+            "backups": self.list_backups, "back": self.put_back, "blank": self.blank, "note": self.note,
+            "journal": self.show_journal,
+        }
+
+    def answer(self, job: Job) -> Job:
+        """The answer to a request."""
+        if job.get("ask") not in self.known:
+            raise Fault(f"not understood: there is no request {job.get('ask')!r}")
+        try:
+            return self.known[job["ask"]](job)
+        except KeyError as missing:
+            raise Fault(f"not understood: the field {missing} is missing") from missing
+
+    # --- reading
+
+    def view(self, _: Job) -> Job:
+        """The office as it is now."""
+        return {**self.hand.view.rows(), "server": self.hand.server is not None, "status": self.hand.status}
+
+    def try_out(self, job: Job) -> Job:
+        """Questions, and what lines would do."""
+        with self.copies.copied() as copy:
+            return {"answers": self.program.tell_all(lines_of(job), copy)}
+
+    def export(self, job: Job) -> Job:
+        """An export of a copy."""
+        with self.copies.copied() as copy:
+            return {"answers": [self.program.export(text(job, "kind"), copy)]}
+
+    def copy(self, job: Job) -> Job:
+        """The office without keys and names."""
+        with self.copies.copied() as copy:
+            body = without_names(copy)
+        self.journal.note(who=job["who"], line="a copy without keys and names was taken")
+        return {"body": base64.b64encode(body).decode()}
+
+    def record(self, job: Job) -> Job:
+        """The public record of the round."""
+        try:
+            record = importlib.import_module("record")
+        except ImportError as fault:
+            raise Fault("the program of the public record (record.py) is not installed beside the keeper") from fault
+        with self.copies.copied() as copy:
+            body = record.record_of(copy)
+        self.journal.note(who=job["who"], line="the public record was taken")
+        return {"body": body}
+
+    # --- changing
+
+    def do_lines(self, job: Job) -> Job:
+        """Lines that change the office. Of several all come to stand, or none."""
+        lines = lines_of(job)
+        if any("\n" in line for line in lines):
+            return only(NOT_UNDERSTOOD)
+        if told.only_reads(lines):
+            answers = self.try_out(job)["answers"]
+            return {"answers": answers, "done": not is_refused(answers)}
+        whole = len(lines) > 1 or told.have_keys(lines)
+        kind = "lines" if len(lines) > 1 else told.verb_of(lines[0])
+        if not told.reason_to_copy(lines, self.hand.view.rows()["choices"]):
+            kind = ""
+
+        def carry_out(file: Path) -> list[Answer]:
+            return self.program.tell_all(lines, file) if whole else [self.program.tell(lines[0], file)]
+        return self.change(job, "; ".join(map(masked_line, lines)), carry_out, whole=whole, kind=kind)
+
+    def draw(self, job: Job) -> Job:
+        """The draw by a seed."""
+        seed, count = text(job, "seed"), participants(self.hand.view.rows())
+        line = " ".join(["draw", *self.program.words(seed, count)])
+        spoken = f"draw $(rooms words --seed {seed} --count {count})"
+        return self.change(job, spoken, lambda file: [self.program.tell(line, file)], kind="draw")
+
+    def bring_in(self, job: Job) -> Job:
+        """A list. With `only_try` it is tried alone."""
+        kind, label, body = text(job, "kind"), text(job, "label"), body_of(job)
+        if job.get("only_try"):
+            with self.copies.copied() as copy:
+                return only(self.program.bring_in(kind, label, body, copy))
+        spoken = masked(f"import {kind} {label} ({len(body)} bytes)")
+        return self.change(job, spoken, lambda file: [self.program.bring_in(kind, label, body, file)], kind="import")
+
+    def change(self, job: Job, spoken: str, carry_out: CarryOut, *, whole: bool = False, kind: str = "") -> Job:
+        """Hands a change to the hand, and gives its answers."""
+        spoken = spoken if len(spoken) <= SPOKEN else spoken[:SPOKEN] + " .."
+        why = f"before {spoken[:60]}, by {job['who']}"
+        asked = Change(job["who"], spoken, carry_out, whole=whole, kind=kind, why=why, seen=seen_in(job))
+        change = self.hand.change(asked)
+        done = not is_refused(change.answers)
+        return {"answers": change.answers, "done": done, "took": change.took, "copy": change.copy}
+
+    # --- copies
+
+    def backup(self, job: Job) -> Job:
+        """Keeps a copy of the office, beside the running server."""
+        name = self.backups.keep(ASKED_FOR, f"asked for by {job['who']}")
+        self.journal.note(who=job["who"], line="backup", answer=name)
+        return {"name": name}
+
+    def list_backups(self, _: Job) -> Job:
+        """The kept copies."""
+        return {"backups": self.backups.listed()}
+
+    def put_back(self, job: Job) -> Job:
+        """Puts a kept copy in the office's place. The present office is copied before, also where it is damaged."""
+        name = text(job, "name")
+
+        def carry_out(copy: Path) -> list[Answer]:
+            self.backups.take(name, copy)
+            return [self.program.look(copy)]
+        change = self.hand.change(Change(job["who"], f"back {name}", carry_out, whole=True, kind="back",
+                                         why=f"before back {name}, by {job['who']}", damaged=True, seen=seen_in(job)))
+        if is_refused(change.answers):
+            said = change.answers[-1].text.strip()
+            raise Fault(f"the program does not take this copy ({said}). Nothing was changed.")
+        return {"name": change.copy}
+
+    def blank(self, job: Job) -> Job:
+        """Empties the kept bytes of a list (`blank` in backups.py says what it costs). Kept copies still have them."""
+        label = text(job, "label")
+
+        def carry_out(copy: Path) -> list[Answer]:
+            blank(label, copy)
+            return [self.program.look(copy)]
+        spoken = masked(f"blank {label}")
+        change = self.hand.change(Change(job["who"], spoken, carry_out, whole=True, seen=seen_in(job)))
+        if is_refused(change.answers):
+            said = change.answers[-1].text.strip()
+            raise Fault(f"the program does not take the office afterwards ({said}). Nothing was changed.")
+        return {"blanked": label}
+
+    # --- the journal
+
+    def note(self, job: Job) -> Job:
+        """Notes what a clerk does, as a seed before the draw."""
+        self.journal.note(who=job["who"], line=masked_note(text(job, "line")))
+        return {}
+
+    def show_journal(self, job: Job) -> Job:
+        """The last entries."""
+        return {"journal": list(self.journal.entries())[-int(job.get("last", 200)):]}

@@ -1,0 +1,144 @@
+"""The kept copies of the office: those that are asked for, as each night, and those taken before lines that cannot be
+taken back.
+
+Each is a folder below `backups` with the time of the copy as its name. In it are `rooms.db`, which is the whole
+office in one file, and `why`, a line of JSON that says why the copy was taken. Where the office was damaged, the
+copy has file and log as they were.
+"""
+
+import contextlib
+import datetime
+import json
+import re
+import shutil
+import sqlite3
+import tempfile
+from pathlib import Path
+from typing import Any
+
+from copies import ENDS, Copies, beside, make_whole, to_disk
+from settings import Fault, Settings
+
+NAME = re.compile(r"[0-9]{8}T[0-9]{6}Z(-[0-9]{2})?")
+ASKED_FOR = "backup"
+
+
+class Backups:
+    """The folder of the kept copies."""
+
+    def __init__(self, settings: Settings, copies: Copies) -> None:
+        self.settings, self.copies, self.folder = settings, copies, settings.backups
+
+    def keep(self, kind: str, why: str, still: bool = False, damaged: bool = False) -> str:
+        """Keeps a copy of the office, on the disk, and gives its name; with `damaged` also a copy that is not whole."""
+        self.folder.mkdir(mode=0o700, exist_ok=True)
+        with self.copies.copied(still) as copy:
+            if make_whole(copy):
+                return self.store([copy], {"kind": kind, "why": why, "whole": True})
+        if not damaged:
+            raise Fault("the office's file is damaged, so nothing was done. Put a copy back: rooms-office back NAME")
+        with self.copies.copied(still) as copy:  # anew: to look at the first one may have changed it
+            return self.store([one for end in ENDS if (one := beside(copy, end)).exists()],
+                              {"kind": kind, "why": why, "whole": False})
+
+    def store(self, files: list[Path], entry: dict[str, Any]) -> str:
+        """Writes a copy to the disk. Where that fails nothing of it stays."""
+        part = Path(tempfile.mkdtemp(dir=self.folder, prefix=".part-"))
+        try:
+            for one in files:
+                shutil.copyfile(one, part / one.name)
+            (part / "why").write_text(json.dumps(entry) + "\n", encoding="utf-8")
+            to_disk(*part.iterdir(), part)
+            name = self.free_name()
+            part.rename(self.folder / name)
+            to_disk(self.folder)
+        except BaseException:
+            shutil.rmtree(part, ignore_errors=True)
+            raise
+        with contextlib.suppress(OSError):
+            self.drop_old()
+        return name
+
+    def free_name(self) -> str:
+        """The time as a name, with a number behind it where a copy of this second is there."""
+        now = datetime.datetime.now(datetime.timezone.utc).strftime("%Y%m%dT%H%M%SZ")
+        names = [now, *(f"{now}-{number:02}" for number in range(2, 100))]
+        return next(name for name in names if not (self.folder / name).exists())
+
+    def names(self) -> list[str]:
+        """The names of the kept copies, the oldest first."""
+        if not self.folder.exists():
+            return []
+        return sorted(one.name for one in self.folder.iterdir() if NAME.fullmatch(one.name) and one.is_dir())
+
+    def entry(self, name: str) -> dict[str, str]:
+        """Why a copy was taken. One that was put there by hand counts as asked for."""
+        with contextlib.suppress(OSError, ValueError, KeyError, TypeError):
+            entry = json.loads((self.folder / name / "why").read_text(encoding="utf-8"))
+            return {"kind": str(entry["kind"]), "why": str(entry["why"])}
+        return {"kind": ASKED_FOR, "why": ""}
+
+    def listed(self) -> list[tuple[str, int, str]]:
+        """The kept copies: name, bytes, and why each was taken."""
+        return [(name, sum(one.stat().st_size for one in (self.folder / name).iterdir()), self.entry(name)["why"])
+                for name in self.names()]
+
+    def drop_old(self) -> None:
+        """Deletes the oldest copies of each kind. Those taken before lines make none of those of the nights go."""
+        kinds: dict[str, list[str]] = {}
+        for name in self.names():
+            kinds.setdefault(self.entry(name)["kind"], []).append(name)
+        for kind, names in kinds.items():
+            count = self.settings.kept_backups if kind == ASKED_FOR else self.settings.kept_before
+            for name in names[:-count]:
+                shutil.rmtree(self.folder / name)
+
+    def take(self, name: str, target: Path) -> None:
+        """Puts a kept copy over another copy, as one file."""
+        source = self.folder / name / target.name
+        if not NAME.fullmatch(name) or not source.is_file():
+            raise Fault(f"there is no copy {name!r}. See them all: rooms-office backups")
+        for end in (*ENDS, "-shm"):
+            beside(target, end).unlink(missing_ok=True)
+        for end in ENDS:
+            with contextlib.suppress(FileNotFoundError):
+                shutil.copyfile(beside(source, end), beside(target, end))
+        if not make_whole(target):
+            raise Fault(f"the copy {name} is damaged, and was not put back")
+
+    def clear(self) -> None:
+        """Deletes what a keeper left that was killed while it wrote a copy."""
+        if self.folder.exists():
+            for part in self.folder.glob(".part-*"):
+                shutil.rmtree(part)
+
+
+def blank(label: str, file: Path) -> None:
+    """Empties the kept bytes of a list, in a copy of the office.
+
+    The program keeps the bytes of each list that came in, to know the list again: names, keys and homes of people who
+    may have left. This puts the word `blanked` in their place, and writes the copy anew, so that nothing of them is
+    left between its rows. The cost: the program does not know the list again. The label stays taken, and each further
+    import under it is answered `refused 14 ListDiffers`, also of the list that came in. The bytes are not left empty,
+    since an empty list would then be answered as the one that came in.
+    """
+    with contextlib.closing(sqlite3.connect(file)) as database:
+        database.execute("PRAGMA secure_delete = ON")
+        with database:
+            if database.execute("UPDATE list SET body = ? WHERE label = ?", (b"blanked", label)).rowcount != 1:
+                raise Fault(f"no list has come in under the label {label!r}")
+        database.execute("VACUUM")
+        database.execute("PRAGMA wal_checkpoint(TRUNCATE)")
+
+
+def without_names(file: Path) -> bytes:
+    """A copy of the office that can be given away: no keys, no names, and no lists as they came in."""
+    with contextlib.closing(sqlite3.connect(file)) as database:
+        database.execute("PRAGMA secure_delete = ON")
+        with database:
+            database.execute("UPDATE person SET passkey = 'nokey' || printf('%016d', rowid), name = id")
+            database.execute("DELETE FROM list")
+        database.execute("VACUUM")
+        database.execute("PRAGMA wal_checkpoint(TRUNCATE)")
+        database.execute("PRAGMA journal_mode = DELETE")
+    return file.read_bytes()

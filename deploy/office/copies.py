@@ -1,0 +1,143 @@
+"""Copies of the office's file beside the running server, and how a file takes the office's place.
+
+SQLite cannot read beside the server, which holds the file; but file and log can be copied beside it. A copy is the
+office of one moment where meanwhile neither the file nor the head of its log has changed. For the server only adds
+to the log, until it has copied the log into the file (then the file's time changes) and begins the log anew (then
+the log's head changes). Whatever the copy has of a line that was being added is cut off at its end, fails its
+checksum, and is passed over. Copying takes no locks, so the server does not notice.
+
+This needs a file system with times in nanoseconds, so none of another machine: /var/lib/rooms is to be on a disk of
+this one.
+"""
+
+import contextlib
+import os
+import shutil
+import sqlite3
+import tempfile
+import time
+from collections.abc import Iterator
+from pathlib import Path
+from typing import NamedTuple
+
+from settings import FULL, Fault, Settings
+
+ENDS = ("", "-wal")
+HEAD = 32             # bytes: the head of a log, with what is drawn anew whenever the log begins anew
+COARSE = 50_000_000   # nanoseconds: two changes within one tick of the clock of files have the same time
+TRIES = 100
+
+
+class State(NamedTuple):
+    """What the system says of the file and its log."""
+
+    file_time: int
+    file_size: int
+    head: bytes
+    log_time: int
+    log_size: int
+
+    def same_file(self, other: "State") -> bool:
+        """Whether the file, and the head of the log, are as they were: what was added to the log does not matter."""
+        return (self.file_time, self.file_size, self.head) == (other.file_time, other.file_size, other.head)
+
+    def is_settled(self) -> bool:
+        """Whether the last change is so long ago that one more would be seen by its time."""
+        return time.time_ns() - max(self.file_time, self.log_time) >= COARSE
+
+
+def beside(file: Path, end: str) -> Path:
+    """The file with something behind its name, as its log."""
+    return file.with_name(file.name + end)
+
+
+def to_disk(*paths: Path) -> None:
+    """Has files, or the names in folders, on the disk before it returns."""
+    for path in paths:
+        held = os.open(path, os.O_RDONLY)
+        try:
+            os.fsync(held)
+        finally:
+            os.close(held)
+
+
+def make_whole(file: Path) -> bool:
+    """Puts the log of a copy into the copy, which then is one file. Whether the copy is a whole database."""
+    try:
+        with contextlib.closing(sqlite3.connect(file)) as database:
+            whole = database.execute("PRAGMA integrity_check").fetchall() == [("ok",)]
+            whole = whole and not database.execute("PRAGMA foreign_key_check").fetchall()
+            return whole and database.execute("PRAGMA wal_checkpoint(TRUNCATE)").fetchone()[0] == 0
+    except sqlite3.DatabaseError:
+        return False
+
+
+class Copies:
+    """Makes copies of the office in memory, and puts a file into the office's place."""
+
+    def __init__(self, settings: Settings) -> None:
+        self.file, self.scratch = settings.file, settings.scratch
+        self.next = beside(self.file, ".next")
+
+    def state(self) -> State:
+        """What the file is known by at this moment."""
+        found = os.stat(self.file)
+        with contextlib.suppress(FileNotFoundError), open(beside(self.file, "-wal"), "rb") as log:
+            seen = os.fstat(log.fileno())
+            return State(found.st_mtime_ns, found.st_size, log.read(HEAD), seen.st_mtime_ns, seen.st_size)
+        return State(found.st_mtime_ns, found.st_size, b"", 0, 0)
+
+    def copy_to(self, folder: Path, still: bool = False) -> Path:
+        """Copies file and log into a folder. With `still` nobody writes: the server is stopped."""
+        for _ in range(TRIES):
+            before = self.state()
+            if not still and time.time_ns() - before.file_time < COARSE:
+                time.sleep(COARSE / 1e9)
+                continue
+            for end in reversed(ENDS):  # the log first
+                target = beside(folder / self.file.name, end)
+                target.unlink(missing_ok=True)
+                with contextlib.suppress(FileNotFoundError):
+                    shutil.copyfile(beside(self.file, end), target)
+            if self.state().same_file(before):
+                return folder / self.file.name
+        raise Fault("the file changes all the time. Try again.")
+
+    @contextlib.contextmanager
+    def copied(self, still: bool = False) -> Iterator[Path]:
+        """A copy of the office, for as long as the block runs."""
+        with tempfile.TemporaryDirectory(dir=self.scratch) as folder:
+            yield self.copy_to(Path(folder), still)
+
+    def put_in_place(self, copy: Path) -> None:
+        """Makes a whole copy the office, while nothing else has it. A kill at any point leaves the one or the other."""
+        part = beside(self.file, ".part")
+        try:
+            shutil.copyfile(copy, part)
+            to_disk(part)
+        except OSError as fault:
+            part.unlink(missing_ok=True)
+            raise Fault(f"the office could not be written ({fault.strerror}). {FULL}") from fault
+        part.rename(self.next)
+        to_disk(self.file.parent)
+        self.finish()
+
+    def finish(self) -> None:
+        """Ends what `put_in_place` has begun. The old log goes first: its lines would be added to the new file."""
+        beside(self.file, ".part").unlink(missing_ok=True)
+        if not self.next.exists():
+            return
+        for end in ("-wal", "-shm", "-journal"):
+            beside(self.file, end).unlink(missing_ok=True)
+        to_disk(self.file.parent)
+        self.next.rename(self.file)
+        to_disk(self.file.parent)
+
+    def clear(self) -> None:
+        """Makes the folder for copies, and empties it of what a keeper left that was killed."""
+        self.scratch.mkdir(mode=0o700, parents=True, exist_ok=True)
+        for left in self.scratch.iterdir():
+            if left.is_dir():
+                shutil.rmtree(left)
+            else:
+                left.unlink()

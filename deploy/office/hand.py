@@ -1,0 +1,256 @@
+"""The hand: the one thread that owns `rooms serve`, and works on the office's file between two servings.
+
+Changes wait in a queue. The server is stopped once for all that wait, and started again after them. The hand works
+in the main thread: what it starts ends with this thread, also where the keeper is killed.
+"""
+
+import queue
+import sqlite3
+import subprocess
+import threading
+import time
+from collections.abc import Callable
+from dataclasses import dataclass, field
+from pathlib import Path
+
+from copies import make_whole
+from office import Office
+from program import Answer, is_refused
+from rows import View, stamp
+from settings import FULL, Fault
+
+FIRST_PAUSE, LONGEST_PAUSE = 0.2, 5.0  # seconds before a server is started again that has ended by itself
+LIVED = 2.0                            # a server that ran for so long did serve: the pause begins anew
+REFUSED = (1, 2)                       # statuses of a server that another start does not help
+
+
+CarryOut = Callable[[Path], list[Answer]]
+
+
+@dataclass
+class Change:  # pylint: disable=too-many-instance-attributes  # what is asked for, and what comes of it
+    """A change of the office that somebody waits for."""
+
+    who: str
+    line: str                                   # as the journal has it
+    carry_out: CarryOut                         # on a copy, or on the office's file
+    whole: bool = False                         # on a copy, which then takes the file's place: all stands or nothing
+    kind: str = ""                              # the kind of the copy that is kept before, or none
+    why: str = ""
+    damaged: bool = False                       # also where the office is damaged
+    seen: str | None = None                     # where its sender saw the office
+    copy: str | None = None                     # the name of the copy that was kept before
+    answers: list[Answer] = field(default_factory=list)
+    took: int = 0                               # milliseconds
+    fault: str = ""
+    wanted: threading.Lock = field(default_factory=threading.Lock)  # taken to make the change, or to give it up
+    done: threading.Event = field(default_factory=threading.Event)
+
+    def end(self, fault: str) -> None:
+        """Ends a change that is not made."""
+        self.fault = fault
+        self.done.set()
+
+
+class Server:
+    """One run of `rooms serve`."""
+
+    def __init__(self, words: list[str]) -> None:
+        self.process = subprocess.Popen(words, stdin=subprocess.DEVNULL)  # pylint: disable=consider-using-with
+        self.began, self.ended = time.monotonic(), threading.Event()
+
+    def wait(self) -> int:
+        """Waits for its end, which gives its status. One thread alone does so."""
+        status = self.process.wait()
+        self.ended.set()
+        return status
+
+    def stop(self) -> None:
+        """Ends it, at once where it does not end by itself."""
+        self.process.terminate()
+        if not self.ended.wait(5):
+            self.process.kill()
+            self.ended.wait()
+
+
+@dataclass
+class Ended:
+    """A server that has ended."""
+
+    server: Server
+    status: int
+
+
+class Hand:  # pylint: disable=too-many-instance-attributes  # the parts of the office, and where its server is
+    """Owns the server, and carries out one change after the other."""
+
+    def __init__(self, office: Office) -> None:
+        self.settings, self.program, self.copies = office.settings, office.program, office.copies
+        self.backups, self.journal, self.view = office.backups, office.journal, View(office.copies)
+        self.work: queue.Queue[Change | Ended | None] = queue.Queue()
+        self.server: Server | None = None
+        self.status: int | None = None       # of the last server that ended by itself
+        self.due: float | None = None        # when the server is to be started again
+        self.pause, self.over = FIRST_PAUSE, False
+
+    # --- asked by other threads
+
+    def change(self, change: Change) -> Change:
+        """Tries a change on a copy, so that nobody notices a refusal. What would be accepted waits for its turn."""
+        with self.copies.copied() as copy:
+            change.answers = change.carry_out(copy)
+        if is_refused(change.answers):
+            return change
+        self.work.put(change)
+        if not change.done.wait(self.settings.turn_seconds) and change.wanted.acquire(blocking=False):
+            raise Fault("other changes took too long. Nothing was changed: try again.")
+        change.done.wait()
+        if change.fault:
+            raise Fault(change.fault)
+        return change
+
+    def end(self) -> None:
+        """Ends the hand after the change that it is carrying out."""
+        self.over = True
+        self.work.put(None)
+
+    # --- the hand's own thread
+
+    def keep(self) -> None:
+        """Keeps the server running, and carries out changes, until the hand is ended."""
+        self.start()
+        while not self.over:
+            item = self.next_work()
+            if isinstance(item, Ended):
+                self.take_note(item)
+            elif isinstance(item, Change):
+                self.stop()
+                self.work_off(item)
+                self.start()
+        self.stop()
+        while not self.work.empty():
+            left = self.work.get()
+            if isinstance(left, Change):
+                left.end("the keeper is being ended. Nothing was changed: try again.")
+
+    def next_work(self) -> Change | Ended | None:
+        """The next piece of work. Meanwhile a server is started again when its time has come."""
+        while True:
+            wait = None if self.due is None else max(0.0, self.due - time.monotonic())
+            try:
+                return self.work.get(timeout=wait)
+            except queue.Empty:
+                self.start()
+
+    def work_off(self, change: Change) -> None:
+        """Carries out a change, and those that wait behind it, until the server has been away for long enough."""
+        end = time.monotonic() + self.settings.stop_seconds
+        self.carry_out(change)
+        while time.monotonic() < end and not self.over:
+            try:
+                item = self.work.get_nowait()
+            except queue.Empty:
+                return
+            if isinstance(item, Change):
+                self.carry_out(item)
+            elif isinstance(item, Ended):
+                self.take_note(item)
+
+    def carry_out(self, change: Change) -> None:
+        """One change, if its sender still waits for it."""
+        if not change.wanted.acquire(blocking=False):
+            return
+        try:
+            self.make(change)
+        except Fault as fault:
+            change.fault = str(fault)
+        except (OSError, sqlite3.Error) as fault:
+            change.fault = f"the disk or the memory did not serve ({fault}). Look whether this stands."
+        finally:
+            change.done.set()
+
+    def make(self, change: Change) -> None:
+        """Makes a change, if the office is where its sender saw it, with the copy before it and the journal."""
+        began = time.monotonic()
+        self.copies.finish()
+        if change.seen is not None and change.seen != (now := stamp(self.view.rows(still=True))):
+            raise Fault(f"the office has gone on: it is at {now} now. Nothing was changed. Look before you go on.")
+        if change.kind:
+            change.copy = self.copy_before(change)
+        number = self.journal.begin(change.who, change.line, change.copy)
+        try:
+            change.answers = self.replaced(change) if change.whole else change.carry_out(self.copies.file)
+        except (Fault, OSError, sqlite3.Error) as fault:
+            self.journal.end(number, f"fault: {fault}", 3, self.since(began))
+            raise
+        change.took = self.since(began)
+        self.journal.end(number, change.answers[-1].text, change.answers[-1].status, change.took)
+
+    def copy_before(self, change: Change) -> str:
+        """Keeps a copy of the office as it is before a change, and gives its name."""
+        try:
+            return self.backups.keep(change.kind, change.why, still=True, damaged=change.damaged)
+        except OSError as fault:
+            raise Fault(f"the office could not be copied ({fault.strerror}). {FULL}") from fault
+
+    def replaced(self, change: Change) -> list[Answer]:
+        """Carries out a change on a copy, which then takes the office's place, if the program takes it as an office."""
+        with self.copies.copied(still=True) as copy:
+            answers = change.carry_out(copy)
+            if is_refused(answers):
+                return answers
+            looked = self.program.look(copy)
+            if looked.status != 0 or not make_whole(copy):
+                raise Fault(f"the office that comes of this is none ({looked.text.strip()}). Nothing was changed.")
+            self.copies.put_in_place(copy)
+            return answers
+
+    @staticmethod
+    def since(began: float) -> int:
+        """Milliseconds."""
+        return round(1000 * (time.monotonic() - began))
+
+    # --- the server
+
+    def start(self) -> None:
+        """Starts the server, unless the keeper is ending. What takes the office's place has to be there first."""
+        self.due = None
+        if self.over:
+            return
+        try:
+            self.copies.finish()
+            self.server = Server(self.program.serve_words())
+        except OSError as fault:
+            print(f"rooms serve could not be started: {fault}", flush=True)
+            self.start_later()
+            return
+        threading.Thread(target=self.wait_for, args=(self.server,), daemon=True).start()
+
+    def wait_for(self, server: Server) -> None:
+        """Reports the end of a server."""
+        self.work.put(Ended(server, server.wait()))
+
+    def start_later(self) -> None:
+        """Has the server started again after a pause, which grows as long as that does not help."""
+        self.due = time.monotonic() + self.pause
+        self.pause = min(2 * self.pause, LONGEST_PAUSE)
+
+    def stop(self) -> None:
+        """Stops the server: what it has answered stands."""
+        self.due = None
+        if self.server:
+            self.server.stop()
+            self.server = None
+
+    def take_note(self, ended: Ended) -> None:
+        """Sees to a server that has ended by itself. One that refuses the file would do so again, until a change."""
+        if ended.server is not self.server:
+            return
+        served = time.monotonic() - ended.server.began > LIVED
+        if served or ended.status != self.status:
+            print(f"rooms serve has ended with status {ended.status}", flush=True)
+        self.server, self.status = None, ended.status
+        if served:
+            self.pause = FIRST_PAUSE
+        if ended.status not in REFUSED:
+            self.start_later()

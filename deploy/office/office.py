@@ -1,0 +1,21 @@
+"""The office's parts, put together."""
+
+from backups import Backups
+from copies import Copies
+from journal import Journal
+from program import Program
+from settings import Settings
+
+
+class Office:  # pylint: disable=too-few-public-methods  # a place for the parts
+    """The file with its copies, its journal, and the program that works on it."""
+
+    def __init__(self, settings: Settings) -> None:
+        self.settings, self.program, self.copies = settings, Program(settings), Copies(settings)
+        self.journal, self.backups = Journal(settings.journal), Backups(settings, self.copies)
+
+    def clear(self) -> None:
+        """Puts away what a killed keeper left, and notes of its unfinished changes that their answers are not known."""
+        self.copies.clear()
+        self.backups.clear()
+        self.journal.end_unfinished()

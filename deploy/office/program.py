@@ -1,0 +1,132 @@
+"""Runs the program `rooms`, and gives its answers.
+
+The program takes a key only as a word of its command line, and every account of the machine can read the command
+lines of all processes. So no key is ever such a word here: on a copy of the office a stand-in takes the key's
+place, and the key the stand-in's place afterwards (`add_person`, `ask_me`).
+"""
+
+import contextlib
+import re
+import secrets
+import sqlite3
+import subprocess
+import tempfile
+from pathlib import Path
+from typing import NamedTuple
+
+from lines import verb_of
+from settings import Fault, Settings
+
+KEY = re.compile(r"[a-z0-9]{16,64}")
+SEED = re.compile(r"[0-9A-Fa-f]{64}")
+
+
+class Answer(NamedTuple):
+    """What the program printed, and its status."""
+
+    text: str
+    status: int
+
+
+NOT_UNDERSTOOD = Answer("not understood\n", 2)
+KEY_IN_USE = Answer("refused 6 KeyInUse\n", 1)
+
+
+def is_refused(answers: list[Answer]) -> bool:
+    """Whether the last of these answers is not that of an accepted line."""
+    return not answers or answers[-1].status != 0
+
+
+def change_key(old: str, new: str, copy: Path) -> None:
+    """Changes the key of whoever has it, in a copy."""
+    with contextlib.closing(sqlite3.connect(copy)) as database:
+        with database:
+            database.execute("UPDATE person SET passkey = ? WHERE passkey = ?", (new, old))
+
+
+class Program:
+    """The program, as the keeper runs it."""
+
+    def __init__(self, settings: Settings) -> None:
+        self.settings = settings
+
+    def serve_words(self) -> list[str]:
+        """The command line of the server. The server ends with the thread that starts it."""
+        return ["setpriv", "--pdeathsig", "TERM", self.settings.program, "serve", "--db", str(self.settings.file),
+                "--port", str(self.settings.port), "--count", str(self.settings.connections)]
+
+    def run(self, *words: str) -> Answer:
+        """Runs the program to its end. It ends with the keeper, and when its time is over."""
+        line = ["setpriv", "--pdeathsig", "KILL", self.settings.program, *words]
+        limit = self.settings.line_seconds
+        try:
+            done = subprocess.run(line, stdin=subprocess.DEVNULL, capture_output=True, timeout=limit, check=False)
+        except subprocess.TimeoutExpired as fault:
+            why = f"the program did not end within {limit:g} seconds, and was ended. Look whether the line stands."
+            raise Fault(why) from fault
+        return Answer((done.stdout + done.stderr).decode("utf-8", "replace"), done.returncode)
+
+    def tell(self, line: str, file: Path) -> Answer:
+        """Tells one line to a file. No option gets through: all words stand behind `--`."""
+        if "\n" in line:
+            return NOT_UNDERSTOOD
+        return self.run("do", "--db", str(file), "--", *line.split(" "))
+
+    def tell_all(self, lines: list[str], copy: Path) -> list[Answer]:
+        """Tells lines to a copy, up to the first that is not accepted. These may have keys."""
+        with_key = {"person": self.add_person, "me": self.ask_me}
+        answers: list[Answer] = []
+        for line in lines:
+            verb = verb_of(line)
+            answers.append(with_key.get(verb, self.tell)(line, copy))
+            if is_refused(answers):
+                break
+        return answers
+
+    def add_person(self, line: str, copy: Path) -> Answer:
+        """`person ID KEY NAME..` on a copy. The person comes in with a stand-in, which the key then replaces."""
+        words = line.split()
+        if len(words) < 4 or not KEY.fullmatch(words[2]):
+            return NOT_UNDERSTOOD
+        stand_in = secrets.token_hex(16)
+        answer = self.tell(" ".join(["person", words[1], stand_in, *words[3:]]), copy)
+        if answer.status == 0:
+            try:
+                change_key(stand_in, words[2], copy)
+            except sqlite3.IntegrityError:
+                return KEY_IN_USE
+        return answer
+
+    def ask_me(self, line: str, copy: Path) -> Answer:
+        """`me KEY` on a copy: what the owner of the key sees. Afterwards the copy is as it was."""
+        words, stand_in = line.split(), secrets.token_hex(16)
+        if len(words) != 2 or not KEY.fullmatch(words[1]):
+            return NOT_UNDERSTOOD
+        change_key(words[1], stand_in, copy)
+        answer = self.tell(f"me {stand_in}", copy)
+        change_key(stand_in, words[1], copy)
+        return answer
+
+    def bring_in(self, kind: str, label: str, body: bytes, file: Path) -> Answer:
+        """Brings a list in. The program reads it from a file in memory, which is gone afterwards."""
+        with tempfile.NamedTemporaryFile(dir=self.settings.scratch) as held:
+            held.write(body)
+            held.flush()
+            return self.run("import", "--db", str(file), "--", kind, label, held.name)
+
+    def export(self, kind: str, file: Path) -> Answer:
+        """An export, as CSV."""
+        return self.run("export", "--db", str(file), "--", kind)
+
+    def words(self, seed: str, count: int) -> list[str]:
+        """The words of a seed."""
+        if not SEED.fullmatch(seed):
+            raise Fault("a seed has 64 signs out of 0 to 9 and a to f")
+        text, status = self.run("words", f"--seed={seed}", f"--count={count}")
+        if status != 0:
+            raise Fault(f"the program gave no words: {text.strip()}")
+        return text.split()
+
+    def look(self, file: Path) -> Answer:
+        """Whether the program takes a file as an office: it reads all of it, and tells how far the round has come."""
+        return self.tell("round", file)

@@ -1,0 +1,57 @@
+"""What the office's file says, read from a copy: all but keys and the bytes of lists."""
+
+import contextlib
+import sqlite3
+import threading
+from pathlib import Path
+from typing import Any
+
+from copies import Copies, State
+
+Rows = dict[str, Any]
+
+# Each table that is shown as it stands. What a later version of the file adds is one line more here.
+TABLES = {
+    "rooms": "SELECT code, shut, id FROM room LEFT JOIN person ON home = code ORDER BY code",
+    "people": "SELECT id, name, home, withdrawn FROM person ORDER BY id",
+    "results": "SELECT person, room FROM result ORDER BY person",
+    "lists": "SELECT label, kind, added FROM list ORDER BY label",
+    "words": "SELECT person, hex FROM word ORDER BY person",
+}
+
+
+def rows_of(file: Path) -> Rows:
+    """The rows of a copy, by name."""
+    with contextlib.closing(sqlite3.connect(file)) as database:
+        rows: Rows = {name: database.execute(query).fetchall() for name, query in TABLES.items()}
+        version, number, phase = database.execute("SELECT version, number, phase FROM round").fetchone()
+        choices: dict[str, list[str]] = {}
+        for person, room in database.execute("SELECT person, room FROM choice ORDER BY person, place"):
+            choices.setdefault(person, []).append(room)
+        settled = [number for number, in database.execute("SELECT DISTINCT round FROM move ORDER BY round")]
+    return {**rows, "version": version, "number": number, "phase": phase, "choices": choices, "settled": settled}
+
+
+def stamp(rows: Rows) -> str:
+    """Where the office is. A change whose sender saw it elsewhere is not made."""
+    return f"round {rows['number']} {rows['phase']}"
+
+
+class View:  # pylint: disable=too-few-public-methods  # it keeps what it has read
+    """The rows of now. They are kept until the file changes."""
+
+    def __init__(self, copies: Copies) -> None:
+        self.copies, self.lock = copies, threading.Lock()
+        self.seen: tuple[State, Rows] | None = None
+
+    def rows(self, still: bool = False) -> Rows:
+        """The rows of the office as it is now."""
+        with self.lock:
+            now = self.copies.state()
+            if self.seen and self.seen[0] == now:
+                return self.seen[1]
+            with self.copies.copied(still) as copy:
+                rows = rows_of(copy)
+            # Rows that may be older than the next change of the same tick of the clock are not kept.
+            self.seen = (now, rows) if now.is_settled() else None
+            return rows

@@ -1,0 +1,58 @@
+"""Where the keeper finds things, and its limits. The units use the defaults; the trial sets the variables of the
+environment."""
+
+import os
+import shutil
+from dataclasses import dataclass
+from pathlib import Path
+
+
+FULL = "Nothing was changed. Is the disk full?"
+
+
+class Fault(Exception):
+    """The keeper cannot do what was asked for. The text says why, and what the clerk can do."""
+
+
+@dataclass(frozen=True)
+class Settings:  # pylint: disable=too-many-instance-attributes  # each is a setting
+    """The keeper's paths, accounts and limits."""
+
+    file: Path                # the office's file
+    program: str              # the program `rooms`
+    port: int                 # the port of `rooms serve` on 127.0.0.1
+    socket: Path              # the keeper's socket, where systemd does not open it
+    scratch: Path             # a folder in memory for copies: they have everybody's key
+    speakers: frozenset[str]  # accounts that may say for whom they act; every other account acts for itself
+    line_seconds: float       # the longest time for the program and one line; HAProxy lets residents wait for 20
+    turn_seconds: float       # the longest time that a change waits for its turn
+    connections: int = 1_000_000  # `rooms serve` ends after so many, and is started again
+    stop_seconds: float = 5   # after so long a stop the server is started, also where more changes wait
+    kept_backups: int = 30    # the copies that were asked for, as those of each night
+    kept_before: int = 20     # the copies that were taken before lines, for each kind of line
+
+    @property
+    def journal(self) -> Path:
+        """The journal of the changes."""
+        return self.file.with_name("journal")
+
+    @property
+    def backups(self) -> Path:
+        """The folder of the kept copies."""
+        return self.file.with_name("backups")
+
+
+def from_environment() -> Settings:
+    """The settings, with the defaults of an installed office."""
+    variables = os.environ
+    found = shutil.which("rooms", path="/usr/local/bin:/usr/bin") or "/usr/bin/rooms"
+    return Settings(
+        file=Path(variables.get("ROOMS_FILE", "/var/lib/rooms/rooms.db")),
+        program=variables.get("ROOMS_PROGRAM", found),
+        port=int(variables.get("ROOMS_PORT", "8080")),
+        socket=Path(variables.get("ROOMS_SOCKET", "/run/rooms-keeper.sock")),
+        scratch=Path(variables.get("ROOMS_SCRATCH", "/run/rooms/copies")),
+        speakers=frozenset(variables.get("ROOMS_SPEAKERS", "rooms-page").split()),
+        line_seconds=float(variables.get("ROOMS_LINE_SECONDS", "15")),
+        turn_seconds=float(variables.get("ROOMS_TURN_SECONDS", "30")),
+    )

@@ -1,0 +1,220 @@
+"""The keeper's parts by themselves: what the journal hides, a file that takes the office's place, copies that are kept.
+
+No program is needed. This run alone: /usr/bin/python3 deploy/trial/parts.py
+"""
+
+import contextlib
+import errno
+import json
+import os
+import shutil
+import sqlite3
+import sys
+import tempfile
+from pathlib import Path
+from unittest import mock
+
+from stand import OFFICE, check
+
+sys.path.insert(0, str(OFFICE))
+
+# pylint: disable=wrong-import-position  # they stand in the folder of the line above
+from backups import ASKED_FOR, Backups
+from copies import Copies, make_whole
+from journal import Journal, masked_line, masked_note
+from lines import only_reads, reason_to_copy
+from settings import Fault, Settings
+
+KEY = "0123456789abcdef0123456789abcdef"
+
+
+@contextlib.contextmanager
+def an_office():
+    """The settings of an office with one room, whose log is not yet in its file."""
+    with tempfile.TemporaryDirectory(prefix="rooms-parts-") as folder:
+        file = Path(folder) / "rooms.db"
+        database = sqlite3.connect(file, isolation_level=None)
+        database.execute("PRAGMA journal_mode = WAL")
+        database.execute("CREATE TABLE room(code TEXT PRIMARY KEY NOT NULL) STRICT")
+        database.execute("PRAGMA wal_checkpoint(TRUNCATE)")
+        database.execute("INSERT INTO room VALUES ('OLD')")
+        (Path(folder) / "scratch").mkdir()
+        yield Settings(file=file, program="/bin/false", port=1, socket=Path(folder) / "socket", speakers=frozenset(),
+                       scratch=Path(folder) / "scratch", line_seconds=1, turn_seconds=1)
+        database.close()
+
+
+def rooms_of(file):
+    """The rooms that a file has, read from a copy of file and log."""
+    with tempfile.TemporaryDirectory() as folder:
+        for end in ("", "-wal"):
+            with contextlib.suppress(FileNotFoundError):
+                shutil.copyfile(f"{file}{end}", f"{folder}/rooms.db{end}")
+        with contextlib.closing(sqlite3.connect(f"{folder}/rooms.db")) as database:
+            return [code for code, in database.execute("SELECT code FROM room ORDER BY code")]
+
+
+def hiding():
+    """Nothing that may be a key, and nobody's name."""
+    for line, wanted in (
+            (f"person R9 {KEY} Ann Li", "person R9 (key) (name)"),
+            (f"  person   R9 {KEY.upper()} Ann", "person R9 (key) (name)"),
+            (f"person {KEY} R9 Ann", "person (key) (key) (name)"),
+            (f"me {KEY}", "me (key)"),
+            (f"home R9 {KEY}{KEY}{KEY}", "home R9 (key)"),
+            (f"draw {'0123456789abcdef ' * 300}", "draw (300 words)"),
+            ("choose R9 A-101 B-102", "choose R9 A-101 B-102")):
+        check(f"the journal has {wanted!r}", masked_line(line) == wanted, masked_line(line))
+    seed = KEY + KEY
+    check("a seed is public", masked_note(f"seed {seed} rolled") == f"seed {seed} rolled")
+    check("and nothing else behind that word", masked_note(f"seed {KEY}") == "seed (key)"
+          and masked_note(f"seed {seed} {KEY}") == f"seed {seed} (key)")
+
+
+def copied_before():
+    """Before which lines the office is copied."""
+    lasting = ["close", "cancel", "draw 00", "run", "publish", "settle", "shut A-1", "withdraw R1", "leave R1", "remove R1"]
+    check("the office is copied before each line that cannot be taken back", all(reason_to_copy([one], {}) for one in lasting))
+    others = ["room A-1", "person R1 k Ann", "home R1 A-1", "reopen A-1", "open", "choose R1 A-1"]
+    check("and before no other", not any(reason_to_copy([one], {}) for one in others))
+    check("but before a list that replaces another one, and before several lines",
+          reason_to_copy(["choose R1 A-1"], {"R1": ["A-2"]}) and reason_to_copy(["room A", "room B"], {}))
+    check("what only reads is known", only_reads(["rooms", "  round", "whatif R1 A"]) and not only_reads(["rooms", "open"]))
+
+
+def noting(settings):
+    """The journal as a file."""
+    journal = Journal(settings.journal)
+    number = journal.begin("anna", "close", "copy-1")
+    journal.end(number, f"closed 3 {KEY}\n", 0, 12)
+    found = list(journal.entries())
+    check("a change has two entries", [one.get("answer") for one in found] == [None, "closed 3 (key)"], found)
+    check("the journal is for its owner alone", settings.journal.stat().st_mode & 0o77 == 0, settings.journal.stat())
+    open_one = journal.begin("bert", "publish")
+    with open(settings.journal, "ab") as held:
+        held.write(b'{"at": "cut o')
+    again = Journal(settings.journal)
+    again.end_unfinished()
+    found = [one for one in again.entries() if one.get("n") == open_one]
+    check("of a change that was cut off it is noted that its answer is not known",
+          len(found) == 2 and found[1]["answer"].startswith("not known"), found)
+    before = settings.journal.read_bytes()
+    with mock.patch("journal.os.fsync", side_effect=OSError(errno.ENOSPC, "No space left on device")):
+        try:
+            again.begin("anna", "settle")
+            check("a journal that cannot be written is a fault", False)
+        except Fault as fault:
+            check("a journal that cannot be written is a fault", "No space" in str(fault), fault)
+        again.end("n-1", "late", 0, 1)
+    check("and it is as it was before", settings.journal.read_bytes() == before)
+    again.note(who="anna", line="backup")
+    check("an end that could not be noted comes with the next entry",
+          [one.get("answer") for one in list(again.entries())[-2:]] == ["late", None])
+
+
+class Cut(BaseException):
+    """Stands for a kill: nothing catches it."""
+
+
+def cut_at(calls):
+    """Each call that changes the disk may be the last: these many are made."""
+    made = [0]
+
+    def counted(real):
+        def call(*words, **more):
+            made[0] += 1
+            if made[0] > calls:
+                raise Cut()
+            return real(*words, **more)
+        return call
+    return [mock.patch("copies.shutil.copyfile", counted(shutil.copyfile)), mock.patch("copies.to_disk", counted(lambda *_: None)),
+            mock.patch.object(Path, "rename", counted(Path.rename)), mock.patch.object(Path, "unlink", counted(Path.unlink))]
+
+
+def in_place():
+    """A file takes the office's place; a kill at each point leaves the one office or the other, never a mixture."""
+    seen = set()
+    for calls in range(20):
+        with an_office() as settings:
+            copies = Copies(settings)
+            new = settings.scratch / "new.db"
+            with contextlib.closing(sqlite3.connect(new)) as database, database:
+                database.execute("CREATE TABLE room(code TEXT PRIMARY KEY NOT NULL) STRICT")
+                database.execute("INSERT INTO room VALUES ('NEW')")
+            with contextlib.ExitStack() as stack:
+                for patch in cut_at(calls):
+                    stack.enter_context(patch)
+                with contextlib.suppress(Cut):
+                    copies.put_in_place(new)
+            Copies(settings).finish()
+            found = tuple(rooms_of(settings.file))
+            seen.add(found)
+            left = {one.name for one in settings.file.parent.iterdir()} - {"rooms.db", "rooms.db-wal", "rooms.db-shm", "scratch"}
+            check(f"cut off after {calls} calls: {' '.join(found)}", found in (("OLD",), ("NEW",)) and not left, (found, left))
+    check("both were seen", seen == {("OLD",), ("NEW",)}, seen)
+
+
+def keeping(settings):
+    """Kept copies: what is in them, how many stay, and one that is damaged."""
+    copies = Copies(settings)
+    backups = Backups(settings, copies)
+    name = backups.keep("close", "before close, by anna")
+    held = settings.backups / name
+    check("a copy is one file and its reason", sorted(one.name for one in held.iterdir()) == ["rooms.db", "why"])
+    check("it has what stood in the log alone", rooms_of(held / "rooms.db") == ["OLD"])
+    check("it is listed with its reason", backups.listed() == [(name, backups.listed()[0][1], "before close, by anna")])
+    check("and it is for its owner alone", held.stat().st_mode & 0o77 == 0)
+    names = [backups.keep("close", f"number {number}") for number in range(25)]
+    nights = [backups.keep(ASKED_FOR, "night") for _ in range(3)]
+    check("each second may have many copies, with names in order", names + nights == sorted(set(names + nights)), names)
+    check("of each kind the newest stay", backups.names() == sorted(names[-20:] + nights), backups.names())
+    target = settings.scratch / "rooms.db"
+    for bad in ("../" + names[-1], names[-1] + "/..", "20200101T000000Z", ""):
+        try:
+            backups.take(bad, target)
+            check(f"there is no copy {bad!r}", False)
+        except Fault:
+            check(f"there is no copy {bad!r}", not target.exists())
+    backups.take(names[-1], target)
+    check("a copy is taken out as one whole file", make_whole(target) and rooms_of(target) == ["OLD"])
+    with open(settings.backups / names[-1] / "rooms.db", "r+b") as damaged:
+        damaged.seek(4096)
+        damaged.write(os.urandom(4096))
+    try:
+        backups.take(names[-1], target)
+        check("a damaged copy is not taken", False)
+    except Fault as fault:
+        check("a damaged copy is not taken", "damaged" in str(fault), fault)
+
+
+def keeping_damaged(settings):
+    """A damaged office is kept as it is, where that is asked for."""
+    backups = Backups(settings, Copies(settings))
+    for end in ("", "-wal"):
+        Path(f"{settings.file}{end}").write_bytes(os.urandom(9000))
+    try:
+        backups.keep("close", "before close")
+        check("no line is carried out on a damaged office", False)
+    except Fault as fault:
+        check("no line is carried out on a damaged office", "damaged" in str(fault), fault)
+    held = settings.backups / backups.keep("back", "before back", damaged=True)
+    same = all((held / f"rooms.db{end}").read_bytes() == Path(f"{settings.file}{end}").read_bytes() for end in ("", "-wal"))
+    check("before a copy is put back it is kept as it is", same and not json.loads((held / "why").read_text())["whole"])
+
+
+def try_parts():
+    """Tries them all."""
+    os.umask(0o077)
+    hiding()
+    copied_before()
+    with an_office() as settings:
+        noting(settings)
+    in_place()
+    with an_office() as settings:
+        keeping(settings)
+    with an_office() as settings:
+        keeping_damaged(settings)
+
+
+if __name__ == "__main__":
+    try_parts()

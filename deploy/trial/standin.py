@@ -1,0 +1,175 @@
+#!/usr/bin/python3
+"""Stands for the program `rooms` where the keeper's own parts are tried: a few lines over the tables of an office.
+
+It knows no law of an office. What the keeper has to know of the program is here: words behind `--`, answers and statuses, a list that
+is known again by its label and bytes, and a server that has the file until it is ended. The line `room SLOW` hangs.
+"""
+
+import contextlib
+import re
+import signal
+import socket
+import sqlite3
+import sys
+import time
+
+TABLES = """
+CREATE TABLE room(code TEXT PRIMARY KEY NOT NULL, shut INTEGER NOT NULL) STRICT;
+CREATE TABLE person(id TEXT PRIMARY KEY NOT NULL, name TEXT NOT NULL, passkey TEXT NOT NULL UNIQUE,
+  home TEXT UNIQUE REFERENCES room(code), withdrawn INTEGER NOT NULL) STRICT;
+CREATE TABLE round(one INTEGER PRIMARY KEY, version INTEGER NOT NULL, number INTEGER NOT NULL, phase TEXT NOT NULL) STRICT;
+CREATE TABLE choice(person TEXT NOT NULL, place INTEGER NOT NULL, room TEXT NOT NULL, PRIMARY KEY(person, place)) STRICT;
+CREATE TABLE word(person TEXT PRIMARY KEY NOT NULL, hex TEXT NOT NULL) STRICT;
+CREATE TABLE result(person TEXT PRIMARY KEY NOT NULL, room TEXT UNIQUE) STRICT;
+CREATE TABLE move(round INTEGER NOT NULL, person TEXT NOT NULL, from_room TEXT, to_room TEXT, wave INTEGER,
+  PRIMARY KEY(round, person)) STRICT;
+CREATE TABLE list(label TEXT PRIMARY KEY NOT NULL, kind TEXT NOT NULL, body BLOB NOT NULL, added INTEGER NOT NULL) STRICT;
+INSERT INTO round VALUES (1, 1, 0, 'idle');
+"""
+
+
+class Refused(Exception):
+    """A refusal, by its number and name."""
+
+
+def one_of(database, query, *values):
+    """The only value that a query gives, or nothing."""
+    found = database.execute(query, values).fetchone()
+    return found and found[0]
+
+
+def add_room(database, code):
+    if code == "SLOW":
+        time.sleep(60)
+    if one_of(database, "SELECT 1 FROM room WHERE code = ?", code):
+        raise Refused("4 DuplicateRoom")
+    database.execute("INSERT INTO room VALUES (?, 0)", (code,))
+    return "ok"
+
+
+def add_person(database, person, key, *name):
+    if one_of(database, "SELECT 1 FROM person WHERE id = ?", person):
+        raise Refused("5 DuplicatePerson")
+    database.execute("INSERT INTO person VALUES (?, ?, ?, NULL, 0)", (person, " ".join(name), key))
+    return "ok"
+
+
+def leave(database, person):
+    if not one_of(database, "SELECT home FROM person WHERE id = ?", person):
+        raise Refused("10 NoHome")
+    database.execute("UPDATE person SET home = NULL WHERE id = ?", (person,))
+    return "ok"
+
+
+def choose(database, person, *rooms):
+    database.execute("DELETE FROM choice WHERE person = ?", (person,))
+    database.executemany("INSERT INTO choice VALUES (?, ?, ?)", [(person, place, room) for place, room in enumerate(rooms)])
+    return " ".join(["chosen", *rooms])
+
+
+def step(old, new, said):
+    def change(database):
+        phase = one_of(database, "SELECT phase FROM round")
+        if phase not in old:
+            raise Refused(f"1 BadPhase {phase}")
+        database.execute("UPDATE round SET phase = ?, number = number + ?", (new, new == "open"))
+        return said
+    return change
+
+
+def me_of(database, key):
+    found = database.execute("SELECT id, name FROM person WHERE passkey = ?", (key,)).fetchone()
+    if not found:
+        raise Refused("2 UnknownPerson")
+    return f"person {found[0]}\nname {found[1]}"
+
+
+def tell_round(database):
+    return "round {} {}".format(*database.execute("SELECT number, phase FROM round").fetchone())
+
+
+def table(query):
+    return lambda database: "\n".join("  ".join(map(str, row)) for row in database.execute(query)) or "none"
+
+
+LINES = {
+    "room": add_room, "person": add_person, "leave": leave, "choose": choose, "me": me_of, "round": tell_round,
+    "rooms": table("SELECT code FROM room ORDER BY code"), "people": table("SELECT id, name FROM person ORDER BY id"),
+    "open": step({"idle"}, "open", "round 1 open"), "close": step({"open"}, "closed", "closed 1"),
+    "cancel": step({"open", "closed"}, "idle", "cancelled"),
+}
+
+
+def bring_in(database, kind, label, path):
+    with open(path, "rb") as held:
+        body = held.read()
+    known = database.execute("SELECT kind, body, added FROM list WHERE label = ?", (label,)).fetchone()
+    if known:
+        if known[:2] != (kind, body):
+            raise Refused("14 ListDiffers")
+        return f"added {known[2]}"
+    first, *records = body.decode().split()
+    if (kind, first) != ("rooms", "room"):
+        raise Refused("15 BadRecord 0 header")
+    for number, code in enumerate(records, 1):
+        try:
+            add_room(database, code)
+        except Refused as why:
+            raise Refused(f"15 BadRecord {number} refusal {str(why).split(maxsplit=1)[0]}") from why
+    database.execute("INSERT INTO list VALUES (?, ?, ?, ?)", (label, kind, body, len(records)))
+    return f"added {len(records)}"
+
+
+def answer(database, words):
+    """Carries out a line, and gives its text and its status."""
+    work = bring_in if words[0] == "import" else LINES.get(words[1]) if words[0] == "do" and len(words) > 1 else None
+    if words[0] == "export":
+        work, words = table("SELECT id || ',' || name FROM person"), words[:1] if words[1] == "people" else ["", "", ""]
+    try:
+        with database:
+            return work(database, *words[2 if words[0] == "do" else 1:]), 0
+    except Refused as why:
+        return f"refused {why}", 1
+    except TypeError:
+        return "not understood", 2
+
+
+def serve(port, file):
+    """Has the file, and answers nothing but that it is there."""
+    with contextlib.closing(sqlite3.connect(file)) as database, socket.socket() as door:
+        if database.execute("PRAGMA integrity_check").fetchall() != [("ok",)] or not tell_round(database):
+            return 3
+        door.setsockopt(socket.SOL_SOCKET, socket.SO_REUSEADDR, 1)
+        door.bind(("127.0.0.1", int(port)))
+        door.listen()
+        print(f"listening on 127.0.0.1:{port}", flush=True)
+        while True:
+            door.accept()[0].close()
+
+
+def main(words):
+    signal.signal(signal.SIGTERM, signal.SIG_DFL)
+    if words[0] == "words":
+        seed, count = re.fullmatch(r"--seed=(\w+) --count=(\d+)", " ".join(words[1:])).groups()
+        print(*(f"{number:016x}" for number in range(int(count) * (len(seed) == 64))), sep="\n")
+        return 0
+    command, file, more = words[0], words[2], [word for word in words[3:] if word != "--"]
+    if command == "serve":
+        return serve(more[1], file)
+    with contextlib.closing(sqlite3.connect(file if command == "new" else f"file:{file}?mode=rw", uri=command != "new")) as database:
+        if command == "new":
+            database.execute("PRAGMA journal_mode = WAL")
+            database.executescript(TABLES)
+            print("ok")
+            return 0
+        text, status = answer(database, [command, *more])
+        print(text)
+        return status
+
+
+if __name__ == "__main__":
+    try:
+        sys.exit(main(sys.argv[1:]))
+    except sqlite3.Error:
+        print("unavailable")
+        sys.exit(3)
