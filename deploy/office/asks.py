@@ -129,7 +129,10 @@ class Asks:
         except ImportError as fault:
             raise Fault("the program of the public record (record.py) is not installed beside the keeper") from fault
         with self.copies.copied() as copy:
-            body = record.record_of(copy)
+            try:
+                body = record.record(copy, self.journal.seeds())
+            except record.Refused as why:
+                raise Fault(f"there is no record: {why}") from why
         self.journal.note(who=job["who"], line="the public record was taken")
         return {"body": body}
 

@@ -17,7 +17,7 @@ from pathlib import Path
 from typing import Any
 
 from copies import ENDS, Copies, beside, make_whole, to_disk
-from settings import Fault, Settings
+from settings import Fault, Settings, unwritten
 
 NAME = re.compile(r"[0-9]{8}T[0-9]{6}Z(-[0-9]{2})?")
 ASKED_FOR = "backup"
@@ -31,6 +31,13 @@ class Backups:
 
     def keep(self, kind: str, why: str, still: bool = False, damaged: bool = False) -> str:
         """Keeps a copy of the office, on the disk, and gives its name; with `damaged` also a copy that is not whole."""
+        try:
+            return self.taken(kind, why, still, damaged)
+        except OSError as fault:
+            raise unwritten("a copy of the office", fault) from fault
+
+    def taken(self, kind: str, why: str, still: bool, damaged: bool) -> str:
+        """Takes the copy."""
         self.folder.mkdir(mode=0o700, exist_ok=True)
         with self.copies.copied(still) as copy:
             if make_whole(copy):

@@ -20,7 +20,7 @@ from collections.abc import Iterator
 from pathlib import Path
 from typing import NamedTuple
 
-from settings import FULL, Fault, Settings
+from settings import Fault, Settings, unwritten
 
 ENDS = ("", "-wal")
 HEAD = 32             # bytes: the head of a log, with what is drawn anew whenever the log begins anew
@@ -117,7 +117,7 @@ class Copies:
             to_disk(part)
         except OSError as fault:
             part.unlink(missing_ok=True)
-            raise Fault(f"the office could not be written ({fault.strerror}). {FULL}") from fault
+            raise unwritten("the office", fault) from fault
         part.rename(self.next)
         to_disk(self.file.parent)
         self.finish()

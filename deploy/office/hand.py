@@ -17,7 +17,7 @@ from copies import make_whole
 from office import Office
 from program import Answer, is_refused
 from rows import View, stamp
-from settings import FULL, Fault
+from settings import Fault
 
 FIRST_PAUSE, LONGEST_PAUSE = 0.2, 5.0  # seconds before a server is started again that has ended by itself
 LIVED = 2.0                            # a server that ran for so long did serve: the pause begins anew
@@ -176,7 +176,7 @@ class Hand:  # pylint: disable=too-many-instance-attributes  # the parts of the 
         if change.seen is not None and change.seen != (now := stamp(self.view.rows(still=True))):
             raise Fault(f"the office has gone on: it is at {now} now. Nothing was changed. Look before you go on.")
         if change.kind:
-            change.copy = self.copy_before(change)
+            change.copy = self.backups.keep(change.kind, change.why, still=True, damaged=change.damaged)
         number = self.journal.begin(change.who, change.line, change.copy)
         try:
             change.answers = self.replaced(change) if change.whole else change.carry_out(self.copies.file)
@@ -185,13 +185,6 @@ class Hand:  # pylint: disable=too-many-instance-attributes  # the parts of the 
             raise
         change.took = self.since(began)
         self.journal.end(number, change.answers[-1].text, change.answers[-1].status, change.took)
-
-    def copy_before(self, change: Change) -> str:
-        """Keeps a copy of the office as it is before a change, and gives its name."""
-        try:
-            return self.backups.keep(change.kind, change.why, still=True, damaged=change.damaged)
-        except OSError as fault:
-            raise Fault(f"the office could not be copied ({fault.strerror}). {FULL}") from fault
 
     def replaced(self, change: Change) -> list[Answer]:
         """Carries out a change on a copy, which then takes the office's place, if the program takes it as an office."""

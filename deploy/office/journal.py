@@ -17,11 +17,12 @@ from collections.abc import Iterator
 from pathlib import Path
 from typing import Any
 
-from settings import FULL, Fault
+from settings import Fault, unwritten
 
 # What may be a key: identifiers have at most 12 signs, and codes 8. In capitals it may be a key too that was typed so.
 LIKE_A_KEY = re.compile(r"[A-Za-z0-9]{16,}")
 SEED = re.compile(r"seed [0-9A-Fa-f]{64}\b")
+SEEDS = re.compile(r"^(?:seed|draw \$\(rooms words --seed) ([0-9A-Fa-f]{64})\b")
 TAIL = 4 << 20   # bytes: so much of the end of the journal is read
 ANSWER = 300     # signs of an answer that are kept
 
@@ -77,7 +78,7 @@ class Journal:
             except OSError as fault:
                 with contextlib.suppress(OSError):
                     os.ftruncate(held, size)
-                raise Fault(f"the journal could not be written ({fault.strerror}). {FULL}") from fault
+                raise unwritten("the journal", fault) from fault
         finally:
             os.close(held)
 
@@ -108,6 +109,11 @@ class Journal:
                 entry = json.loads(line)
                 if isinstance(entry, dict):
                     yield entry
+
+    def seeds(self) -> list[str]:
+        """The seeds that were noted or drawn by, the last one first."""
+        found = [SEEDS.search(str(entry.get("line", ""))) for entry in self.entries()]
+        return [seed[1].lower() for seed in reversed(found) if seed]
 
     def end_unfinished(self) -> None:
         """Notes of each change in which a keeper was ended that its answer is not known."""

@@ -1,17 +1,21 @@
 """Where the keeper finds things, and its limits. The units use the defaults; the trial sets the variables of the
 environment."""
 
+import errno
 import os
 import shutil
 from dataclasses import dataclass
 from pathlib import Path
 
 
-FULL = "Nothing was changed. Is the disk full?"
-
-
 class Fault(Exception):
     """The keeper cannot do what was asked for. The text says why, and what the clerk can do."""
+
+
+def unwritten(what: str, fault: OSError) -> Fault:
+    """The fault of something that could not be written, before anything was changed."""
+    hint = " The disk is full: make room." if fault.errno in (errno.ENOSPC, errno.EDQUOT) else ""
+    return Fault(f"{what} could not be written ({fault.strerror}). Nothing was changed.{hint}")
 
 
 @dataclass(frozen=True)

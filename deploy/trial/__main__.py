@@ -11,8 +11,14 @@ from pathlib import Path
 sys.dont_write_bytecode = True
 
 from burst import try_burst
+from copying import try_copying
+from full import try_full
+from keeping import try_keeping
+from kills import try_kills
 from limits import try_limits
 from page import try_page
+from parts import try_parts
+from signing import try_signing
 from stall import try_stall
 from waits import try_waits
 
@@ -21,6 +27,12 @@ if __name__ == "__main__":
         sys.exit("usage: /usr/bin/python3 deploy/trial PROGRAM FOLDER")
     folder = Path(sys.argv[2])
     folder.mkdir(parents=True, exist_ok=True)
+    try_parts()
+    try_keeping(sys.argv[1])
+    try_kills(sys.argv[1])
+    try_copying(sys.argv[1])
+    try_full(sys.argv[1])
+    try_signing(sys.argv[1])
     try_page(sys.argv[1], folder)
     try_burst(sys.argv[1])
     try_limits(sys.argv[1])

@@ -1,12 +1,13 @@
-"""A burst: residents at once over TLS, each with several requests, while the office closes the round.
+"""A burst: residents at once over TLS, each with several requests, while the office closes the round, or the keeper is killed.
 
-No request may have another answer than what it asks for, or that the round is closed; and whatever was answered as recorded
-has to be on record afterwards.
+No request may have another answer than what it asks for, or that the round is closed; and whatever was answered as
+recorded has to be on record afterwards. This run alone: /usr/bin/python3 deploy/trial/burst.py PROGRAM
 """
 
 import asyncio
 import collections
 import json
+import sys
 import threading
 import time
 
@@ -104,24 +105,52 @@ def on_record(stand, residents):
               resident.refused and recorded == choices_of(resident.number), recorded)
 
 
-def try_burst(program):
+def handed_in(residents):
+    """How many have handed in a list."""
+    return sum(resident.kept is not None for resident in residents)
+
+
+def close_round(stand, residents):
+    """The office closes the round, once a quarter has handed in a list."""
+    until(lambda: handed_in(residents) >= RESIDENTS // 4, 60, "the first lists")
+    told = stand.office("close")
+    check("the office closed the round meanwhile", told == f"closed {RESIDENTS}\n", told)
+
+
+def lose_keeper(stand, residents):
+    """The keeper is killed in the middle of a line, and started again as systemd does."""
+    until(lambda: handed_in(residents) >= RESIDENTS // 4, 60, "the first lists")
+    line = threading.Thread(target=stand.command, args=("do", "room", "NEW"))
+    line.start()
+    time.sleep(0.15)
+    stand.kill_keeper()
+    time.sleep(0.2)
+    stand.start()
+    line.join()
+    check("the keeper was killed meanwhile, and is there again", stand.server() is not None)
+
+
+def try_one(program, what):
+    """One burst, and what the office does meanwhile."""
     with Stand(program) as stand:
         stand.fill(ROOMS, [person_of(number) for number in range(RESIDENTS)])
         stand.tell("open")
         stand.start()
         stand.start_proxy()
-        told = []
-
-        def close(residents):
-            until(lambda: sum(resident.kept is not None for resident in residents) >= RESIDENTS // 4, 60, "the first lists")
-            told.append(stand.office("close"))
-
-        residents = asyncio.run(burst(stand.port, close))
-        check("the office closed the round meanwhile", told == [f"closed {RESIDENTS}\n"], told)
-        kept = sum(resident.kept is not None for resident in residents)
-        print(f"      {kept} lists were handed in before, and {RESIDENTS - kept} residents were told that it is closed")
-        stand.wanted.unlink()
-        stand.kill()
-        stand.unit_ended()
+        residents = asyncio.run(burst(stand.port, lambda residents: what(stand, residents)))
+        kept = handed_in(residents)
+        print(f"      {kept} lists were handed in, and {RESIDENTS - kept} residents were told that it is closed")
         on_record(stand, residents)
         check("no log of the proxy has a key", "key0" not in stand.proxy_log())
+
+
+def try_burst(program):
+    """A burst beside each."""
+    for what in (close_round, lose_keeper):
+        try_one(program, what)
+
+
+if __name__ == "__main__":
+    if len(sys.argv) != 2:
+        sys.exit("usage: /usr/bin/python3 deploy/trial/burst.py PROGRAM")
+    try_burst(sys.argv[1])

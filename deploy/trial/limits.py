@@ -1,13 +1,18 @@
-"""The proxy's limits on time, size and rate, the office's scripts, and a backup that is put back."""
+"""The proxy's limits on time, size, rate and connections, and what it writes down.
+
+This run alone: /usr/bin/python3 deploy/trial/limits.py PROGRAM
+"""
 
 import contextlib
 import http.client
-import shutil
 import socket
 import subprocess
+import sys
+import tempfile
 import time
+from pathlib import Path
 
-from stand import HOST, Stand, check, key_of, unchecked
+from stand import DEPLOY, HOST, Stand, check, key_of, unchecked
 
 FIELDS = f"Host: {HOST}\r\nRoom-Key: {key_of('T1')}\r\n"
 # So many requests may come in so many seconds. The proxy lets those of the ten seconds before fade, so that
@@ -15,6 +20,8 @@ FIELDS = f"Host: {HOST}\r\nRoom-Key: {key_of('T1')}\r\n"
 LIMIT = 1500
 MORE = 700
 WINDOW = 10
+# So many connections one address may have.
+OPEN = 400
 
 
 def connected(stand):
@@ -90,15 +97,50 @@ def rate(stand):
         check("and those over the rate are answered 429", over > 0, set(statuses))
 
 
-def office_scripts(stand):
-    check("beside the server the office's line is unavailable", "unavailable" in beside(stand))
-    check("rooms-office does it", stand.office("room H9") == "ok\n")
-    rooms = stand.folder / "a list's rooms.csv"
-    rooms.write_text("room\nH11\n", encoding="utf-8")
-    for turn in ("brings a list", "brings it again"):
-        check(f"rooms-office {turn}", stand.script("rooms-office", "import", "rooms", "rooms-1", str(rooms)) == "added 1\n")
-    check("the list's room is there", "H11 " in stand.office("rooms"))
-    check("and the server is there again", stand.wanted.exists())
+def connections(stand):
+    """One address may not take all connections of the proxy."""
+    held = []
+    for _ in range(OPEN + 50):
+        plain = socket.create_connection(("127.0.0.1", stand.port), 60, ("127.0.0.9", 0))
+        plain.setblocking(False)
+        held.append(plain)
+    time.sleep(0.5)
+    closed = 0
+    for plain in held:
+        try:
+            closed += plain.recv(1) == b""
+        except BlockingIOError:
+            pass
+        except ConnectionError:
+            closed += 1
+    check(f"of {OPEN + 50} silent connections from one address the last 50 are closed", closed == 50, closed)
+    began = time.monotonic()
+    with connected(stand) as other:
+        other.sendall(f"GET /me HTTP/1.1\r\n{FIELDS}\r\n".encode())
+        check("another address is served meanwhile", first_line(other).endswith("200 OK") and time.monotonic() - began < 2)
+    for plain in held:
+        plain.close()
+
+
+def key_in_address(stand):
+    """What stands behind `?` is not written down: some people write their key there."""
+    with connected(stand) as connection:
+        connection.sendall(f"GET /me?key={key_of('T1')} HTTP/1.1\r\nHost: {HOST}\r\n\r\n".encode())
+        check("a key in the address is none", first_line(connection) == "HTTP/1.1 403 Forbidden")
+    time.sleep(0.2)
+    check("and the log has the path alone", '"GET /me HTTP/1.1"' in stand.proxy_log() and "?" not in stand.proxy_log())
+
+
+def nobody(stand):
+    """What a watch asks: a key of nobody is answered 403, through proxy, server and file."""
+    for started, wanted in ((True, "403"), (False, "503")):
+        with connected(stand) as connection:
+            connection.sendall(f"GET /me HTTP/1.1\r\nHost: {HOST}\r\nRoom-Key: 0000000000000000\r\n\r\n".encode())
+            told = first_line(connection)
+            check(f"a key of nobody is answered {wanted} where the server {'runs' if started else 'does not run'}",
+                  wanted in told, told)
+        if started:
+            stand.stop_keeper()
 
 
 def beside(stand):
@@ -107,30 +149,39 @@ def beside(stand):
     return subprocess.run(line, capture_output=True, text=True, check=False).stdout
 
 
-def backup(stand):
-    """A copy is made beside the server, and put back it is the office of that moment."""
-    before = stand.office("rooms")
-    copy = stand.script("rooms-backup", str(stand.folder / "copies")).strip()
-    stand.office("room H10")
-    stand.wanted.unlink()
-    stand.kill()
-    stand.unit_ended()
-    for end in ("", "-wal"):
-        stand.file.with_name(stand.file.name + end).unlink(missing_ok=True)
-        with contextlib.suppress(FileNotFoundError):
-            shutil.copyfile(f"{copy}/{stand.file.name}{end}", stand.file.with_name(stand.file.name + end))
-    check("a copy that is put back is the office of its moment", stand.tell("rooms") == before)
+def as_it_is():
+    """HAProxy takes the repository's file as it is, but for the certificate and the folder of the page."""
+    with tempfile.TemporaryDirectory() as folder:
+        key, certificate = Path(folder) / "key.pem", Path(folder) / "certificate.pem"
+        subprocess.run(["openssl", "req", "-x509", "-newkey", "ec", "-pkeyopt", "ec_paramgen_curve:prime256v1", "-nodes",
+                        "-subj", "/CN=trial", "-keyout", key, "-out", certificate], check=True, stderr=subprocess.DEVNULL)
+        (Path(folder) / "rooms.pem").write_text(certificate.read_text() + key.read_text())
+        text = (DEPLOY / "haproxy.cfg").read_text(encoding="utf-8")
+        text = text.replace("/etc/haproxy/rooms.pem", f"{folder}/rooms.pem").replace("/srv/rooms/portal", str(DEPLOY / "portal"))
+        (Path(folder) / "haproxy.cfg").write_text(text, encoding="utf-8")
+        done = subprocess.run(["haproxy", "-c", "-q", "-f", f"{folder}/haproxy.cfg"], capture_output=True, text=True, check=False)
+        check("HAProxy takes the file as it is, without a warning", done.returncode == 0 and not done.stderr + done.stdout,
+              done.stderr + done.stdout)
 
 
 def try_limits(program):
+    as_it_is()
     with Stand(program) as stand:
         for line in ("room H1", f"person T1 {key_of('T1')} Tim Tan", "home T1 H1", "open"):
             stand.tell(line)
         stand.start()
         stand.start_proxy()
+        check("beside the server the program's line is unavailable", "unavailable" in beside(stand))
         slow_ones(stand)
         sizes(stand)
-        office_scripts(stand)
+        connections(stand)
+        key_in_address(stand)
         rate(stand)
-        backup(stand)
+        nobody(stand)
         check("no log of the proxy has a key", "key0" not in stand.proxy_log())
+
+
+if __name__ == "__main__":
+    if len(sys.argv) != 2:
+        sys.exit("usage: /usr/bin/python3 deploy/trial/limits.py PROGRAM")
+    try_limits(sys.argv[1])

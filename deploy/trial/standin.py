@@ -1,8 +1,8 @@
 #!/usr/bin/python3
 """Stands for the program `rooms` where the keeper's own parts are tried: a few lines over the tables of an office.
 
-It knows no law of an office. What the keeper has to know of the program is here: words behind `--`, answers and statuses, a list that
-is known again by its label and bytes, and a server that has the file until it is ended. The line `room SLOW` hangs.
+It knows no law of an office. What the keeper has to know of the program is here: words behind `--`, answers and
+statuses, a list that is known again by its label and bytes, and a server that has the file until it is ended.
 """
 
 import contextlib
@@ -11,7 +11,6 @@ import signal
 import socket
 import sqlite3
 import sys
-import time
 
 TABLES = """
 CREATE TABLE room(code TEXT PRIMARY KEY NOT NULL, shut INTEGER NOT NULL) STRICT;
@@ -39,8 +38,8 @@ def one_of(database, query, *values):
 
 
 def add_room(database, code):
-    if code == "SLOW":
-        time.sleep(60)
+    if not re.fullmatch("[A-Z0-9][A-Z0-9-]{0,7}", code):
+        raise TypeError
     if one_of(database, "SELECT 1 FROM room WHERE code = ?", code):
         raise Refused("4 DuplicateRoom")
     database.execute("INSERT INTO room VALUES (?, 0)", (code,))

@@ -1,10 +1,11 @@
 """How long residents wait for one line of the office, with 300 and with 2,000 people who have a list of 20 rooms each.
 
-The office's script stops the server for the line. Afterwards the server reads the office's file anew. This run alone:
+The keeper stops the server for the line. Afterwards the server reads the office's file anew. This run alone:
 
     /usr/bin/python3 deploy/trial/waits.py PROGRAM
 """
 
+import os
 import statistics
 import sys
 import time
@@ -18,19 +19,26 @@ CHOICES = 20
 
 
 class Line:
-    """One line of the office: when it began, how long the clerk waited, and how long it took until the server was back."""
+    """One line of the office: when it began, how long the clerk waited, how long the server was away, and until when."""
 
     def __init__(self, stand, line):
         self.began = time.monotonic()
-        stand.office(line)
+        answer = stand.ask(ask="do", lines=[line])
         self.took = time.monotonic() - self.began
+        check_quietly(line, answer)
+        self.stopped = answer["took"] / 1000
         stand.until_listening(stand.server_port)
-        self.away = time.monotonic() - self.began
+        self.until = time.monotonic()
 
     def longest_wait(self, answers):
         """The longest wait of a resident who asked meanwhile, or just before."""
-        return max(one.took for one in answers
-                   if one.began < self.began + self.away and one.began + one.took > self.began)
+        return max(one.took for one in answers if one.began < self.until and one.began + one.took > self.began)
+
+
+def check_quietly(line, answer):
+    """Ends the trial where a line is not accepted."""
+    if not answer.get("done"):
+        check(line, False, answer)
 
 
 def seconds(name, times):
@@ -38,30 +46,38 @@ def seconds(name, times):
 
 
 def wait_for(program, people):
-    """Measures some lines of the office with so many people."""
+    """Measures some lines of the office with so many people. A list that replaces another one is copied before."""
     with Stand(program) as stand:
         persons, rooms = [f"P{number:04d}" for number in range(people)], [f"R-{number}" for number in range(people)]
+        listed, others = persons[:-LINES], persons[-LINES:]
         stand.fill(rooms, persons)
         stand.tell("open")
-        stand.fill_lists(persons, rooms, CHOICES)
+        stand.fill_lists(listed, rooms, CHOICES)
         stand.start()
         stand.start_proxy()
-        lines = []
-        with Residents(stand, persons, RESIDENTS, 0.08, 90) as residents:
-            for number in range(LINES):
-                time.sleep(1.5)
-                lines.append(Line(stand, f"choose {persons[number]} {rooms[number + 1]}"))
+        measured = {}
+        with Residents(stand, listed, RESIDENTS, 0.08, 90) as residents:
+            for kind, some in (("lines", others), ("lines with a copy before", listed[:LINES])):
+                measured[kind] = [measure(stand, f"choose {person} {rooms[0]}") for person in some]
             time.sleep(1.5)
-    answers = residents.answers
+    report(people, measured, residents.answers)
+
+
+def measure(stand, line):
+    """One line, some time after the one before."""
+    time.sleep(1.5)
+    return Line(stand, line)
+
+
+def report(people, measured, answers):
+    """Says what was measured."""
     statuses = {one.status for one in answers}
-    check(f"{people} people: {LINES} lines of the office, and each of {len(answers)} requests has its answer",
-          statuses == {200}, statuses)
-    took, away = [line.took for line in lines], [line.away for line in lines]
-    waits = [line.longest_wait(answers) for line in lines]
-    print(f"      {seconds('the office waits for its line', took)}; {seconds('the server is back after', away)}; "
-          f"{seconds('a resident waits', waits)}")
-    more = statistics.median(waits) - statistics.median(away)
-    check("a resident waits little longer than until the server is back", more < 0.3, more)
+    check(f"{people} people: each of {len(answers)} requests has its answer", statuses == {200}, statuses)
+    for kind, lines in measured.items():
+        waits = [line.longest_wait(answers) for line in lines]
+        print(f"      {len(lines)} {kind}: {seconds('the clerk waits', [line.took for line in lines])}; "
+              f"{seconds('the line takes', [line.stopped for line in lines])}; {seconds('a resident waits', waits)}")
+    print(f"      load of the machine {os.getloadavg()[0]:.1f} on {os.cpu_count()} processors")
 
 
 def try_waits(program):

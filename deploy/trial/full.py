@@ -1,0 +1,87 @@
+"""The disk is full: what reads goes on, what changes is refused in words, nothing is half done, and all goes on once there is room.
+
+It needs the right to mount a small file system in memory; without that it is not tried. This run alone, also over standin.py:
+/usr/bin/python3 deploy/trial/full.py PROGRAM
+"""
+
+import contextlib
+import os
+import subprocess
+import sys
+import tempfile
+from pathlib import Path
+
+from stand import Stand, check
+
+SIZE = "6m"
+
+
+@contextlib.contextmanager
+def small_disk():
+    """A file system of its own, or nothing where that may not be made."""
+    with tempfile.TemporaryDirectory(prefix="rooms-disk-") as folder:
+        words = ["mount", "-t", "tmpfs", "-o", f"size={SIZE},mode=700", "rooms-trial", folder]
+        if subprocess.run(words, capture_output=True, check=False).returncode != 0:
+            yield None
+            return
+        try:
+            yield Path(folder)
+        finally:
+            subprocess.run(["umount", folder], check=True)
+
+
+def fill_up(disk):
+    """Takes all room of a disk, and gives the file that has it."""
+    filler = disk / "filler"
+    held = os.open(filler, os.O_WRONLY | os.O_CREAT)
+    with contextlib.suppress(OSError):
+        while True:
+            os.write(held, bytes(4096))
+    os.close(held)
+    return filler
+
+
+def refused(stand, **job):
+    """Whether the keeper says in words that the disk is full and nothing was changed."""
+    answer = stand.ask(**job)
+    said = answer.get("fault", "") or str(answer.get("answers"))
+    return "Nothing was changed" in said or "did not serve" in said or "unavailable" in said, said
+
+
+def try_full(program):
+    """Fills the disk under an office at work."""
+    with small_disk() as disk:
+        if disk is None:
+            print("      a full disk was not tried: it takes the right to mount")
+            return
+        with Stand(program, data=disk) as stand:
+            stand.start()
+            stand.office("room H1")
+            stand.office("open")
+            name = stand.ask(ask="backup")["name"]
+            before, journal = stand.ask(ask="view"), (disk / "journal").read_bytes()
+            filler = fill_up(disk)
+            view = stand.ask(ask="view")
+            check("full disk: the office can be looked at", view["rooms"] == before["rooms"] and view["phase"] == "open", view)
+            check("full disk: questions are answered", stand.office("rooms").endswith("H1\n") or "H1" in stand.office("rooms"))
+            check("full disk: exports come", stand.command("export", "people")[0] == 0)
+            for job in ({"ask": "do", "lines": ["room H2"]}, {"ask": "do", "lines": ["close"]}, {"ask": "do", "lines": ["room H3", "room H4"]},
+                        {"ask": "backup"}, {"ask": "back", "name": name}):
+                told, said = refused(stand, **job)
+                check(f"full disk: {job} is refused", told, said)
+                print(f"      {said}")
+            filler.unlink()
+            check("nothing was half done", [row[0] for row in stand.ask(ask="view")["rooms"]] == ["H1"]
+                  and stand.ask(ask="view")["phase"] == "open")
+            stand.until_listening(stand.server_port)
+            check("once there is room all goes on", stand.office("room H5") == "ok\n" and stand.office("close").startswith("closed"))
+            check("the journal is whole", (disk / "journal").read_bytes().startswith(journal)
+                  and "room H5" in stand.script("rooms-office", "journal"))
+            left = [one.name for one in (disk / "backups").glob(".part*")] + [one.name for one in disk.glob("*.part")]
+            check("no half copy is left", not left, left)
+
+
+if __name__ == "__main__":
+    if len(sys.argv) != 2:
+        sys.exit("usage: /usr/bin/python3 deploy/trial/full.py PROGRAM")
+    try_full(sys.argv[1])

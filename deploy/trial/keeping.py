@@ -1,0 +1,251 @@
+"""The keeper and the clerk's command: what is refused disturbs nobody, what is accepted is in the journal, lines in a bundle stand all
+or none, keys are seen nowhere, and there is a way back.
+
+This run alone, also over standin.py in place of the program: /usr/bin/python3 deploy/trial/keeping.py PROGRAM
+"""
+
+import contextlib
+import re
+import sys
+import threading
+import time
+from pathlib import Path
+
+from stand import Stand, check, command_of, until
+
+KEY = "abcdefabcdefabcdefabcdefabcdef99"
+OTHER = "0011223344556677889900aabbccddee"
+
+
+class Watcher:
+    """Reads the command lines of all processes, again and again, as any account may."""
+
+    def __init__(self, *secrets):
+        self.secrets, self.seen, self.looks, self.over = secrets, set(), 0, threading.Event()
+        self.thread = threading.Thread(target=self.watch)
+
+    def __enter__(self):
+        self.thread.start()
+        return self
+
+    def __exit__(self, *_):
+        self.over.set()
+        self.thread.join()
+
+    def watch(self):
+        """Notes each command line with a secret."""
+        while not self.over.is_set():
+            for process in Path("/proc").glob("[0-9]*"):
+                line = " ".join(command_of(process.name))
+                if any(secret in line for secret in self.secrets):
+                    self.seen.add(line)
+            self.looks += 1
+
+
+def quiet_lines(stand):
+    """Questions and refusals leave the server alone; what is accepted stops it once."""
+    server = stand.server()
+    check("a line is refused as the program refuses it",
+          stand.command("do", "leave", "NOBODY")[0] == 1 and stand.command("do", "nonsense", "x")[:2] == (2, "not understood\n"))
+    check("a question is answered", stand.office("round").startswith("round 0 idle"))
+    check("no option gets through", stand.command("do", "room", "--db=/tmp/x.db")[0] == 2)
+    check("nor a second line", stand.ask(ask="do", lines=["room X\nroom Y"])["answers"] == [["not understood\n", 2]])
+    check("neither stopped the server", stand.server() == server)
+    check("a line is accepted", stand.office("room H1") == "ok\n")
+    check("and stopped it", stand.server() != server)
+    rooms = stand.folder / "a list's rooms.csv"
+    rooms.write_text("room\nH2\nH3\n", encoding="utf-8")
+    for turn in ("in", "in again, and answered as the first time"):
+        check(f"a list is brought {turn}", stand.script("rooms-office", "import", "rooms", "rooms-1", str(rooms)) == "added 2\n")
+    answer = stand.command("import", "rooms", "rooms-2", "-", given="room\nH4\nH2\n")
+    check("a bad list is refused", answer[:2] == (1, "refused 15 BadRecord 2 refusal 4\n"), answer)
+    missing = stand.command("import", "rooms", "rooms-3", "/nowhere")
+    check("a list that is not there is told", missing[:2] == (3, "unavailable\n") and "No such file" in missing[2], missing)
+
+
+def hidden_keys(stand):
+    """A key is refused on the command line, taken on standard input, and seen in no process and no file but the office's."""
+    for words in (("do", "person", "R9", KEY, "Ann Li"), ("do", "me", KEY)):
+        told = stand.command(*words)
+        check(f"{words[1]} with a key is not taken from the command line", told[0] == 2 and "do -" in told[2], told)
+    with Watcher(KEY, OTHER) as watcher:
+        check("a person comes in on standard input", stand.script("rooms-office", "do", "-", given=f"person R9 {KEY} Ann Li\n") == "ok\n")
+        told = stand.command("do", "-", given=f"person R8 {KEY} Bea Ma\n")
+        check("nobody else may have the key", told[:2] == (1, "refused 6 KeyInUse\n"), told)
+        told = stand.script("rooms-office", "do", "-", given=f"me {KEY}\n")
+        check("the key's owner is told", told.startswith("person R9\nname Ann Li\n"), told)
+        told = stand.command("do", "-", given=f"me {OTHER}\n")
+        check("and of a key of nobody that it is unknown", told[:2] == (1, "refused 2 UnknownPerson\n"), told)
+        told = stand.command("do", "-", given=f"person R8 {KEY.upper()} Bea Ma\n")
+        check("a key with capitals is none", told[:2] == (2, "not understood\n"), told)
+    check(f"no process had a key, seen at {watcher.looks} looks", watcher.looks > 20 and not watcher.seen, watcher.seen)
+    check("me changed nothing", stand.script("rooms-office", "do", "-", given=f"me {KEY}\n").startswith("person R9\n"))
+    for place in (stand.file.with_name("journal"), stand.folder / "keeper.log"):
+        check(f"{place.name} has no key and no name", not re.search(f"{KEY}|Ann Li", place.read_text(encoding="utf-8"), re.I))
+    check("the journal says who came in", "person R9 (key) (name)  ->  ok" in stand.script("rooms-office", "journal"))
+    left = list((stand.scratch / "copies").iterdir())
+    check("no copy is left in memory", not left, left)
+
+
+def bundles(stand):
+    """Many lines stand all or none, under one stop."""
+    starts = stand.log("keeper").count("listening on")
+    told = stand.command("lines", given="# three rooms\nroom L1\n\nroom L2\nrooms\nroom L3\n")
+    check("many lines are answered each", told[0] == 0 and told[1].startswith("ok\nok\n") and told[1].endswith("ok\n"), told)
+    stand.until_listening(stand.server_port)
+    check("with one stop", stand.log("keeper").count("listening on") == starts + 1)
+    told = stand.command("lines", given="room L4\nroom L1\nroom L5\n")
+    check("one that is refused refuses all", told[:2] == (1, "ok\nrefused 4 DuplicateRoom\n") and "line 2" in told[2], told)
+    check("nothing of them stands", "L4" not in stand.office("rooms"))
+    told = stand.command("lines", given=f"room L6\nperson R7 {OTHER} Cy Fu\nme {OTHER}\n")
+    check("lines with keys are taken among them", told[:2] == (0, "ok\nok\n" + told[1].split("\n", 2)[2])
+          and "person R7" in told[1], told)
+    again = stand.script("rooms-office", "do", "-", given=f"me {OTHER}\n")
+    check("and the key is the person's own", again.startswith("person R7\n"), again)
+
+
+def ways_back(stand):
+    """A copy is put back, and the way forth as well."""
+    before = stand.office("rooms")
+    name = stand.script("rooms-office", "backup").strip()
+    stand.office("room B1")
+    told = stand.command("back", name)
+    check("a copy is put back", told[0] == 0 and stand.office("rooms") == before, told)
+    stand.until_listening(stand.server_port)
+    check("and the server is there again", stand.server() is not None)
+    check("and forth again", stand.command("back", told[1].strip())[0] == 0 and "B1" in stand.office("rooms"))
+    listed = stand.script("rooms-office", "backups")
+    check("the copies are listed with their reasons", f"before back {name}, by root" in listed, listed)
+    told = stand.command("back", "20200101T000000Z")
+    check("a copy that is not there is told", told[:2] == (3, "unavailable\n") and "there is no copy" in told[2], told)
+    answer = stand.ask(ask="back", name=name, seen="round 7 open")
+    check("nobody goes back from where they are not", "has gone on" in answer["fault"], answer)
+
+
+def damaged(stand):
+    """An office that was damaged is put right from a copy."""
+    before = stand.office("rooms")
+    name = stand.script("rooms-office", "backup").strip()
+    stand.stop_keeper()
+    for end in ("-wal", "-shm"):
+        stand.file.with_name(stand.file.name + end).unlink(missing_ok=True)
+    stand.file.write_bytes(b"no office at all" * 1000)
+    stand.start_keeper()
+    time.sleep(1)
+    told = stand.command("do", "room", "D1")
+    check("a damaged office takes no line", told[0] != 0, told)
+    told = stand.command("back", name)
+    check("and is put right from a copy", told[0] == 0 and stand.office("rooms") == before, told)
+    stand.until_listening(stand.server_port)
+    kept = stand.data / "backups" / told[1].strip() / stand.file.name
+    check("the damaged one is kept", kept.read_bytes().startswith(b"no office at all"))
+
+
+def blanked(stand):
+    """A list's bytes go, its label stays taken, and the program takes the office."""
+    rooms = stand.office("rooms")
+    check("the kept list is in the file", any(b"room\nH2\nH3\n" in one.read_bytes() for one in stand.data.glob("rooms.db*")))
+    check("a list is blanked", stand.script("rooms-office", "blank", "rooms-1") == "blanked rooms-1\n")
+    stand.until_listening(stand.server_port)
+    check("its bytes are in no file of the office", not any(b"H2\nH3\n" in one.read_bytes() for one in stand.data.glob("rooms.db*")))
+    for body in ("room\nH2\nH3\n", "", "room\nH77\n"):
+        told = stand.command("import", "rooms", "rooms-1", "-", given=body)
+        check(f"{body!r} under its label is another list", told[:2] == (1, "refused 14 ListDiffers\n"), told)
+    check("the rooms are as before", stand.office("rooms") == rooms)
+    told = stand.command("blank", "no-such")
+    check("a label that nobody gave is told", told[0] == 3 and "no list has come in" in told[2], told)
+
+
+def two_clerks(stand):
+    """What one clerk saw is no longer so once another one was at work; changes at once are all made."""
+    stand.office("open")
+    check("the first clerk cancels", stand.ask(ask="do", lines=["cancel"], seen="round 1 open")["done"])
+    answer = stand.ask(ask="do", lines=["cancel"], seen="round 1 open")
+    check("the second one's cancel is not made", not answer.get("done"), answer)
+    stand.office("open")
+    phase = stand.ask(ask="view")
+    answer = stand.ask(ask="do", lines=["close"], seen="round 1 open")
+    check("nor a step of another round" if phase["number"] == 2 else "nor is any", phase["number"] == 1 or "has gone on" in answer["fault"], answer)
+    stand.office("cancel" if stand.ask(ask="view")["phase"] == "open" else "round")
+    starts, answers = stand.log("keeper").count("listening on"), []
+    clerks = [threading.Thread(target=lambda number=number: answers.append(stand.ask(ask="do", lines=[f"room Z{number}"])))
+              for number in range(12)]
+    began = time.monotonic()
+    for clerk in clerks:
+        clerk.start()
+    for clerk in clerks:
+        clerk.join()
+    took = time.monotonic() - began
+    stand.until_listening(stand.server_port)
+    check("12 changes at once are all made", all(answer.get("done") for answer in answers), answers)
+    print(f"      in {took:.1f} s, with {stand.log('keeper').count('listening on') - starts} stops of the server")
+
+
+def server_ends(stand):
+    """A server that ends is started again."""
+    for _ in range(3):
+        server = stand.server()
+        stand.kill()
+        until(lambda gone=server: stand.server() not in (None, gone), 10, "another server")
+    stand.until_listening(stand.server_port)
+    check("a server that was ended is there again", stand.server() is not None)
+
+
+def try_keeping(program):
+    """The keeper and the command."""
+    with Stand(program) as stand:
+        stand.start()
+        quiet_lines(stand)
+        hidden_keys(stand)
+        bundles(stand)
+        ways_back(stand)
+        blanked(stand)
+        damaged(stand)
+        two_clerks(stand)
+        server_ends(stand)
+    try_hanging(program)
+    with contextlib.suppress(FileNotFoundError):
+        check("nothing is left", not stand.folder.exists() and not stand.scratch.exists())
+
+
+HANGING = """#!/bin/sh
+case "$*" in *"--db {file} "*"room SLOW"*) exec sleep 60;; esac
+exec {program} "$@"
+"""
+
+
+def try_hanging(program):
+    """A program that hangs on the file is ended after its time; whoever waits too long for their turn is told."""
+    with Stand(program, ROOMS_LINE_SECONDS="4", ROOMS_TURN_SECONDS="2") as stand:
+        hanging = stand.folder / "hanging"
+        hanging.write_text(HANGING.format(file=stand.file, program=stand.program), encoding="utf-8")
+        hanging.chmod(0o755)
+        stand.environment["ROOMS_PROGRAM"] = str(hanging)
+        stand.start()
+        answers = {}
+
+        def clerk(line, wait):
+            time.sleep(wait)
+            began = time.monotonic()
+            answer = stand.ask(ask="do", lines=[line])
+            answers[line] = time.monotonic() - began, answer
+        clerks = [threading.Thread(target=clerk, args=more) for more in (("room SLOW", 0), ("room A", 0.7), ("room B", 3.2))]
+        for one in clerks:
+            one.start()
+        for one in clerks:
+            one.join()
+        took, answer = answers["room SLOW"]
+        check("a program that hangs is ended", 4 <= took < 7 and "did not end within 4 seconds" in answer["fault"], answers)
+        took, answer = answers["room A"]
+        check("who waits too long is told", took < 3.5 and "took too long" in answer["fault"], answers)
+        check("and who waits for a moment is served", answers["room B"][1].get("done"), answers)
+        stand.until_listening(stand.server_port)
+        rooms = [row[0] for row in stand.ask(ask="view")["rooms"]]
+        check("the server is there again, and only what was answered stands", rooms == ["B"], rooms)
+        check("the journal says that the program was ended", "did not end within" in stand.script("rooms-office", "journal"))
+
+
+if __name__ == "__main__":
+    if len(sys.argv) != 2:
+        sys.exit("usage: /usr/bin/python3 deploy/trial/keeping.py PROGRAM")
+    try_keeping(sys.argv[1])

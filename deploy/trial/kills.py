@@ -1,0 +1,160 @@
+"""The keeper is killed in the middle of each kind of line of a small year, and started again.
+
+Each time the office is as before the line or as after it, what was answered stands, what stands is in the journal, and no server is
+left over. This run alone, also over standin.py in place of the program: /usr/bin/python3 deploy/trial/kills.py PROGRAM
+"""
+
+import base64
+import contextlib
+import sqlite3
+import sys
+import threading
+import time
+from pathlib import Path
+
+from stand import OFFICE, Stand, check, command_of
+
+sys.path.insert(0, str(OFFICE))
+
+# pylint: disable=wrong-import-position  # they stand in the folder of the line above
+from copies import Copies
+from settings import Settings
+
+KILLS = 5
+KNOWN = ("rooms.db", "rooms.db-wal", "rooms.db-shm", "journal", "backups")
+SEED = "0123456789abcdef" * 4
+
+
+def do(*lines):
+    """Lines, as the keeper is asked for them."""
+    return {"ask": "do", "lines": list(lines)}
+
+
+def bring(kind, label, body):
+    """A list, as the keeper is asked for it."""
+    return {"ask": "import", "kind": kind, "label": label, "body": base64.b64encode(body.encode()).decode()}
+
+
+PEOPLE = "person,name,key,home\nT1,Tim Tan,aaaaaaaaaaaaaaa1,A-1\nT2,Tom Tao,aaaaaaaaaaaaaaa2,A-2\nN,Nia Ng,aaaaaaaaaaaaaaa3,\n"
+# The kinds of lines, in the order of a year. What the stand-in does not know is marked.
+YEAR = [
+    (do("room K1"), True),
+    (bring("rooms", "rooms-1", "room\n" + "".join(f"A-{number}\n" for number in range(40))), True),
+    (bring("people", "people-1", PEOPLE), False),
+    (do("person P1 bbbbbbbbbbbbbbbb1 Pia Po"), True),
+    (do("room K2", "room K3", "person P2 bbbbbbbbbbbbbbbb2 Pim Pu", "room K4"), True),
+    (do("home P1 K1"), False),
+    (do("leave P1"), False),
+    (do("remove P1"), False),
+    (do("open"), True),
+    (do("choose T1 A-2 A-3"), False),
+    (do("choose T1 A-4 A-5"), False),
+    (bring("choices", "choices-1", "person,choices\nT2,A-7 A-8\nN,A-1 A-2\n"), False),
+    (do("shut K2"), False),
+    (do("withdraw P2"), False),
+    (do("close"), True),
+    ({"ask": "draw", "seed": SEED}, False),
+    (do("run"), False),
+    (do("publish"), False),
+    (do("settle"), False),
+    ({"ask": "blank", "label": "rooms-1"}, True),
+    ({"ask": "backup"}, True),
+]
+
+
+def content(stand):
+    """All that the office's file says."""
+    settings = Settings(file=stand.file, program="", port=0, socket=stand.file, scratch=stand.scratch, speakers=frozenset(),
+                        line_seconds=0, turn_seconds=0)
+    with Copies(settings).copied() as copy, contextlib.closing(sqlite3.connect(copy)) as database:
+        if database.execute("PRAGMA integrity_check").fetchall() != [("ok",)]:
+            return "damaged"
+        tables = [name for name, in database.execute("SELECT name FROM sqlite_master WHERE type = 'table' ORDER BY name")]
+        return {name: sorted(database.execute(f"SELECT * FROM {name}").fetchall(), key=repr) for name in tables}
+
+
+def servers_of(stand):
+    """The servers and other programs that work on the office's file."""
+    return [process.name for process in Path("/proc").glob("[0-9]*") if str(stand.file) in command_of(process.name)]
+
+
+def killed(stand, job, delay):
+    """Sends a line, kills the keeper after a while, starts it again, and gives the answer, if there was one."""
+    answers = []
+
+    def clerk():
+        with contextlib.suppress(OSError, ValueError):
+            answers.append(stand.ask(**job))
+    thread = threading.Thread(target=clerk)
+    thread.start()
+    time.sleep(delay)
+    stand.kill_keeper()
+    thread.join()
+    time.sleep(0.1)
+    check("    nothing is left over", not servers_of(stand), servers_of(stand))
+    stand.start()
+    return answers[0] if answers else {}
+
+
+def is_noted(stand, entries):
+    """Whether the journal has a new change, and each change has its end."""
+    now = stand.ask(ask="journal", last=10_000)["journal"]
+    begun = [one["n"] for one in now if "n" in one and "line" in one]
+    ended = [one["n"] for one in now if "n" in one and "answer" in one]
+    return len(now) > len(entries) and set(begun) == set(ended)
+
+
+def accepted(answer):
+    """Whether a line was answered as done."""
+    return bool(answer.get("done") or "name" in answer or "blanked" in answer)
+
+
+def kill_in(stand, job):
+    """One kind of line: once as it should be, and then killed at moments that are spread over the time that it took."""
+    before, name = content(stand), stand.ask(ask="backup")["name"]
+    began = time.monotonic()
+    answer = stand.ask(**job)
+    took = time.monotonic() - began
+    if not accepted(answer):
+        check(f"{job} is accepted", False, answer)
+    after, stood = content(stand), 0
+    for number in range(KILLS):
+        if content(stand) != before:
+            check("    the way back", "name" in stand.ask(ask="back", name=name) and content(stand) == before)
+        entries = stand.ask(ask="journal", last=10_000)["journal"]
+        answer = killed(stand, job, took * (number + 0.5) / KILLS)
+        found = content(stand)
+        if found not in (before, after) or accepted(answer) and found != after:
+            check(f"{job}: before or after it, and what was answered stands", False, (answer, found))
+        if found != before:
+            stood += 1
+            check("    what stands is in the journal", is_noted(stand, entries))
+    if content(stand) != after:
+        answer = stand.ask(**job)
+        if not accepted(answer):
+            check(f"{job} is accepted afterwards", False, answer)
+    said = "; ".join(job["lines"]) if "lines" in job else " ".join(str(job.get(key)) for key in ("ask", "kind", "label") if key in job)
+    check(f"killed {KILLS} times within {1000 * took:.0f} ms of `{said}`: {stood} times it stood", content(stand) == after)
+
+
+def try_kills(program):
+    """The year."""
+    known = Path(program).name != "standin.py"
+    with Stand(program) as stand:
+        stand.start()
+        for job, simple in YEAR:
+            if known or simple:
+                kill_in(stand, job)
+        name = stand.ask(ask="backup")["name"]
+        stand.ask(ask="do", lines=["room BACK"])
+        kill_in(stand, {"ask": "back", "name": name})
+        left = [one.name for one in stand.data.iterdir() if one.name not in KNOWN]
+        check("no file is left over", not left, left)
+        parts = list((stand.data / "backups").glob(".part*"))
+        check("and no copy half made", not parts, parts)
+
+
+if __name__ == "__main__":
+    if len(sys.argv) != 2:
+        sys.exit("usage: /usr/bin/python3 deploy/trial/kills.py PROGRAM")
+    try_kills(sys.argv[1])
