@@ -1,7 +1,8 @@
 """Tries all that stands round `rooms serve`, end to end: /usr/bin/python3 deploy/trial PROGRAM FOLDER.
 
-The folder gets the photographs of the page. It ends at the first thing that is not as it should be, and leaves nothing running.
-Debian: apt-get install haproxy chromium chromium-driver python3-selenium sqlite3 openssl. Selenium is there for Debian's own Python.
+The folder gets the photographs of the page. It ends at the first thing that is not as it should be, and leaves
+nothing running. Debian: apt-get install haproxy chromium chromium-driver python3-selenium sqlite3 openssl. Selenium
+is there for Debian's own Python.
 """
 
 import sys

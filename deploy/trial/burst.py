@@ -1,4 +1,5 @@
-"""A burst: residents at once over TLS, each with several requests, while the office closes the round, or the keeper is killed.
+"""A burst: residents at once over TLS, each with several requests, while the office closes the round, or the keeper is
+killed.
 
 No request may have another answer than what it asks for, or that the round is closed; and whatever was answered as
 recorded has to be on record afterwards. This run alone: /usr/bin/python3 deploy/trial/burst.py PROGRAM

@@ -1,7 +1,8 @@
-"""Copies beside the running server: residents hand in lists while the keeper's copies are taken, and each copy has to be an office of
-one moment.
+"""Copies beside the running server: residents hand in lists while the keeper's copies are taken, and each copy has to
+be an office of one moment.
 
-Each resident hands in one list, turned round by some places. So a list in a copy that is none of these is torn. This run alone:
+Each resident hands in one list, turned round by some places. So a list in a copy that is none of these is torn.
+This run alone:
 
     /usr/bin/python3 deploy/trial/copying.py PROGRAM [SECONDS]
 """
@@ -16,13 +17,8 @@ import sys
 import threading
 import time
 
-from stand import OFFICE, Stand, check, key_of
-
-sys.path.insert(0, str(OFFICE))
-
-# pylint: disable=wrong-import-position  # they stand in the folder of the line above
-from copies import Copies, beside
-from settings import Fault, Settings
+from beside import copies_of
+from stand import Stand, check, key_of
 
 SECONDS = 20
 WRITERS = 3
@@ -84,23 +80,17 @@ def try_copying(program, length=SECONDS):
         stand.fill(ROOMS, PEOPLE)
         stand.tell("open")
         stand.start()
-        settings = Settings(file=stand.file, program="", port=0, socket=stand.file, scratch=stand.scratch, speakers=frozenset(),
-                            line_seconds=0, turn_seconds=0)
-        copies, times, heads, torn, given_up = Copies(settings), [], set(), 0, 0
+        copies, times, heads, torn = copies_of(stand), [], set(), 0
         with Writers(stand.server_port) as writers:
             end = time.monotonic() + length
             while time.monotonic() < end:
                 began = time.monotonic()
-                try:
-                    with copies.copied() as copy:
-                        times.append(time.monotonic() - began)
-                        heads.add(beside(copy, "-wal").read_bytes()[:32])
-                        torn += is_torn(copy)
-                except Fault:
-                    given_up += 1
+                with copies.copied() as copy:  # ends the trial where no copy can be had
+                    times.append(time.monotonic() - began)
+                    heads.add(copy.with_name(copy.name + "-wal").read_bytes()[:32])
+                    torn += is_torn(copy)
         check(f"{len(times)} copies beside {writers.sent} lists that were handed in: none is torn",
               torn == 0 and len(times) > length and writers.sent > 10 * length, (torn, len(times), writers.sent))
-        check("and none was given up", given_up == 0, given_up)
         print(f"      the log was begun anew {len(heads) - 1} times; a copy took {1000 * statistics.median(times):.1f} ms, "
               f"at most {1000 * max(times):.0f} ms")
 

@@ -1,7 +1,8 @@
-"""The disk is full: what reads goes on, what changes is refused in words, nothing is half done, and all goes on once there is room.
+"""The disk is full: what reads goes on, what changes is refused in words, nothing is half done, and all goes on once
+there is room.
 
-It needs the right to mount a small file system in memory; without that it is not tried. This run alone, also over standin.py:
-/usr/bin/python3 deploy/trial/full.py PROGRAM
+It needs the right to mount a small file system in memory; without that it is not tried. This run alone, also over
+standin.py: /usr/bin/python3 deploy/trial/full.py PROGRAM
 """
 
 import contextlib

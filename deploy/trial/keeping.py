@@ -1,5 +1,5 @@
-"""The keeper and the clerk's command: what is refused disturbs nobody, what is accepted is in the journal, lines in a bundle stand all
-or none, keys are seen nowhere, and there is a way back.
+"""The keeper and the clerk's command: what is refused disturbs nobody, what is accepted is in the journal, lines in a
+bundle stand all or none, keys are seen nowhere, and there is a way back.
 
 This run alone, also over standin.py in place of the program: /usr/bin/python3 deploy/trial/keeping.py PROGRAM
 """

@@ -1,7 +1,8 @@
 """The keeper is killed in the middle of each kind of line of a small year, and started again.
 
-Each time the office is as before the line or as after it, what was answered stands, what stands is in the journal, and no server is
-left over. This run alone, also over standin.py in place of the program: /usr/bin/python3 deploy/trial/kills.py PROGRAM
+Each time the office is as before the line or as after it, what was answered stands, what stands is in the journal,
+and no server is left over. This run alone, also over standin.py in place of the program: /usr/bin/python3
+deploy/trial/kills.py PROGRAM
 """
 
 import base64
@@ -12,13 +13,8 @@ import threading
 import time
 from pathlib import Path
 
-from stand import OFFICE, Stand, check, command_of
-
-sys.path.insert(0, str(OFFICE))
-
-# pylint: disable=wrong-import-position  # they stand in the folder of the line above
-from copies import Copies
-from settings import Settings
+from beside import copies_of
+from stand import Stand, check, command_of
 
 KILLS = 5
 KNOWN = ("rooms.db", "rooms.db-wal", "rooms.db-shm", "journal", "backups")
@@ -64,9 +60,7 @@ YEAR = [
 
 def content(stand):
     """All that the office's file says."""
-    settings = Settings(file=stand.file, program="", port=0, socket=stand.file, scratch=stand.scratch, speakers=frozenset(),
-                        line_seconds=0, turn_seconds=0)
-    with Copies(settings).copied() as copy, contextlib.closing(sqlite3.connect(copy)) as database:
+    with copies_of(stand).copied() as copy, contextlib.closing(sqlite3.connect(copy)) as database:
         if database.execute("PRAGMA integrity_check").fetchall() != [("ok",)]:
             return "damaged"
         tables = [name for name, in database.execute("SELECT name FROM sqlite_master WHERE type = 'table' ORDER BY name")]

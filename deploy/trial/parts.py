@@ -1,4 +1,5 @@
-"""The keeper's parts by themselves: what the journal hides, a file that takes the office's place, copies that are kept.
+"""The keeper's parts by themselves: what the journal hides, a file that takes the office's place, copies that are
+kept.
 
 No program is needed. This run alone: /usr/bin/python3 deploy/trial/parts.py
 """

@@ -1,4 +1,5 @@
-"""How clerks sign in at the proxy, and what of it comes to the office's page. A stub stands for the page, and tells what it was sent.
+"""How clerks sign in at the proxy, and what of it comes to the office's page. A stub stands for the page, and tells
+what it was sent.
 
 This run alone: /usr/bin/python3 deploy/trial/signing.py PROGRAM
 """

@@ -1,5 +1,5 @@
-"""What the trial stands on: an office in a folder of its own, the keeper, HAProxy with the file of this repository, and the
-office's page where it is there.
+"""What the trial stands on: an office in a folder of its own, the keeper, HAProxy with the file of this repository,
+and the office's page where it is there.
 
 Ports, paths, certificate and clerks are the trial's own. Whatever was started has ended when the `with` block does.
 """
