@@ -11,6 +11,7 @@ from pathlib import Path
 # The repository stays as it is.
 sys.dont_write_bytecode = True
 
+# pylint: disable=wrong-import-position  # not before the line above
 from burst import try_burst
 from copying import try_copying
 from full import try_full

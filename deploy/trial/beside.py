@@ -4,7 +4,7 @@ import sys
 
 from stand import OFFICE
 
-sys.path.insert(0, str(OFFICE))
+sys.path.append(str(OFFICE))
 
 # pylint: disable=wrong-import-position,wrong-import-order  # it stands in the folder of the line above
 from copies import Copies
@@ -13,5 +13,15 @@ from settings import Settings
 
 def copies_of(stand):
     """Copies of a stand's office, in its own folder in memory."""
-    return Copies(Settings(file=stand.file, program="", port=0, socket=stand.file, scratch=stand.scratch,
-                           speakers=frozenset(), line_seconds=0, turn_seconds=0))
+    return Copies(
+        Settings(
+            file=stand.file,
+            program="",
+            port=0,
+            socket=stand.file,
+            scratch=stand.scratch,
+            speakers=frozenset(),
+            line_seconds=0,
+            turn_seconds=0,
+        )
+    )

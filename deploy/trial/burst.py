@@ -24,6 +24,7 @@ def choices_of(number):
 
 
 def person_of(number):
+    """The identifier of a resident."""
     return f"P{number:03d}"
 
 
@@ -36,10 +37,16 @@ class Resident:
         self.statuses = collections.Counter()
 
     async def ask(self, stream, method, path, body=b""):
+        """Sends a request, and gives status and body of the answer."""
         reader, writer = stream
         began = time.monotonic()
-        writer.write((f"{method} {path} HTTP/1.1\r\nHost: {HOST}\r\nRoom-Key: {key_of(person_of(self.number))}\r\n"
-                      f"Content-Length: {len(body)}\r\n\r\n").encode() + body)
+        writer.write(
+            (
+                f"{method} {path} HTTP/1.1\r\nHost: {HOST}\r\nRoom-Key: {key_of(person_of(self.number))}\r\n"
+                f"Content-Length: {len(body)}\r\n\r\n"
+            ).encode()
+            + body
+        )
         head = (await asyncio.wait_for(reader.readuntil(b"\r\n\r\n"), 120)).decode()
         lines = [line.lower() for line in head.split("\r\n")]
         length = next(int(line.split(":")[1]) for line in lines if line.startswith("content-length:"))
@@ -52,11 +59,12 @@ class Resident:
     async def visit(self, gate, context):
         """Looks, hands in a list, and looks again."""
         await gate.wait()
-        stream = await asyncio.open_connection("127.0.0.1", self.port, ssl=context, server_hostname=HOST,
-                                               ssl_handshake_timeout=60)
+        stream = await asyncio.open_connection(
+            "127.0.0.1", self.port, ssl=context, server_hostname=HOST, ssl_handshake_timeout=60
+        )
         choices = choices_of(self.number)
-        status, me = await self.ask(stream, "GET", "/me")
-        assert status == 200 and json.loads(me)["person"] == person_of(self.number), (status, me)
+        status, told = await self.ask(stream, "GET", "/me")
+        assert status == 200 and json.loads(told)["person"] == person_of(self.number), (status, told)
         status, rows = await self.ask(stream, "GET", "/rooms")
         assert status == 200 and len(json.loads(rows)) == len(ROOMS), (status, rows)
         status, told = await self.ask(stream, "PUT", "/me/choices", json.dumps(choices).encode())
@@ -66,10 +74,10 @@ class Resident:
         else:
             assert (status, told) == (409, b'{"error":"BadPhase"}'), (status, told)
             self.refused = True
-        status, me = await self.ask(stream, "GET", "/me")
-        assert status == 200, (status, me)
+        status, told = await self.ask(stream, "GET", "/me")
+        assert status == 200, (status, told)
         if self.kept:
-            assert json.loads(me)["choices"] == choices, me
+            assert json.loads(told)["choices"] == choices, told
         stream[1].close()
 
 
@@ -88,8 +96,10 @@ async def burst(port, during):
     check(f"{RESIDENTS} residents at once meet no fault", not faults, faults[:3])
     statuses = sum((resident.statuses for resident in residents), collections.Counter())
     times = sorted(one for resident in residents for one in resident.times)
-    print(f"      {len(times)} requests in {took:.1f} seconds, answers {dict(statuses)}; the median waited "
-          f"{times[len(times) // 2]:.2f} seconds, the longest {times[-1]:.2f}")
+    print(
+        f"      {len(times)} requests in {took:.1f} seconds, answers {dict(statuses)}; the median waited "
+        f"{times[len(times) // 2]:.2f} seconds, the longest {times[-1]:.2f}"
+    )
     return residents
 
 
@@ -102,8 +112,11 @@ def on_record(stand, residents):
     for resident in differing:
         # The server was stopped after it had recorded the list and before it had answered; the proxy sent it again.
         recorded = lists.get(person_of(resident.number), [])
-        check(f"{person_of(resident.number)} was told that the round is closed, and has the list handed in",
-              resident.refused and recorded == choices_of(resident.number), recorded)
+        check(
+            f"{person_of(resident.number)} was told that the round is closed, and has the list handed in",
+            resident.refused and recorded == choices_of(resident.number),
+            recorded,
+        )
 
 
 def handed_in(residents):

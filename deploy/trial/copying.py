@@ -54,8 +54,10 @@ class Writers:
         drawn = random.Random(number)
         while not self.over.is_set():
             body = json.dumps(turned(drawn.randrange(len(ROOMS)))).encode()
-            head = (f"PUT /me/choices HTTP/1.1\r\nHost: a\r\nRoom-Key: {key_of(drawn.choice(PEOPLE))}\r\n"
-                    f"Content-Length: {len(body)}\r\n\r\n").encode()
+            head = (
+                f"PUT /me/choices HTTP/1.1\r\nHost: a\r\nRoom-Key: {key_of(drawn.choice(PEOPLE))}\r\n"
+                f"Content-Length: {len(body)}\r\n\r\n"
+            ).encode()
             with contextlib.suppress(OSError), socket.create_connection(("127.0.0.1", self.port), 30) as connection:
                 connection.sendall(head + body)
                 self.sent += b" 200 " in connection.recv(4096)
@@ -89,10 +91,16 @@ def try_copying(program, length=SECONDS):
                     times.append(time.monotonic() - began)
                     heads.add(copy.with_name(copy.name + "-wal").read_bytes()[:32])
                     torn += is_torn(copy)
-        check(f"{len(times)} copies beside {writers.sent} lists that were handed in: none is torn",
-              torn == 0 and len(times) > length and writers.sent > 10 * length, (torn, len(times), writers.sent))
-        print(f"      the log was begun anew {len(heads) - 1} times; a copy took {1000 * statistics.median(times):.1f} ms, "
-              f"at most {1000 * max(times):.0f} ms")
+        check(
+            f"{len(times)} copies beside {writers.sent} lists that were handed in: none is torn",
+            torn == 0 and len(times) > length and writers.sent > 10 * length,
+            (torn, len(times), writers.sent),
+        )
+        print(
+            f"      the log was begun anew {len(heads) - 1} times; a copy took "
+            f"{1000 * statistics.median(times):.1f} ms, "
+            f"at most {1000 * max(times):.0f} ms"
+        )
 
 
 if __name__ == "__main__":

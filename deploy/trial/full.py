@@ -63,21 +63,42 @@ def try_full(program):
             before, journal = stand.ask(ask="view"), (disk / "journal").read_bytes()
             filler = fill_up(disk)
             view = stand.ask(ask="view")
-            check("full disk: the office can be looked at", view["rooms"] == before["rooms"] and view["phase"] == "open", view)
-            check("full disk: questions are answered", stand.office("rooms").endswith("H1\n") or "H1" in stand.office("rooms"))
+            check(
+                "full disk: the office can be looked at",
+                view["rooms"] == before["rooms"] and view["phase"] == "open",
+                view,
+            )
+            check(
+                "full disk: questions are answered",
+                stand.office("rooms").endswith("H1\n") or "H1" in stand.office("rooms"),
+            )
             check("full disk: exports come", stand.command("export", "people")[0] == 0)
-            for job in ({"ask": "do", "lines": ["room H2"]}, {"ask": "do", "lines": ["close"]}, {"ask": "do", "lines": ["room H3", "room H4"]},
-                        {"ask": "backup"}, {"ask": "back", "name": name}):
+            for job in (
+                {"ask": "do", "lines": ["room H2"]},
+                {"ask": "do", "lines": ["close"]},
+                {"ask": "do", "lines": ["room H3", "room H4"]},
+                {"ask": "backup"},
+                {"ask": "back", "name": name},
+            ):
                 told, said = refused(stand, **job)
                 check(f"full disk: {job} is refused", told, said)
                 print(f"      {said}")
             filler.unlink()
-            check("nothing was half done", [row[0] for row in stand.ask(ask="view")["rooms"]] == ["H1"]
-                  and stand.ask(ask="view")["phase"] == "open")
+            check(
+                "nothing was half done",
+                [row[0] for row in stand.ask(ask="view")["rooms"]] == ["H1"]
+                and stand.ask(ask="view")["phase"] == "open",
+            )
             stand.until_listening(stand.server_port)
-            check("once there is room all goes on", stand.office("room H5") == "ok\n" and stand.office("close").startswith("closed"))
-            check("the journal is whole", (disk / "journal").read_bytes().startswith(journal)
-                  and "room H5" in stand.script("rooms-office", "journal"))
+            check(
+                "once there is room all goes on",
+                stand.office("room H5") == "ok\n" and stand.office("close").startswith("closed"),
+            )
+            check(
+                "the journal is whole",
+                (disk / "journal").read_bytes().startswith(journal)
+                and "room H5" in stand.script("rooms-office", "journal"),
+            )
             left = [one.name for one in (disk / "backups").glob(".part*")] + [one.name for one in disk.glob("*.part")]
             check("no half copy is left", not left, left)
 

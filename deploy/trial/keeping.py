@@ -45,8 +45,11 @@ class Watcher:
 def quiet_lines(stand):
     """Questions and refusals leave the server alone; what is accepted stops it once."""
     server = stand.server()
-    check("a line is refused as the program refuses it",
-          stand.command("do", "leave", "NOBODY")[0] == 1 and stand.command("do", "nonsense", "x")[:2] == (2, "not understood\n"))
+    check(
+        "a line is refused as the program refuses it",
+        stand.command("do", "leave", "NOBODY")[0] == 1
+        and stand.command("do", "nonsense", "x")[:2] == (2, "not understood\n"),
+    )
     check("a question is answered", stand.office("round").startswith("round 0 idle"))
     check("no option gets through", stand.command("do", "room", "--db=/tmp/x.db")[0] == 2)
     check("nor a second line", stand.ask(ask="do", lines=["room X\nroom Y"])["answers"] == [["not understood\n", 2]])
@@ -56,20 +59,30 @@ def quiet_lines(stand):
     rooms = stand.folder / "a list's rooms.csv"
     rooms.write_text("room\nH2\nH3\n", encoding="utf-8")
     for turn in ("in", "in again, and answered as the first time"):
-        check(f"a list is brought {turn}", stand.script("rooms-office", "import", "rooms", "rooms-1", str(rooms)) == "added 2\n")
+        check(
+            f"a list is brought {turn}",
+            stand.script("rooms-office", "import", "rooms", "rooms-1", str(rooms)) == "added 2\n",
+        )
     answer = stand.command("import", "rooms", "rooms-2", "-", given="room\nH4\nH2\n")
     check("a bad list is refused", answer[:2] == (1, "refused 15 BadRecord 2 refusal 4\n"), answer)
     missing = stand.command("import", "rooms", "rooms-3", "/nowhere")
-    check("a list that is not there is told", missing[:2] == (3, "unavailable\n") and "No such file" in missing[2], missing)
+    check(
+        "a list that is not there is told",
+        missing[:2] == (3, "unavailable\n") and "No such file" in missing[2],
+        missing,
+    )
 
 
 def hidden_keys(stand):
-    """A key is refused on the command line, taken on standard input, and seen in no process and no file but the office's."""
+    """A key is refused on the command line, taken on standard input, and seen in no process and no other file."""
     for words in (("do", "person", "R9", KEY, "Ann Li"), ("do", "me", KEY)):
         told = stand.command(*words)
         check(f"{words[1]} with a key is not taken from the command line", told[0] == 2 and "do -" in told[2], told)
     with Watcher(KEY, OTHER) as watcher:
-        check("a person comes in on standard input", stand.script("rooms-office", "do", "-", given=f"person R9 {KEY} Ann Li\n") == "ok\n")
+        check(
+            "a person comes in on standard input",
+            stand.script("rooms-office", "do", "-", given=f"person R9 {KEY} Ann Li\n") == "ok\n",
+        )
         told = stand.command("do", "-", given=f"person R8 {KEY} Bea Ma\n")
         check("nobody else may have the key", told[:2] == (1, "refused 6 KeyInUse\n"), told)
         told = stand.script("rooms-office", "do", "-", given=f"me {KEY}\n")
@@ -78,10 +91,17 @@ def hidden_keys(stand):
         check("and of a key of nobody that it is unknown", told[:2] == (1, "refused 2 UnknownPerson\n"), told)
         told = stand.command("do", "-", given=f"person R8 {KEY.upper()} Bea Ma\n")
         check("a key with capitals is none", told[:2] == (2, "not understood\n"), told)
-    check(f"no process had a key, seen at {watcher.looks} looks", watcher.looks > 20 and not watcher.seen, watcher.seen)
-    check("me changed nothing", stand.script("rooms-office", "do", "-", given=f"me {KEY}\n").startswith("person R9\n"))
+    check(
+        f"no process had a key, seen at {watcher.looks} looks", watcher.looks > 20 and not watcher.seen, watcher.seen
+    )
+    check(
+        "me changed nothing", stand.script("rooms-office", "do", "-", given=f"me {KEY}\n").startswith("person R9\n")
+    )
     for place in (stand.file.with_name("journal"), stand.folder / "keeper.log"):
-        check(f"{place.name} has no key and no name", not re.search(f"{KEY}|Ann Li", place.read_text(encoding="utf-8"), re.I))
+        check(
+            f"{place.name} has no key and no name",
+            not re.search(f"{KEY}|Ann Li", place.read_text(encoding="utf-8"), re.I),
+        )
     check("the journal says who came in", "person R9 (key) (name)  ->  ok" in stand.script("rooms-office", "journal"))
     left = list((stand.scratch / "copies").iterdir())
     check("no copy is left in memory", not left, left)
@@ -91,15 +111,26 @@ def bundles(stand):
     """Many lines stand all or none, under one stop."""
     starts = stand.log("keeper").count("listening on")
     told = stand.command("lines", given="# three rooms\nroom L1\n\nroom L2\nrooms\nroom L3\n")
-    check("many lines are answered each", told[0] == 0 and told[1].startswith("ok\nok\n") and told[1].endswith("ok\n"), told)
+    check(
+        "many lines are answered each",
+        told[0] == 0 and told[1].startswith("ok\nok\n") and told[1].endswith("ok\n"),
+        told,
+    )
     stand.until_listening(stand.server_port)
     check("with one stop", stand.log("keeper").count("listening on") == starts + 1)
     told = stand.command("lines", given="room L4\nroom L1\nroom L5\n")
-    check("one that is refused refuses all", told[:2] == (1, "ok\nrefused 4 DuplicateRoom\n") and "line 2" in told[2], told)
+    check(
+        "one that is refused refuses all",
+        told[:2] == (1, "ok\nrefused 4 DuplicateRoom\n") and "line 2" in told[2],
+        told,
+    )
     check("nothing of them stands", "L4" not in stand.office("rooms"))
     told = stand.command("lines", given=f"room L6\nperson R7 {OTHER} Cy Fu\nme {OTHER}\n")
-    check("lines with keys are taken among them", told[:2] == (0, "ok\nok\n" + told[1].split("\n", 2)[2])
-          and "person R7" in told[1], told)
+    check(
+        "lines with keys are taken among them",
+        told[:2] == (0, "ok\nok\n" + told[1].split("\n", 2)[2]) and "person R7" in told[1],
+        told,
+    )
     again = stand.script("rooms-office", "do", "-", given=f"me {OTHER}\n")
     check("and the key is the person's own", again.startswith("person R7\n"), again)
 
@@ -117,7 +148,9 @@ def ways_back(stand):
     listed = stand.script("rooms-office", "backups")
     check("the copies are listed with their reasons", f"before back {name}, by root" in listed, listed)
     told = stand.command("back", "20200101T000000Z")
-    check("a copy that is not there is told", told[:2] == (3, "unavailable\n") and "there is no copy" in told[2], told)
+    check(
+        "a copy that is not there is told", told[:2] == (3, "unavailable\n") and "there is no copy" in told[2], told
+    )
     answer = stand.ask(ask="back", name=name, seen="round 7 open")
     check("nobody goes back from where they are not", "has gone on" in answer["fault"], answer)
 
@@ -144,10 +177,16 @@ def damaged(stand):
 def blanked(stand):
     """A list's bytes go, its label stays taken, and the program takes the office."""
     rooms = stand.office("rooms")
-    check("the kept list is in the file", any(b"room\nH2\nH3\n" in one.read_bytes() for one in stand.data.glob("rooms.db*")))
+    check(
+        "the kept list is in the file",
+        any(b"room\nH2\nH3\n" in one.read_bytes() for one in stand.data.glob("rooms.db*")),
+    )
     check("a list is blanked", stand.script("rooms-office", "blank", "rooms-1") == "blanked rooms-1\n")
     stand.until_listening(stand.server_port)
-    check("its bytes are in no file of the office", not any(b"H2\nH3\n" in one.read_bytes() for one in stand.data.glob("rooms.db*")))
+    check(
+        "its bytes are in no file of the office",
+        not any(b"H2\nH3\n" in one.read_bytes() for one in stand.data.glob("rooms.db*")),
+    )
     for body in ("room\nH2\nH3\n", "", "room\nH77\n"):
         told = stand.command("import", "rooms", "rooms-1", "-", given=body)
         check(f"{body!r} under its label is another list", told[:2] == (1, "refused 14 ListDiffers\n"), told)
@@ -165,11 +204,17 @@ def two_clerks(stand):
     stand.office("open")
     phase = stand.ask(ask="view")
     answer = stand.ask(ask="do", lines=["close"], seen="round 1 open")
-    check("nor a step of another round" if phase["number"] == 2 else "nor is any", phase["number"] == 1 or "has gone on" in answer["fault"], answer)
+    check(
+        "nor a step of another round" if phase["number"] == 2 else "nor is any",
+        phase["number"] == 1 or "has gone on" in answer["fault"],
+        answer,
+    )
     stand.office("cancel" if stand.ask(ask="view")["phase"] == "open" else "round")
     starts, answers = stand.log("keeper").count("listening on"), []
-    clerks = [threading.Thread(target=lambda number=number: answers.append(stand.ask(ask="do", lines=[f"room Z{number}"])))
-              for number in range(12)]
+    clerks = [
+        threading.Thread(target=lambda number=number: answers.append(stand.ask(ask="do", lines=[f"room Z{number}"])))
+        for number in range(12)
+    ]
     began = time.monotonic()
     for clerk in clerks:
         clerk.start()
@@ -229,20 +274,30 @@ def try_hanging(program):
             began = time.monotonic()
             answer = stand.ask(ask="do", lines=[line])
             answers[line] = time.monotonic() - began, answer
-        clerks = [threading.Thread(target=clerk, args=more) for more in (("room SLOW", 0), ("room A", 0.7), ("room B", 3.2))]
+
+        clerks = [
+            threading.Thread(target=clerk, args=more) for more in (("room SLOW", 0), ("room A", 0.7), ("room B", 3.2))
+        ]
         for one in clerks:
             one.start()
         for one in clerks:
             one.join()
         took, answer = answers["room SLOW"]
-        check("a program that hangs is ended", 4 <= took < 7 and "did not end within 4 seconds" in answer["fault"], answers)
+        check(
+            "a program that hangs is ended",
+            4 <= took < 7 and "did not end within 4 seconds" in answer["fault"],
+            answers,
+        )
         took, answer = answers["room A"]
         check("who waits too long is told", took < 3.5 and "took too long" in answer["fault"], answers)
         check("and who waits for a moment is served", answers["room B"][1].get("done"), answers)
         stand.until_listening(stand.server_port)
         rooms = [row[0] for row in stand.ask(ask="view")["rooms"]]
         check("the server is there again, and only what was answered stands", rooms == ["B"], rooms)
-        check("the journal says that the program was ended", "did not end within" in stand.script("rooms-office", "journal"))
+        check(
+            "the journal says that the program was ended",
+            "did not end within" in stand.script("rooms-office", "journal"),
+        )
 
 
 if __name__ == "__main__":

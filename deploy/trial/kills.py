@@ -21,7 +21,7 @@ KNOWN = ("rooms.db", "rooms.db-wal", "rooms.db-shm", "journal", "backups")
 SEED = "0123456789abcdef" * 4
 
 
-def do(*lines):
+def told(*lines):
     """Lines, as the keeper is asked for them."""
     return {"ask": "do", "lines": list(lines)}
 
@@ -31,28 +31,33 @@ def bring(kind, label, body):
     return {"ask": "import", "kind": kind, "label": label, "body": base64.b64encode(body.encode()).decode()}
 
 
-PEOPLE = "person,name,key,home\nT1,Tim Tan,aaaaaaaaaaaaaaa1,A-1\nT2,Tom Tao,aaaaaaaaaaaaaaa2,A-2\nN,Nia Ng,aaaaaaaaaaaaaaa3,\n"
+PEOPLE = """\
+person,name,key,home
+T1,Tim Tan,aaaaaaaaaaaaaaa1,A-1
+T2,Tom Tao,aaaaaaaaaaaaaaa2,A-2
+N,Nia Ng,aaaaaaaaaaaaaaa3,
+"""
 # The kinds of lines, in the order of a year. What the stand-in does not know is marked.
 YEAR = [
-    (do("room K1"), True),
+    (told("room K1"), True),
     (bring("rooms", "rooms-1", "room\n" + "".join(f"A-{number}\n" for number in range(40))), True),
     (bring("people", "people-1", PEOPLE), False),
-    (do("person P1 bbbbbbbbbbbbbbbb1 Pia Po"), True),
-    (do("room K2", "room K3", "person P2 bbbbbbbbbbbbbbbb2 Pim Pu", "room K4"), True),
-    (do("home P1 K1"), False),
-    (do("leave P1"), False),
-    (do("remove P1"), False),
-    (do("open"), True),
-    (do("choose T1 A-2 A-3"), False),
-    (do("choose T1 A-4 A-5"), False),
+    (told("person P1 bbbbbbbbbbbbbbbb1 Pia Po"), True),
+    (told("room K2", "room K3", "person P2 bbbbbbbbbbbbbbbb2 Pim Pu", "room K4"), True),
+    (told("home P1 K1"), False),
+    (told("leave P1"), False),
+    (told("remove P1"), False),
+    (told("open"), True),
+    (told("choose T1 A-2 A-3"), False),
+    (told("choose T1 A-4 A-5"), False),
     (bring("choices", "choices-1", "person,choices\nT2,A-7 A-8\nN,A-1 A-2\n"), False),
-    (do("shut K2"), False),
-    (do("withdraw P2"), False),
-    (do("close"), True),
+    (told("shut K2"), False),
+    (told("withdraw P2"), False),
+    (told("close"), True),
     ({"ask": "draw", "seed": SEED}, False),
-    (do("run"), False),
-    (do("publish"), False),
-    (do("settle"), False),
+    (told("run"), False),
+    (told("publish"), False),
+    (told("settle"), False),
     ({"ask": "blank", "label": "rooms-1"}, True),
     ({"ask": "backup"}, True),
 ]
@@ -63,7 +68,9 @@ def content(stand):
     with copies_of(stand).copied() as copy, contextlib.closing(sqlite3.connect(copy)) as database:
         if database.execute("PRAGMA integrity_check").fetchall() != [("ok",)]:
             return "damaged"
-        tables = [name for name, in database.execute("SELECT name FROM sqlite_master WHERE type = 'table' ORDER BY name")]
+        tables = [
+            name for name, in database.execute("SELECT name FROM sqlite_master WHERE type = 'table' ORDER BY name")
+        ]
         return {name: sorted(database.execute(f"SELECT * FROM {name}").fetchall(), key=repr) for name in tables}
 
 
@@ -79,6 +86,7 @@ def killed(stand, job, delay):
     def clerk():
         with contextlib.suppress(OSError, ValueError):
             answers.append(stand.ask(**job))
+
     thread = threading.Thread(target=clerk)
     thread.start()
     time.sleep(delay)
@@ -127,8 +135,15 @@ def kill_in(stand, job):
         answer = stand.ask(**job)
         if not accepted(answer):
             check(f"{job} is accepted afterwards", False, answer)
-    said = "; ".join(job["lines"]) if "lines" in job else " ".join(str(job.get(key)) for key in ("ask", "kind", "label") if key in job)
-    check(f"killed {KILLS} times within {1000 * took:.0f} ms of `{said}`: {stood} times it stood", content(stand) == after)
+    said = (
+        "; ".join(job["lines"])
+        if "lines" in job
+        else " ".join(str(job.get(key)) for key in ("ask", "kind", "label") if key in job)
+    )
+    check(
+        f"killed {KILLS} times within {1000 * took:.0f} ms of `{said}`: {stood} times it stood",
+        content(stand) == after,
+    )
 
 
 def try_kills(program):

@@ -40,7 +40,10 @@ def first_line(connection):
 def slow_ones(stand):
     """Heads and bodies that do not come hold nobody up, and are let go."""
     held = []
-    for text in ("GET /me HTTP/1.1\r\nHost: rooms", f"PUT /me/choices HTTP/1.1\r\n{FIELDS}Content-Length: 6\r\n\r\n[\""):
+    for text in (
+        "GET /me HTTP/1.1\r\nHost: rooms",
+        f"PUT /me/choices HTTP/1.1\r\n{FIELDS}Content-Length: 6\r\n\r\n[\"",
+    ):
         for _ in range(20):
             connection = connected(stand)
             connection.sendall(text.encode())
@@ -48,7 +51,10 @@ def slow_ones(stand):
     began = time.monotonic()
     with connected(stand) as other:
         other.sendall(f"GET /me HTTP/1.1\r\n{FIELDS}\r\n".encode())
-        check("40 slow residents hold nobody up", first_line(other) == "HTTP/1.1 200 OK" and time.monotonic() - began < 2)
+        check(
+            "40 slow residents hold nobody up",
+            first_line(other) == "HTTP/1.1 200 OK" and time.monotonic() - began < 2,
+        )
     slow = first_line(held[0]), first_line(held[-1])
     check("they are let go after ten seconds", time.monotonic() - began < 15 and "200" not in "".join(slow), slow)
     for connection in held:
@@ -56,10 +62,13 @@ def slow_ones(stand):
 
 
 def sizes(stand):
+    """Bodies that are too long, and paths that are none."""
     for length, wanted in ((1024, "HTTP/1.1 400"), (1025, "HTTP/1.1 413")):
         with connected(stand) as connection:
             body = b"x" * length
-            connection.sendall(f"PUT /me/choices HTTP/1.1\r\n{FIELDS}Content-Length: {length}\r\n\r\n".encode() + body)
+            connection.sendall(
+                f"PUT /me/choices HTTP/1.1\r\n{FIELDS}Content-Length: {length}\r\n\r\n".encode() + body
+            )
             told = first_line(connection)
             check(f"a body of {length} bytes is answered {wanted[-3:]}", told.startswith(wanted), told)
     with connected(stand) as connection:
@@ -117,7 +126,10 @@ def connections(stand):
     began = time.monotonic()
     with connected(stand) as other:
         other.sendall(f"GET /me HTTP/1.1\r\n{FIELDS}\r\n".encode())
-        check("another address is served meanwhile", first_line(other).endswith("200 OK") and time.monotonic() - began < 2)
+        check(
+            "another address is served meanwhile",
+            first_line(other).endswith("200 OK") and time.monotonic() - began < 2,
+        )
     for plain in held:
         plain.close()
 
@@ -128,7 +140,9 @@ def key_in_address(stand):
         connection.sendall(f"GET /me?key={key_of('T1')} HTTP/1.1\r\nHost: {HOST}\r\n\r\n".encode())
         check("a key in the address is none", first_line(connection) == "HTTP/1.1 403 Forbidden")
     time.sleep(0.2)
-    check("and the log has the path alone", '"GET /me HTTP/1.1"' in stand.proxy_log() and "?" not in stand.proxy_log())
+    check(
+        "and the log has the path alone", '"GET /me HTTP/1.1"' in stand.proxy_log() and "?" not in stand.proxy_log()
+    )
 
 
 def nobody(stand):
@@ -137,8 +151,11 @@ def nobody(stand):
         with connected(stand) as connection:
             connection.sendall(f"GET /me HTTP/1.1\r\nHost: {HOST}\r\nRoom-Key: 0000000000000000\r\n\r\n".encode())
             told = first_line(connection)
-            check(f"a key of nobody is answered {wanted} where the server {'runs' if started else 'does not run'}",
-                  wanted in told, told)
+            check(
+                f"a key of nobody is answered {wanted} where the server {'runs' if started else 'does not run'}",
+                wanted in told,
+                told,
+            )
         if started:
             stand.stop_keeper()
 
@@ -153,18 +170,44 @@ def as_it_is():
     """HAProxy takes the repository's file as it is, but for the certificate and the folder of the page."""
     with tempfile.TemporaryDirectory() as folder:
         key, certificate = Path(folder) / "key.pem", Path(folder) / "certificate.pem"
-        subprocess.run(["openssl", "req", "-x509", "-newkey", "ec", "-pkeyopt", "ec_paramgen_curve:prime256v1", "-nodes",
-                        "-subj", "/CN=trial", "-keyout", key, "-out", certificate], check=True, stderr=subprocess.DEVNULL)
+        subprocess.run(
+            [
+                "openssl",
+                "req",
+                "-x509",
+                "-newkey",
+                "ec",
+                "-pkeyopt",
+                "ec_paramgen_curve:prime256v1",
+                "-nodes",
+                "-subj",
+                "/CN=trial",
+                "-keyout",
+                key,
+                "-out",
+                certificate,
+            ],
+            check=True,
+            stderr=subprocess.DEVNULL,
+        )
         (Path(folder) / "rooms.pem").write_text(certificate.read_text() + key.read_text())
         text = (DEPLOY / "haproxy.cfg").read_text(encoding="utf-8")
-        text = text.replace("/etc/haproxy/rooms.pem", f"{folder}/rooms.pem").replace("/srv/rooms/portal", str(DEPLOY / "portal"))
+        text = text.replace("/etc/haproxy/rooms.pem", f"{folder}/rooms.pem").replace(
+            "/srv/rooms/portal", str(DEPLOY / "portal")
+        )
         (Path(folder) / "haproxy.cfg").write_text(text, encoding="utf-8")
-        done = subprocess.run(["haproxy", "-c", "-q", "-f", f"{folder}/haproxy.cfg"], capture_output=True, text=True, check=False)
-        check("HAProxy takes the file as it is, without a warning", done.returncode == 0 and not done.stderr + done.stdout,
-              done.stderr + done.stdout)
+        done = subprocess.run(
+            ["haproxy", "-c", "-q", "-f", f"{folder}/haproxy.cfg"], capture_output=True, text=True, check=False
+        )
+        check(
+            "HAProxy takes the file as it is, without a warning",
+            done.returncode == 0 and not done.stderr + done.stdout,
+            done.stderr + done.stdout,
+        )
 
 
 def try_limits(program):
+    """Tries each limit."""
     as_it_is()
     with Stand(program) as stand:
         for line in ("room H1", f"person T1 {key_of('T1')} Tim Tan", "home T1 H1", "open"):

@@ -17,9 +17,9 @@ from unittest import mock
 
 from stand import OFFICE, check
 
-sys.path.insert(0, str(OFFICE))
+sys.path.append(str(OFFICE))
 
-# pylint: disable=wrong-import-position  # they stand in the folder of the line above
+# pylint: disable=wrong-import-position,wrong-import-order  # they stand in the folder of the line above
 from backups import ASKED_FOR, Backups
 from copies import Copies, make_whole
 from journal import Journal, masked_line, masked_note
@@ -40,8 +40,16 @@ def an_office():
         database.execute("PRAGMA wal_checkpoint(TRUNCATE)")
         database.execute("INSERT INTO room VALUES ('OLD')")
         (Path(folder) / "scratch").mkdir()
-        yield Settings(file=file, program="/bin/false", port=1, socket=Path(folder) / "socket", speakers=frozenset(),
-                       scratch=Path(folder) / "scratch", line_seconds=1, turn_seconds=1)
+        yield Settings(
+            file=file,
+            program="/bin/false",
+            port=1,
+            socket=Path(folder) / "socket",
+            speakers=frozenset(),
+            scratch=Path(folder) / "scratch",
+            line_seconds=1,
+            turn_seconds=1,
+        )
         database.close()
 
 
@@ -58,29 +66,51 @@ def rooms_of(file):
 def hiding():
     """Nothing that may be a key, and nobody's name."""
     for line, wanted in (
-            (f"person R9 {KEY} Ann Li", "person R9 (key) (name)"),
-            (f"  person   R9 {KEY.upper()} Ann", "person R9 (key) (name)"),
-            (f"person {KEY} R9 Ann", "person (key) (key) (name)"),
-            (f"me {KEY}", "me (key)"),
-            (f"home R9 {KEY}{KEY}{KEY}", "home R9 (key)"),
-            (f"draw {'0123456789abcdef ' * 300}", "draw (300 words)"),
-            ("choose R9 A-101 B-102", "choose R9 A-101 B-102")):
+        (f"person R9 {KEY} Ann Li", "person R9 (key) (name)"),
+        (f"  person   R9 {KEY.upper()} Ann", "person R9 (key) (name)"),
+        (f"person {KEY} R9 Ann", "person (key) (key) (name)"),
+        (f"me {KEY}", "me (key)"),
+        (f"home R9 {KEY}{KEY}{KEY}", "home R9 (key)"),
+        (f"draw {'0123456789abcdef ' * 300}", "draw (300 words)"),
+        ("choose R9 A-101 B-102", "choose R9 A-101 B-102"),
+    ):
         check(f"the journal has {wanted!r}", masked_line(line) == wanted, masked_line(line))
     seed = KEY + KEY
     check("a seed is public", masked_note(f"seed {seed} rolled") == f"seed {seed} rolled")
-    check("and nothing else behind that word", masked_note(f"seed {KEY}") == "seed (key)"
-          and masked_note(f"seed {seed} {KEY}") == f"seed {seed} (key)")
+    check(
+        "and nothing else behind that word",
+        masked_note(f"seed {KEY}") == "seed (key)" and masked_note(f"seed {seed} {KEY}") == f"seed {seed} (key)",
+    )
 
 
 def copied_before():
     """Before which lines the office is copied."""
-    lasting = ["close", "cancel", "draw 00", "run", "publish", "settle", "shut A-1", "withdraw R1", "leave R1", "remove R1"]
-    check("the office is copied before each line that cannot be taken back", all(reason_to_copy([one], {}) for one in lasting))
+    lasting = [
+        "close",
+        "cancel",
+        "draw 00",
+        "run",
+        "publish",
+        "settle",
+        "shut A-1",
+        "withdraw R1",
+        "leave R1",
+        "remove R1",
+    ]
+    check(
+        "the office is copied before each line that cannot be taken back",
+        all(reason_to_copy([one], {}) for one in lasting),
+    )
     others = ["room A-1", "person R1 k Ann", "home R1 A-1", "reopen A-1", "open", "choose R1 A-1"]
     check("and before no other", not any(reason_to_copy([one], {}) for one in others))
-    check("but before a list that replaces another one, and before several lines",
-          reason_to_copy(["choose R1 A-1"], {"R1": ["A-2"]}) and reason_to_copy(["room A", "room B"], {}))
-    check("what only reads is known", only_reads(["rooms", "  round", "whatif R1 A"]) and not only_reads(["rooms", "open"]))
+    check(
+        "but before a list that replaces another one, and before several lines",
+        reason_to_copy(["choose R1 A-1"], {"R1": ["A-2"]}) and reason_to_copy(["room A", "room B"], {}),
+    )
+    check(
+        "what only reads is known",
+        only_reads(["rooms", "  round", "whatif R1 A"]) and not only_reads(["rooms", "open"]),
+    )
 
 
 def noting(settings):
@@ -97,8 +127,11 @@ def noting(settings):
     again = Journal(settings.journal)
     again.end_unfinished()
     found = [one for one in again.entries() if one.get("n") == open_one]
-    check("of a change that was cut off it is noted that its answer is not known",
-          len(found) == 2 and found[1]["answer"].startswith("not known"), found)
+    check(
+        "of a change that was cut off it is noted that its answer is not known",
+        len(found) == 2 and found[1]["answer"].startswith("not known"),
+        found,
+    )
     before = settings.journal.read_bytes()
     with mock.patch("journal.os.fsync", side_effect=OSError(errno.ENOSPC, "No space left on device")):
         try:
@@ -109,8 +142,10 @@ def noting(settings):
         again.end("n-1", "late", 0, 1)
     check("and it is as it was before", settings.journal.read_bytes() == before)
     again.note(who="anna", line="backup")
-    check("an end that could not be noted comes with the next entry",
-          [one.get("answer") for one in list(again.entries())[-2:]] == ["late", None])
+    check(
+        "an end that could not be noted comes with the next entry",
+        [one.get("answer") for one in list(again.entries())[-2:]] == ["late", None],
+    )
 
 
 class Cut(BaseException):
@@ -127,9 +162,15 @@ def cut_at(calls):
             if made[0] > calls:
                 raise Cut()
             return real(*words, **more)
+
         return call
-    return [mock.patch("copies.shutil.copyfile", counted(shutil.copyfile)), mock.patch("copies.to_disk", counted(lambda *_: None)),
-            mock.patch.object(Path, "rename", counted(Path.rename)), mock.patch.object(Path, "unlink", counted(Path.unlink))]
+
+    return [
+        mock.patch("copies.shutil.copyfile", counted(shutil.copyfile)),
+        mock.patch("copies.to_disk", counted(lambda *_: None)),
+        mock.patch.object(Path, "rename", counted(Path.rename)),
+        mock.patch.object(Path, "unlink", counted(Path.unlink)),
+    ]
 
 
 def in_place():
@@ -139,7 +180,7 @@ def in_place():
         with an_office() as settings:
             copies = Copies(settings)
             new = settings.scratch / "new.db"
-            with contextlib.closing(sqlite3.connect(new)) as database, database:
+            with contextlib.closing(sqlite3.connect(new, isolation_level=None)) as database:
                 database.execute("CREATE TABLE room(code TEXT PRIMARY KEY NOT NULL) STRICT")
                 database.execute("INSERT INTO room VALUES ('NEW')")
             with contextlib.ExitStack() as stack:
@@ -150,8 +191,17 @@ def in_place():
             Copies(settings).finish()
             found = tuple(rooms_of(settings.file))
             seen.add(found)
-            left = {one.name for one in settings.file.parent.iterdir()} - {"rooms.db", "rooms.db-wal", "rooms.db-shm", "scratch"}
-            check(f"cut off after {calls} calls: {' '.join(found)}", found in (("OLD",), ("NEW",)) and not left, (found, left))
+            left = {one.name for one in settings.file.parent.iterdir()} - {
+                "rooms.db",
+                "rooms.db-wal",
+                "rooms.db-shm",
+                "scratch",
+            }
+            check(
+                f"cut off after {calls} calls: {' '.join(found)}",
+                found in (("OLD",), ("NEW",)) and not left,
+                (found, left),
+            )
     check("both were seen", seen == {("OLD",), ("NEW",)}, seen)
 
 
@@ -163,11 +213,15 @@ def keeping(settings):
     held = settings.backups / name
     check("a copy is one file and its reason", sorted(one.name for one in held.iterdir()) == ["rooms.db", "why"])
     check("it has what stood in the log alone", rooms_of(held / "rooms.db") == ["OLD"])
-    check("it is listed with its reason", backups.listed() == [(name, backups.listed()[0][1], "before close, by anna")])
+    check(
+        "it is listed with its reason", backups.listed() == [(name, backups.listed()[0][1], "before close, by anna")]
+    )
     check("and it is for its owner alone", held.stat().st_mode & 0o77 == 0)
     names = [backups.keep("close", f"number {number}") for number in range(25)]
     nights = [backups.keep(ASKED_FOR, "night") for _ in range(3)]
-    check("each second may have many copies, with names in order", names + nights == sorted(set(names + nights)), names)
+    check(
+        "each second may have many copies, with names in order", names + nights == sorted(set(names + nights)), names
+    )
     check("of each kind the newest stay", backups.names() == sorted(names[-20:] + nights), backups.names())
     target = settings.scratch / "rooms.db"
     for bad in ("../" + names[-1], names[-1] + "/..", "20200101T000000Z", ""):
@@ -199,8 +253,12 @@ def keeping_damaged(settings):
     except Fault as fault:
         check("no line is carried out on a damaged office", "damaged" in str(fault), fault)
     held = settings.backups / backups.keep("back", "before back", damaged=True)
-    same = all((held / f"rooms.db{end}").read_bytes() == Path(f"{settings.file}{end}").read_bytes() for end in ("", "-wal"))
-    check("before a copy is put back it is kept as it is", same and not json.loads((held / "why").read_text())["whole"])
+    same = all(
+        (held / f"rooms.db{end}").read_bytes() == Path(f"{settings.file}{end}").read_bytes() for end in ("", "-wal")
+    )
+    check(
+        "before a copy is put back it is kept as it is", same and not json.loads((held / "why").read_text())["whole"]
+    )
 
 
 def try_parts():

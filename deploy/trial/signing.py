@@ -26,8 +26,10 @@ class Stub(socketserver.StreamRequestHandler):
             fields[name.lower()] = value.strip()
         length = len(self.rfile.read(int(fields.get("content-length", 0))))
         body = json.dumps({"fields": fields, "length": length}).encode()
-        self.wfile.write(b"HTTP/1.1 200 OK\r\nContent-Type: application/json\r\nConnection: close\r\n"
-                         b"Content-Length: %d\r\n\r\n%s" % (len(body), body))
+        self.wfile.write(
+            b"HTTP/1.1 200 OK\r\nContent-Type: application/json\r\nConnection: close\r\n"
+            b"Content-Length: %d\r\n\r\n%s" % (len(body), body)
+        )
 
 
 class Page(socketserver.ThreadingUnixStreamServer):
@@ -55,28 +57,47 @@ def asked(stand, path, *, method="GET", clerk=None, password=None, source="127.0
 def doors(stand):
     """Who comes to the page, and as whom."""
     status, fields, _ = asked(stand, "/office/")
-    check("without a password the office's page is answered 401", status == 401 and "Basic" in fields["WWW-Authenticate"])
+    check(
+        "without a password the office's page is answered 401",
+        status == 401 and "Basic" in fields["WWW-Authenticate"],
+    )
     check("nor does a field of the clerk's name help", asked(stand, "/office/", X_Office_User="anna")[0] == 401)
     check("nor a wrong password", asked(stand, "/office/", clerk="anna", password="no")[0] == 401)
     check("nor another clerk's", asked(stand, "/office/", clerk="anna", password=CLERKS["bert"])[0] == 401)
     status, fields, text = asked(stand, "/office/person/T1?find=Tim", clerk="anna", X_Office_User="root")
     sent = json.loads(text)["fields"]
-    check("the page is told the clerk's name by the proxy alone", status == 200 and sent["x-office-user"] == "anna", sent)
+    check(
+        "the page is told the clerk's name by the proxy alone",
+        status == 200 and sent["x-office-user"] == "anna",
+        sent,
+    )
     check("and never sees a password", "authorization" not in sent, sent)
-    check("the page's own policy stays", "Content-Security-Policy" not in fields and fields["Cache-Control"] == "no-store")
+    check(
+        "the page's own policy stays",
+        "Content-Security-Policy" not in fields and fields["Cache-Control"] == "no-store",
+    )
     check("what only begins so is no page of the office", asked(stand, "/officer", clerk="anna")[0] == 404)
     status, _, text = asked(stand, "/office/lists", method="POST", clerk="bert", body=b"x" * 250_000)
     check("a list of 250,000 bytes comes through", status == 200 and json.loads(text)["length"] == 250_000, status)
     # Only the beginning is sent: the proxy answers, and closes the connection.
-    status, _, _ = asked(stand, "/office/lists", method="POST", clerk="bert", body=b"x" * 140_000, Content_Length="300001")
+    status, _, _ = asked(
+        stand, "/office/lists", method="POST", clerk="bert", body=b"x" * 140_000, Content_Length="300001"
+    )
     check("and one of more than 300,000 does not", status == 413, status)
     check("residents are asked for no password", asked(stand, "/", X_Office_User="root")[0] == 200)
 
 
 def guesses(stand):
     """Many wrong passwords from one address."""
-    statuses = [asked(stand, "/office/", clerk="anna", password=f"guess {number}", source="127.0.0.7")[0] for number in range(25)]
-    check("after 20 wrong passwords an address has to wait", statuses[:15] == [401] * 15 and statuses[-1] == 429, statuses)
+    statuses = [
+        asked(stand, "/office/", clerk="anna", password=f"guess {number}", source="127.0.0.7")[0]
+        for number in range(25)
+    ]
+    check(
+        "after 20 wrong passwords an address has to wait",
+        statuses[:15] == [401] * 15 and statuses[-1] == 429,
+        statuses,
+    )
     check("also with the right one", asked(stand, "/office/", clerk="anna", source="127.0.0.7")[0] == 429)
     check("but no other address has to", asked(stand, "/office/", clerk="anna")[0] == 200)
     check("and residents of this address go on", asked(stand, "/", source="127.0.0.7")[0] == 200)
@@ -93,7 +114,10 @@ def try_signing(program):
         page.shutdown()
         page.server_close()
         log = stand.proxy_log()
-        check("the log has the path, and nothing of what a clerk looks for", "/office/person/T1" in log and "Tim" not in log)
+        check(
+            "the log has the path, and nothing of what a clerk looks for",
+            "/office/person/T1" in log and "Tim" not in log,
+        )
         check("and no password", not any(word in log for word in (*CLERKS.values(), "guess", "$6$", "Basic")))
 
 

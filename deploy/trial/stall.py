@@ -1,9 +1,10 @@
 """The proxy's queue: residents ask one after the other, and the office does nothing.
 
-With more than one thread, HAProxy may put a request into the queue of a server that has become free a moment ago. Nothing takes
-it out again, and whoever comes later queues behind it, each for `timeout queue`. It takes a thread that loses the processor
-after it has found the server busy, and before it has queued the request. This is rare, and less so where all threads share one
-processor with a busy program: so they do here. To see it happen, name the number of threads that HAProxy is to have:
+With more than one thread, HAProxy may put a request into the queue of a server that has become free a moment ago.
+Nothing takes it out again, and whoever comes later queues behind it, each for `timeout queue`. It takes a thread that
+loses the processor after it has found the server busy, and before it has queued the request. This is rare, and less so
+where all threads share one processor with a busy program: so they do here. To see it happen, name the number of threads
+that HAProxy is to have:
 
     /usr/bin/python3 deploy/trial/stall.py PROGRAM 4
 """
@@ -29,6 +30,7 @@ BUSY = f"import time\nend = time.monotonic() + {SECONDS + 2 * STALLED}\nwhile ti
 
 
 def control_socket(stand):
+    """Where the proxy tells how it is."""
     return stand.folder / "control"
 
 
@@ -45,6 +47,7 @@ def seen_by_proxy(stand):
 
 
 def threads_of(process):
+    """The threads of a process."""
     return [int(thread.name) for thread in Path(f"/proc/{process.pid}/task").iterdir()]
 
 

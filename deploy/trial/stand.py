@@ -45,8 +45,8 @@ def check(what, holds, more=""):
 def free_ports(count):
     """So many ports that nobody uses now, below those that the system gives to connections.
 
-    The system may give a port of its own range to any connection while the server is stopped. The server cannot have the
-    port back as long as that connection lasts, and for a minute after its end.
+    The system may give a port of its own range to any connection while the server is stopped. The server cannot have
+    the port back as long as that connection lasts, and for a minute after its end.
     """
     lowest = int(Path("/proc/sys/net/ipv4/ip_local_port_range").read_text(encoding="ascii").split()[0])
     free = []
@@ -214,8 +214,8 @@ class Stand:  # pylint: disable=too-many-instance-attributes,too-many-public-met
     # --- the proxy
 
     def start_proxy(self, *changes):
-        """Starts HAProxy over the repository's file, with the trial's ports and paths, and further changes: an old text and
-        a new. The addresses are of IPv4 alone, so that nothing is reached from outside."""
+        """Starts HAProxy over the repository's file, with the trial's ports and paths, and further changes: an old text
+        and a new. The addresses are this machine's own, so nothing is reached from outside."""
         self.make_certificate()
         text = (DEPLOY / "haproxy.cfg").read_text(encoding="utf-8")
         for old, new in [
@@ -262,17 +262,19 @@ class Stand:  # pylint: disable=too-many-instance-attributes,too-many-public-met
 
     def fill(self, rooms, people):
         """Adds rooms and people, by SQLite itself: thousands of lines would take minutes."""
-        with contextlib.closing(sqlite3.connect(self.file)) as database, database:
+        with contextlib.closing(sqlite3.connect(self.file)) as database:
             database.executemany("INSERT INTO room VALUES (?, 0)", [(room,) for room in rooms])
             database.executemany("INSERT INTO person VALUES (?, ?, ?, NULL, 0)",
                                  [(person, f"Person {person}", key_of(person)) for person in people])
+            database.commit()
 
     def fill_lists(self, people, rooms, count):
         """Gives each person a list of so many rooms, drawn by chance."""
-        with contextlib.closing(sqlite3.connect(self.file)) as database, database:
+        with contextlib.closing(sqlite3.connect(self.file)) as database:
             database.executemany("INSERT INTO choice VALUES (?, ?, ?)",
                                  [(person, place, room) for person in people
                                   for place, room in enumerate(random.sample(rooms, count))])
+            database.commit()
 
     def recorded(self):
         """The lists that are on record, by person."""

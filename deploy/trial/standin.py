@@ -16,13 +16,16 @@ TABLES = """
 CREATE TABLE room(code TEXT PRIMARY KEY NOT NULL, shut INTEGER NOT NULL) STRICT;
 CREATE TABLE person(id TEXT PRIMARY KEY NOT NULL, name TEXT NOT NULL, passkey TEXT NOT NULL UNIQUE,
   home TEXT UNIQUE REFERENCES room(code), withdrawn INTEGER NOT NULL) STRICT;
-CREATE TABLE round(one INTEGER PRIMARY KEY, version INTEGER NOT NULL, number INTEGER NOT NULL, phase TEXT NOT NULL) STRICT;
-CREATE TABLE choice(person TEXT NOT NULL, place INTEGER NOT NULL, room TEXT NOT NULL, PRIMARY KEY(person, place)) STRICT;
+CREATE TABLE round(one INTEGER PRIMARY KEY, version INTEGER NOT NULL, number INTEGER NOT NULL,
+  phase TEXT NOT NULL) STRICT;
+CREATE TABLE choice(person TEXT NOT NULL, place INTEGER NOT NULL, room TEXT NOT NULL,
+  PRIMARY KEY(person, place)) STRICT;
 CREATE TABLE word(person TEXT PRIMARY KEY NOT NULL, hex TEXT NOT NULL) STRICT;
 CREATE TABLE result(person TEXT PRIMARY KEY NOT NULL, room TEXT UNIQUE) STRICT;
 CREATE TABLE move(round INTEGER NOT NULL, person TEXT NOT NULL, from_room TEXT, to_room TEXT, wave INTEGER,
   PRIMARY KEY(round, person)) STRICT;
-CREATE TABLE list(label TEXT PRIMARY KEY NOT NULL, kind TEXT NOT NULL, body BLOB NOT NULL, added INTEGER NOT NULL) STRICT;
+CREATE TABLE list(label TEXT PRIMARY KEY NOT NULL, kind TEXT NOT NULL, body BLOB NOT NULL,
+  added INTEGER NOT NULL) STRICT;
 INSERT INTO round VALUES (1, 1, 0, 'idle');
 """
 
@@ -38,6 +41,7 @@ def one_of(database, query, *values):
 
 
 def add_room(database, code):
+    """`room CODE`."""
     if not re.fullmatch("[A-Z0-9][A-Z0-9-]{0,7}", code):
         raise TypeError
     if one_of(database, "SELECT 1 FROM room WHERE code = ?", code):
@@ -47,6 +51,7 @@ def add_room(database, code):
 
 
 def add_person(database, person, key, *name):
+    """`person ID KEY NAME..`."""
     if one_of(database, "SELECT 1 FROM person WHERE id = ?", person):
         raise Refused("5 DuplicatePerson")
     database.execute("INSERT INTO person VALUES (?, ?, ?, NULL, 0)", (person, " ".join(name), key))
@@ -54,6 +59,7 @@ def add_person(database, person, key, *name):
 
 
 def leave(database, person):
+    """`leave ID`."""
     if not one_of(database, "SELECT home FROM person WHERE id = ?", person):
         raise Refused("10 NoHome")
     database.execute("UPDATE person SET home = NULL WHERE id = ?", (person,))
@@ -61,22 +67,29 @@ def leave(database, person):
 
 
 def choose(database, person, *rooms):
+    """`choose ID CODE..`."""
     database.execute("DELETE FROM choice WHERE person = ?", (person,))
-    database.executemany("INSERT INTO choice VALUES (?, ?, ?)", [(person, place, room) for place, room in enumerate(rooms)])
+    database.executemany(
+        "INSERT INTO choice VALUES (?, ?, ?)", [(person, place, room) for place, room in enumerate(rooms)]
+    )
     return " ".join(["chosen", *rooms])
 
 
 def step(old, new, said):
+    """A line that leads from a phase to the next."""
+
     def change(database):
         phase = one_of(database, "SELECT phase FROM round")
         if phase not in old:
             raise Refused(f"1 BadPhase {phase}")
         database.execute("UPDATE round SET phase = ?, number = number + ?", (new, new == "open"))
         return said
+
     return change
 
 
 def me_of(database, key):
+    """`me KEY`."""
     found = database.execute("SELECT id, name FROM person WHERE passkey = ?", (key,)).fetchone()
     if not found:
         raise Refused("2 UnknownPerson")
@@ -84,22 +97,32 @@ def me_of(database, key):
 
 
 def tell_round(database):
-    return "round {} {}".format(*database.execute("SELECT number, phase FROM round").fetchone())
+    """`round`."""
+    return "round " + " ".join(map(str, database.execute("SELECT number, phase FROM round").fetchone()))
 
 
 def table(query):
+    """A line that shows rows."""
     return lambda database: "\n".join("  ".join(map(str, row)) for row in database.execute(query)) or "none"
 
 
 LINES = {
-    "room": add_room, "person": add_person, "leave": leave, "choose": choose, "me": me_of, "round": tell_round,
-    "rooms": table("SELECT code FROM room ORDER BY code"), "people": table("SELECT id, name FROM person ORDER BY id"),
-    "open": step({"idle"}, "open", "round 1 open"), "close": step({"open"}, "closed", "closed 1"),
+    "room": add_room,
+    "person": add_person,
+    "leave": leave,
+    "choose": choose,
+    "me": me_of,
+    "round": tell_round,
+    "rooms": table("SELECT code FROM room ORDER BY code"),
+    "people": table("SELECT id, name FROM person ORDER BY id"),
+    "open": step({"idle"}, "open", "round 1 open"),
+    "close": step({"open"}, "closed", "closed 1"),
     "cancel": step({"open", "closed"}, "idle", "cancelled"),
 }
 
 
 def bring_in(database, kind, label, path):
+    """A list."""
     with open(path, "rb") as held:
         body = held.read()
     known = database.execute("SELECT kind, body, added FROM list WHERE label = ?", (label,)).fetchone()
@@ -123,10 +146,14 @@ def answer(database, words):
     """Carries out a line, and gives its text and its status."""
     work = bring_in if words[0] == "import" else LINES.get(words[1]) if words[0] == "do" and len(words) > 1 else None
     if words[0] == "export":
-        work, words = table("SELECT id || ',' || name FROM person"), words[:1] if words[1] == "people" else ["", "", ""]
+        work, words = table("SELECT id || ',' || name FROM person"), words[:1] if words[1] == "people" else [
+            "",
+            "",
+            "",
+        ]
     try:
         with database:
-            return work(database, *words[2 if words[0] == "do" else 1:]), 0
+            return work(database, *words[2 if words[0] == "do" else 1 :]), 0
     except Refused as why:
         return f"refused {why}", 1
     except TypeError:
@@ -147,6 +174,7 @@ def serve(port, file):
 
 
 def main(words):
+    """Does what the program does."""
     signal.signal(signal.SIGTERM, signal.SIG_DFL)
     if words[0] == "words":
         seed, count = re.fullmatch(r"--seed=(\w+) --count=(\d+)", " ".join(words[1:])).groups()
@@ -155,7 +183,9 @@ def main(words):
     command, file, more = words[0], words[2], [word for word in words[3:] if word != "--"]
     if command == "serve":
         return serve(more[1], file)
-    with contextlib.closing(sqlite3.connect(file if command == "new" else f"file:{file}?mode=rw", uri=command != "new")) as database:
+    with contextlib.closing(
+        sqlite3.connect(file if command == "new" else f"file:{file}?mode=rw", uri=command != "new")
+    ) as database:
         if command == "new":
             database.execute("PRAGMA journal_mode = WAL")
             database.executescript(TABLES)

@@ -18,8 +18,8 @@ LINES = 12
 CHOICES = 20
 
 
-class Line:
-    """One line of the office: when it began, how long the clerk waited, how long the server was away, and until when."""
+class Line:  # pylint: disable=too-few-public-methods  # it is measured, and looked at
+    """One line of the office: when it began, how long clerk and file waited for it, and when the server was back."""
 
     def __init__(self, stand, line):
         self.began = time.monotonic()
@@ -42,6 +42,7 @@ def check_quietly(line, answer):
 
 
 def seconds(name, times):
+    """The median and the longest of some times, as a text."""
     return f"{name} {statistics.median(times):.2f} s, at most {max(times):.2f} s"
 
 
@@ -75,12 +76,15 @@ def report(people, measured, answers):
     check(f"{people} people: each of {len(answers)} requests has its answer", statuses == {200}, statuses)
     for kind, lines in measured.items():
         waits = [line.longest_wait(answers) for line in lines]
-        print(f"      {len(lines)} {kind}: {seconds('the clerk waits', [line.took for line in lines])}; "
-              f"{seconds('the line takes', [line.stopped for line in lines])}; {seconds('a resident waits', waits)}")
+        print(
+            f"      {len(lines)} {kind}: {seconds('the clerk waits', [line.took for line in lines])}; "
+            f"{seconds('the line takes', [line.stopped for line in lines])}; {seconds('a resident waits', waits)}"
+        )
     print(f"      load of the machine {os.getloadavg()[0]:.1f} on {os.cpu_count()} processors")
 
 
 def try_waits(program):
+    """Measures a college and a large one."""
     for people in (300, 2000):
         wait_for(program, people)
 
