@@ -15,6 +15,7 @@ import os
 import shutil
 import sqlite3
 import tempfile
+import threading
 import time
 from collections.abc import Iterator
 from pathlib import Path
@@ -78,6 +79,7 @@ class Copies:
     def __init__(self, settings: Settings) -> None:
         self.file, self.scratch = settings.file, settings.scratch
         self.next = beside(self.file, ".next")
+        self.lock = threading.Lock()  # between the old log's end and the new file nobody may copy
 
     def state(self) -> State:
         """What the file is known by at this moment."""
@@ -90,18 +92,23 @@ class Copies:
     def copy_to(self, folder: Path, still: bool = False) -> Path:
         """Copies file and log into a folder. With `still` nobody writes: the server is stopped."""
         for _ in range(TRIES):
+            if self.copy_once(folder, still):
+                return folder / self.file.name
+            time.sleep(COARSE / 1e9)
+        raise Fault("the file changes all the time. Try again.")
+
+    def copy_once(self, folder: Path, still: bool) -> bool:
+        """Copies the log, and then the file. Whether the copy is sure to be that of one moment."""
+        with self.lock:
             before = self.state()
             if not still and time.time_ns() - before.file_time < COARSE:
-                time.sleep(COARSE / 1e9)
-                continue
-            for end in reversed(ENDS):  # the log first
+                return False
+            for end in reversed(ENDS):
                 target = beside(folder / self.file.name, end)
                 target.unlink(missing_ok=True)
                 with contextlib.suppress(FileNotFoundError):
                     shutil.copyfile(beside(self.file, end), target)
-            if self.state().same_file(before):
-                return folder / self.file.name
-        raise Fault("the file changes all the time. Try again.")
+            return self.state().same_file(before)
 
     @contextlib.contextmanager
     def copied(self, still: bool = False) -> Iterator[Path]:
@@ -124,14 +131,15 @@ class Copies:
 
     def finish(self) -> None:
         """Ends what `put_in_place` has begun. The old log goes first: its lines would be added to the new file."""
-        beside(self.file, ".part").unlink(missing_ok=True)
-        if not self.next.exists():
-            return
-        for end in ("-wal", "-shm", "-journal"):
-            beside(self.file, end).unlink(missing_ok=True)
-        to_disk(self.file.parent)
-        self.next.rename(self.file)
-        to_disk(self.file.parent)
+        with self.lock:
+            beside(self.file, ".part").unlink(missing_ok=True)
+            if not self.next.exists():
+                return
+            for end in ("-wal", "-shm", "-journal"):
+                beside(self.file, end).unlink(missing_ok=True)
+            to_disk(self.file.parent)
+            self.next.rename(self.file)
+            to_disk(self.file.parent)
 
     def clear(self) -> None:
         """Makes the folder for copies, and empties it of what a keeper left that was killed."""

@@ -11,6 +11,7 @@ import secrets
 import sqlite3
 import subprocess
 import tempfile
+import time
 from pathlib import Path
 from typing import NamedTuple
 
@@ -76,7 +77,12 @@ class Program:
         """Tells lines to a copy, up to the first that is not accepted. These may have keys."""
         with_key = {"person": self.add_person, "me": self.ask_me}
         answers: list[Answer] = []
+        limit = self.settings.line_seconds
+        end = time.monotonic() + limit
         for line in lines:
+            if time.monotonic() > end:
+                raise Fault(f"these lines take longer than {limit:g} seconds together, and residents would wait for so "
+                            "long. Nothing was changed: make several files of them.")
             verb = verb_of(line)
             answers.append(with_key.get(verb, self.tell)(line, copy))
             if is_refused(answers):

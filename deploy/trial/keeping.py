@@ -254,13 +254,16 @@ def try_keeping(program):
 
 
 HANGING = """#!/bin/sh
-case "$*" in *"--db {file} "*"room SLOW"*) exec sleep 60;; esac
+case "$*" in
+    *"--db {file} "*"room SLOW"*) exec sleep 60 ;;
+    *"room NAP"*) sleep 2 ;;
+esac
 exec {program} "$@"
 """
 
 
 def try_hanging(program):
-    """A program that hangs on the file is ended after its time; whoever waits too long for their turn is told."""
+    """A program that hangs is ended after its time, and who waits too long for their turn is told."""
     with Stand(program, ROOMS_LINE_SECONDS="4", ROOMS_TURN_SECONDS="2") as stand:
         hanging = stand.folder / "hanging"
         hanging.write_text(HANGING.format(file=stand.file, program=stand.program), encoding="utf-8")
@@ -292,6 +295,10 @@ def try_hanging(program):
         check("who waits too long is told", took < 3.5 and "took too long" in answer["fault"], answers)
         check("and who waits for a moment is served", answers["room B"][1].get("done"), answers)
         stand.until_listening(stand.server_port)
+        server = stand.server()
+        told = stand.command("lines", given="room NAP1\nroom NAP2\nroom NAP3\nroom NAP4\n")
+        check("lines that take too long together are refused", told[0] == 3 and "make several files" in told[2], told)
+        check("without a stop of the server", stand.server() == server)
         rooms = [row[0] for row in stand.ask(ask="view")["rooms"]]
         check("the server is there again, and only what was answered stands", rooms == ["B"], rooms)
         check(
