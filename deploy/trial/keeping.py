@@ -75,9 +75,9 @@ def quiet_lines(stand):
 
 def hidden_keys(stand):
     """A key is refused on the command line, taken on standard input, and seen in no process and no other file."""
-    for words in (("do", "person", "R9", KEY, "Ann Li"), ("do", "me", KEY)):
+    for words in (("do", "person", "R9", KEY, "Ann Li"), ("do", f" person R9 {KEY} Ann Li"), ("do", "me", KEY)):
         told = stand.command(*words)
-        check(f"{words[1]} with a key is not taken from the command line", told[0] == 2 and "do -" in told[2], told)
+        check("a line with a key is not taken from the command line", told[0] == 2 and "do -" in told[2], told)
     with Watcher(KEY, OTHER) as watcher:
         check(
             "a person comes in on standard input",
