@@ -14,6 +14,7 @@ import socket
 import sqlite3
 import statistics
 import sys
+import tempfile
 import threading
 import time
 
@@ -77,8 +78,8 @@ def is_torn(copy):
 
 
 def try_copying(program, length=SECONDS):
-    """Takes copies for so many seconds."""
-    with Stand(program) as stand:
+    """Takes copies for so many seconds. The office is in memory, where the server writes the most meanwhile."""
+    with tempfile.TemporaryDirectory(dir="/dev/shm") as data, Stand(program, data=data) as stand:
         stand.fill(ROOMS, PEOPLE)
         stand.tell("open")
         stand.start()

@@ -24,9 +24,9 @@ WINDOW = 10
 OPEN = 400
 
 
-def connected(stand):
-    """A TLS connection to the proxy."""
-    plain = socket.create_connection(("127.0.0.1", stand.port), 60)
+def connected(stand, source="127.0.0.1"):
+    """A TLS connection to the proxy, from an address of this machine."""
+    plain = socket.create_connection(("127.0.0.1", stand.port), 60, (source, 0))
     return unchecked().wrap_socket(plain, server_hostname=HOST)
 
 
@@ -148,7 +148,7 @@ def key_in_address(stand):
 def nobody(stand):
     """What a watch asks: a key of nobody is answered 403, through proxy, server and file."""
     for started, wanted in ((True, "403"), (False, "503")):
-        with connected(stand) as connection:
+        with connected(stand, "127.0.0.5") as connection:
             connection.sendall(f"GET /me HTTP/1.1\r\nHost: {HOST}\r\nRoom-Key: 0000000000000000\r\n\r\n".encode())
             told = first_line(connection)
             check(
