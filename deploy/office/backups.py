@@ -13,6 +13,7 @@ import re
 import shutil
 import sqlite3
 import tempfile
+import time
 from pathlib import Path
 from typing import Any
 
@@ -37,10 +38,10 @@ class Backups:
             raise unwritten("a copy of the office", fault) from fault
 
     def taken(self, kind: str, why: str, still: bool, damaged: bool) -> str:
-        """Takes the copy."""
+        """Takes the copy. Before a line, while residents wait, nobody looks: the program has just read all of it."""
         self.folder.mkdir(mode=0o700, exist_ok=True)
         with self.copies.copied(still) as copy:
-            if make_whole(copy):
+            if make_whole(copy, look=damaged or not still):
                 return self.store([copy], {"kind": kind, "why": why, "whole": True})
         if not damaged:
             raise Fault("the office's file is damaged, so nothing was done. Put a copy back: rooms-office back NAME")
@@ -67,10 +68,16 @@ class Backups:
         return name
 
     def free_name(self) -> str:
-        """The time as a name, with a number behind it where a copy of this second is there."""
-        now = datetime.datetime.now(datetime.timezone.utc).strftime("%Y%m%dT%H%M%SZ")
-        names = [now, *(f"{now}-{number:02}" for number in range(2, 100))]
-        return next(name for name in names if not (self.folder / name).exists())
+        """The time as a name, with a number behind it where there are copies of this second: names are in order."""
+        while True:
+            now = datetime.datetime.now(datetime.timezone.utc).strftime("%Y%m%dT%H%M%SZ")
+            same = [name for name in self.names() if name.startswith(now)]
+            if not same:
+                return now
+            number = int(same[-1][len(now) + 1:] or 1) + 1
+            if number < 100:
+                return f"{now}-{number:02}"
+            time.sleep(0.1)
 
     def names(self) -> list[str]:
         """The names of the kept copies, the oldest first."""

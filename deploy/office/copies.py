@@ -62,13 +62,19 @@ def to_disk(*paths: Path) -> None:
             os.close(held)
 
 
-def make_whole(file: Path) -> bool:
-    """Puts the log of a copy into the copy, which then is one file. Whether the copy is a whole database."""
+def is_whole(database: sqlite3.Connection) -> bool:
+    """Whether a database is whole."""
+    return (database.execute("PRAGMA integrity_check").fetchall() == [("ok",)]
+            and not database.execute("PRAGMA foreign_key_check").fetchall())
+
+
+def make_whole(file: Path, look: bool = True) -> bool:
+    """Puts the log of a copy into the copy, which then is one file. With `look`, whether that is a whole database."""
     try:
         with contextlib.closing(sqlite3.connect(file)) as database:
-            whole = database.execute("PRAGMA integrity_check").fetchall() == [("ok",)]
-            whole = whole and not database.execute("PRAGMA foreign_key_check").fetchall()
-            return whole and database.execute("PRAGMA wal_checkpoint(TRUNCATE)").fetchone()[0] == 0
+            if look and not is_whole(database):
+                return False
+            return bool(database.execute("PRAGMA wal_checkpoint(TRUNCATE)").fetchone()[0] == 0)
     except sqlite3.DatabaseError:
         return False
 

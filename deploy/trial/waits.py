@@ -14,7 +14,7 @@ from residents import Residents
 from stand import Stand, check
 
 RESIDENTS = 4
-LINES = 12
+LINES = 10
 CHOICES = 20
 
 
