@@ -6,13 +6,14 @@ standin.py: /usr/bin/python3 deploy/trial/full.py PROGRAM
 """
 
 import contextlib
+import http.client
 import os
 import subprocess
 import sys
 import tempfile
 from pathlib import Path
 
-from stand import Stand, check
+from stand import Stand, check, key_of
 
 SIZE = "6m"
 
@@ -49,6 +50,16 @@ def refused(stand, **job):
     return "Nothing was changed" in said or "did not serve" in said or "unavailable" in said, said
 
 
+def hand_in(stand):
+    """A resident hands in a list, straight to the server; gives the status."""
+    stand.until_listening(stand.server_port)
+    connection = http.client.HTTPConnection("127.0.0.1", stand.server_port, timeout=30)
+    connection.request("PUT", "/me/choices", '["H1"]', {"Room-Key": key_of("T1")})
+    status = connection.getresponse().status
+    connection.close()
+    return status
+
+
 def try_full(program):
     """Fills the disk under an office at work."""
     with small_disk() as disk:
@@ -58,6 +69,7 @@ def try_full(program):
         with Stand(program, data=disk) as stand:
             stand.start()
             stand.office("room H1")
+            stand.script("rooms-office", "do", "-", given=f"person T1 {key_of('T1')} Tim Tan\n")
             stand.office("open")
             name = stand.ask(ask="backup")["name"]
             before, journal = stand.ask(ask="view"), (disk / "journal").read_bytes()
@@ -83,6 +95,8 @@ def try_full(program):
                 told, said = refused(stand, **job)
                 check(f"full disk: {job} is refused", told, said)
                 print(f"      {said}")
+            if Path(program).name != "standin.py":
+                check("full disk: a resident's list is answered 503", hand_in(stand) == 503)
             filler.unlink()
             check(
                 "nothing was half done",
@@ -90,6 +104,8 @@ def try_full(program):
                 and stand.ask(ask="view")["phase"] == "open",
             )
             stand.until_listening(stand.server_port)
+            if Path(program).name != "standin.py":
+                check("once there is room a resident's list is taken", hand_in(stand) == 200)
             check(
                 "once there is room all goes on",
                 stand.office("room H5") == "ok\n" and stand.office("close").startswith("closed"),
