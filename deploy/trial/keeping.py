@@ -195,6 +195,23 @@ def blanked(stand):
     check("a label that nobody gave is told", told[0] == 3 and "no list has come in" in told[2], told)
 
 
+def erased(stand):
+    """Of a person who came by a list, was removed, and whose list was blanked, nothing is left in the office's file."""
+    secret, name = "fedcba98765432100123456789abcdef", "Zoe Zander"
+    people = f"person,name,key,home\nZ1,{name},{secret},H2\n"
+    told = stand.command("import", "people", "people-1", "-", given=people)
+    check("a person comes by a list", told[1] == "added 1\n", told)
+    told = stand.command("lines", given="leave Z1\nremove Z1\n")
+    check("and is removed", told[1] == "ok\nok\n", told)
+    stand.script("rooms-office", "blank", "people-1")
+    stand.until_listening(stand.server_port)
+    bytes_now = b"".join(one.read_bytes() for one in stand.data.glob("rooms.db*"))
+    check("nothing of them is left in the file", secret.encode() not in bytes_now and name.encode() not in bytes_now)
+    check("nor in the journal", not re.search(f"{secret}|{name}", stand.file.with_name("journal").read_text("utf-8")))
+    copies = b"".join(one.read_bytes() for one in stand.data.glob("backups/*/rooms.db"))
+    check("but a kept copy of before still has them", secret.encode() in copies)
+
+
 def two_clerks(stand):
     """What one clerk saw is no longer so once another one was at work; changes at once are all made."""
     stand.office("open")
@@ -245,6 +262,8 @@ def try_keeping(program):
         bundles(stand)
         ways_back(stand)
         blanked(stand)
+        if Path(program).name != "standin.py":
+            erased(stand)
         damaged(stand)
         two_clerks(stand)
         server_ends(stand)
