@@ -61,7 +61,7 @@ class Talk(socketserver.StreamRequestHandler):
             answer = {"fault": f"there is no file {why.filename}"}
         except (OSError, sqlite3.Error) as why:
             answer = {"fault": f"the file, the disk or the memory did not serve ({why})"}
-        except (ValueError, TypeError) as why:
+        except (ValueError, TypeError, RecursionError) as why:
             answer = {"fault": f"not understood: {type(why).__name__}"}
         with contextlib.suppress(OSError):
             self.wfile.write(json.dumps(answer).encode() + b"\n")

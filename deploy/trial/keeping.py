@@ -5,7 +5,9 @@ This run alone, also over standin.py in place of the program: /usr/bin/python3 d
 """
 
 import contextlib
+import json
 import re
+import socket
 import sys
 import threading
 import time
@@ -243,6 +245,33 @@ def two_clerks(stand):
     print(f"      in {took:.1f} s, with {stand.log('keeper').count('listening on') - starts} stops of the server")
 
 
+NONSENSE = [
+    b"\n", b"null\n", b"[]\n", b"{}\n", b"\xff\xfe\n", b'{"ask": 7}\n', b'{"ask": []}\n', b'{"ask": "do"}\n',
+    b'{"ask": "do", "lines": "room X"}\n', b'{"ask": "do", "lines": [1]}\n', b'{"ask": "do", "lines": []}\n',
+    b'{"ask": "do", "lines": ["room X"], "seen": 5}\n', b'{"ask": "journal", "last": "many"}\n',
+    b'{"ask": "journal", "last": null}\n', b'{"ask": "back", "name": "../../etc"}\n', b'{"ask": "blank", "label": 1}\n',
+    b'{"ask": "import", "kind": "rooms", "label": "l-9", "body": "?"}\n', b'{"ask": "draw", "seed": "0"}\n',
+    b"[" * 200_000 + b"\n", b'{"ask": "' + b"x" * 2_000_000 + b'"}\n',
+]
+
+
+def nonsense(stand):
+    """Requests that are none are answered so, and the keeper stays."""
+    server, keeper = stand.server(), stand.keeper.pid
+    for request in NONSENSE:
+        with socket.socket(socket.AF_UNIX) as door:
+            door.settimeout(30)
+            door.connect(stand.environment["ROOMS_SOCKET"])
+            with contextlib.suppress(BrokenPipeError):
+                door.sendall(request)
+            answer = door.makefile("rb").readline()
+        if "fault" not in json.loads(answer or b"{}"):
+            check(f"{request[:60]!r} is a fault", False, answer)
+    alive = stand.keeper.poll() is None and stand.keeper.pid == keeper and stand.server() == server
+    check(f"{len(NONSENSE)} requests that are none are told so, and disturb nobody", alive)
+    check("and leave no trace in the log", "Traceback" not in stand.log("keeper"), stand.log("keeper"))
+
+
 def server_ends(stand):
     """A server that ends is started again."""
     for _ in range(3):
@@ -266,6 +295,7 @@ def try_keeping(program):
             erased(stand)
         damaged(stand)
         two_clerks(stand)
+        nonsense(stand)
         server_ends(stand)
     try_hanging(program)
     with contextlib.suppress(FileNotFoundError):
