@@ -30,6 +30,10 @@ CLERKS = {"anna": "correct horse battery", "bert": "another long phrase"}
 PYTHON = "/usr/bin/python3"
 
 
+# A trial that is ended from outside ends what it has started, too.
+signal.signal(signal.SIGTERM, lambda *_: sys.exit("trial: ended from outside"))
+
+
 def fail(what):
     """Ends the trial, loudly."""
     sys.exit(f"trial: {what}")
