@@ -6,6 +6,7 @@ place, and the key the stand-in's place afterwards (`add_person`, `ask_me`).
 """
 
 import contextlib
+import os
 import re
 import secrets
 import sqlite3
@@ -38,6 +39,12 @@ def is_refused(answers: list[Answer]) -> bool:
     return not answers or answers[-1].status != 0
 
 
+def bound(*words: str) -> list[str]:
+    """A command line that ends with the thread that starts it. Where the keeper was killed before the system knew that,
+    the shell has another parent, and does nothing."""
+    return ["setpriv", "--pdeathsig", "KILL", "sh", "-c", '[ "$PPID" = "$0" ] && exec "$@"', str(os.getpid()), *words]
+
+
 def change_key(old: str, new: str, copy: Path) -> None:
     """Changes the key of whoever has it, in a copy."""
     with contextlib.closing(sqlite3.connect(copy)) as database:
@@ -52,13 +59,13 @@ class Program:
         self.settings = settings
 
     def serve_words(self) -> list[str]:
-        """The command line of the server. The server ends with the thread that starts it."""
-        return ["setpriv", "--pdeathsig", "TERM", self.settings.program, "serve", "--db", str(self.settings.file),
-                "--port", str(self.settings.port), "--count", str(self.settings.connections)]
+        """The command line of the server."""
+        return bound(self.settings.program, "serve", "--db", str(self.settings.file), "--port", str(self.settings.port),
+                     "--count", str(self.settings.connections))
 
     def run(self, *words: str) -> Answer:
         """Runs the program to its end. It ends with the keeper, and when its time is over."""
-        line = ["setpriv", "--pdeathsig", "KILL", self.settings.program, *words]
+        line = bound(self.settings.program, *words)
         limit = self.settings.line_seconds
         try:
             done = subprocess.run(line, stdin=subprocess.DEVNULL, capture_output=True, timeout=limit, check=False)

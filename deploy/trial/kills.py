@@ -14,7 +14,7 @@ import time
 from pathlib import Path
 
 from beside import copies_of
-from stand import Stand, check, command_of
+from stand import Stand, check, command_of, until
 
 KILLS = 5
 KNOWN = ("rooms.db", "rooms.db-wal", "rooms.db-shm", "journal", "backups")
@@ -92,8 +92,7 @@ def killed(stand, job, delay):
     time.sleep(delay)
     stand.kill_keeper()
     thread.join()
-    time.sleep(0.1)
-    check("    nothing is left over", not servers_of(stand), servers_of(stand))
+    until(lambda: not servers_of(stand), 5, "the end of what the keeper had started")
     stand.start()
     return answers[0] if answers else {}
 
