@@ -4,6 +4,8 @@
 
 -- In letters: what pandoc takes for the width of a page, and what stands between two columns.
 local LINE, GAP = 70, 3
+-- A longer word may be broken behind a comma.
+local LONG = 40
 
 -- The length of the longest cell of each column, and of its longest word.
 local function longest(tbl)
@@ -13,8 +15,10 @@ local function longest(tbl)
             for column, cell in ipairs(row.cells) do
                 local text = pandoc.utils.stringify(cell.contents)
                 most[column] = math.max(most[column] or 1, pandoc.text.len(text))
-                for word in text:gmatch('[^%s,]+') do
-                    words[column] = math.max(words[column] or 1, pandoc.text.len(word) + 1)
+                for word in text:gmatch('%S+') do
+                    for piece in word:gmatch(#word > LONG and '[^,]+,?' or '.+') do
+                        words[column] = math.max(words[column] or 1, pandoc.text.len(piece))
+                    end
                 end
             end
         end
@@ -49,10 +53,9 @@ function Table(tbl)
     return { pandoc.RawBlock('man', '.ad l\n.nh'), tbl, pandoc.RawBlock('man', '.hy\n.ad b') }
 end
 
--- A long one without spaces may be broken behind a comma.
 function Code(code)
     local text = code.text
-    if #text <= 40 or text:find(' ') then return pandoc.Strong(pandoc.Str(text)) end
+    if #text <= LONG or text:find(' ') then return pandoc.Strong(pandoc.Str(text)) end
     local pieces = pandoc.List({})
     for piece in text:gmatch('[^,]+,?') do
         pieces:extend({ pandoc.Str(piece), pandoc.RawInline('man', '\\:') })
