@@ -20,13 +20,14 @@ part() {
 
 # What is tried, and the command that has to succeed. What it prints is shown where it fails.
 try() {
-    local what="$1" said
+    local what="$1" said status=0
     shift
-    if said=$("$@" 2>&1); then
+    said=$("$@" 2>&1) || status=$?
+    if [ $status -eq 0 ]; then
         echo "ok     $what"
     else
         faults=$((faults + 1))
-        echo "FAULT  $what (status $?)"
+        echo "FAULT  $what (status $status)"
         # shellcheck disable=SC2001 # lines
         sed 's/^/       | /' <<<"$said"
     fi
@@ -52,6 +53,11 @@ like() {
             printf 'FAULT  %s\n       wanted: %.400s\n       came:   %.400s\n' "$1" "$2" "$3"
             ;;
     esac
+}
+
+# Ends a trial that cannot go on.
+go_on_if_good() {
+    [ "$faults" -eq 0 ] || end_of_trial
 }
 
 # The last line of a trial, and its status.

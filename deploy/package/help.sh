@@ -1,17 +1,18 @@
 # shellcheck shell=dash
-# Help for `rooms`: read by the launcher at the top of the repository and by /usr/bin/rooms. The program has no help of its
-# own. What stands here answers before it, or says on standard error what can be seen from outside after it has answered
-# `unavailable`. Standard output and status are always the program's.
+# Help for `rooms`: read by the launcher at the top of the repository and by /usr/bin/rooms. The program has no help of
+# its own. What stands here answers before it, or says on standard error what can be seen from outside after it has
+# answered `unavailable`. Standard output and status are always the program's.
 #
-# Whoever reads this file sets `help_folder`, where help.txt is, and `help_pages`, a line that says where the guides are. It works
-# in sh and bash, also under `set -euo pipefail`.
+# Whoever reads this file sets `help_folder`, where help.txt is, and `help_pages`, a line that says where the guides
+# are. It works in sh and bash, also under `set -euo pipefail`.
 : "${help_folder:?}" "${help_pages:?}"
 
 say() {
     echo "rooms: $*" >&2
 }
 
-# Whether the words ask for help: -h, --help or help, also after a line's name (`rooms import --help`); or no words in a terminal.
+# Whether the words ask for help: -h, --help or help, also after a line's name (`rooms import --help`); or no words in
+# a terminal.
 asks_for_help() {
     case $# in
         0) [ -t 0 ] ;;
@@ -26,8 +27,9 @@ print_help() {
     echo "$help_pages"
 }
 
-# Runs the program with the words after it. What it makes is for its user alone. Where nothing has to be explained afterwards,
-# it takes the place of this shell. `serve` is one of these: it is explained before, since it runs for long.
+# Runs the program with the words after it. What it makes is for its user alone. Where nothing has to be explained
+# afterwards, it takes the place of this shell. `serve` is one of these: it is explained before, since it runs for
+# long.
 run_program() {
     local program="$1" status=0
     shift
@@ -54,7 +56,8 @@ run_program() {
     return "$status"
 }
 
-# Says what hinders a line, as far as it can be seen from outside. Where nothing can be seen this is said too, if `aloud`.
+# Says what hinders a line, as far as it can be seen from outside. Where nothing can be seen this is said too, if
+# `aloud`.
 explain() {
     local how="$1" line="${2-}" file='' port='' path='' place=0 found=''
     shift
@@ -128,7 +131,7 @@ explain_office() {
         [ -r "$part" ] || hinders "$(who) may not read $part ($(owner "$part"))"
         [ -w "$part" ] || hinders "$(who) may not write $part ($(owner "$part")$(read_only "$part"))"
     done
-    [ -e "$file-wal" ] || [ -w "$folder" ] || hinders "$(who) may not make the log in the folder $folder ($(owner "$folder"))"
+    [ -e "$file-wal" ] || [ -w "$folder" ] || hinders "$(who) may not make the log in $folder ($(owner "$folder"))"
     if [ -r "$file" ] && [ -s "$file" ] && [ "$(head -c 15 -- "$file" | tr -d '\0')" != "SQLite format 3" ]; then
         hinders "$file is no database: is another file meant?"
     fi
@@ -139,13 +142,14 @@ explain_office() {
 
 # Who holds the file. Locks tell the number of a file and not its name.
 explain_lock() {
-    local number holder process command
+    local number holder process command account
     number=$(stat -Lc %i -- "$1")
-    holder=$(lslocks --noheadings --raw --output INODE,PID,COMMAND 2>/dev/null | sed -n "/^$number /{s///p;q}") || return 0
+    holder=$(lslocks --noheadings --raw --output INODE,PID,COMMAND 2>/dev/null | sed -n "/^$number /{s///p;q}") || true
     [ -n "$holder" ] || return 0
     process=${holder%% *}
     command=${holder#* }
-    hinders "$1 is in use, by process $process ($command, of $(stat -c %U "/proc/$process" 2>/dev/null || echo "another account"))"
+    account=$(stat -c %U "/proc/$process" 2>/dev/null) || account="another account"
+    hinders "$1 is in use, by process $process ($command, of $account)"
 }
 
 # ", on a file system that is read only", where it is so.
@@ -186,15 +190,16 @@ explain_port() {
     user=$(awk -v port="$sign" '
         $4 == "0A" && $2 ~ "^(0100007F|0+|0+FFFF00000100007F)" port "$" { print $8; exit }' \
         /proc/self/net/tcp /proc/self/net/tcp6 2>/dev/null) || true
-    [ -z "$user" ] || hinders "port $port is taken: a program of $(id -un "$user" 2>/dev/null || echo "$user") listens on it"
+    [ -z "$user" ] ||
+        hinders "port $port is taken: a program of $(id -un "$user" 2>/dev/null || echo "$user") listens on it"
     lowest=$(cat /proc/sys/net/ipv4/ip_unprivileged_port_start 2>/dev/null) || lowest=1024
     [ "$port" -ge "$lowest" ] || [ "$(id -u)" -eq 0 ] || hinders "ports below $lowest are for root: take another one"
 }
 
 # "; is NAME meant?", where a file of the folder has nearly the name of the one that is missing.
 near() {
-    find "$1" -maxdepth 1 -type f ! -name '*-wal' ! -name '*-shm' ! -name '*-journal' -printf '%f\n' 2>/dev/null | head -n 500 |
-        awk -v wanted="$(basename -- "$2")" '
+    find "$1" -maxdepth 1 -type f ! -name '*-wal' ! -name '*-shm' ! -name '*-journal' -printf '%f\n' 2>/dev/null |
+        head -n 500 | awk -v wanted="$(basename -- "$2")" '
             function least(a, b, c) { a = a < b ? a : b; return a < c ? a : c }
             # How many letters have to be put in, taken out or changed.
             function distance(a, b,    i, j, before, now) {
@@ -202,12 +207,16 @@ near() {
                 for (i = 1; i <= length(a); i++) {
                     now[0] = i
                     for (j = 1; j <= length(b); j++)
-                        now[j] = least(before[j] + 1, now[j - 1] + 1, before[j - 1] + (substr(a, i, 1) != substr(b, j, 1)))
+                        now[j] = least(before[j] + 1, now[j - 1] + 1,
+                                       before[j - 1] + (substr(a, i, 1) != substr(b, j, 1)))
                     for (j = 0; j <= length(b); j++) before[j] = now[j]
                 }
                 return before[length(b)]
             }
             BEGIN { best = 3; if (best > length(wanted) / 3) best = int(length(wanted) / 3) }
-            length($0) < 100 && (far = distance(tolower($0), tolower(wanted))) <= best { if (far < best || !name) name = $0; best = far }
+            length($0) < 100 && (far = distance(tolower($0), tolower(wanted))) <= best {
+                if (far < best || !name) name = $0
+                best = far
+            }
             END { if (name) printf "; is %s meant?", name }'
 }

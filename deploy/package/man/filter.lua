@@ -1,6 +1,6 @@
--- For pandoc: makes a manual page of a page in Markdown. Code is bold, since a terminal has one kind of letters. A table whose
--- rows are longer than a line gets columns in proportion to what stands in them, and ragged lines. With the metadata `name` the
--- page begins with the section NAME, and its own title is dropped.
+-- For pandoc: makes a manual page of a page in Markdown. Code is bold, since a terminal has one kind of letters. A
+-- table whose rows are longer than a line gets columns in proportion to what stands in them, and ragged lines. With
+-- the metadata `name` the page begins with the section NAME, and its own title is dropped.
 
 -- In letters: what pandoc takes for the width of a page, and what stands between two columns.
 local LINE, GAP = 70, 3
