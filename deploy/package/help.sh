@@ -140,16 +140,19 @@ explain_office() {
     explain_lock "$file"
 }
 
-# Who holds the file. Locks tell the number of a file and not its name.
+# Who holds the file. Its lock tells the file's number, and no process; a process shows its open files to its own account
+# and to root.
 explain_lock() {
-    local number holder process command account
+    local number process account
     number=$(stat -Lc %i -- "$1")
-    holder=$(lslocks --noheadings --raw --output INODE,PID,COMMAND 2>/dev/null | sed -n "/^$number /{s///p;q}") || true
-    [ -n "$holder" ] || return 0
-    process=${holder%% *}
-    command=${holder#* }
-    account=$(stat -c %U "/proc/$process" 2>/dev/null) || account="another account"
-    hinders "$1 is in use, by process $process ($command, of $account)"
+    lslocks --noheadings --raw --output INODE 2>/dev/null | grep -qx "$number" || return 0
+    process=$(find -L /proc/[0-9]*/fd -maxdepth 1 -samefile "$1" -printf '%h\n' 2>/dev/null | sed -n '1s|/proc/\([0-9]*\)/.*|\1|p') ||
+        true
+    if [ -n "$process" ] && account=$(stat -c %U "/proc/$process" 2>/dev/null); then
+        hinders "$1 is in use, by process $process ($(cat "/proc/$process/comm"), of $account)"
+    else
+        hinders "$1 is in use, by a program of another account"
+    fi
 }
 
 # ", on a file system that is read only", where it is so.
