@@ -50,6 +50,11 @@ install_package() {
 
 start_office() {
     part "An office"
+    # An emulated machine may need longer for a line than the keeper waits elsewhere.
+    mkdir -p /etc/systemd/system/rooms-keeper.service.d
+    printf '[Service]\nEnvironment=ROOMS_LINE_SECONDS=120 ROOMS_TURN_SECONDS=140\n' \
+        >/etc/systemd/system/rooms-keeper.service.d/slow.conf
+    systemctl daemon-reload
     same "rooms new" "ok" "$(runuser -u rooms -- rooms new --db $file)"
     try "start" systemctl start "${units[@]}"
     same "all are active" "active active active active" "$(systemctl is-active "${units[@]}" | xargs)"
@@ -171,6 +176,7 @@ remove() {
     same "no socket is left" "" "$(find /run -name 'rooms*')"
     try "purge" dpkg -P rooms
     try "the office is kept" test -e $file
+    rm -r /etc/systemd/system/rooms-keeper.service.d
     same "no unit is left" "" "$(systemctl list-unit-files --no-legend 'rooms*'; find /etc/systemd -name 'rooms*')"
 }
 
