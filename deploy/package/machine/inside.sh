@@ -110,7 +110,7 @@ use_site() {
     same "the office's page without a password" 401 "$(ask $site/office/)"
     same "with a wrong one" 401 "$(ask -u clerk:wrong $site/office/)"
     same "with the right one" 200 "$(ask -u clerk:secret $site/office/)"
-    like "its text" "*ound 1*" "$(cat body)"
+    like "its text" "*Room office*" "$(cat body)"
     same "http leads to https" 301 "$(ask -H 'Host: rooms.example.org' http://127.0.0.1/)"
 }
 
