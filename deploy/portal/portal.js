@@ -1,352 +1,244 @@
-"use strict";
 // A resident's page. It sends the requests of docs/residents.md and shows their answers.
 //
-// The key lives in this tab alone: in a variable and in sessionStorage, never in an address or in localStorage. What the
-// server tells is set as text, never as HTML. No request that changes something is sent again by itself.
+// The key lives in this tab alone (memory.js), never in an address or in localStorage.
 
-const LONGEST_LIST = 40;
-const SHOWN_ROOMS = 100;
-// In milliseconds: longer than the proxy lets a request wait and the server take together.
-const PATIENCE = 90000;
-
-const PHASES = {
-  idle: "No round is open.",
-  open: "Open: you can change your list.",
-  closed: "Closed: lists are fixed.",
-  drawn: "Closed: the order has been drawn.",
-  ran: "Closed: the rooms are being worked out.",
-  published: "The results are shown.",
-};
-
-// What is said of a fault: by the name in its body, or else by its status. Where the server was stopped before it had
-// answered, the proxy sends a request once more, and the fault is that of the second time; so a fault that the server tells
-// of what the office holds is followed by what is on record, and says nothing of the first time.
-const MISFIT = "This page does not fit the server. Nothing was changed. Please load the page again; if that does not help, "
-  + "tell the accommodation office.";
-const FAULTS = {
-  BadPhase: "The round is not open now, so nothing can be changed. What is on record is shown here.",
-  Withdrawn: "You have withdrawn from this round, so the list can't be changed.",
-  TooManyChoices: "The list has more than 40 rooms. Nothing was changed. Remove some and hand it in again.",
-  RoomRepeated: "A room stands on the list twice. Nothing was changed. Remove one and hand it in again.",
-  UnknownRoom: "A room on your list is no longer known. Remove the marked rooms and hand it in again.",
-  RoomShut: "A room on your list has been shut. Remove the marked rooms and hand it in again.",
-  Unavailable: "The server can't do this at the moment. Please try again in a few minutes.",
-  400: "The server did not understand this page. Nothing was changed. Please load the page again.",
-  403: "This key is not known. Please look at it again, or ask the accommodation office.",
-  404: MISFIT,
-  405: MISFIT,
-  408: "The connection is too slow. Nothing was changed. Please try again.",
-  413: "The list is too long for the server. Nothing was changed. Remove some rooms and hand it in again.",
-  429: "Too many requests came from your network. Nothing was changed. Please wait a minute and try again.",
-};
-const BUSY = "The server is busy or being started again.";
-const UNREACHED = "The server can't be reached. Please look at your network connection.";
-const UNSURE = " It is not known whether your change was recorded: press \"Ask the server again\" and look at what is "
-  + "on record.";
-
-// What the page knows: the key, the answers to GET /me and GET /rooms, the list as it stands in the page, and whether an
-// answer is awaited.
-let key = "", me = null, rooms = [], list = [], busy = false;
-
-class Fault extends Error {
-  constructor(text, status = 0, name = "") {
-    super(text);
-    this.status = status;
-    // Whether the office refused, so that the page has to ask what it holds.
-    this.isOfOffice = name !== "" && [409, 422, 503].includes(status);
-  }
-}
-
-const byId = id => document.getElementById(id);
-const inWords = codes => codes.length ? codes.join(", ") : "no rooms";
-const stateOf = code => rooms.find(row => row.room === code)?.state ?? "unknown";
-const mayEdit = person => person.phase === "open" && !person.withdrawn;
-const isChanged = () => me !== null && inWords(list) !== inWords(me.choices);
+import {
+  backToRecord, changeList, desk, isChanged, isChangedElsewhere, isSameList, mayEdit, rememberList, ROOMS_AT_ONCE, takeRecord,
+} from "./desk.js";
+import { firstLanguage, setLanguage, text } from "./language.js";
+import { forgetDraft, forgetKey, recallKey, rememberKey, rememberLanguage } from "./memory.js";
+import { inOrder, readDescriptions } from "./rooms.js";
+import { call, Fault, roomsFile } from "./server.js";
+import {
+  ask, byHome, byId, draw, drawList, drawRooms, inWords, keepBarInSight, nextFocus, say, sayFault, showMore,
+} from "./view.js";
 
 // --- Asking the server
 
-async function call(method, path, body) {
-  const unsure = method === "GET" ? "" : UNSURE;
-  let answer, value = null;
-  try {
-    answer = await fetch(path, {
-      method, body, headers: { "Room-Key": key }, cache: "no-store", credentials: "omit",
-      referrerPolicy: "no-referrer", redirect: "error", signal: AbortSignal.timeout(PATIENCE),
-    });
-  } catch {
-    throw new Fault(UNREACHED + unsure);
-  }
-  try {
-    value = await answer.json();
-  } catch { /* a page of the proxy's own, or an answer that was cut short */ }
-  if (answer.status === 200 && value !== null) return value;
-  const name = typeof value?.error === "string" ? value.error : "";
-  throw new Fault(FAULTS[name] ?? FAULTS[answer.status] ?? BUSY + unsure, answer.status, name);
-}
+const UNSURE = { doubt: ["unsure"] };
 
-// Asks what is on record. A list that was changed in the page and not handed in stays there, if that is wanted.
-async function load(keepsList) {
-  const person = await call("GET", "/me");
-  if (mayEdit(person)) rooms = await call("GET", "/rooms");
-  const keeps = keepsList && me?.person === person.person && mayEdit(person) && isChanged();
-  me = person;
-  if (!keeps) list = [...me.choices];
+// Asks what is on record. Says whether a list that was begun is in the page, or came too late.
+async function load(doubt = {}) {
+  const person = await call(desk.key, "GET", "/me", doubt);
+  const rooms = mayEdit(person) ? inOrder(await call(desk.key, "GET", "/rooms", doubt)) : null;
+  const taken = takeRecord(person, rooms);
   draw();
+  return taken;
 }
 
-// One thing at a time: a press while an answer is awaited is passed over.
+// One thing at a time: a press while an answer is awaited is passed over. Gives what the work gives, or nothing after a fault.
 async function during(work) {
-  if (busy) return;
-  busy = true;
+  if (desk.isBusy) return undefined;
+  desk.isBusy = true;
   document.body.setAttribute("aria-busy", "true");
-  say("Asking the server ...");
+  say("waiting");
   try {
-    await work();
+    return await work();
   } catch (fault) {
     if (!(fault instanceof Fault)) throw fault;
     await tellFault(fault);
+    return undefined;
   } finally {
-    busy = false;
+    desk.isBusy = false;
     document.body.removeAttribute("aria-busy");
   }
 }
 
 async function tellFault(fault) {
   if (fault.status === 403) {
-    signOut();
+    // A list that was begun stays in this tab, for the same person.
+    leave();
     byId("key").focus();
-  } else if (me !== null && fault.isOfOffice) {
+  } else if (desk.me !== null && fault.isOfOffice) {
     try {
-      await load(true);
+      await load();
     } catch { /* the first fault is the one to tell */ }
   }
-  say("", fault.message);
+  sayFault(...fault.names);
 }
 
-function say(news, fault = "") {
-  byId("news").textContent = news;
-  byId("fault").textContent = fault;
-}
+// --- Signing in and out
 
-// --- Showing it
-
-function element(tag, text, more = {}) {
-  return Object.assign(document.createElement(tag), { textContent: text }, more);
-}
-
-// A button of a room. It is marked as disabled and never really is, so that it keeps the focus.
-function roomButton(text, label, act, code, isOff = false) {
-  const button = element("button", text, { type: "button" });
-  button.setAttribute("aria-label", label);
-  button.setAttribute("aria-disabled", isOff);
-  Object.assign(button.dataset, { act, code });
-  return button;
-}
-
-function draw() {
-  byId("sign-in").hidden = me !== null;
-  byId("desk").hidden = byId("sign-out").hidden = me === null;
-  if (me === null) return;
-  byId("facts").replaceChildren(...facts().flatMap(([name, value]) => [element("dt", name), element("dd", value)]));
-  byId("result").textContent = resultText();
-  byId("record").textContent = inWords(me.choices);
-  byId("edit").hidden = byId("leaving").hidden = !mayEdit(me);
-  drawRooms();
-  drawList();
-}
-
-function facts() {
-  const takesPart = me.withdrawn ? "no, you have withdrawn" : me.phase === "idle" ? "no round now" : "yes";
-  return [
-    ["Name", me.name],
-    ["Identifier", me.person],
-    ["Room now", me.home ?? "none"],
-    ["Round", me.round > 0 ? String(me.round) : "none yet"],
-    ["Phase", PHASES[me.phase] ?? me.phase],
-    ["Taking part", takesPart],
-  ];
-}
-
-function resultText() {
-  if (!me.shown) return "";
-  if (me.result === null) return "Result: you get no room.";
-  return `Result: you ${me.result === me.home ? "keep" : "get"} room ${me.result}.`;
-}
-
-function drawRooms() {
-  const part = byId("find").value.trim().toUpperCase();
-  const found = rooms.filter(row => row.room.includes(part));
-  const rest = found.length > SHOWN_ROOMS ? `; the first ${SHOWN_ROOMS} are here, type to find others.` : ".";
-  byId("count").textContent = `${found.length} of ${rooms.length} rooms${rest}`;
-  byId("rooms").replaceChildren(...found.slice(0, SHOWN_ROOMS).map(roomItem));
-}
-
-function roomItem(row) {
-  const item = element("li", "", { className: "item" });
-  item.append(element("span", `${row.room}: ${row.room === me.home ? "your room" : row.state}`));
-  if (list.includes(row.room)) {
-    item.append(element("span", "on your list", { className: "note" }));
-  } else if (row.state !== "shut") {
-    item.append(roomButton("Add", `Add room ${row.room}`, "add", row.room, list.length >= LONGEST_LIST));
+function signIn(event) {
+  event.preventDefault();
+  // Spaces and hyphens of any kind stand between groups of a printed key, and phones begin with a capital.
+  const given = byId("key").value.replace(/[\s\p{Pd}\p{Cf}]/gu, "").toLowerCase();
+  const isKey = /^[a-z0-9]{16,64}$/.test(given);
+  byId("key").setAttribute("aria-invalid", !isKey);
+  if (!isKey) {
+    sayFault("badKey");
+    byId("key").focus();
+    return;
   }
-  return item;
+  during(async () => {
+    desk.key = given;
+    const taken = await load();
+    rememberKey(given);
+    byId("key").value = "";
+    sayTaken(taken, "signedIn");
+    byId("round-heading").focus();
+  });
 }
 
-function drawList() {
-  byId("list").replaceChildren(...list.map(listItem));
-  const told = isChanged() ? "Not handed in yet." : "This is the list on record.";
-  byId("state").textContent = `${list.length} of ${LONGEST_LIST} rooms. ${told}`;
-  for (const id of ["hand-in", "undo"]) byId(id).setAttribute("aria-disabled", !isChanged());
+function sayTaken({ hasDraft, isLate }, otherwise) {
+  say(isLate ? "draftLate" : hasDraft ? "draftBack" : otherwise);
 }
 
-function listItem(code, place) {
-  const item = element("li", ""), row = element("div", "", { className: "item" });
-  row.append(
-    element("span", code + noteOn(code, place)),
-    roomButton("↑", `Move ${code} up`, "up", code, place === 0),
-    roomButton("↓", `Move ${code} down`, "down", code, place === list.length - 1),
-    roomButton("Remove", `Remove ${code}`, "remove", code),
-  );
-  item.append(row);
-  return item;
+// Takes the person out of the page.
+function leave() {
+  Object.assign(desk, { key: "", me: null, rooms: [], list: [], base: [], sent: null, shown: ROOMS_AT_ONCE });
+  byId("find").value = "";
+  forgetKey();
+  draw();
 }
 
-function noteOn(code, place) {
-  const own = list.indexOf(me.home), state = stateOf(code);
-  if (code === me.home) return " (your room)";
-  if (state === "shut" || state === "unknown") return ` (${state}: remove it)`;
-  return own >= 0 && place > own ? " (after your own: does not count)" : "";
+async function signOut() {
+  if (desk.isBusy) return;
+  if (isChanged()) {
+    const lists = [[text("elsewhere.record"), inWords(desk.me.choices)], [text("elsewhere.here"), inWords(desk.list)]];
+    const answers = [["stay", text("signOutQuestion.stay")], ["go", text("signOutQuestion.go"), true]];
+    const answer = await ask(text("signOutQuestion.heading"), text("signOutQuestion.text"), lists, answers);
+    if (answer !== "go") return;
+  }
+  forgetDraft();
+  leave();
+  say("signedOut");
+  byId("key").focus();
+}
+
+// --- Handing in a list
+
+// Before a list goes out, the record is looked at: a list that another device has handed in meanwhile is not replaced unasked.
+async function handIn() {
+  if (desk.isBusy) return;
+  if (!isChanged()) {
+    say("nothingNew");
+    return;
+  }
+  const isThere = await during(async () => {
+    await load({ doubt: ["unchanged"] });
+    if (!mayEdit(desk.me)) sayFault(desk.me.withdrawn ? "faults.Withdrawn" : "faults.BadPhase");
+    else if (!isChanged()) say("nothingNew");
+    return isChanged();
+  });
+  if (!isThere) return;
+  const answer = isChangedElsewhere() ? await askWhichList() : "replace";
+  if (answer === "replace") await during(sendList);
+  if (answer === "keep") undo();
+  if (answer === "later") say("elsewhere.waits");
+}
+
+function askWhichList() {
+  const lists = [[text("elsewhere.record"), inWords(desk.me.choices)], [text("elsewhere.here"), inWords(desk.list)]];
+  const answers = [["later", text("elsewhere.later")], ["keep", text("elsewhere.keep")], ["replace", text("elsewhere.replace"), true]];
+  return ask(text("elsewhere.heading"), text("elsewhere.text"), lists, answers);
+}
+
+async function sendList() {
+  desk.sent = [...desk.list];
+  rememberList();
+  const kept = await call(desk.key, "PUT", "/me/choices", { body: JSON.stringify(desk.list), ...UNSURE });
+  desk.me.choices = kept.choices;
+  desk.sent = [...kept.choices];
+  backToRecord();
+  draw();
+  say(kept.choices.length ? "handedIn" : "handedInEmpty", { list: inWords(kept.choices) });
 }
 
 // --- Changing the list in the page
 
 function change(act, code) {
-  const place = list.indexOf(code);
-  if (act === "add" && place < 0 && list.length < LONGEST_LIST) list.push(code);
-  else if (act === "remove" && place >= 0) list.splice(place, 1);
-  else if (act === "up" && place > 0) list.splice(place - 1, 0, ...list.splice(place, 1));
-  else if (act === "down" && place >= 0 && place < list.length - 1) list.splice(place + 1, 0, ...list.splice(place, 1));
-  else return;
+  const place = desk.list.indexOf(code);
+  if (!changeList(act, code)) return;
   drawRooms();
   drawList();
-  say(act === "remove" ? `${code} removed.` : `${code} is number ${list.indexOf(code) + 1} of ${list.length}.`);
+  say(act === "remove" ? "removed" : "added", { room: code, place: desk.list.indexOf(code) + 1, count: desk.list.length });
   nextFocus(act, code, place).focus();
 }
 
-// Where the keyboard goes on: the next room that can be added, the next one to remove, or the button that was pressed.
-function nextFocus(act, code, place) {
-  const buttonOf = (act, code) => document.querySelector(`#desk [data-act="${act}"][data-code="${code}"]`);
-  if (act === "add") {
-    const after = rooms.slice(rooms.findIndex(row => row.room === code)).map(row => buttonOf("add", row.room));
-    return after.find(button => button !== null) ?? byId("hand-in");
-  }
-  if (act !== "remove") return buttonOf(act, code);
-  return list.length ? buttonOf("remove", list[Math.min(place, list.length - 1)]) : byId("list-heading");
+function undo() {
+  if (desk.isBusy) return;
+  backToRecord();
+  drawRooms();
+  drawList();
+  say("undone");
 }
 
-// --- What the buttons do
+// --- Withdrawing
 
-function signIn(event) {
-  event.preventDefault();
-  const given = byId("key").value.trim();
-  if (!/^[a-z0-9]{16,64}$/.test(given)) {
-    say("", "A key has 16 to 64 small letters and digits.");
-    byId("key").focus();
+async function withdraw() {
+  if (desk.isBusy) return;
+  const answers = [["stay", text("withdrawQuestion.stay")], ["go", text("withdrawQuestion.go"), true]];
+  const answer = await ask(text("withdrawQuestion.heading"), byHome("withdrawQuestion"), [], answers);
+  if (answer !== "go") {
+    say("stayed");
     return;
   }
-  during(async () => {
-    key = given;
-    await load(false);
-    sessionStorage.setItem("room-key", key);
-    byId("key").value = "";
-    say("Signed in.");
+  await during(async () => {
+    await call(desk.key, "POST", "/me/withdraw", UNSURE);
+    desk.me.withdrawn = true;
+    backToRecord();
+    draw();
+    say("withdrawn");
     byId("round-heading").focus();
   });
 }
 
-function signOut() {
-  key = "";
-  me = null;
-  rooms = [];
-  list = [];
-  byId("find").value = "";
-  sessionStorage.removeItem("room-key");
+// --- What the page does
+
+function onButton(event) {
+  const button = event.target.closest("button[data-act]");
+  if (button && !desk.isBusy) change(button.dataset.act, button.dataset.code);
+}
+
+function onKey(event) {
+  const button = event.target.closest("button[data-act]"), act = { ArrowUp: "up", ArrowDown: "down" }[event.key];
+  if (!button || !act || !event.altKey || desk.isBusy) return;
+  event.preventDefault();
+  change(act, button.dataset.code);
+}
+
+function onFind() {
+  desk.shown = ROOMS_AT_ONCE;
+  drawRooms();
+}
+
+function onLanguage() {
+  const language = byId("language").value;
+  rememberLanguage(language);
+  setLanguage(language);
   draw();
 }
 
-function handIn() {
-  if (!isChanged()) {
-    say("Nothing to hand in: this is the list on record.");
-    return;
-  }
-  during(async () => {
-    const kept = await call("PUT", "/me/choices", JSON.stringify(list));
-    me.choices = kept.choices;
-    list = [...me.choices];
-    draw();
-    say(`Handed in. On record: ${inWords(list)}.`);
-  });
+async function askAgain() {
+  await during(async () => sayTaken(await load(), "asked"));
 }
 
-function withdraw() {
-  if (byId("question").returnValue !== "go") {
-    say("You are still in the round. Nothing was changed.");
-    return;
-  }
-  during(async () => {
-    await call("POST", "/me/withdraw");
-    me.withdrawn = true;
-    list = [...me.choices];
-    draw();
-    say("You have withdrawn from this round.");
-    byId("round-heading").focus();
-  });
+function listen() {
+  byId("sign-in").addEventListener("submit", signIn);
+  byId("show-key").addEventListener("change", () => { byId("key").type = byId("show-key").checked ? "text" : "password"; });
+  byId("language").addEventListener("change", onLanguage);
+  byId("desk").addEventListener("click", onButton);
+  byId("list").addEventListener("keydown", onKey);
+  byId("find").addEventListener("input", onFind);
+  const presses = { "sign-out": signOut, "ask-again": askAgain, "hand-in": handIn, more: showMore, undo, withdraw };
+  for (const [id, act] of Object.entries(presses)) byId(id).addEventListener("click", act);
+  addEventListener("beforeunload", event => { if (isChanged()) event.preventDefault(); });
 }
 
-byId("sign-in").addEventListener("submit", signIn);
-byId("show-key").addEventListener("change", () => { byId("key").type = byId("show-key").checked ? "text" : "password"; });
-byId("sign-out").addEventListener("click", () => {
-  if (busy || (isChanged() && !confirm("Your list is not handed in. Sign out all the same?"))) return;
-  signOut();
-  say("Signed out.");
-  byId("key").focus();
-});
-byId("ask-again").addEventListener("click", () => during(async () => {
-  await load(true);
-  say("This is what the server has now.");
-}));
-byId("find").addEventListener("input", drawRooms);
-byId("undo").addEventListener("click", () => {
-  if (busy) return;
-  list = [...me.choices];
-  drawRooms();
-  drawList();
-  say("The list on record is back.");
-});
-byId("hand-in").addEventListener("click", handIn);
-byId("desk").addEventListener("click", event => {
-  const button = event.target.closest("button[data-act]");
-  if (button && !busy) change(button.dataset.act, button.dataset.code);
-});
-byId("list").addEventListener("keydown", event => {
-  const button = event.target.closest("button[data-act]"), act = { ArrowUp: "up", ArrowDown: "down" }[event.key];
-  if (!button || !act || !event.altKey || busy) return;
-  event.preventDefault();
-  change(act, button.dataset.code);
-});
-byId("withdraw").addEventListener("click", () => {
-  byId("question").returnValue = "stay";
-  byId("question").showModal();
-});
-byId("question").addEventListener("close", withdraw);
-addEventListener("beforeunload", event => { if (isChanged()) event.preventDefault(); });
+async function describeRooms() {
+  desk.descriptions = readDescriptions(await roomsFile());
+  if (desk.me !== null && desk.descriptions.size > 0) draw();
+}
 
-key = sessionStorage.getItem("room-key") ?? "";
-if (key) {
-  during(async () => {
-    await load(false);
-    say("");
-  });
+setLanguage(firstLanguage());
+listen();
+keepBarInSight();
+draw();
+describeRooms();
+desk.key = recallKey();
+if (desk.key) {
+  during(async () => sayTaken(await load(), ""));
 } else {
   byId("key").focus();
 }

@@ -1,28 +1,28 @@
-"""The portal page in headless Chromium, through the proxy, against the real server, at 360 and at 1,280 pixels.
+"""The portal page in headless Chromium, through the proxy, against the real server: a round as residents go through it.
 
 Faults that neither server nor proxy can be made to tell at will are put in place of the server's answer by the browser.
 """
 
-import base64
-import contextlib
 import json
 import re
 import time
 
-from selenium import webdriver
-from selenium.webdriver.chrome.service import Service
 from selenium.webdriver.common.action_chains import ActionChains
-from selenium.webdriver.common.by import By
 from selenium.webdriver.common.keys import Keys
 
-from stand import HOST, Stand, check
+from page_browser import DESK, Page
+from page_lists import try_lists
+from page_looks import try_looks
+from stand import DEPLOY, Stand, check
 
-WIDTHS = (360, 1280)
 LINES = [
-    "room H1", "room H2", "room OLD-1", "room V", "room W", *(f"room A-{n}" for n in range(1, 46)),
-    "person T1 key00000000000t1 Tim Tan", "person T2 key00000000000t2 Tom Tao", "person N key000000000000n Nia Ng",
-    "home T1 H1", "home T2 H2", "shut OLD-1", "open",
+    "room H1", "room H2", "room H3", "room OLD-1", "room V", "room W", *(f"room A-{n}" for n in range(1, 46)),
+    "person T1 key00000000000t1 Tim Tan", "person T2 key00000000000t2 Tom Tao", "person T3 key00000000000t3 Tea Tal",
+    "person N key000000000000n Nia Ng", "person M key000000000000m Max Mai",
+    "home T1 H1", "home T2 H2", "home T3 H3", "shut OLD-1", "open",
 ]
+NOTICE = '<p id="notice"><span lang="en">Until 31 May, noon.</span><span lang="de">Bis 31. Mai, 12 Uhr.</span></p>'
+ROOMS = 'room;house;floor;size\nA-1;North;2;14 m²\nA-2;"South; by the ""Green""";0;\nXX-9;nowhere;;\n'
 # What the page says of a fault, by its status and its name.
 FAULTS = [
     (400, "BadRequest", "did not understand"),
@@ -38,161 +38,59 @@ FAULTS = [
     (502, "", "not known whether"),
     (503, "", "not known whether"),
     (504, "", "not known whether"),
+    (0, "", "not known whether"),
 ]
 FAULTY_FETCH = """
     const real = window.fetch;
     window.fetch = (path, options) => {
         const fault = options.method === "PUT" ? window.fault : null;
         window.fault = null;
-        return fault ? Promise.resolve(new Response(fault.body, { status: fault.status })) : real(path, options);
+        if (!fault) return real(path, options);
+        return fault.status ? Promise.resolve(new Response(fault.body, { status: fault.status })) : Promise.reject(new Error());
     };"""
 
 
-class Page:
-    """The page in a browser of its own."""
-
-    def __init__(self, stand, shots):
-        options = webdriver.ChromeOptions()
-        for word in ("--headless=new", "--no-sandbox", "--disable-gpu", "--ignore-certificate-errors",
-                     "--disable-dev-shm-usage", f"--host-resolver-rules=MAP {HOST} 127.0.0.1", "--no-first-run",
-                     "--disable-background-networking", "--disable-component-update",
-                     f"--user-data-dir={stand.folder}/chromium"):
-            options.add_argument(word)
-        options.set_capability("goog:loggingPrefs", {"browser": "ALL"})
-        self.driver = webdriver.Chrome(service=Service("/usr/bin/chromedriver"), options=options)
-        self.address, self.shots = f"https://{HOST}:{stand.port}/", shots
-
-    def __enter__(self):
-        return self
-
-    def __exit__(self, *_):
-        self.driver.quit()
-
-    def script(self, text, *values):
-        return self.driver.execute_script(text, *values)
-
-    def element(self, name):
-        return self.driver.find_element(By.ID, name)
-
-    def text(self, name):
-        return self.element(name).text
-
-    def focus(self):
-        """What has the focus, by its label, its name or its text."""
-        return self.script("const a = document.activeElement;"
-                           "return a.getAttribute('aria-label') || a.id || a.textContent;")
-
-    def is_idle(self):
-        return self.script("return document.readyState === 'complete' && !document.body.hasAttribute('aria-busy');")
-
-    def waits(self, holds, seconds=10):
-        """Whether something comes to hold while no answer is awaited."""
-        end = time.monotonic() + seconds
-        while time.monotonic() < end:
-            with contextlib.suppress(Exception):
-                if self.is_idle() and holds():
-                    return True
-            time.sleep(0.05)
-        return False
-
-    def keys(self, *keys):
-        chain = ActionChains(self.driver)
-        for key in keys:
-            chain.send_keys(key)
-        chain.perform()
-
-    def tab_to(self, label, most=200):
-        """Whether the Tab key leads there."""
-        for _ in range(most):
-            if self.focus() == label:
-                return True
-            self.keys(Keys.TAB)
-        return False
-
-    def codes(self):
-        """The list as it stands in the page."""
-        return [e.get_attribute("data-code") for e in self.driver.find_elements(By.CSS_SELECTOR, "#list [data-act=remove]")]
-
-    def press(self, act, code):
-        self.driver.find_element(By.CSS_SELECTOR, f'[data-act={act}][data-code="{code}"]').click()
-
-    def sign_in(self, key):
-        self.element("key").clear()
-        self.element("key").send_keys(key, Keys.ENTER)
-
-    def width(self, width, height=900):
-        self.driver.execute_cdp_cmd("Emulation.setDeviceMetricsOverride",
-                                    {"width": width, "height": height, "deviceScaleFactor": 1, "mobile": width < 500})
-
-    def covered(self):
-        """The texts of the buttons in the part that scrolls which the message lies over, seen at each place of scrolling."""
-        return self.script("""
-            const main = document.querySelector("main"), found = [], height = main.clientHeight;
-            for (let top = 0; top < main.scrollHeight; top += height / 2) {
-                main.scrollTop = top;
-                for (const e of main.querySelectorAll("button, input, h2, #state")) {
-                    const box = e.getBoundingClientRect(), bounds = main.getBoundingClientRect();
-                    if (box.width === 0 || box.top < bounds.top || box.bottom > bounds.bottom) continue;
-                    const seen = document.elementFromPoint(box.left + box.width / 2, box.top + box.height / 2);
-                    if (seen && seen.closest("#messages, header")) found.push(e.id || e.textContent);
-                }
-            }
-            main.scrollTop = 0;
-            return found;""")
-
-    def shot(self, name):
-        """A photograph at each width, where nothing may be wider than the window, and the message may cover nothing."""
-        for width in WIDTHS:
-            self.width(width)
-            time.sleep(0.15)
-            wider = self.script("return Math.max(document.documentElement.scrollWidth - innerWidth,"
-                                "document.querySelector('main').scrollWidth - document.querySelector('main').clientWidth);")
-            check(f"{name}: nothing is wider than {width} pixels", wider <= 0, wider)
-            check(f"{name}: the message covers nothing at {width} pixels", self.covered() == [], self.covered())
-            self.width(width, 1700 if width > 500 else 2600)
-            time.sleep(0.15)
-            picture = self.driver.execute_cdp_cmd("Page.captureScreenshot", {})
-            (self.shots / f"{name}-{width}.png").write_bytes(base64.b64decode(picture["data"]))
-        self.width(1280)
-
-
 def signing_in(page):
-    page.width(1280)
-    page.driver.get(page.address)
+    """The key, and what is said of a wrong one."""
+    page.width(*DESK)
+    page.open()
     check("the focus starts in the key", page.focus() == "key", page.focus())
+    check("the college's notice is shown", page.text("notice") == "Until 31 May, noon.", page.text("notice"))
     page.shot("1-sign-in")
     page.sign_in("BAD")
-    check("a text that is no key is explained", "small letters" in page.text("fault"), page.text("fault"))
+    check("a text that is no key is explained", "16 to 64" in page.text("fault"), page.text("fault"))
     page.sign_in("key0000000000bad")
     check("a key of nobody is explained", page.waits(lambda: "not known" in page.text("fault")) and page.focus() == "key")
-    page.sign_in("key00000000000t1")
-    check("signed in by the keyboard", page.waits(lambda: "Tim Tan" in page.text("facts")))
+    check("signed in by the keyboard, with spaces, hyphens and capitals", page.sign_in(" Key0 0000-0000 00T1 ", "Tim Tan"))
     check("the focus goes to the heading", page.focus() == "round-heading", page.focus())
     check("the key is in no address and is not kept for good",
           "key0" not in page.driver.current_url and page.script("return localStorage.length;") == 0)
-    shut = page.driver.find_elements(By.CSS_SELECTOR, '[data-act=add][data-code="OLD-1"]')
-    check("a shut room is shown and can't be added", "OLD-1: shut" in page.text("rooms") and not shut)
+    page.find("old-1")
+    shut = page.elements('[data-act=add][data-code="OLD-1"]')
+    check("a shut room is shown and can't be added", "OLD-1\nshut" in page.text("rooms") and not shut, page.text("rooms"))
 
 
 def list_by_keyboard(page):
+    """A list that is made by keys alone."""
+    page.find("v")
+    check("rooms are found by a part of what stands there", page.waits(lambda: page.offered()[-1:] == ["V"]), page.offered())
     check("Tab leads to adding V", page.tab_to("Add room V"))
     page.keys(Keys.ENTER)
-    check("V is added, and the focus is at the next", page.codes() == ["V"] and page.focus() == "Add room W", page.focus())
+    check("V is added, and the focus goes on to handing in", page.codes() == ["V"] and page.focus() == "hand-in", page.focus())
     check("the place is said", "V is number 1 of 1" in page.text("news"), page.text("news"))
-    page.keys(Keys.SPACE)
-    check("the space bar adds too", page.codes() == ["V", "W"], page.codes())
-    page.element("find").click()
-    page.keys("h")
-    check("rooms are found by a part of their code",
-          page.waits(lambda: len(page.driver.find_elements(By.CSS_SELECTOR, "#rooms li")) == 2), page.text("count"))
+    page.find("h")
     check("Tab leads to adding H2", page.tab_to("Add room H2"))
+    page.keys(Keys.SPACE)
+    check("the space bar adds too, and the focus is at the next", page.focus() == "Add room H3", page.focus())
+    page.find("w")
+    check("Tab leads to adding W", page.tab_to("Add room W"))
     page.keys(Keys.ENTER)
     check("it is said that the list is not handed in", "Not handed in" in page.text("state"))
     check("Tab leads to moving H2 up", page.tab_to("Move H2 up"))
     ActionChains(page.driver).key_down(Keys.ALT).send_keys(Keys.ARROW_UP).key_up(Keys.ALT).perform()
-    check("Alt and the arrow move it", page.codes() == ["V", "H2", "W"] and page.focus() == "Move H2 up", page.codes())
-    page.keys(Keys.ENTER, Keys.ENTER)
-    check("the button moves it, and at the top it stays", page.codes() == ["H2", "V", "W"], page.codes())
+    check("Alt and the arrow move it", page.codes() == ["H2", "V", "W"] and page.focus() == "Move H2 up", page.codes())
+    page.keys(Keys.ENTER)
+    check("at the top the button leaves it there", page.codes() == ["H2", "V", "W"], page.codes())
     check("Tab leads to moving V down", page.tab_to("Move V down"))
     page.keys(Keys.ENTER)
     check("it goes down", page.codes() == ["H2", "W", "V"] and page.focus() == "Move V down", page.codes())
@@ -200,146 +98,167 @@ def list_by_keyboard(page):
     page.keys(Keys.ENTER)
     check("it is removed", page.codes() == ["H2", "W"], page.codes())
     check("the focus is at the last", page.focus() == "Remove W", page.focus())
-    page.element("find").clear()
-    page.element("find").send_keys(" ", Keys.BACKSPACE)
 
 
 def handing_in(page):
-    page.press("add", "H1")
-    page.press("add", "A-1")
+    """The list goes to the server."""
+    page.add("H1", "A-1")
     text = page.text("list")
     check("what stands after the own room is explained", "your room" in text and "does not count" in text, text)
     page.shot("2-list")
-    page.width(360, 640)
-    page.script("document.getElementById('hand-in').scrollIntoView({ block: 'end' });")
-    time.sleep(0.2)
-    places = page.script("const m = document.getElementById('messages').getBoundingClientRect(),"
-                         "b = document.getElementById('hand-in').getBoundingClientRect();"
-                         "return [0, m.top, m.top + 20, m.bottom, b.top, b.bottom, innerHeight + 1];")
-    check("on a small screen the message and the button are seen together", places == sorted(places), places)
-    page.width(1280)
     page.script("document.getElementById('hand-in').focus();")
     page.keys(Keys.ENTER)
     handed = page.waits(lambda: page.text("news").startswith("Handed in. On record: H2, W, H1, A-1"))
     check("handed in", handed, page.text("news"))
     check("the focus stays on the button", page.focus() == "hand-in", page.focus())
-    page.driver.refresh()
+    page.open()
     check("a page that is loaded again shows what is on record",
           page.waits(lambda: page.text("record") == "H2, W, H1, A-1" and page.codes() == ["H2", "W", "H1", "A-1"]))
 
 
 def withdrawal_refused(page):
-    page.element("withdraw").click()
+    """The question before a withdrawal, answered by no."""
+    check("how it differs from an empty list is said", "need not withdraw to keep your room" in page.text("withdraw-text"))
+    page.click("withdraw")
     check("a question is asked first, and the focus is on no", page.waits(lambda: page.focus() == "stay"), page.focus())
+    check("it says what becomes of the room", "You keep room H1." in page.text("question-text"), page.text("question-text"))
     page.shot("3-question")
     page.keys(Keys.ESCAPE)
     check("Escape is no", page.waits(lambda: "still in" in page.text("news")) and page.focus() == "withdraw", page.focus())
-    page.element("withdraw").click()
+    page.click("withdraw")
     page.waits(lambda: page.focus() == "stay")
     page.keys(Keys.ENTER)
     check("no is no", page.waits(lambda: "still in" in page.text("news") and "yes" in page.text("facts")))
 
 
 def forced_faults(page):
+    """Each fault of a list, as if the server or the proxy had answered so."""
     page.script(FAULTY_FETCH)
-    page.press("add", "A-2")
+    page.add("A-2")
     for status, name, said in FAULTS:
         body = json.dumps({"error": name}) if name else "<html>the proxy</html>"
         page.script("window.fault = arguments[0];", {"status": status, "body": body})
-        page.element("hand-in").click()
-        check(f"{status} {name} is explained", page.waits(lambda: said in page.text("fault")), page.text("fault"))
-        check(f"{status} {name} leaves the list in the page", "A-2" in page.codes())
+        page.click("hand-in")
+        check(f"{status or 'no answer'} {name} is explained", page.waits(lambda: said in page.text("fault")), page.text("fault"))
+        check(f"{status or 'no answer'} {name} leaves the list in the page", "A-2" in page.codes())
     page.shot("4-unknown")
 
 
 def real_faults(page, stand):
+    """A room that is shut meanwhile, and a network that is gone."""
     stand.office("shut W")
-    page.element("hand-in").click()
+    page.click("hand-in")
     told = page.waits(lambda: "has been shut" in page.text("fault"))
     check("a room that was shut is explained", told, page.text("fault"))
-    check("it is marked, and the list kept", "W (shut: remove it)" in page.text("list") and "A-2" in page.codes())
+    check("it is marked, and the list kept", "W\nshut: remove it" in page.text("list") and "A-2" in page.codes())
     page.shot("5-shut")
     page.press("remove", "W")
     network = {"latency": 0, "downloadThroughput": -1, "uploadThroughput": -1}
     page.driver.execute_cdp_cmd("Network.enable", {})
     page.driver.execute_cdp_cmd("Network.emulateNetworkConditions", {**network, "offline": True})
-    page.element("hand-in").click()
-    told = page.waits(lambda: "can't be reached" in page.text("fault") and "not known" in page.text("fault"))
-    check("without a network it is not known whether it stands", told, page.text("fault"))
+    page.click("hand-in")
+    told = page.waits(lambda: "can't be reached" in page.text("fault") and "Nothing was changed" in page.text("fault"))
+    check("without a network nothing was sent, and that is said", told, page.text("fault"))
     page.driver.execute_cdp_cmd("Network.emulateNetworkConditions", {**network, "offline": False})
 
 
 def server_away(page, stand):
-    """A server that is away for longer than the proxy waits, and one that comes back in time."""
-    page.press("add", "A-3")
+    """A server that comes back in time, and one that is away for longer than the proxy waits."""
+    page.add("A-3")
+    stand.script("rooms-stopped", "true")
+    check("a server that is started again is not noticed", page.hand_in(20), page.text("fault"))
+    page.add("A-4")
+    stand.wanted.unlink()
     stand.kill()
-    page.element("hand-in").click()
-    handed = page.waits(lambda: "Handed in" in page.text("news"), 20)
-    check("a server that is started again is not noticed", handed, page.text("fault"))
-    page.press("add", "A-4")
-    stand.stop_keeper()
     began = time.monotonic()
-    page.element("hand-in").click()
-    gone = page.waits(lambda: "busy or being" in page.text("fault") and "not known" in page.text("fault"), 60)
+    page.click("hand-in")
+    gone = page.waits(lambda: "busy or is being" in page.text("fault") and "Nothing was" in page.text("fault"), 60)
     check("a server that stays away is explained", gone, page.text("fault"))
     print(f"      after {time.monotonic() - began:.0f} seconds")
-    stand.start()
-    page.element("ask-again").click()
-    back = page.waits(lambda: "has now" in page.text("news"), 30)
+    stand.wanted.touch()
+    stand.until_listening(stand.server_port)
+    page.click("ask-again")
+    back = page.waits(lambda: "still here" in page.text("news"), 30)
     check("once it is back, the list in the page is kept", back and "A-4" in page.codes(), page.codes())
-    page.element("hand-in").click()
-    check("and handed in", page.waits(lambda: "Handed in" in page.text("news")), page.text("fault"))
+    check("and handed in", page.hand_in(), page.text("fault"))
 
 
 def withdrawal(page, stand):
-    page.element("withdraw").click()
+    """Residents who withdraw: one with a room, one without, and one whom the office takes out."""
+    page.click("withdraw")
     page.waits(lambda: page.focus() == "stay")
     page.keys(Keys.TAB, Keys.ENTER)
     gone = page.waits(lambda: "have withdrawn" in page.text("news"))
-    check("withdrawn", gone and not page.element("leaving").is_displayed(), page.text("news"))
-    page.element("sign-out").click()
-    check("signed out, and the key is gone", page.element("sign-in").is_displayed()
+    check("withdrawn", gone and not page.element("edit").is_displayed(), page.text("news"))
+    check("and told what that means", page.text("result") == "You have withdrawn: you keep room H1.", page.text("result"))
+    page.shot("6-withdrawn")
+    page.sign_out()
+    check("signed out, and nothing is kept", page.waits(lambda: page.element("sign-in").is_displayed())
           and page.script("return sessionStorage.length;") == 0)
-    page.sign_in("key00000000000t2")
-    page.waits(lambda: "Tom Tao" in page.text("facts"))
+    page.sign_in("key000000000000m", "Max Mai")
+    page.click("withdraw")
+    page.waits(lambda: page.focus() == "stay")
+    check("who has no room is told that there will be none", "You get no room in it." in page.text("question-text"))
+    page.keys(Keys.ESCAPE)
+    page.sign_out()
+    page.sign_in("key00000000000t2", "Tom Tao")
+    page.add("V")
     stand.office("withdraw T2")
-    page.press("add", "V")
-    page.element("hand-in").click()
+    page.click("hand-in")
     told = page.waits(lambda: "You have withdrawn" in page.text("fault"))
     check("a withdrawal elsewhere is explained", told, page.text("fault"))
     check("and the page is as it holds now", not page.element("edit").is_displayed())
-    page.element("sign-out").click()
+    page.sign_out()
 
 
 def closing_and_result(page, stand):
-    page.sign_in("key000000000000n")
-    page.waits(lambda: "Nia Ng" in page.text("facts"))
-    page.press("add", "A-7")
-    page.element("hand-in").click()
-    check("a newcomer hands in", page.waits(lambda: "Handed in" in page.text("news")))
-    page.press("add", "A-8")
+    """From the end of the round to its result."""
+    page.sign_in("key000000000000n", "Nia Ng")
+    page.add("A-7")
+    check("a newcomer hands in", page.hand_in())
+    page.add("A-8")
     stand.office("close")
-    page.element("hand-in").click()
+    page.click("hand-in")
     told = page.waits(lambda: "not open now" in page.text("fault"))
     check("a round that was closed is explained", told, page.text("fault"))
     check("lists are fixed now", not page.element("edit").is_displayed() and "Closed" in page.text("facts"))
     check("what is on record is shown", page.text("record") == "A-7", page.text("record"))
-    for line in ("draw 0000000000000001", "run"):
+    for line in ("draw 0000000000000001 0000000000000002 0000000000000003", "run"):
         stand.office(line)
-    page.element("ask-again").click()
+    page.click("ask-again")
     check("no result before it is published",
           page.waits(lambda: "worked out" in page.text("facts")) and page.text("result") == "")
     stand.office("publish")
-    page.element("ask-again").click()
+    page.click("ask-again")
     check("the result", page.waits(lambda: page.text("result") == "Result: you get room A-7."), page.text("result"))
-    page.shot("6-result")
+    check("and what comes next", "when you move" in page.text("next"), page.text("next"))
+    page.shot("7-result")
+    page.sign_out()
+    page.sign_in("key000000000000m", "Max Mai")
+    check("a result without a room", page.text("result") == "Result: you get no room.", page.text("result"))
+    check("says what to do", "speak to the accommodation office" in page.text("next"), page.text("next"))
+    page.shot("8-no-room")
+    stand.office("settle")
+    page.click("ask-again")
+    check("after the round there is still something to do",
+          page.waits(lambda: "no room at present" in page.text("next")) and not page.element("recorded").is_displayed())
 
 
 def nothing_odd(page, stand):
+    """What the browser and the proxy have written down."""
     logged = [entry["message"] for entry in page.driver.get_log("browser")]
     odd = [line for line in logged if not re.search("Failed to load resource|ERR_", line)]
     check("the browser reports nothing but failed requests", not odd, odd)
     check("no log of the proxy has a key", "key0" not in stand.proxy_log())
+
+
+def start_proxy(stand):
+    """Starts the proxy over a page to which a college has given a notice and what it says of rooms."""
+    index, rooms = stand.folder / "index.html", stand.folder / "rooms.csv"
+    text = (DEPLOY / "portal" / "index.html").read_text(encoding="utf-8")
+    index.write_text(text.replace('<p id="notice"></p>', NOTICE), encoding="utf-8")
+    rooms.write_text(ROOMS, encoding="utf-8")
+    stand.start_proxy(("/srv/rooms/portal/index.html", str(index)), ("/srv/rooms/portal/rooms.csv", str(rooms)))
 
 
 def try_page(program, shots):
@@ -348,11 +267,13 @@ def try_page(program, shots):
         for line in LINES:
             stand.tell(line)
         stand.start()
-        stand.start_proxy()
+        start_proxy(stand)
         with Page(stand, shots) as page:
             signing_in(page)
             list_by_keyboard(page)
             handing_in(page)
+            try_lists(page, stand)
+            try_looks(page)
             withdrawal_refused(page)
             forced_faults(page)
             real_faults(page, stand)

@@ -1,0 +1,231 @@
+// Shows what the page knows. What the server tells is set as text, never as HTML.
+
+import { desk, isChanged, isChangedElsewhere, LONGEST_LIST, mayEdit, ROOMS_AT_ONCE, stateOf } from "./desk.js";
+import { hasText, text, texts } from "./language.js";
+import { findRooms, stateText } from "./rooms.js";
+
+export const byId = id => document.getElementById(id);
+
+export const inWords = codes => codes.length ? codes.join(", ") : text("emptyList");
+
+// What the person has without any other room, in words.
+const outcome = () => desk.me.home === null ? text("getsNone") : text("keeps", { home: desk.me.home });
+
+// The text for somebody with a room, or the one for somebody without.
+export const byHome = name => text(`${name}.${desk.me.home === null ? "homeless" : "homed"}`, { home: desk.me.home });
+
+function element(tag, content, more = {}) {
+  return Object.assign(document.createElement(tag), { textContent: content }, more);
+}
+
+// Pairs of a name and a value. On a narrow page the value goes below its name.
+function pairs(rows) {
+  return rows.map(([name, value]) => {
+    const pair = element("div", "");
+    pair.append(element("dt", name), element("dd", value));
+    return pair;
+  });
+}
+
+// A button of a room. It is marked as disabled and never really is, so that it keeps the focus.
+function roomButton(content, label, act, code, isOff = false) {
+  const button = element("button", content, { type: "button" });
+  button.setAttribute("aria-label", label);
+  button.setAttribute("aria-disabled", isOff);
+  Object.assign(button.dataset, { act, code });
+  return button;
+}
+
+// --- What is said after each step
+
+// The names of texts with their values, so that the message can be shown in another language too.
+let said = { news: [], fault: [] };
+
+export function say(news, values = {}) {
+  said = { news: news ? [[news, values]] : [], fault: [] };
+  drawMessages();
+}
+
+export function sayFault(...names) {
+  said = { news: [], fault: names.map(name => [name, {}]) };
+  drawMessages();
+}
+
+function drawMessages() {
+  for (const [place, parts] of Object.entries(said)) {
+    byId(place).textContent = parts.map(([name, values]) => text(name, values)).join(" ");
+  }
+}
+
+// --- The whole page
+
+export function draw() {
+  const { me } = desk;
+  drawMessages();
+  drawAbout();
+  byId("unready").hidden = true;
+  byId("sign-in").hidden = me !== null;
+  byId("desk").hidden = byId("sign-out").hidden = me === null;
+  if (me === null) return;
+  byId("facts").replaceChildren(...pairs(facts()));
+  [byId("result").textContent, byId("next").textContent] = resultTexts();
+  byId("recorded").hidden = me.phase === "idle";
+  byId("record").textContent = recordText();
+  byId("edit").hidden = !mayEdit(me);
+  if (!mayEdit(me)) return;
+  const promises = [byHome("asking"), text("trueList"), text("handsInNothing", { outcome: outcome() })];
+  byId("promises").replaceChildren(...promises.map(promise => element("li", promise)));
+  byId("withdraw-text").textContent = byHome("withdrawText");
+  drawRooms();
+  drawList();
+}
+
+function drawAbout() {
+  byId("about").hidden = false;
+  byId("about-text").replaceChildren(...texts("about").map(([heading, content]) => {
+    const paragraph = element("p", "");
+    paragraph.append(element("strong", heading), ` ${content}`);
+    return paragraph;
+  }));
+}
+
+// What is on record of the person. What else the server comes to tell of a person's part in the round has its place in "part".
+function facts() {
+  const { me } = desk;
+  const part = me.withdrawn ? "withdrawn" : me.phase === "idle" ? "idle" : "yes";
+  return [
+    [text("facts.name"), me.name],
+    [text("facts.person"), me.person],
+    [text("facts.home"), me.home ?? text("noHome")],
+    [text("facts.round"), me.round > 0 ? String(me.round) : text("noRoundYet")],
+    [text("facts.phase"), hasText(`phases.${me.phase}`) ? text(`phases.${me.phase}`) : me.phase],
+    [text("facts.part"), text(`part.${part}`)],
+  ];
+}
+
+// The result, and what to do next.
+function resultTexts() {
+  const { me } = desk, next = me.home === null ? text("next.none") : "";
+  if (me.shown) {
+    const kind = me.result === null ? "none" : me.result === me.home ? "keeps" : "gets";
+    return [text(`result.${kind}`, { room: me.result }), text(`next.${kind}`)];
+  }
+  if (me.withdrawn) return [text("result.withdrawn", { outcome: outcome() }), next];
+  if (me.phase === "idle") return ["", text(me.home === null ? "next.idleNone" : "next.idle")];
+  return ["", ""];
+}
+
+function recordText() {
+  const { me, sent } = desk;
+  if (me.withdrawn) return text("record.withdrawn");
+  if (me.choices.length > 0) return inWords(me.choices);
+  const kind = sent?.length === 0 ? "empty" : me.phase === "open" ? "nothing" : "closed";
+  return text(`record.${kind}`, { outcome: outcome() });
+}
+
+// --- The rooms, and the list
+
+export function drawRooms() {
+  const found = findRooms(desk.rooms, desk.descriptions, desk.me.home, byId("find").value);
+  byId("count").textContent = text("count", { found: found.length, all: desk.rooms.length });
+  byId("rooms").replaceChildren(...found.slice(0, desk.shown).map(roomItem));
+  byId("more").hidden = found.length <= desk.shown;
+}
+
+function roomItem(row) {
+  const item = element("li", "", { className: "item" }), about = element("span", row.room, { className: "about" });
+  about.append(element("span", stateText(row, desk.me.home), { className: "note" }));
+  const description = desk.descriptions.get(row.room);
+  if (description) about.append(element("span", description, { className: "note" }));
+  item.append(about);
+  if (desk.list.includes(row.room)) {
+    item.append(element("span", text("onList"), { className: "listed" }));
+  } else if (row.state !== "shut") {
+    const label = text("addLabel", { room: row.room });
+    item.append(roomButton(text("add"), label, "add", row.room, desk.list.length >= LONGEST_LIST));
+  }
+  return item;
+}
+
+export function drawList() {
+  byId("list").replaceChildren(...desk.list.map(listItem));
+  byId("state").textContent = stateLine();
+  for (const id of ["hand-in", "undo"]) byId(id).setAttribute("aria-disabled", !isChanged());
+}
+
+function stateLine() {
+  const count = desk.list.length;
+  const kind = isChangedElsewhere() ? "elsewhere" : isChanged() ? "changed" : count > 0 ? "recorded" : "empty";
+  return text(`state.${kind}`, { count, most: LONGEST_LIST, outcome: outcome() });
+}
+
+function listItem(code, place) {
+  const item = element("li", ""), row = element("div", "", { className: "item" });
+  const about = element("span", code, { className: "about" }), note = noteOn(code, place);
+  if (note) about.append(element("span", note, { className: "note" }));
+  row.append(
+    about,
+    roomButton("↑", text("up", { room: code }), "up", code, place === 0),
+    roomButton("↓", text("down", { room: code }), "down", code, place === desk.list.length - 1),
+    roomButton("✕", text("remove", { room: code }), "remove", code),
+  );
+  item.append(row);
+  return item;
+}
+
+function noteOn(code, place) {
+  const own = desk.list.indexOf(desk.me.home), state = stateOf(code);
+  if (code === desk.me.home) return text("notes.own");
+  if (state === "shut" || state === "unknown") return text(`notes.${state}`);
+  return own >= 0 && place > own ? text("notes.after") : desk.descriptions.get(code) ?? "";
+}
+
+// The next rooms that were found are shown as well, and the keyboard goes on with them.
+export function showMore() {
+  const first = desk.shown;
+  desk.shown += ROOMS_AT_ONCE;
+  drawRooms();
+  (document.querySelector(`#rooms li:nth-child(n + ${first + 1}) button`) ?? byId("find")).focus();
+}
+
+// Where the keyboard goes on: the next room that can be added, the next one to remove, or the button that was pressed.
+export function nextFocus(act, code, place) {
+  const buttonOf = (act, code) => document.querySelector(`#desk [data-act="${act}"][data-code="${code}"]`);
+  if (act === "add") {
+    const after = desk.rooms.slice(desk.rooms.findIndex(row => row.room === code)).map(row => buttonOf("add", row.room));
+    return after.find(button => button !== null) ?? (byId("more").hidden ? byId("hand-in") : byId("more"));
+  }
+  if (act !== "remove") return buttonOf(act, code);
+  return desk.list.length ? buttonOf("remove", desk.list[Math.min(place, desk.list.length - 1)]) : byId("list-heading");
+}
+
+// --- Questions
+
+// Asks, and gives the value of the answer. The first answer has the focus, and is given by Escape too. An answer is its value,
+// its text, and whether it can't be taken back.
+export function ask(heading, content, lists, answers) {
+  const question = byId("question");
+  byId("question-heading").textContent = heading;
+  byId("question-text").textContent = content;
+  byId("question-lists").replaceChildren(...pairs(lists));
+  byId("question-lists").hidden = lists.length === 0;
+  byId("answers").replaceChildren(...answers.map(([value, label, isFinal]) =>
+    element("button", label, { value, id: value, className: isFinal ? "danger" : "" })));
+  question.returnValue = "";
+  question.showModal();
+  return new Promise(given => {
+    question.addEventListener("close", () => given(question.returnValue || answers[0][0]), { once: true });
+  });
+}
+
+// The bar with "Hand in" stays in sight while the rooms and the list go by below it, unless large letters make it too high.
+export function keepBarInSight() {
+  const root = document.documentElement, bar = byId("bar"), messages = byId("messages");
+  const look = () => {
+    root.style.setProperty("--bar", `${bar.offsetHeight}px`);
+    root.style.setProperty("--messages", `${messages.offsetHeight}px`);
+    root.classList.toggle("sticks", bar.offsetHeight * 4 < innerHeight);
+  };
+  const observer = new ResizeObserver(look);
+  for (const part of [root, bar, messages]) observer.observe(part);
+}

@@ -1,0 +1,219 @@
+"""The portal page: rooms that are found, lists that were begun, lists that another device has changed, and languages."""
+
+import http.client
+import json
+import socket
+
+from selenium.webdriver.common.keys import Keys
+from selenium.webdriver.support.select import Select
+
+from page_browser import DESK, Page
+from stand import HOST, check, key_of, unchecked
+
+# The next list goes to the server, and its answer is lost.
+LOST_ANSWER = """
+    const real = window.fetch;
+    window.fetch = async (path, options) => {
+        const answer = await real(path, options);
+        if (options.method !== "PUT") return answer;
+        window.fetch = real;
+        throw new TypeError("lost");
+    };"""
+# The server tells more of a person than the page knows of.
+MORE_MEMBERS = """
+    const real = window.fetch;
+    window.fetch = async (path, options) => {
+        const answer = await real(path, options);
+        if (path !== "/me" || answer.status !== 200) return answer;
+        return new Response(JSON.stringify({ ...await answer.json(), going: true, more: { deep: [1] } }), { status: 200 });
+    };"""
+
+
+class Device:
+    """Another device of a resident, which needs no page."""
+
+    def __init__(self, stand, person):
+        self.stand, self.key = stand, key_of(person)
+
+    def ask(self, method, path, value=None):
+        """Sends a request through the proxy and gives the value of its answer."""
+        connection = http.client.HTTPConnection(HOST)
+        plain = socket.create_connection(("127.0.0.1", self.stand.port), 30)
+        connection.sock = unchecked().wrap_socket(plain, server_hostname=HOST)
+        body = None if value is None else json.dumps(value)
+        connection.request(method, path, body, {"Room-Key": self.key})
+        answer = connection.getresponse()
+        value = json.loads(answer.read())
+        connection.close()
+        if answer.status != 200:
+            raise ValueError(f"{method} {path}: {answer.status} {value}")
+        return value
+
+    def hand_in(self, *codes):
+        """Hands in a list."""
+        self.ask("PUT", "/me/choices", list(codes))
+
+    def recorded(self):
+        """The list on record."""
+        return self.ask("GET", "/me")["choices"]
+
+
+def rooms_found(page):
+    """The order of rooms, what is said of them, and how they are found."""
+    page.find("")
+    check("rooms stand in the order in which people count",
+          page.offered() == [f"A-{n}" for n in range(1, 21)], page.offered())
+    page.click("more")
+    check("more rooms are shown when they are asked for, and the keyboard goes on there",
+          len(page.offered()) == 40 and page.focus() == "Add room A-21", page.focus())
+    about = page.text("rooms")
+    check("what the college says of a room stands beside it", "house North, floor 2, size 14 m²" in about, about)
+    check("also with signs that CSV needs quotes for", 'house South; by the "Green", floor 0' in about, about)
+    for typed, found in (("north", ["A-1"]), ("occupied", ["H1", "H2", "H3"]), ("lived  H3", ["H3"]), ("a-45 free", ["A-45"]),
+                         ("your", ["H1"]), ("shut", ["OLD-1"]), ("free h", ["A-1", "A-2"]), ("nothing", [])):
+        page.find(typed)
+        check(f"{typed!r} finds {found}", page.waits(lambda f=found: page.offered() == f), page.offered())
+    page.find("H2")
+    check("a room that somebody lives in may be asked for, and that is said", "lived in, may be asked for" in page.text("rooms")
+          and "also for a room that somebody lives in" in page.text("edit"))
+    page.find("")
+    promises = page.text("promises")
+    check("the three promises are there", all(part in promises for part in (
+        "You never lose by asking. You keep room H1", "A true list is a best list", "hand in nothing, you keep room H1")), promises)
+
+
+def lose_key(page):
+    """The tab has another key than the server, and the page is loaded again."""
+    page.script("sessionStorage.setItem('room-key', 'key0000000000bad');")
+    page.open()
+    check("the key is asked for again", page.waits(lambda: "not known" in page.text("fault")), page.text("fault"))
+
+
+def drafts(page):
+    """A list that was begun stays with its person until it is handed in or given up."""
+    page.sign_out()
+    page.sign_in(key_of("T3"), "Tea Tal")
+    page.add("A-5", "V")
+    page.open()
+    check("a list that was begun is there when the page is loaded again", page.waits(lambda: page.codes() == ["A-5", "V"]))
+    check("and it is said that it is not handed in",
+          "still here" in page.text("news") and "Not handed in" in page.text("state"), page.text("news"))
+    lose_key(page)
+    page.sign_in(key_of("T3"), "Tea Tal")
+    check("and when the key is asked for again", page.codes() == ["A-5", "V"], page.codes())
+    lose_key(page)
+    page.sign_in(key_of("N"), "Nia Ng")
+    check("nobody else sees it", page.codes() == [] and "A-5" not in page.script("return sessionStorage['rooms-draft'];"))
+    check("who has no room is told what a list is for", "list every room that you would take" in page.text("promises"))
+    check("what it means to hand in nothing is said",
+          "handed in nothing yet, or" in page.text("record") and "you get no room." in page.text("record"), page.text("record"))
+    page.sign_out()
+    page.sign_in(key_of("T3"), "Tea Tal")
+    page.add("A-6")
+    page.click("sign-out")
+    check("before a list is lost there is a question", page.waits(lambda: page.focus() == "stay"), page.focus())
+    page.shot("9-sign-out")
+    page.keys(Keys.ESCAPE)
+    check("Escape stays", page.waits(lambda: page.focus() == "sign-out") and page.codes() == ["A-6"], page.focus())
+    page.sign_out()
+    check("who signs out leaves nothing behind", page.waits(lambda: page.element("sign-in").is_displayed())
+          and page.script("return sessionStorage.length;") == 0)
+    page.script("sessionStorage.setItem('rooms-draft', '{\"list\":');")
+    page.sign_in(key_of("T3"), "Tea Tal")
+    check("a damaged draft is passed over", page.codes() == [], page.codes())
+
+
+def changed_elsewhere(page, stand):
+    """The newer list of another device is not replaced unasked."""
+    other = Device(stand, "T3")
+    page.add("A-5")
+    check("a first list is handed in", page.hand_in())
+    other.hand_in("A-9", "V")
+    page.add("A-6")
+    page.click("hand-in")
+    check("a newer list is found", page.waits(lambda: page.focus() == "later"), page.focus())
+    check("both lists are shown", page.element("question-lists").text.split("\n")
+          == ["On record now", "A-9, V", "Your list here", "A-5, A-6"], page.element("question-lists").text)
+    page.shot("10-elsewhere")
+    page.keys(Keys.ESCAPE)
+    check("Escape changes nothing", page.waits(lambda: "Nothing was changed" in page.text("news"))
+          and other.recorded() == ["A-9", "V"] and page.codes() == ["A-5", "A-6"], (page.text("news"), page.codes()))
+    check("and it stays in sight", "changed elsewhere" in page.text("state") and page.text("record") == "A-9, V")
+    page.open()
+    page.waits(lambda: page.codes() == ["A-5", "A-6"])
+    page.click("hand-in")
+    check("it is asked again, also after the page was loaded again", page.waits(lambda: page.focus() == "later"), page.focus())
+    page.keys(Keys.TAB, Keys.ENTER)
+    check("the list on record can be kept", page.waits(lambda: page.codes() == ["A-9", "V"]) and other.recorded() == ["A-9", "V"])
+    other.hand_in("A-10")
+    page.add("A-11")
+    page.click("hand-in")
+    page.waits(lambda: page.focus() == "later")
+    page.keys(Keys.TAB, Keys.TAB, Keys.ENTER)
+    check("or replaced", page.waits(lambda: "Handed in" in page.text("news"))
+          and other.recorded() == ["A-9", "V", "A-11"], page.text("news"))
+    page.add("A-12")
+    other.hand_in("A-9", "V", "A-11", "A-12")
+    page.click("hand-in")
+    check("the same list from both is no question", page.waits(lambda: "Nothing to hand in" in page.text("news")))
+    page.add("A-13")
+    page.script(LOST_ANSWER)
+    page.click("hand-in")
+    page.waits(lambda: "not known whether" in page.text("fault"))
+    page.add("A-14")
+    check("nor is a list of this tab whose answer was lost", page.hand_in() and other.recorded()[-2:] == ["A-13", "A-14"])
+
+
+def empty_list(page, stand):
+    """An empty list, and none."""
+    for code in page.codes():
+        page.press("remove", code)
+    check("an empty list can be handed in", page.hand_in() and Device(stand, "T3").recorded() == [], page.text("news"))
+    check("it is known from having handed in nothing",
+          page.text("record") == "You handed in an empty list: you keep room H3.", page.text("record"))
+    page.script(MORE_MEMBERS)
+    page.click("ask-again")
+    check("what the page does not know of does not disturb it", page.waits(lambda: "has now" in page.text("news"))
+          and "Tea Tal" in page.text("facts"), page.text("fault"))
+    page.sign_out()
+
+
+def languages(page, stand):
+    """The switch, and what the browser asks for."""
+    page.sign_in("x")
+    check("the language can be chosen by the keyboard", page.tab_to("Language"))
+    page.keys("D")
+    check("all of the page is German then", page.waits(lambda: page.script("return document.documentElement.lang;") == "de")
+          and page.driver.title == "Zimmertausch" and "16 bis 64" in page.text("fault"), page.text("fault"))
+    check("the notice too", page.text("notice") == "Bis 31. Mai, 12 Uhr.", page.text("notice"))
+    page.shot("11-german-sign-in")
+    page.sign_in(key_of("T3"), "Tea Tal")
+    page.add("A-3", "H3", "A-4")
+    page.shot("12-german-list")
+    page.open()
+    check("the language is kept in the tab", page.waits(lambda: "Ihre begonnene Liste" in page.text("news")), page.text("news"))
+    page.click("withdraw")
+    check("questions are German", page.waits(lambda: "Sie behalten Zimmer H3." in page.text("question-text")))
+    page.shot("13-german-question")
+    page.keys(Keys.ESCAPE)
+    page.find("frei a-45")
+    check("rooms are found by German words", page.waits(lambda: page.offered() == ["A-45"]), page.offered())
+    page.sign_out()
+    Select(page.element("language")).select_by_value("en")
+    check("and back", page.text("news") == "Signed out." and page.driver.title == "Room exchange", page.text("news"))
+    for asked, given in (("de-AT,fr", "de"), ("fr,de", "de"), ("fr", "en")):
+        with Page(stand, page.shots, asked) as other:
+            other.open()
+            lang = other.script("return document.documentElement.lang;")
+            check(f"a browser that asks for {asked} gets {given}", lang == given, lang)
+
+
+def try_lists(page, stand):
+    """T1 is signed in, with a list on record; so it is afterwards."""
+    page.width(*DESK)
+    rooms_found(page)
+    drafts(page)
+    changed_elsewhere(page, stand)
+    empty_list(page, stand)
+    languages(page, stand)
+    page.sign_in(key_of("T1"), "Tim Tan")

@@ -1,0 +1,213 @@
+"""The portal page as it looks: sizes, large letters, schemes, contrast, what a screen reader is told, and use by keys alone."""
+
+from selenium.webdriver.common.keys import Keys
+
+from page_browser import DESK, PHONE, SCROLLER
+from page_lists import Device
+from stand import check, key_of
+
+SIZES = {"360": PHONE, "412": (412, 915), "1280": DESK, "landscape": (780, 360)}
+MEDIA = {"light": {}, "dark": {"prefers_color_scheme": "dark"}, "forced": {"forced_colors": "active"}}
+LETTERS = (100, 200)
+# The least contrast of text, and of what shows where a control is (WCAG 2.2, 1.4.3 and 1.4.11).
+TEXT, EDGE = 4.5, 3
+TARGET = 44
+
+# Each visible text with its contrast to what lies behind it, and each control with that of its edge. What is marked as disabled is
+# let off.
+CONTRASTS = """
+    const parts = color => color.match(/[\\d.]+/g).map(Number);
+    const light = color => {
+        const [r, g, b] = parts(color).slice(0, 3).map(v => v / 255).map(v => v <= .04045 ? v / 12.92 : ((v + .055) / 1.055) ** 2.4);
+        return .2126 * r + .7152 * g + .0722 * b;
+    };
+    const ratio = (one, other) => {
+        const [high, low] = [light(one), light(other)].sort((a, b) => b - a);
+        return (high + .05) / (low + .05);
+    };
+    const behind = e => {
+        for (; e; e = e.parentElement) {
+            const color = getComputedStyle(e).backgroundColor;
+            if ((parts(color)[3] ?? 1) > 0) return color;
+        }
+        return "rgb(255, 255, 255)";
+    };
+    const isSeen = e => e.checkVisibility() && !e.closest("[aria-disabled=true]") && !["OPTION", "SCRIPT"].includes(e.tagName);
+    const found = [];
+    for (const e of document.querySelectorAll("body *")) {
+        const style = getComputedStyle(e);
+        if (!isSeen(e)) continue;
+        if ([...e.childNodes].some(n => n.nodeType === 3 && n.textContent.trim()))
+            found.push(["text", e.id || e.textContent.trim().slice(0, 30), ratio(style.color, behind(e))]);
+        if (e.matches("button:not(.main), input:not([type=checkbox]), select"))
+            found.push(["edge", e.id || e.textContent, ratio(style.borderTopColor, behind(e.parentElement))]);
+    }
+    return found;"""
+
+# Each control that is smaller than a finger. A check box has its label as well.
+SMALL = """
+    return [...document.querySelectorAll("button, input, select, summary")].filter(e => e.checkVisibility()).map(e => {
+        const box = (e.type === "checkbox" ? e.closest("label") : e).getBoundingClientRect();
+        return [e.id || e.textContent, box.width, box.height];
+    }).filter(([, width, height]) => width < arguments[0] || height < arguments[0]);"""
+
+# What scrolls inside of what scrolls.
+NESTED = """
+    return [...document.querySelectorAll("main *")].filter(e => ["auto", "scroll"].includes(getComputedStyle(e).overflowY))
+        .map(e => e.id || e.className);"""
+
+# The places at which the button is not to be pressed, although the rooms or the list are on the screen.
+UNREACHED = SCROLLER + """
+    const found = [], columns = document.querySelector(".columns"), button = document.getElementById("hand-in");
+    const high = document.getElementById("messages").getBoundingClientRect().bottom;
+    for (let at = 0; at < scroller.scrollHeight; at += 100) {
+        scroller.scrollTop = at;
+        const box = columns.getBoundingClientRect(), own = button.getBoundingClientRect();
+        if (box.top > innerHeight - 150 || box.bottom < high + 150) continue;
+        const seen = document.elementFromPoint(own.left + own.width / 2, own.top + own.height / 2);
+        if (seen !== button) found.push(at);
+    }
+    scroller.scrollTop = 0;
+    return found;"""
+
+# What has the focus, and whether it is seen in full.
+FOCUSED = """
+    const e = document.activeElement, box = e.getBoundingClientRect();
+    const ends = [[box.left + 3, box.top + 3], [box.right - 3, box.bottom - 3]];
+    const isSeen = ends.every(([x, y]) => { const seen = document.elementFromPoint(x, y); return seen && (e.contains(seen)
+        || seen.contains(e)); });
+    return [e === document.body ? "" : e.id || e.getAttribute("aria-label") || e.textContent, isSeen,
+        getComputedStyle(e).outlineStyle !== "none"];"""
+
+
+def sizes(page, name):
+    """Nothing is wider than the window, in each size, scheme and size of letters; with photographs of some."""
+    for size, (width, height) in SIZES.items():
+        page.width(width, height)
+        for percent in LETTERS:
+            page.letters(percent)
+            wider = page.too_wide()
+            check(f"{name}: nothing is off the screen, {size}, letters of {percent} %", wider == [], wider)
+            if size != "412":
+                page.picture(f"{name}-{size}-{percent}")
+        page.letters(100)
+    for media, features in MEDIA.items():
+        if media != "light":
+            page.media(**features)
+            for size in ("360", "1280"):
+                page.width(*SIZES[size])
+                page.picture(f"{name}-{size}-{media}")
+    page.media()
+
+
+def contrast(page, name):
+    """All texts and edges can be told from what lies behind, in both schemes."""
+    for scheme in ("light", "dark"):
+        page.media(prefers_color_scheme=scheme)
+        for kind, least in (("text", TEXT), ("edge", EDGE)):
+            ratios = [(round(ratio, 2), what) for one, what, ratio in page.script(CONTRASTS) if one == kind]
+            lowest = min(ratios)
+            check(f"{name}: {scheme}: {len(ratios)} of {kind}, the least contrast is {lowest[0]}", lowest[0] >= least, lowest)
+    page.media()
+
+
+def tree(page, name, headings):
+    """What a screen reader is told: each control has a name, headings go down by one, and messages are live."""
+    nodes = page.driver.execute_cdp_cmd("Accessibility.getFullAXTree", {})["nodes"]
+
+    def value(node, member):
+        return node.get(member, {}).get("value", "")
+
+    shown = [node for node in nodes if not node.get("ignored")]
+    controls = [node for node in shown if value(node, "role") in (
+        "button", "textbox", "searchbox", "checkbox", "combobox", "link", "DisclosureTriangle", "dialog", "region")]
+    unnamed = [value(node, "role") for node in controls if not value(node, "name").strip()]
+    check(f"{name}: all {len(controls)} controls have names", controls and not unnamed, unnamed)
+    levels = [next(p["value"]["value"] for p in node["properties"] if p["name"] == "level")
+              for node in shown if value(node, "role") == "heading"]
+    jumps = [pair for pair in zip(levels, levels[1:]) if pair[1] > pair[0] + 1]
+    check(f"{name}: {headings} headings, none left out", levels[:1] == [1] and len(levels) == headings and not jumps, levels)
+    live = page.script("return ['fault', 'news'].map(id => document.getElementById(id).getAttribute('role'));")
+    check(f"{name}: the messages are live", live == ["alert", "status"], live)
+
+
+def small_screen(page):
+    """What a phone needs, with a list of 40 rooms."""
+    page.width(*PHONE)
+    heights = page.script("return [...document.querySelectorAll('#list .item')].map(e => e.getBoundingClientRect().height);")
+    check(f"40 rooms have a line each, at most {max(heights):.0f} pixels high", len(heights) == 40 and max(heights) < 60, heights)
+    for size in ("360", "412", "landscape"):
+        page.width(*SIZES[size])
+        check(f"{size}: no target is smaller than {TARGET} pixels", page.script(SMALL, TARGET) == [], page.script(SMALL, TARGET))
+        check(f"{size}: no box that scrolls is in another", page.script(NESTED) == [], page.script(NESTED))
+        check(f"{size}: the list can be handed in wherever it or the rooms are in sight", page.script(UNREACHED) == [],
+              page.script(UNREACHED))
+        check(f"{size}: the message covers nothing", page.covered() == [], page.covered())
+    page.width(*PHONE)
+    page.letters(200)
+    top = page.script("return document.getElementById('hand-in').getBoundingClientRect().top"
+                      " - document.getElementById('list').getBoundingClientRect().top;")
+    check("with large letters the button stands above the 40 rooms", top < 0, top)
+    check("and nothing is covered", page.covered() == [], page.covered())
+    page.letters(100)
+    check("keys are not told of where there are none", "Alt" not in page.text("list-hint"), page.text("list-hint"))
+    page.width(*DESK)
+    check("and are told of where there are", "Alt" in page.text("list-hint"), page.text("list-hint"))
+
+
+def by_keys(page):
+    """The Tab key goes through all controls, and each is seen when it has the focus."""
+    for size in ("360", "landscape", "1280"):
+        page.width(*SIZES[size])
+        page.script("document.activeElement.blur(); document.getElementById('language').focus();")
+        names, hidden = [], []
+        for _ in range(300):
+            name, is_seen, has_ring = page.script(FOCUSED)
+            if name == "" or name in names and name == "language":
+                break
+            names.append(name)
+            if not (is_seen and has_ring):
+                hidden.append(name)
+            page.keys(Keys.TAB)
+        wanted = ["sign-out", "ask-again", "find", "more", "hand-in", "Move A-1 up", "Remove A-40", "undo", "withdraw"]
+        places = [names.index(name) for name in wanted if name in names]
+        check(f"{size}: Tab goes through {len(names)} controls in order", len(places) == len(wanted) and places == sorted(places),
+              names)
+        check(f"{size}: each is in sight, with a ring", not hidden, hidden)
+
+
+def try_looks(page):
+    """T1 is signed in; so it is afterwards. N has a list of 40 rooms meanwhile."""
+    stand = page.stand
+    other = Device(stand, "N")
+    page.sign_out()
+    sizes(page, "s1-sign-in")
+    contrast(page, "sign-in")
+    tree(page, "sign-in", 2)
+    page.script("document.querySelector('#about summary').click();")
+    sizes(page, "s2-about")
+    contrast(page, "about")
+    page.script("document.querySelector('#about summary').click();")
+    other.hand_in(*[f"A-{n}" for n in range(1, 41)])
+    page.sign_in(key_of("N"), "Nia Ng")
+    page.press("up", "A-40")
+    small_screen(page)
+    by_keys(page)
+    page.press("down", "A-40")
+    page.press("remove", "A-40")
+    contrast(page, "list")
+    tree(page, "list", 8)
+    page.script("document.querySelector('main').scrollTop = 0;")
+    sizes(page, "s3-desk")
+    page.script("document.getElementById('list-heading').scrollIntoView();")
+    sizes(page, "s4-list")
+    other.hand_in("A-9", "A-8")
+    page.click("hand-in")
+    page.waits(lambda: page.focus() == "later")
+    sizes(page, "s5-question")
+    contrast(page, "question")
+    tree(page, "question", 1)
+    page.keys(Keys.ESCAPE)
+    other.hand_in()
+    page.sign_out()
+    page.sign_in(key_of("T1"), "Tim Tan")
