@@ -10,7 +10,7 @@ import { forgetDraft, forgetKey, recallKey, rememberKey, rememberLanguage } from
 import { inOrder, readDescriptions } from "./rooms.js";
 import { call, Fault, roomsFile } from "./server.js";
 import {
-  ask, byHome, byId, draw, drawList, drawRooms, inWords, keepBarInSight, nextFocus, say, sayFault, showMore,
+  ask, byHome, byId, draw, drawList, drawRooms, inWords, fitToScreen, nextFocus, say, sayFault, showMore,
 } from "./view.js";
 
 // --- Asking the server
@@ -95,9 +95,8 @@ function leave() {
 async function signOut() {
   if (desk.isBusy) return;
   if (isChanged()) {
-    const lists = [[text("elsewhere.record"), inWords(desk.me.choices)], [text("elsewhere.here"), inWords(desk.list)]];
     const answers = [["stay", text("signOutQuestion.stay")], ["go", text("signOutQuestion.go"), true]];
-    const answer = await ask(text("signOutQuestion.heading"), text("signOutQuestion.text"), lists, answers);
+    const answer = await ask(text("signOutQuestion.heading"), text("signOutQuestion.text"), bothLists(), answers);
     if (answer !== "go") return;
   }
   forgetDraft();
@@ -118,7 +117,7 @@ async function handIn() {
   const isThere = await during(async () => {
     await load({ doubt: ["unchanged"] });
     if (!mayEdit(desk.me)) sayFault(desk.me.withdrawn ? "faults.Withdrawn" : "faults.BadPhase");
-    else if (!isChanged()) say("nothingNew");
+    else say(isChanged() ? "" : "nothingNew");
     return isChanged();
   });
   if (!isThere) return;
@@ -128,10 +127,13 @@ async function handIn() {
   if (answer === "later") say("elsewhere.waits");
 }
 
+const bothLists = () => [[text("elsewhere.record"), desk.me.choices], [text("elsewhere.here"), desk.list]];
+
 function askWhichList() {
-  const lists = [[text("elsewhere.record"), inWords(desk.me.choices)], [text("elsewhere.here"), inWords(desk.list)]];
-  const answers = [["later", text("elsewhere.later")], ["keep", text("elsewhere.keep")], ["replace", text("elsewhere.replace"), true]];
-  return ask(text("elsewhere.heading"), text("elsewhere.text"), lists, answers);
+  const answers = [
+    ["later", text("elsewhere.later")], ["keep", text("elsewhere.keep")], ["replace", text("elsewhere.replace"), true],
+  ];
+  return ask(text("elsewhere.heading"), text("elsewhere.text"), bothLists(), answers);
 }
 
 async function sendList() {
@@ -233,7 +235,7 @@ async function describeRooms() {
 
 setLanguage(firstLanguage());
 listen();
-keepBarInSight();
+fitToScreen();
 draw();
 describeRooms();
 desk.key = recallKey();

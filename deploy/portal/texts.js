@@ -277,8 +277,8 @@ export const TEXTS = {
     handsInNothing: "Wenn Sie nichts abgeben, heißt das: {outcome}.",
 
     roomsHeading: "Zimmer",
-    askForAny: "Sie können sich ein freies Zimmer wünschen und auch eines, in dem jemand wohnt. Niemand wird dadurch verdrängt: Wer dort "
-      + "wohnt, zieht nur aus, wenn er oder sie dafür ein lieberes Zimmer bekommt.",
+    askForAny: "Sie können sich ein freies Zimmer wünschen und auch eines, in dem jemand wohnt. Niemand wird dadurch verdrängt: Die "
+      + "Person, die dort wohnt, zieht nur aus, wenn sie dafür ein Zimmer bekommt, das ihr lieber ist.",
     findLabel: "Zimmer suchen",
     findHint: "Geben Sie einen Teil der Zimmernummer ein oder etwas, das daneben steht, zum Beispiel „frei“.",
     count: "Gefundene Zimmer: {found} von {all}.",
@@ -369,7 +369,7 @@ export const TEXTS = {
         + "können sie ändern, bis die Runde geschlossen wird. Es zählt die Liste, die Sie zuletzt abgegeben haben."],
       ["Die Reihenfolge wird ausgelost.", "Wenn die Runde geschlossen ist, entscheidet das Los, in welcher Reihenfolge alle drankommen."],
       ["Die Zimmer werden zugeteilt.", "Wer an der Reihe ist, bekommt von seiner Liste das beste Zimmer, das noch da ist. Wohnt dort jemand, "
-        + "so wählt diese Person zuerst und behält ihr Zimmer, wenn sie kein lieberes bekommt. Zwei Personen, die jeweils das Zimmer der "
+        + "so wählt diese Person zuerst und behält ihr Zimmer, wenn sie keines bekommt, das ihr lieber ist. Zwei Personen, die jeweils das Zimmer der "
         + "anderen möchten, tauschen; ebenso mehrere im Kreis."],
       ["Ihr Ergebnis sehen Sie hier.", "Die Wohnheimverwaltung zeigt alle Ergebnisse zur selben Zeit und sagt dann, wer wann umzieht."],
       ["Was andere sehen.", "Diese Seite zeigt Ihnen Ihre eigene Liste und Ihr eigenes Ergebnis. Die Wohnheimverwaltung sieht alle Listen."],

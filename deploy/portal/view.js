@@ -18,11 +18,18 @@ function element(tag, content, more = {}) {
   return Object.assign(document.createElement(tag), { textContent: content }, more);
 }
 
-// Pairs of a name and a value. On a narrow page the value goes below its name.
+// A list of rooms, for reading. No code is broken at its hyphen.
+function codeNodes(codes) {
+  if (codes.length === 0) return [text("emptyList")];
+  return codes.flatMap((code, at) => [at > 0 ? ", " : "", element("span", code, { className: "code" })]);
+}
+
+// Pairs of a name and a value, which is a text or a list of rooms. On a narrow page the value goes below its name.
 function pairs(rows) {
   return rows.map(([name, value]) => {
-    const pair = element("div", "");
-    pair.append(element("dt", name), element("dd", value));
+    const pair = element("div", ""), second = element("dd", "");
+    second.append(...Array.isArray(value) ? codeNodes(value) : [value]);
+    pair.append(element("dt", name), second);
     return pair;
   });
 }
@@ -70,7 +77,7 @@ export function draw() {
   byId("facts").replaceChildren(...pairs(facts()));
   [byId("result").textContent, byId("next").textContent] = resultTexts();
   byId("recorded").hidden = me.phase === "idle";
-  byId("record").textContent = recordText();
+  byId("record").replaceChildren(...recordNodes());
   byId("edit").hidden = !mayEdit(me);
   if (!mayEdit(me)) return;
   const promises = [byHome("asking"), text("trueList"), text("handsInNothing", { outcome: outcome() })];
@@ -115,12 +122,12 @@ function resultTexts() {
   return ["", ""];
 }
 
-function recordText() {
+function recordNodes() {
   const { me, sent } = desk;
-  if (me.withdrawn) return text("record.withdrawn");
-  if (me.choices.length > 0) return inWords(me.choices);
+  if (me.withdrawn) return [text("record.withdrawn")];
+  if (me.choices.length > 0) return codeNodes(me.choices);
   const kind = sent?.length === 0 ? "empty" : me.phase === "open" ? "nothing" : "closed";
-  return text(`record.${kind}`, { outcome: outcome() });
+  return [text(`record.${kind}`, { outcome: outcome() })];
 }
 
 // --- The rooms, and the list
@@ -161,8 +168,10 @@ function stateLine() {
 
 function listItem(code, place) {
   const item = element("li", ""), row = element("div", "", { className: "item" });
-  const about = element("span", code, { className: "about" }), note = noteOn(code, place);
+  const about = element("span", code, { className: "about" });
+  const note = noteOn(code, place), description = desk.descriptions.get(code);
   if (note) about.append(element("span", note, { className: "note" }));
+  else if (description) about.append(element("span", description, { className: "note description" }));
   row.append(
     about,
     roomButton("↑", text("up", { room: code }), "up", code, place === 0),
@@ -177,7 +186,7 @@ function noteOn(code, place) {
   const own = desk.list.indexOf(desk.me.home), state = stateOf(code);
   if (code === desk.me.home) return text("notes.own");
   if (state === "shut" || state === "unknown") return text(`notes.${state}`);
-  return own >= 0 && place > own ? text("notes.after") : desk.descriptions.get(code) ?? "";
+  return own >= 0 && place > own ? text("notes.after") : "";
 }
 
 // The next rooms that were found are shown as well, and the keyboard goes on with them.
@@ -218,14 +227,19 @@ export function ask(heading, content, lists, answers) {
   });
 }
 
-// The bar with "Hand in" stays in sight while the rooms and the list go by below it, unless large letters make it too high.
-export function keepBarInSight() {
+const LOW = 25;
+
+// On a screen that is high enough for its letters, at least LOW of them, the message stands above what scrolls. And the bar with
+// "Hand in" stays in sight while the rooms and the list go by, unless large letters make it too high.
+export function fitToScreen() {
   const root = document.documentElement, bar = byId("bar"), messages = byId("messages");
   const look = () => {
     root.style.setProperty("--bar", `${bar.offsetHeight}px`);
     root.style.setProperty("--messages", `${messages.offsetHeight}px`);
+    root.classList.toggle("roomy", innerHeight >= LOW * parseFloat(getComputedStyle(root).fontSize));
     root.classList.toggle("sticks", bar.offsetHeight * 4 < innerHeight);
   };
   const observer = new ResizeObserver(look);
   for (const part of [root, bar, messages]) observer.observe(part);
+  addEventListener("resize", look);
 }

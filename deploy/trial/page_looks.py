@@ -80,23 +80,23 @@ FOCUSED = """
         getComputedStyle(e).outlineStyle !== "none"];"""
 
 
-def sizes(page, name):
-    """Nothing is wider than the window, in each size, scheme and size of letters; with photographs of some."""
-    for size, (width, height) in SIZES.items():
-        page.width(width, height)
-        for percent in LETTERS:
-            page.letters(percent)
-            wider = page.too_wide()
-            check(f"{name}: nothing is off the screen, {size}, letters of {percent} %", wider == [], wider)
-            if size != "412":
-                page.picture(f"{name}-{size}-{percent}")
-        page.letters(100)
+def sizes(page, name, top="round-heading"):
+    """Nothing is wider than the window, in each size, scheme and size of letters; with photographs of the part that begins there."""
+    def look(media, size, percent):
+        page.width(*SIZES[size])
+        page.letters(percent)
+        wider = page.too_wide()
+        check(f"{name}: nothing is off the screen, {media}, {size}, letters of {percent} %", wider == [], wider)
+        page.script("document.getElementById(arguments[0]).scrollIntoView();", top)
+        page.picture(f"{name}-{size}-{percent}-{media}")
+
     for media, features in MEDIA.items():
-        if media != "light":
-            page.media(**features)
-            for size in ("360", "1280"):
-                page.width(*SIZES[size])
-                page.picture(f"{name}-{size}-{media}")
+        page.media(**features)
+        for size in SIZES:
+            for percent in LETTERS:
+                if media == "light" or (size == "360" and percent == 100):
+                    look(media, size, percent)
+    page.letters(100)
     page.media()
 
 
@@ -112,7 +112,7 @@ def contrast(page, name):
 
 
 def tree(page, name, headings):
-    """What a screen reader is told: each control has a name, headings go down by one, and messages are live."""
+    """What a screen reader is told: each control has a name, the headings have these levels, and messages are live."""
     nodes = page.driver.execute_cdp_cmd("Accessibility.getFullAXTree", {})["nodes"]
 
     def value(node, member):
@@ -125,8 +125,7 @@ def tree(page, name, headings):
     check(f"{name}: all {len(controls)} controls have names", controls and not unnamed, unnamed)
     levels = [next(p["value"]["value"] for p in node["properties"] if p["name"] == "level")
               for node in shown if value(node, "role") == "heading"]
-    jumps = [pair for pair in zip(levels, levels[1:]) if pair[1] > pair[0] + 1]
-    check(f"{name}: {headings} headings, none left out", levels[:1] == [1] and len(levels) == headings and not jumps, levels)
+    check(f"{name}: headings of the levels {headings}", levels == headings, levels)
     live = page.script("return ['fault', 'news'].map(id => document.getElementById(id).getAttribute('role'));")
     check(f"{name}: the messages are live", live == ["alert", "status"], live)
 
@@ -159,16 +158,16 @@ def by_keys(page):
     """The Tab key goes through all controls, and each is seen when it has the focus."""
     for size in ("360", "landscape", "1280"):
         page.width(*SIZES[size])
-        page.script("document.activeElement.blur(); document.getElementById('language').focus();")
+        page.script("document.getElementById('language').focus();")
         names, hidden = [], []
         for _ in range(300):
+            page.keys(Keys.TAB)
             name, is_seen, has_ring = page.script(FOCUSED)
-            if name == "" or name in names and name == "language":
+            if name in ("", "language"):
                 break
             names.append(name)
             if not (is_seen and has_ring):
-                hidden.append(name)
-            page.keys(Keys.TAB)
+                hidden.append((name, is_seen, has_ring))
         wanted = ["sign-out", "ask-again", "find", "more", "hand-in", "Move A-1 up", "Remove A-40", "undo", "withdraw"]
         places = [names.index(name) for name in wanted if name in names]
         check(f"{size}: Tab goes through {len(names)} controls in order", len(places) == len(wanted) and places == sorted(places),
@@ -181,11 +180,11 @@ def try_looks(page):
     stand = page.stand
     other = Device(stand, "N")
     page.sign_out()
-    sizes(page, "s1-sign-in")
+    sizes(page, "s1-sign-in", "sign-in")
     contrast(page, "sign-in")
-    tree(page, "sign-in", 2)
+    tree(page, "sign-in", [1, 2])
     page.script("document.querySelector('#about summary').click();")
-    sizes(page, "s2-about")
+    sizes(page, "s2-about", "about")
     contrast(page, "about")
     page.script("document.querySelector('#about summary').click();")
     other.hand_in(*[f"A-{n}" for n in range(1, 41)])
@@ -196,17 +195,17 @@ def try_looks(page):
     page.press("down", "A-40")
     page.press("remove", "A-40")
     contrast(page, "list")
-    tree(page, "list", 8)
-    page.script("document.querySelector('main').scrollTop = 0;")
+    tree(page, "list", [1, 2, 3, 2, 2, 2, 2])
     sizes(page, "s3-desk")
-    page.script("document.getElementById('list-heading').scrollIntoView();")
-    sizes(page, "s4-list")
+    sizes(page, "s4-rooms", "rooms-heading")
+    sizes(page, "s5-list", "list-heading")
+    sizes(page, "s6-withdraw", "withdraw-heading")
     other.hand_in("A-9", "A-8")
     page.click("hand-in")
     page.waits(lambda: page.focus() == "later")
-    sizes(page, "s5-question")
+    sizes(page, "s7-question", "question-heading")
     contrast(page, "question")
-    tree(page, "question", 1)
+    tree(page, "question", [2])
     page.keys(Keys.ESCAPE)
     other.hand_in()
     page.sign_out()
