@@ -5,11 +5,12 @@ import { recallDraft, rememberDraft } from "./memory.js";
 export const LONGEST_LIST = 40;
 export const ROOMS_AT_ONCE = 20;
 
-// The key; the answers to GET /me and GET /rooms; what the college says of each room; the list as it stands in the page, the one
-// on record from which it was begun, and the one that was handed in last; how many rooms are shown; whether an answer is
-// awaited.
+// The key; the answers to GET /me and GET /rooms; what the college says of each room; the list as it stands in the
+// page, the one on record from which it was begun, and the one that was handed in last; how many rooms are shown;
+// whether an answer is awaited.
 export const desk = {
-  key: "", me: null, rooms: [], descriptions: new Map(), list: [], base: [], sent: null, shown: ROOMS_AT_ONCE, isBusy: false,
+  key: "", me: null, rooms: [], descriptions: new Map(), list: [], base: [], sent: null, shown: ROOMS_AT_ONCE,
+  isBusy: false,
 };
 
 export const isSameList = (one, other) => one.length === other.length && one.every((code, at) => code === other[at]);
@@ -17,12 +18,13 @@ export const mayEdit = person => person.phase === "open" && !person.withdrawn;
 export const isChanged = () => desk.me !== null && mayEdit(desk.me) && !isSameList(desk.list, desk.me.choices);
 export const stateOf = code => desk.rooms.find(row => row.room === code)?.state ?? "unknown";
 
-// Whether the list on record is neither the one from which the list in the page was begun nor one that this tab handed in.
+// Whether the list on record is neither the one from which the list in the page was begun nor one that this tab handed
+// in.
 export const isChangedElsewhere = () => isChanged() && !isSameList(desk.me.choices, desk.base)
   && !(desk.sent !== null && isSameList(desk.me.choices, desk.sent));
 
-// Takes what the server has on record. A list that was begun in this tab, by this person in this round, stays in the page. Says
-// whether such a list is there, or came too late.
+// Takes what the server has on record. A list that was begun in this tab, by this person in this round, stays in the
+// page. Says whether such a list is there, or came too late.
 export function takeRecord(person, rooms) {
   const draft = recallDraft(person.person, person.round);
   const begun = draft?.list && mayEdit(person) ? draft : null;

@@ -7,7 +7,8 @@ const FIRST = Object.keys(TEXTS)[0];
 
 let chosen = FIRST;
 
-// The text with this name, for example "faults.busy", or nothing. Names may come from the server, so only own members count.
+// The text with this name, for example "faults.busy", or nothing. Names may come from the server, so only own members
+// count.
 function found(language, name) {
   return name.split(".").reduce((part, member) => part && Object.hasOwn(part, member) ? part[member] : undefined,
     TEXTS[language]);
@@ -42,7 +43,9 @@ export function setLanguage(language) {
   document.documentElement.dir = text("direction");
   document.title = text("title");
   for (const part of document.querySelectorAll("[data-text]")) part.textContent = text(part.dataset.text);
-  for (const part of document.querySelectorAll("[data-label]")) part.setAttribute("aria-label", text(part.dataset.label));
+  for (const part of document.querySelectorAll("[data-label]")) {
+    part.setAttribute("aria-label", text(part.dataset.label));
+  }
   fillSwitch(document.getElementById("language"));
   chooseNotice(document.getElementById("notice"));
 }

@@ -1,5 +1,5 @@
-// What this tab remembers until it is closed: the key, a list that was begun, and the language. It stands in sessionStorage, and
-// beside it in variables, for browsers that keep nothing.
+// What this tab remembers until it is closed: the key, a list that was begun, and the language. It stands in
+// sessionStorage, and beside it in variables, for browsers that keep nothing.
 
 const KEY = "room-key", DRAFT = "rooms-draft", LANGUAGE = "rooms-language";
 
@@ -43,7 +43,8 @@ export const forgetDraft = () => drop(DRAFT);
 
 const isList = value => Array.isArray(value) && value.length <= 40 && value.every(code => typeof code === "string");
 
-// The draft of this person in this round, or nothing: another person's is never shown, and a damaged one is passed over.
+// The draft of this person in this round, or nothing: another person's is never shown, and a damaged one is passed
+// over.
 export function recallDraft(person, round) {
   try {
     const draft = JSON.parse(read(DRAFT));

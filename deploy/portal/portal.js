@@ -3,7 +3,7 @@
 // The key lives in this tab alone (memory.js), never in an address or in localStorage.
 
 import {
-  backToRecord, changeList, desk, isChanged, isChangedElsewhere, isSameList, mayEdit, rememberList, ROOMS_AT_ONCE, takeRecord,
+  backToRecord, changeList, desk, isChanged, isChangedElsewhere, mayEdit, rememberList, ROOMS_AT_ONCE, takeRecord,
 } from "./desk.js";
 import { firstLanguage, setLanguage, text } from "./language.js";
 import { forgetDraft, forgetKey, recallKey, rememberKey, rememberLanguage } from "./memory.js";
@@ -26,7 +26,8 @@ async function load(doubt = {}) {
   return taken;
 }
 
-// One thing at a time: a press while an answer is awaited is passed over. Gives what the work gives, or nothing after a fault.
+// One thing at a time: a press while an answer is awaited is passed over. Gives what the work gives, or nothing after a
+// fault.
 async function during(work) {
   if (desk.isBusy) return undefined;
   desk.isBusy = true;
@@ -107,7 +108,8 @@ async function signOut() {
 
 // --- Handing in a list
 
-// Before a list goes out, the record is looked at: a list that another device has handed in meanwhile is not replaced unasked.
+// Before a list goes out, the record is looked at: a list that another device has handed in meanwhile is not replaced
+// unasked.
 async function handIn() {
   if (desk.isBusy) return;
   if (!isChanged()) {
@@ -154,7 +156,8 @@ function change(act, code) {
   if (!changeList(act, code)) return;
   drawRooms();
   drawList();
-  say(act === "remove" ? "removed" : "added", { room: code, place: desk.list.indexOf(code) + 1, count: desk.list.length });
+  const values = { room: code, place: desk.list.indexOf(code) + 1, count: desk.list.length };
+  say(act === "remove" ? "removed" : "added", values);
   nextFocus(act, code, place).focus();
 }
 
@@ -200,6 +203,10 @@ function onKey(event) {
   change(act, button.dataset.code);
 }
 
+function onShowKey() {
+  byId("key").type = byId("show-key").checked ? "text" : "password";
+}
+
 function onFind() {
   desk.shown = ROOMS_AT_ONCE;
   drawRooms();
@@ -218,7 +225,7 @@ async function askAgain() {
 
 function listen() {
   byId("sign-in").addEventListener("submit", signIn);
-  byId("show-key").addEventListener("change", () => { byId("key").type = byId("show-key").checked ? "text" : "password"; });
+  byId("show-key").addEventListener("change", onShowKey);
   byId("language").addEventListener("change", onLanguage);
   byId("desk").addEventListener("click", onButton);
   byId("list").addEventListener("keydown", onKey);

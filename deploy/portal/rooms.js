@@ -14,7 +14,8 @@ function fields(line, separator) {
   return [...parts].map(([, quoted, plain]) => (quoted?.replaceAll('""', '"') ?? plain ?? "").trim());
 }
 
-// What rooms.csv says of each room, by its code: the first column is the code, and each other one is shown with its heading.
+// What rooms.csv says of each room, by its code: the first column is the code, and each other one is shown with its
+// heading.
 export function readDescriptions(file) {
   const lines = file.replace(/^\uFEFF/, "").split(/\r?\n/).filter(line => line.trim() !== "");
   if (lines.length === 0) return new Map();

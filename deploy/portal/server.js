@@ -18,11 +18,11 @@ export class Fault extends Error {
 
 const OPTIONS = { cache: "no-store", credentials: "omit", referrerPolicy: "no-referrer", redirect: "error" };
 
-// Sends a request and gives the answer's value. `doubt` names the text that says, where no answer of the server came, what
-// became of the change: of a request that only reads, nothing has to be said.
+// Sends a request and gives the answer's value. `doubt` names the text that says, where no answer of the server came,
+// what became of the change: of a request that only reads, nothing has to be said.
 //
-// Where the server was stopped before it had answered, the proxy sends a request once more, and the fault is that of the second
-// time. So a fault of the office says nothing of the first time, and what is on record is asked for.
+// Where the server was stopped before it had answered, the proxy sends a request once more, and the fault is that of
+// the second time. So a fault of the office says nothing of the first time, and what is on record is asked for.
 export async function call(key, method, path, { body, doubt = [] } = {}) {
   let answer, value = null;
   try {
@@ -37,7 +37,8 @@ export async function call(key, method, path, { body, doubt = [] } = {}) {
   } catch { /* a page of the proxy's own, or an answer that was cut short */ }
   if (answer.status === 200 && value !== null) return value;
   const error = typeof value?.error === "string" ? value.error : "";
-  const name = [`faults.${error}`, `faults.${answer.status}`].find(hasText);
+  // The server says 405 for the same reason as 404: the page asks for what it does not know.
+  const name = [`faults.${error}`, `faults.${answer.status === 405 ? 404 : answer.status}`].find(hasText);
   throw new Fault(name ? [name] : ["faults.busy", ...doubt], answer.status, error);
 }
 

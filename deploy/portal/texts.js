@@ -1,8 +1,8 @@
 // All texts of the page, by language. The first language is the one for browsers that ask for none of these.
 //
-// To add a language: copy the object `en`, name it by the code that browsers use (`fr`, `pt-BR`), and translate what stands in
-// quotation marks. A part in braces, such as {room}, stays as it is: the page puts the value there. A text that is missing
-// is shown in the first language. Nothing else has to be changed.
+// To add a language: copy the object `en`, name it by the code that browsers use (`fr`, `pt-BR`), and translate what
+// stands in quotation marks. A part in braces, such as {room}, stays as it is: the page puts the value there. A text
+// that is missing is shown in the first language. Nothing else has to be changed.
 
 export const TEXTS = {
   en: {
@@ -15,7 +15,8 @@ export const TEXTS = {
 
     signInHeading: "Sign in",
     keyLabel: "Your key",
-    keyHint: "16 to 64 letters and digits, from the accommodation office. Spaces, hyphens and capitals make no difference.",
+    keyHint: "16 to 64 letters and digits, from the accommodation office. Spaces, hyphens and capitals make no "
+      + "difference.",
     showKey: "Show the key",
     signIn: "Sign in",
     badKey: "A key has 16 to 64 letters (a to z) and digits. Please look at it again.",
@@ -56,15 +57,18 @@ export const TEXTS = {
     next: {
       gets: "The accommodation office will tell you when you move.",
       keeps: "There is nothing that you have to do.",
-      none: "Please speak to the accommodation office. It knows which rooms are still free, and when the next round is.",
-      idle: "The accommodation office announces the next round. After a round, \"Room now\" is the room that it gave you.",
-      idleNone: "You have no room at present. Please speak to the accommodation office. It knows which rooms are free, and when "
-        + "the next round is.",
+      none: "Please speak to the accommodation office. It knows which rooms are still free, and when the next round "
+        + "is.",
+      idle: "The accommodation office announces the next round. After a round, \"Room now\" is the room that it gave "
+        + "you.",
+      idleNone: "You have no room at present. Please speak to the accommodation office. It knows which rooms are free, "
+        + "and when the next round is.",
     },
 
     recordHeading: "List on record",
     record: {
-      nothing: "None. Either you have handed in nothing yet, or you handed in an empty list. Both mean the same: {outcome}.",
+      nothing: "None. Either you have handed in nothing yet, or you handed in an empty list. Both mean the same: "
+        + "{outcome}.",
       empty: "You handed in an empty list: {outcome}.",
       closed: "None: {outcome}.",
       withdrawn: "You have withdrawn, so no list counts.",
@@ -76,15 +80,16 @@ export const TEXTS = {
     promisesHeading: "What you can rely on",
     asking: {
       homed: "You never lose by asking. You keep room {home}, or you get a room that you put above it.",
-      homeless: "You never lose by asking. You get a room from your list, or none: so list every room that you would take.",
+      homeless: "You never lose by asking. You get a room from your list, or none: so list every room that you would "
+        + "take.",
     },
-    trueList: "A true list is a best list. Put the rooms in the order in which you want them: no other list gets you a room that "
-      + "you want more.",
+    trueList: "A true list is a best list. Put the rooms in the order in which you want them: no other list gets you a "
+      + "room that you want more.",
     handsInNothing: "If you hand in nothing, {outcome}.",
 
     roomsHeading: "Rooms",
-    askForAny: "You may ask for a free room, and also for a room that somebody lives in. Nobody is put out by that: they leave "
-      + "it only for a room that they want more.",
+    askForAny: "You may ask for a free room, and also for a room that somebody lives in. Nobody is put out by that: "
+      + "they leave it only for a room that they want more.",
     findLabel: "Find a room",
     findHint: "Type a part of its code, or what stands beside it, such as \"free\".",
     count: "Rooms found: {found} of {all}.",
@@ -131,8 +136,8 @@ export const TEXTS = {
 
     elsewhere: {
       heading: "Your list was changed elsewhere",
-      text: "Since you began the list on this page, another one was handed in: on another device, or by the office. Which one "
-        + "should count?",
+      text: "Since you began the list on this page, another one was handed in: on another device, or by the office. "
+        + "Which one should count?",
       record: "On record now",
       here: "Your list here",
       later: "Decide later",
@@ -144,12 +149,12 @@ export const TEXTS = {
     withdrawHeading: "Withdraw",
     withdraw: "Withdraw ...",
     withdrawText: {
-      homed: "You need not withdraw to keep your room: without a list, or with an empty one, you keep it too, and as long as the "
-        + "round is open you can still change your mind. If you withdraw, neither you nor room {home} takes part in this "
+      homed: "You need not withdraw to keep your room: without a list, or with an empty one, you keep it too, and as "
+        + "long as the round is open you can still change your mind. If you withdraw, neither you nor room {home} "
+        + "takes part in this round. That cannot be undone.",
+      homeless: "You need not withdraw if you want no room: without a list, or with an empty one, you get none, and as "
+        + "long as the round is open you can still change your mind. If you withdraw, you do not take part in this "
         + "round. That cannot be undone.",
-      homeless: "You need not withdraw if you want no room: without a list, or with an empty one, you get none, and as long as "
-        + "the round is open you can still change your mind. If you withdraw, you do not take part in this round. That cannot "
-        + "be undone.",
     },
     withdrawQuestion: {
       heading: "Withdraw from this round?",
@@ -170,16 +175,17 @@ export const TEXTS = {
 
     aboutHeading: "How the exchange works for you",
     about: [
-      ["You make a list.", "While the round is open, you put rooms in the order in which you want them, and hand the list in. You "
-        + "can change it until the round is closed. The last list that you handed in counts."],
+      ["You make a list.", "While the round is open, you put rooms in the order in which you want them, and hand the "
+        + "list in. You can change it until the round is closed. The last list that you handed in counts."],
       ["The order is drawn.", "When the round is closed, all who take part are put in an order by lot."],
-      ["The rooms are given.", "One after the other gets the best room on their list that is still there. If somebody lives in "
-        + "that room, this person chooses first, and keeps it unless they get a room that they want more. Two people who want each "
-        + "other's room exchange them, and so do more people in a circle."],
+      ["The rooms are given.", "One after the other gets the best room on their list that is still there. If somebody "
+        + "lives in that room, this person chooses first, and keeps it unless they get a room that they want more. Two "
+        + "people who want each other's room exchange them, and so do more people in a circle."],
       ["You see your result here.", "The office shows all results at the same time, and then says who moves when."],
-      ["What others see.", "This page shows you your own list and your own result. The accommodation office sees all lists."],
-      ["Your key.", "With your key others can act in your name, so keep it to yourself. This page keeps it, and a list that you "
-        + "have begun, only in this tab of your browser, until you sign out or close the tab."],
+      ["What others see.", "This page shows you your own list and your own result. The accommodation office sees all "
+        + "lists."],
+      ["Your key.", "With your key others can act in your name, so keep it to yourself. This page keeps it, and a list "
+        + "that you have begun, only in this tab of your browser, until you sign out or close the tab."],
     ],
 
     // What is said of a fault: by the name that the server gives it, or else by its status.
@@ -193,15 +199,16 @@ export const TEXTS = {
       Unavailable: "The server can't do this at the moment. Please try again in a few minutes.",
       400: "The server did not understand this page. Nothing was changed. Please load the page again.",
       403: "This key is not known. Please look at it again, or ask the accommodation office.",
-      404: "This page does not fit the server. Nothing was changed. Please load the page again; if that does not help, tell the "
-        + "accommodation office.",
+      404: "This page does not fit the server. Nothing was changed. Please load the page again; if that does not help, "
+        + "tell the accommodation office.",
       408: "The connection is too slow. Nothing was changed. Please try again.",
       413: "The list is too long for the server. Nothing was changed. Remove some rooms and hand it in again.",
       429: "Too many requests came from your network. Nothing was changed. Please wait a minute and try again.",
       busy: "The server is busy or is being restarted.",
       unreached: "The server can't be reached. Please look at your network connection.",
     },
-    unsure: "It is not known whether your change was recorded: press \"Ask the server again\" and look at what is on record.",
+    unsure: "It is not known whether your change was recorded: press \"Ask the server again\" and look at what is on "
+      + "record.",
     unchanged: "Nothing was changed. Please try again.",
   },
 
@@ -214,8 +221,8 @@ export const TEXTS = {
 
     signInHeading: "Anmelden",
     keyLabel: "Ihr Zugangscode",
-    keyHint: "16 bis 64 Buchstaben und Ziffern; Sie haben ihn von der Wohnheimverwaltung bekommen. Leerzeichen, Bindestriche und "
-      + "Großschreibung spielen keine Rolle.",
+    keyHint: "16 bis 64 Buchstaben und Ziffern; Sie haben ihn von der Wohnheimverwaltung bekommen. Leerzeichen, "
+      + "Bindestriche und Großschreibung spielen keine Rolle.",
     showKey: "Zugangscode anzeigen",
     signIn: "Anmelden",
     badKey: "Ein Zugangscode besteht aus 16 bis 64 Buchstaben (a bis z) und Ziffern. Bitte prüfen Sie Ihre Eingabe.",
@@ -248,16 +255,18 @@ export const TEXTS = {
     next: {
       gets: "Die Wohnheimverwaltung teilt Ihnen mit, wann Sie umziehen.",
       keeps: "Sie brauchen nichts weiter zu tun.",
-      none: "Bitte wenden Sie sich an die Wohnheimverwaltung. Sie weiß, welche Zimmer noch frei sind und wann die nächste Runde ist.",
-      idle: "Die Wohnheimverwaltung kündigt die nächste Runde an. Nach einer Runde steht unter „Ihr Zimmer“ das Zimmer, das Sie "
-        + "darin bekommen haben.",
-      idleNone: "Sie haben zurzeit kein Zimmer. Bitte wenden Sie sich an die Wohnheimverwaltung. Sie weiß, welche Zimmer frei sind und "
-        + "wann die nächste Runde ist.",
+      none: "Bitte wenden Sie sich an die Wohnheimverwaltung. Sie weiß, welche Zimmer noch frei sind und wann die "
+        + "nächste Runde ist.",
+      idle: "Die Wohnheimverwaltung kündigt die nächste Runde an. Nach einer Runde steht unter „Ihr Zimmer“ das "
+        + "Zimmer, das Sie darin bekommen haben.",
+      idleNone: "Sie haben zurzeit kein Zimmer. Bitte wenden Sie sich an die Wohnheimverwaltung. Sie weiß, welche "
+        + "Zimmer frei sind und wann die nächste Runde ist.",
     },
 
     recordHeading: "Gespeicherte Wunschliste",
     record: {
-      nothing: "Keine. Entweder haben Sie noch nichts abgegeben, oder Sie haben eine leere Liste abgegeben. Beides bedeutet: {outcome}.",
+      nothing: "Keine. Entweder haben Sie noch nichts abgegeben, oder Sie haben eine leere Liste abgegeben. Beides "
+        + "bedeutet: {outcome}.",
       empty: "Sie haben eine leere Liste abgegeben: {outcome}.",
       closed: "Keine: {outcome}.",
       withdrawn: "Sie sind ausgestiegen, deshalb zählt keine Liste.",
@@ -268,17 +277,18 @@ export const TEXTS = {
 
     promisesHeading: "Worauf Sie sich verlassen können",
     asking: {
-      homed: "Fragen kostet nichts. Sie behalten Zimmer {home}, oder Sie bekommen eines, das auf Ihrer Liste davor steht.",
-      homeless: "Fragen kostet nichts. Sie bekommen ein Zimmer von Ihrer Liste oder keines: Nennen Sie also jedes Zimmer, das Sie "
-        + "nehmen würden.",
+      homed: "Fragen kostet nichts. Sie behalten Zimmer {home}, oder Sie bekommen eines, das auf Ihrer Liste davor "
+        + "steht.",
+      homeless: "Fragen kostet nichts. Sie bekommen ein Zimmer von Ihrer Liste oder keines: Nennen Sie also jedes "
+        + "Zimmer, das Sie nehmen würden.",
     },
-    trueList: "Eine ehrliche Liste ist die beste. Ordnen Sie die Zimmer so, wie Sie sie wirklich haben möchten: Mit keiner anderen "
-      + "Liste bekommen Sie ein Zimmer, das Sie lieber hätten.",
+    trueList: "Eine ehrliche Liste ist die beste. Ordnen Sie die Zimmer so, wie Sie sie wirklich haben möchten: Mit "
+      + "keiner anderen Liste bekommen Sie ein Zimmer, das Sie lieber hätten.",
     handsInNothing: "Wenn Sie nichts abgeben, heißt das: {outcome}.",
 
     roomsHeading: "Zimmer",
-    askForAny: "Sie können sich ein freies Zimmer wünschen und auch eines, in dem jemand wohnt. Niemand wird dadurch verdrängt: Die "
-      + "Person, die dort wohnt, zieht nur aus, wenn sie dafür ein Zimmer bekommt, das ihr lieber ist.",
+    askForAny: "Sie können sich ein freies Zimmer wünschen und auch eines, in dem jemand wohnt. Niemand wird dadurch "
+      + "verdrängt: Die Person, die dort wohnt, zieht nur aus, wenn sie dafür ein Zimmer bekommt, das ihr lieber ist.",
     findLabel: "Zimmer suchen",
     findHint: "Geben Sie einen Teil der Zimmernummer ein oder etwas, das daneben steht, zum Beispiel „frei“.",
     count: "Gefundene Zimmer: {found} von {all}.",
@@ -294,9 +304,10 @@ export const TEXTS = {
     onList: "auf Ihrer Liste",
 
     listHeading: "Ihre Wunschliste",
-    listHint: "An erster Stelle steht das Zimmer, das Sie am liebsten hätten. Es dürfen 40 sein. Was nach Ihrem eigenen Zimmer kommt, "
-      + "zählt nicht.",
-    keyboardHint: "Auf einer Schaltfläche eines Zimmers verschiebt es auch Alt mit der Pfeiltaste nach oben oder unten.",
+    listHint: "An erster Stelle steht das Zimmer, das Sie am liebsten hätten. Es dürfen 40 sein. Was nach Ihrem "
+      + "eigenen Zimmer kommt, zählt nicht.",
+    keyboardHint: "Auf einer Schaltfläche eines Zimmers verschiebt es auch Alt mit der Pfeiltaste nach oben oder "
+      + "unten.",
     up: "{room} nach oben",
     down: "{room} nach unten",
     remove: "{room} entfernen",
@@ -326,8 +337,8 @@ export const TEXTS = {
 
     elsewhere: {
       heading: "Ihre Liste wurde anderswo geändert",
-      text: "Seit Sie die Liste auf dieser Seite begonnen haben, wurde eine andere abgegeben: auf einem anderen Gerät oder von der "
-        + "Wohnheimverwaltung. Welche soll zählen?",
+      text: "Seit Sie die Liste auf dieser Seite begonnen haben, wurde eine andere abgegeben: auf einem anderen Gerät "
+        + "oder von der Wohnheimverwaltung. Welche soll zählen?",
       record: "Jetzt gespeichert",
       here: "Ihre Liste hier",
       later: "Später entscheiden",
@@ -339,12 +350,13 @@ export const TEXTS = {
     withdrawHeading: "Aussteigen",
     withdraw: "Aussteigen ...",
     withdrawText: {
-      homed: "Um Ihr Zimmer zu behalten, brauchen Sie nicht auszusteigen: Ohne Liste oder mit einer leeren Liste behalten Sie es auch, und "
-        + "solange die Runde offen ist, können Sie es sich noch anders überlegen. Wenn Sie aussteigen, nehmen weder Sie noch Zimmer "
-        + "{home} an dieser Runde teil. Das lässt sich nicht rückgängig machen.",
-      homeless: "Wenn Sie kein Zimmer möchten, brauchen Sie nicht auszusteigen: Ohne Liste oder mit einer leeren Liste bekommen Sie keines, "
-        + "und solange die Runde offen ist, können Sie es sich noch anders überlegen. Wenn Sie aussteigen, nehmen Sie an dieser Runde "
-        + "nicht teil. Das lässt sich nicht rückgängig machen.",
+      homed: "Um Ihr Zimmer zu behalten, brauchen Sie nicht auszusteigen: Ohne Liste oder mit einer leeren Liste "
+        + "behalten Sie es auch, und solange die Runde offen ist, können Sie es sich noch anders überlegen. Wenn Sie "
+        + "aussteigen, nehmen weder Sie noch Zimmer {home} an dieser Runde teil. Das lässt sich nicht rückgängig "
+        + "machen.",
+      homeless: "Wenn Sie kein Zimmer möchten, brauchen Sie nicht auszusteigen: Ohne Liste oder mit einer leeren Liste "
+        + "bekommen Sie keines, und solange die Runde offen ist, können Sie es sich noch anders überlegen. Wenn Sie "
+        + "aussteigen, nehmen Sie an dieser Runde nicht teil. Das lässt sich nicht rückgängig machen.",
     },
     withdrawQuestion: {
       heading: "Aus dieser Runde aussteigen?",
@@ -365,39 +377,50 @@ export const TEXTS = {
 
     aboutHeading: "So funktioniert der Tausch für Sie",
     about: [
-      ["Sie machen eine Liste.", "Solange die Runde offen ist, ordnen Sie Zimmer so, wie Sie sie haben möchten, und geben die Liste ab. Sie "
-        + "können sie ändern, bis die Runde geschlossen wird. Es zählt die Liste, die Sie zuletzt abgegeben haben."],
-      ["Die Reihenfolge wird ausgelost.", "Wenn die Runde geschlossen ist, entscheidet das Los, in welcher Reihenfolge alle drankommen."],
-      ["Die Zimmer werden zugeteilt.", "Wer an der Reihe ist, bekommt von seiner Liste das beste Zimmer, das noch da ist. Wohnt dort jemand, "
-        + "so wählt diese Person zuerst und behält ihr Zimmer, wenn sie keines bekommt, das ihr lieber ist. Zwei Personen, die jeweils das Zimmer der "
-        + "anderen möchten, tauschen; ebenso mehrere im Kreis."],
-      ["Ihr Ergebnis sehen Sie hier.", "Die Wohnheimverwaltung zeigt alle Ergebnisse zur selben Zeit und sagt dann, wer wann umzieht."],
-      ["Was andere sehen.", "Diese Seite zeigt Ihnen Ihre eigene Liste und Ihr eigenes Ergebnis. Die Wohnheimverwaltung sieht alle Listen."],
-      ["Ihr Zugangscode.", "Mit Ihrem Zugangscode können andere in Ihrem Namen handeln; behalten Sie ihn also für sich. Diese Seite merkt "
-        + "sich ihn und eine begonnene Liste nur in diesem Tab Ihres Browsers, bis Sie sich abmelden oder den Tab schließen."],
+      ["Sie machen eine Liste.", "Solange die Runde offen ist, ordnen Sie Zimmer so, wie Sie sie haben möchten, und "
+        + "geben die Liste ab. Sie können sie ändern, bis die Runde geschlossen wird. Es zählt die Liste, die Sie "
+        + "zuletzt abgegeben haben."],
+      ["Die Reihenfolge wird ausgelost.", "Wenn die Runde geschlossen ist, entscheidet das Los, in welcher Reihenfolge "
+        + "alle drankommen."],
+      ["Die Zimmer werden zugeteilt.", "Wer an der Reihe ist, bekommt von seiner Liste das beste Zimmer, das noch da "
+        + "ist. Wohnt dort jemand, so wählt diese Person zuerst und behält ihr Zimmer, wenn sie keines bekommt, das "
+        + "ihr lieber ist. Zwei Personen, die jeweils das Zimmer der anderen möchten, tauschen; ebenso mehrere im "
+        + "Kreis."],
+      ["Ihr Ergebnis sehen Sie hier.", "Die Wohnheimverwaltung zeigt alle Ergebnisse zur selben Zeit und sagt dann, "
+        + "wer wann umzieht."],
+      ["Was andere sehen.", "Diese Seite zeigt Ihnen Ihre eigene Liste und Ihr eigenes Ergebnis. Die "
+        + "Wohnheimverwaltung sieht alle Listen."],
+      ["Ihr Zugangscode.", "Mit Ihrem Zugangscode können andere in Ihrem Namen handeln; behalten Sie ihn also für "
+        + "sich. Diese Seite merkt sich ihn und eine begonnene Liste nur in diesem Tab Ihres Browsers, bis Sie sich "
+        + "abmelden oder den Tab schließen."],
     ],
 
     faults: {
       BadPhase: "Die Runde ist jetzt nicht offen, deshalb lässt sich nichts ändern. Hier steht, was gespeichert ist.",
       Withdrawn: "Sie sind aus dieser Runde ausgestiegen, deshalb lässt sich die Liste nicht ändern.",
-      TooManyChoices: "Die Liste hat mehr als 40 Zimmer. Es wurde nichts geändert. Entfernen Sie einige, und geben Sie die Liste erneut ab.",
-      RoomRepeated: "Ein Zimmer steht zweimal auf der Liste. Es wurde nichts geändert. Entfernen Sie eines, und geben Sie die Liste erneut "
-        + "ab.",
-      UnknownRoom: "Ein Zimmer auf Ihrer Liste gibt es nicht mehr. Entfernen Sie die markierten Zimmer, und geben Sie die Liste erneut ab.",
-      RoomShut: "Ein Zimmer auf Ihrer Liste wurde gesperrt. Entfernen Sie die markierten Zimmer, und geben Sie die Liste erneut ab.",
+      TooManyChoices: "Die Liste hat mehr als 40 Zimmer. Es wurde nichts geändert. Entfernen Sie einige, und geben Sie "
+        + "die Liste erneut ab.",
+      RoomRepeated: "Ein Zimmer steht zweimal auf der Liste. Es wurde nichts geändert. Entfernen Sie eines, und geben "
+        + "Sie die Liste erneut ab.",
+      UnknownRoom: "Ein Zimmer auf Ihrer Liste gibt es nicht mehr. Entfernen Sie die markierten Zimmer, und geben Sie "
+        + "die Liste erneut ab.",
+      RoomShut: "Ein Zimmer auf Ihrer Liste wurde gesperrt. Entfernen Sie die markierten Zimmer, und geben Sie die "
+        + "Liste erneut ab.",
       Unavailable: "Der Server kann das im Augenblick nicht. Bitte versuchen Sie es in ein paar Minuten noch einmal.",
       400: "Der Server hat diese Seite nicht verstanden. Es wurde nichts geändert. Bitte laden Sie die Seite neu.",
       403: "Dieser Zugangscode ist nicht bekannt. Bitte prüfen Sie ihn, oder fragen Sie die Wohnheimverwaltung.",
-      404: "Diese Seite passt nicht zum Server. Es wurde nichts geändert. Bitte laden Sie die Seite neu. Wenn das nicht hilft, sagen Sie der "
-        + "Wohnheimverwaltung Bescheid.",
+      404: "Diese Seite passt nicht zum Server. Es wurde nichts geändert. Bitte laden Sie die Seite neu. Wenn das "
+        + "nicht hilft, sagen Sie der Wohnheimverwaltung Bescheid.",
       408: "Die Verbindung ist zu langsam. Es wurde nichts geändert. Bitte versuchen Sie es noch einmal.",
-      413: "Die Liste ist zu lang für den Server. Es wurde nichts geändert. Entfernen Sie einige Zimmer, und geben Sie sie erneut ab.",
-      429: "Aus Ihrem Netz kamen zu viele Anfragen. Es wurde nichts geändert. Bitte versuchen Sie es in einer Minute noch einmal.",
+      413: "Die Liste ist zu lang für den Server. Es wurde nichts geändert. Entfernen Sie einige Zimmer, und geben Sie "
+        + "sie erneut ab.",
+      429: "Aus Ihrem Netz kamen zu viele Anfragen. Es wurde nichts geändert. Bitte versuchen Sie es in einer Minute "
+        + "noch einmal.",
       busy: "Der Server ist beschäftigt oder wird gerade neu gestartet.",
       unreached: "Der Server ist nicht erreichbar. Bitte prüfen Sie Ihre Netzverbindung.",
     },
-    unsure: "Es ist nicht bekannt, ob Ihre Änderung gespeichert wurde: Drücken Sie auf „Server erneut fragen“, und sehen Sie nach, was "
-      + "gespeichert ist.",
+    unsure: "Es ist nicht bekannt, ob Ihre Änderung gespeichert wurde: Drücken Sie auf „Server erneut fragen“, und "
+      + "sehen Sie nach, was gespeichert ist.",
     unchanged: "Es wurde nichts geändert. Bitte versuchen Sie es noch einmal.",
   },
 };

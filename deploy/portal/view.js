@@ -96,7 +96,8 @@ function drawAbout() {
   }));
 }
 
-// What is on record of the person. What else the server comes to tell of a person's part in the round has its place in "part".
+// What is on record of the person. What else the server comes to tell of a person's part in the round has its place in
+// "part".
 function facts() {
   const { me } = desk;
   const part = me.withdrawn ? "withdrawn" : me.phase === "idle" ? "idle" : "yes";
@@ -172,12 +173,13 @@ function listItem(code, place) {
   const note = noteOn(code, place), description = desk.descriptions.get(code);
   if (note) about.append(element("span", note, { className: "note" }));
   else if (description) about.append(element("span", description, { className: "note description" }));
-  row.append(
-    about,
+  const buttons = element("span", "", { className: "buttons" });
+  buttons.append(
     roomButton("↑", text("up", { room: code }), "up", code, place === 0),
     roomButton("↓", text("down", { room: code }), "down", code, place === desk.list.length - 1),
     roomButton("✕", text("remove", { room: code }), "remove", code),
   );
+  row.append(about, buttons);
   item.append(row);
   return item;
 }
@@ -201,8 +203,9 @@ export function showMore() {
 export function nextFocus(act, code, place) {
   const buttonOf = (act, code) => document.querySelector(`#desk [data-act="${act}"][data-code="${code}"]`);
   if (act === "add") {
-    const after = desk.rooms.slice(desk.rooms.findIndex(row => row.room === code)).map(row => buttonOf("add", row.room));
-    return after.find(button => button !== null) ?? (byId("more").hidden ? byId("hand-in") : byId("more"));
+    const after = desk.rooms.slice(desk.rooms.findIndex(row => row.room === code));
+    const next = after.map(row => buttonOf("add", row.room)).find(button => button !== null);
+    return next ?? (byId("more").hidden ? byId("hand-in") : byId("more"));
   }
   if (act !== "remove") return buttonOf(act, code);
   return desk.list.length ? buttonOf("remove", desk.list[Math.min(place, desk.list.length - 1)]) : byId("list-heading");
@@ -210,8 +213,8 @@ export function nextFocus(act, code, place) {
 
 // --- Questions
 
-// Asks, and gives the value of the answer. The first answer has the focus, and is given by Escape too. An answer is its value,
-// its text, and whether it can't be taken back.
+// Asks, and gives the value of the answer. The first answer has the focus, and is given by Escape too. An answer is its
+// value, its text, and whether it can't be taken back.
 export function ask(heading, content, lists, answers) {
   const question = byId("question");
   byId("question-heading").textContent = heading;
@@ -227,10 +230,10 @@ export function ask(heading, content, lists, answers) {
   });
 }
 
-const LOW = 25;
+const LOW = 30;
 
-// On a screen that is high enough for its letters, at least LOW of them, the message stands above what scrolls. And the bar with
-// "Hand in" stays in sight while the rooms and the list go by, unless large letters make it too high.
+// On a screen that is high enough for its letters, at least LOW of them, the message stands above what scrolls. And the
+// bar with "Hand in" stays in sight while the rooms and the list go by, unless large letters make it too high.
 export function fitToScreen() {
   const root = document.documentElement, bar = byId("bar"), messages = byId("messages");
   const look = () => {

@@ -6,6 +6,7 @@ Faults that neither server nor proxy can be made to tell at will are put in plac
 import json
 import re
 import time
+from pathlib import Path
 
 from selenium.webdriver.common.action_chains import ActionChains
 from selenium.webdriver.common.keys import Keys
@@ -46,37 +47,42 @@ FAULTY_FETCH = """
         const fault = options.method === "PUT" ? window.fault : null;
         window.fault = null;
         if (!fault) return real(path, options);
-        return fault.status ? Promise.resolve(new Response(fault.body, { status: fault.status })) : Promise.reject(new Error());
+        if (!fault.status) return Promise.reject(new Error());
+        return Promise.resolve(new Response(fault.body, { status: fault.status }));
     };"""
 
 
-def signing_in(page):
+def signing_in(page: Page) -> None:
     """The key, and what is said of a wrong one."""
     page.width(*DESK)
     page.open()
     check("the focus starts in the key", page.focus() == "key", page.focus())
     check("the college's notice is shown", page.text("notice") == "Until 31 May, noon.", page.text("notice"))
     page.shot("1-sign-in")
-    page.sign_in("BAD")
+    page.enter_key("BAD")
     check("a text that is no key is explained", "16 to 64" in page.text("fault"), page.text("fault"))
-    page.sign_in("key0000000000bad")
-    check("a key of nobody is explained", page.waits(lambda: "not known" in page.text("fault")) and page.focus() == "key")
-    check("signed in by the keyboard, with spaces, hyphens and capitals", page.sign_in(" Key0 0000-0000 00T1 ", "Tim Tan"))
+    page.enter_key("key0000000000bad")
+    told = page.waits(lambda: "not known" in page.text("fault"))
+    check("a key of nobody is explained", told and page.focus() == "key", page.text("fault"))
+    is_in = page.sign_in(" Key0 0000-0000 00T1 ", "Tim Tan")
+    check("signed in by the keyboard, with spaces, hyphens and capitals", is_in, page.text("fault"))
     check("the focus goes to the heading", page.focus() == "round-heading", page.focus())
     check("the key is in no address and is not kept for good",
           "key0" not in page.driver.current_url and page.script("return localStorage.length;") == 0)
     page.find("old-1")
-    shut = page.elements('[data-act=add][data-code="OLD-1"]')
-    check("a shut room is shown and can't be added", "OLD-1\nshut" in page.text("rooms") and not shut, page.text("rooms"))
+    shut, text = page.elements('[data-act=add][data-code="OLD-1"]'), page.text("rooms")
+    check("a shut room is shown and can't be added", "OLD-1\nshut" in text and not shut, text)
 
 
-def list_by_keyboard(page):
+def list_by_keyboard(page: Page) -> None:
     """A list that is made by keys alone."""
     page.find("v")
-    check("rooms are found by a part of what stands there", page.waits(lambda: page.offered()[-1:] == ["V"]), page.offered())
+    found = page.waits(lambda: page.offered()[-1:] == ["V"])
+    check("rooms are found by a part of what stands there", found, page.offered())
     check("Tab leads to adding V", page.tab_to("Add room V"))
     page.keys(Keys.ENTER)
-    check("V is added, and the focus goes on to handing in", page.codes() == ["V"] and page.focus() == "hand-in", page.focus())
+    is_added = page.codes() == ["V"]
+    check("V is added, and the focus goes on to handing in", is_added and page.focus() == "hand-in", page.focus())
     check("the place is said", "V is number 1 of 1" in page.text("news"), page.text("news"))
     page.find("h")
     check("Tab leads to adding H2", page.tab_to("Add room H2"))
@@ -100,7 +106,7 @@ def list_by_keyboard(page):
     check("the focus is at the last", page.focus() == "Remove W", page.focus())
 
 
-def handing_in(page):
+def handing_in(page: Page) -> None:
     """The list goes to the server."""
     page.add("H1", "A-1")
     text = page.text("list")
@@ -116,22 +122,25 @@ def handing_in(page):
           page.waits(lambda: page.text("record") == "H2, W, H1, A-1" and page.codes() == ["H2", "W", "H1", "A-1"]))
 
 
-def withdrawal_refused(page):
+def withdrawal_refused(page: Page) -> None:
     """The question before a withdrawal, answered by no."""
-    check("how it differs from an empty list is said", "need not withdraw to keep your room" in page.text("withdraw-text"))
+    text = page.text("withdraw-text")
+    check("how it differs from an empty list is said", "need not withdraw to keep your room" in text, text)
     page.click("withdraw")
     check("a question is asked first, and the focus is on no", page.waits(lambda: page.focus() == "stay"), page.focus())
-    check("it says what becomes of the room", "You keep room H1." in page.text("question-text"), page.text("question-text"))
+    text = page.text("question-text")
+    check("it says what becomes of the room", "You keep room H1." in text, text)
     page.shot("3-question")
     page.keys(Keys.ESCAPE)
-    check("Escape is no", page.waits(lambda: "still in" in page.text("news")) and page.focus() == "withdraw", page.focus())
+    stays = page.waits(lambda: "still in" in page.text("news"))
+    check("Escape is no", stays and page.focus() == "withdraw", page.focus())
     page.click("withdraw")
     page.waits(lambda: page.focus() == "stay")
     page.keys(Keys.ENTER)
     check("no is no", page.waits(lambda: "still in" in page.text("news") and "yes" in page.text("facts")))
 
 
-def forced_faults(page):
+def forced_faults(page: Page) -> None:
     """Each fault of a list, as if the server or the proxy had answered so."""
     page.script(FAULTY_FETCH)
     page.add("A-2")
@@ -139,12 +148,13 @@ def forced_faults(page):
         body = json.dumps({"error": name}) if name else "<html>the proxy</html>"
         page.script("window.fault = arguments[0];", {"status": status, "body": body})
         page.click("hand-in")
-        check(f"{status or 'no answer'} {name} is explained", page.waits(lambda: said in page.text("fault")), page.text("fault"))
+        told = page.is_told(said)
+        check(f"{status or 'no answer'} {name} is explained", told, page.text("fault"))
         check(f"{status or 'no answer'} {name} leaves the list in the page", "A-2" in page.codes())
     page.shot("4-unknown")
 
 
-def real_faults(page, stand):
+def real_faults(page: Page, stand: Stand) -> None:
     """A room that is shut meanwhile, and a network that is gone."""
     stand.office("shut W")
     page.click("hand-in")
@@ -162,7 +172,7 @@ def real_faults(page, stand):
     page.driver.execute_cdp_cmd("Network.emulateNetworkConditions", {**network, "offline": False})
 
 
-def server_away(page, stand):
+def server_away(page: Page, stand: Stand) -> None:
     """A server that comes back in time, and one that is away for longer than the proxy waits."""
     page.add("A-3")
     stand.script("rooms-stopped", "true")
@@ -183,14 +193,15 @@ def server_away(page, stand):
     check("and handed in", page.hand_in(), page.text("fault"))
 
 
-def withdrawal(page, stand):
+def withdrawal(page: Page, stand: Stand) -> None:
     """Residents who withdraw: one with a room, one without, and one whom the office takes out."""
     page.click("withdraw")
     page.waits(lambda: page.focus() == "stay")
     page.keys(Keys.TAB, Keys.ENTER)
     gone = page.waits(lambda: "have withdrawn" in page.text("news"))
     check("withdrawn", gone and not page.element("edit").is_displayed(), page.text("news"))
-    check("and told what that means", page.text("result") == "You have withdrawn: you keep room H1.", page.text("result"))
+    text = page.text("result")
+    check("and told what that means", text == "You have withdrawn: you keep room H1.", text)
     page.shot("6-withdrawn")
     page.sign_out()
     check("signed out, and nothing is kept", page.waits(lambda: page.element("sign-in").is_displayed())
@@ -211,7 +222,7 @@ def withdrawal(page, stand):
     page.sign_out()
 
 
-def closing_and_result(page, stand):
+def closing_and_result(page: Page, stand: Stand) -> None:
     """From the end of the round to its result."""
     page.sign_in("key000000000000n", "Nia Ng")
     page.add("A-7")
@@ -244,7 +255,7 @@ def closing_and_result(page, stand):
           page.waits(lambda: "no room at present" in page.text("next")) and not page.element("recorded").is_displayed())
 
 
-def nothing_odd(page, stand):
+def nothing_odd(page: Page, stand: Stand) -> None:
     """What the browser and the proxy have written down."""
     logged = [entry["message"] for entry in page.driver.get_log("browser")]
     odd = [line for line in logged if not re.search("Failed to load resource|ERR_", line)]
@@ -252,7 +263,7 @@ def nothing_odd(page, stand):
     check("no log of the proxy has a key", "key0" not in stand.proxy_log())
 
 
-def start_proxy(stand):
+def start_proxy(stand: Stand) -> None:
     """Starts the proxy over a page to which a college has given a notice and what it says of rooms."""
     index, rooms = stand.folder / "index.html", stand.folder / "rooms.csv"
     text = (DEPLOY / "portal" / "index.html").read_text(encoding="utf-8")
@@ -261,7 +272,7 @@ def start_proxy(stand):
     stand.start_proxy(("/srv/rooms/portal/index.html", str(index)), ("/srv/rooms/portal/rooms.csv", str(rooms)))
 
 
-def try_page(program, shots):
+def try_page(program: str, shots: Path) -> None:
     """Goes through a round as residents do."""
     with Stand(program) as stand:
         for line in LINES:

@@ -1,14 +1,15 @@
-"""The portal page: rooms that are found, lists that were begun, lists that another device has changed, and languages."""
+"""The portal page: rooms that are found, lists that were begun, lists that another device has changed, languages."""
 
 import http.client
 import json
 import socket
+from typing import Any
 
 from selenium.webdriver.common.keys import Keys
 from selenium.webdriver.support.select import Select
 
 from page_browser import DESK, Page
-from stand import HOST, check, key_of, unchecked
+from stand import HOST, Stand, check, key_of, unchecked
 
 # The next list goes to the server, and its answer is lost.
 LOST_ANSWER = """
@@ -25,17 +26,18 @@ MORE_MEMBERS = """
     window.fetch = async (path, options) => {
         const answer = await real(path, options);
         if (path !== "/me" || answer.status !== 200) return answer;
-        return new Response(JSON.stringify({ ...await answer.json(), going: true, more: { deep: [1] } }), { status: 200 });
+        const value = { ...await answer.json(), going: true, more: { deep: [1] } };
+        return new Response(JSON.stringify(value), { status: 200 });
     };"""
 
 
 class Device:
     """Another device of a resident, which needs no page."""
 
-    def __init__(self, stand, person):
+    def __init__(self, stand: Stand, person: str) -> None:
         self.stand, self.key = stand, key_of(person)
 
-    def ask(self, method, path, value=None):
+    def ask(self, method: str, path: str, value: object = None) -> Any:
         """Sends a request through the proxy and gives the value of its answer."""
         connection = http.client.HTTPConnection(HOST)
         plain = socket.create_connection(("127.0.0.1", self.stand.port), 30)
@@ -49,16 +51,16 @@ class Device:
             raise ValueError(f"{method} {path}: {answer.status} {value}")
         return value
 
-    def hand_in(self, *codes):
+    def hand_in(self, *codes: str) -> None:
         """Hands in a list."""
         self.ask("PUT", "/me/choices", list(codes))
 
-    def recorded(self):
+    def recorded(self) -> list[str]:
         """The list on record."""
         return self.ask("GET", "/me")["choices"]
 
 
-def rooms_found(page):
+def rooms_found(page: Page) -> None:
     """The order of rooms, what is said of them, and how they are found."""
     page.find("")
     check("rooms stand in the order in which people count",
@@ -69,33 +71,37 @@ def rooms_found(page):
     about = page.text("rooms")
     check("what the college says of a room stands beside it", "house North, floor 2, size 14 m²" in about, about)
     check("also with signs that CSV needs quotes for", 'house South; by the "Green", floor 0' in about, about)
-    for typed, found in (("north", ["A-1"]), ("occupied", ["H1", "H2", "H3"]), ("lived  H3", ["H3"]), ("a-45 free", ["A-45"]),
-                         ("your", ["H1"]), ("shut", ["OLD-1"]), ("free h", ["A-1", "A-2"]), ("nothing", [])):
+    for typed, found in (
+        ("north", ["A-1"]), ("occupied", ["H1", "H2", "H3"]), ("lived  H3", ["H3"]), ("a-45 free", ["A-45"]),
+        ("your", ["H1"]), ("shut", ["OLD-1"]), ("free h", ["A-1", "A-2"]), ("nothing", []),
+    ):
         page.find(typed)
-        check(f"{typed!r} finds {found}", page.waits(lambda f=found: page.offered() == f), page.offered())
+        check(f"{typed!r} finds {found}", page.offered() == found, page.offered())
     page.find("H2")
-    check("a room that somebody lives in may be asked for, and that is said", "lived in, may be asked for" in page.text("rooms")
+    check("that a room may be asked for in which somebody lives is said",
+          "lived in, may be asked for" in page.text("rooms")
           and "also for a room that somebody lives in" in page.text("edit"))
     page.find("")
     promises = page.text("promises")
-    check("the three promises are there", all(part in promises for part in (
-        "You never lose by asking. You keep room H1", "A true list is a best list", "hand in nothing, you keep room H1")), promises)
+    parts = ("never lose by asking. You keep room H1", "true list is a best list", "hand in nothing, you keep room H1")
+    check("the three promises are there", all(part in promises for part in parts), promises)
 
 
-def lose_key(page):
+def lose_key(page: Page) -> None:
     """The tab has another key than the server, and the page is loaded again."""
     page.script("sessionStorage.setItem('room-key', 'key0000000000bad');")
     page.open()
     check("the key is asked for again", page.waits(lambda: "not known" in page.text("fault")), page.text("fault"))
 
 
-def drafts(page):
+def drafts(page: Page) -> None:
     """A list that was begun stays with its person until it is handed in or given up."""
     page.sign_out()
     page.sign_in(key_of("T3"), "Tea Tal")
     page.add("A-5", "V")
     page.open()
-    check("a list that was begun is there when the page is loaded again", page.waits(lambda: page.codes() == ["A-5", "V"]))
+    is_there = page.waits(lambda: page.codes() == ["A-5", "V"])
+    check("a list that was begun is there when the page is loaded again", is_there, page.codes())
     check("and it is said that it is not handed in",
           "still here" in page.text("news") and "Not handed in" in page.text("state"), page.text("news"))
     lose_key(page)
@@ -103,10 +109,11 @@ def drafts(page):
     check("and when the key is asked for again", page.codes() == ["A-5", "V"], page.codes())
     lose_key(page)
     page.sign_in(key_of("N"), "Nia Ng")
-    check("nobody else sees it", page.codes() == [] and "A-5" not in page.script("return sessionStorage['rooms-draft'];"))
+    kept = page.script("return sessionStorage['rooms-draft'];")
+    check("nobody else sees it", page.codes() == [] and "A-5" not in kept, kept)
     check("who has no room is told what a list is for", "list every room that you would take" in page.text("promises"))
-    check("what it means to hand in nothing is said",
-          "handed in nothing yet, or" in page.text("record") and "you get no room." in page.text("record"), page.text("record"))
+    text = page.text("record")
+    check("what it means to hand in nothing is said", "nothing yet, or" in text and "you get no room." in text, text)
     page.sign_out()
     page.sign_in(key_of("T3"), "Tea Tal")
     page.add("A-6")
@@ -123,7 +130,7 @@ def drafts(page):
     check("a damaged draft is passed over", page.codes() == [], page.codes())
 
 
-def changed_elsewhere(page, stand):
+def changed_elsewhere(page: Page, stand: Stand) -> None:
     """The newer list of another device is not replaced unasked."""
     other = Device(stand, "T3")
     page.add("A-5")
@@ -142,9 +149,11 @@ def changed_elsewhere(page, stand):
     page.open()
     page.waits(lambda: page.codes() == ["A-5", "A-6"])
     page.click("hand-in")
-    check("it is asked again, also after the page was loaded again", page.waits(lambda: page.focus() == "later"), page.focus())
+    is_asked = page.waits(lambda: page.focus() == "later")
+    check("it is asked again, also after the page was loaded again", is_asked, page.focus())
     page.keys(Keys.TAB, Keys.ENTER)
-    check("the list on record can be kept", page.waits(lambda: page.codes() == ["A-9", "V"]) and other.recorded() == ["A-9", "V"])
+    is_kept = page.waits(lambda: page.codes() == ["A-9", "V"])
+    check("the list on record can be kept", is_kept and other.recorded() == ["A-9", "V"], page.codes())
     other.hand_in("A-10")
     page.add("A-11")
     page.click("hand-in")
@@ -161,10 +170,11 @@ def changed_elsewhere(page, stand):
     page.click("hand-in")
     page.waits(lambda: "not known whether" in page.text("fault"))
     page.add("A-14")
-    check("nor is a list of this tab whose answer was lost", page.hand_in() and other.recorded()[-2:] == ["A-13", "A-14"])
+    is_in = page.hand_in()
+    check("nor is a list of this tab whose answer was lost", is_in and other.recorded()[-2:] == ["A-13", "A-14"])
 
 
-def empty_list(page, stand):
+def empty_list(page: Page, stand: Stand) -> None:
     """An empty list, and none."""
     for code in page.codes():
         page.press("remove", code)
@@ -178,20 +188,22 @@ def empty_list(page, stand):
     page.sign_out()
 
 
-def languages(page, stand):
+def languages(page: Page, stand: Stand) -> None:
     """The switch, and what the browser asks for."""
-    page.sign_in("x")
+    page.enter_key("x")
     check("the language can be chosen by the keyboard", page.tab_to("Language"))
     page.keys("D")
-    check("all of the page is German then", page.waits(lambda: page.script("return document.documentElement.lang;") == "de")
-          and page.driver.title == "Zimmertausch" and "16 bis 64" in page.text("fault"), page.text("fault"))
+    is_german = page.waits(lambda: page.script("return document.documentElement.lang;") == "de")
+    check("all of the page is German then", is_german and page.driver.title == "Zimmertausch"
+          and "16 bis 64" in page.text("fault"), page.text("fault"))
     check("the notice too", page.text("notice") == "Bis 31. Mai, 12 Uhr.", page.text("notice"))
     page.shot("11-german-sign-in")
     page.sign_in(key_of("T3"), "Tea Tal")
     page.add("A-3", "H3", "A-4")
     page.shot("12-german-list")
     page.open()
-    check("the language is kept in the tab", page.waits(lambda: "Ihre begonnene Liste" in page.text("news")), page.text("news"))
+    is_kept = page.waits(lambda: "Ihre begonnene Liste" in page.text("news"))
+    check("the language is kept in the tab", is_kept, page.text("news"))
     page.click("withdraw")
     check("questions are German", page.waits(lambda: "Sie behalten Zimmer H3." in page.text("question-text")))
     page.shot("13-german-question")
@@ -208,7 +220,7 @@ def languages(page, stand):
             check(f"a browser that asks for {asked} gets {given}", lang == given, lang)
 
 
-def try_lists(page, stand):
+def try_lists(page: Page, stand: Stand) -> None:
     """T1 is signed in, with a list on record; so it is afterwards."""
     page.width(*DESK)
     rooms_found(page)

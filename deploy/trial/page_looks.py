@@ -1,24 +1,27 @@
-"""The portal page as it looks: sizes, large letters, schemes, contrast, what a screen reader is told, and use by keys alone."""
+"""The portal page as it looks: sizes, letters, schemes, contrast, what a screen reader is told, use by keys alone."""
+
+from typing import Any
 
 from selenium.webdriver.common.keys import Keys
 
-from page_browser import DESK, PHONE, SCROLLER
+from page_browser import DESK, PHONE, SCROLLER, Page
 from page_lists import Device
 from stand import check, key_of
 
 SIZES = {"360": PHONE, "412": (412, 915), "1280": DESK, "landscape": (780, 360)}
-MEDIA = {"light": {}, "dark": {"prefers_color_scheme": "dark"}, "forced": {"forced_colors": "active"}}
+MEDIA: dict[str, dict[str, str]] = {"light": {}, "dark": {"prefers_color_scheme": "dark"}, "forced": {"forced_colors": "active"}}
 LETTERS = (100, 200)
 # The least contrast of text, and of what shows where a control is (WCAG 2.2, 1.4.3 and 1.4.11).
 TEXT, EDGE = 4.5, 3
 TARGET = 44
 
-# Each visible text with its contrast to what lies behind it, and each control with that of its edge. What is marked as disabled is
-# let off.
+# Each visible text with its contrast to what lies behind it, and each control with that of its edge. What is marked as
+# disabled is let off.
 CONTRASTS = """
     const parts = color => color.match(/[\\d.]+/g).map(Number);
     const light = color => {
-        const [r, g, b] = parts(color).slice(0, 3).map(v => v / 255).map(v => v <= .04045 ? v / 12.92 : ((v + .055) / 1.055) ** 2.4);
+        const [r, g, b] = parts(color).slice(0, 3).map(v => v / 255)
+            .map(v => v <= .04045 ? v / 12.92 : ((v + .055) / 1.055) ** 2.4);
         return .2126 * r + .7152 * g + .0722 * b;
     };
     const ratio = (one, other) => {
@@ -32,7 +35,7 @@ CONTRASTS = """
         }
         return "rgb(255, 255, 255)";
     };
-    const isSeen = e => e.checkVisibility() && !e.closest("[aria-disabled=true]") && !["OPTION", "SCRIPT"].includes(e.tagName);
+    const isSeen = e => e.checkVisibility() && !e.closest("[aria-disabled=true], option, script");
     const found = [];
     for (const e of document.querySelectorAll("body *")) {
         const style = getComputedStyle(e);
@@ -53,8 +56,8 @@ SMALL = """
 
 # What scrolls inside of what scrolls.
 NESTED = """
-    return [...document.querySelectorAll("main *")].filter(e => ["auto", "scroll"].includes(getComputedStyle(e).overflowY))
-        .map(e => e.id || e.className);"""
+    return [...document.querySelectorAll("main *")].map(e => [e.id || e.className, getComputedStyle(e).overflowY])
+        .filter(([, overflow]) => ["auto", "scroll"].includes(overflow));"""
 
 # The places at which the button is not to be pressed, although the rooms or the list are on the screen.
 UNREACHED = SCROLLER + """
@@ -74,21 +77,22 @@ UNREACHED = SCROLLER + """
 FOCUSED = """
     const e = document.activeElement, box = e.getBoundingClientRect();
     const ends = [[box.left + 3, box.top + 3], [box.right - 3, box.bottom - 3]];
-    const isSeen = ends.every(([x, y]) => { const seen = document.elementFromPoint(x, y); return seen && (e.contains(seen)
-        || seen.contains(e)); });
+    const isSeen = ends.map(([x, y]) => document.elementFromPoint(x, y))
+        .every(seen => seen && (e.contains(seen) || seen.contains(e)));
     return [e === document.body ? "" : e.id || e.getAttribute("aria-label") || e.textContent, isSeen,
         getComputedStyle(e).outlineStyle !== "none"];"""
 
 
-def sizes(page, name, top="round-heading"):
-    """Nothing is wider than the window, in each size, scheme and size of letters; with photographs of the part that begins there."""
-    def look(media, size, percent):
+def sizes(page: Page, name: str, top: str = "round-heading") -> None:
+    """Nothing is wider than the window, in each size, scheme and size of letters; with photographs of one part."""
+    def look(media: str, size: str, percent: int) -> None:
         page.width(*SIZES[size])
         page.letters(percent)
         wider = page.too_wide()
         check(f"{name}: nothing is off the screen, {media}, {size}, letters of {percent} %", wider == [], wider)
-        page.script("document.getElementById(arguments[0]).scrollIntoView();", top)
-        page.picture(f"{name}-{size}-{percent}-{media}")
+        if size == "360" or (size, percent) == ("landscape", 100):
+            page.script("document.getElementById(arguments[0]).scrollIntoView();", top)
+            page.picture(page.shots / f"{name}-{size}-{percent}-{media}.png")
 
     for media, features in MEDIA.items():
         page.media(**features)
@@ -100,22 +104,23 @@ def sizes(page, name, top="round-heading"):
     page.media()
 
 
-def contrast(page, name):
+def contrast(page: Page, name: str) -> None:
     """All texts and edges can be told from what lies behind, in both schemes."""
     for scheme in ("light", "dark"):
         page.media(prefers_color_scheme=scheme)
         for kind, least in (("text", TEXT), ("edge", EDGE)):
             ratios = [(round(ratio, 2), what) for one, what, ratio in page.script(CONTRASTS) if one == kind]
             lowest = min(ratios)
-            check(f"{name}: {scheme}: {len(ratios)} of {kind}, the least contrast is {lowest[0]}", lowest[0] >= least, lowest)
+            told = f"{name}: {scheme}: {len(ratios)} of {kind}, the least contrast is {lowest[0]}"
+            check(told, lowest[0] >= least, lowest)
     page.media()
 
 
-def tree(page, name, headings):
+def tree(page: Page, name: str, headings: list[int]) -> None:
     """What a screen reader is told: each control has a name, the headings have these levels, and messages are live."""
     nodes = page.driver.execute_cdp_cmd("Accessibility.getFullAXTree", {})["nodes"]
 
-    def value(node, member):
+    def value(node: dict[str, Any], member: str) -> Any:
         return node.get(member, {}).get("value", "")
 
     shown = [node for node in nodes if not node.get("ignored")]
@@ -130,18 +135,21 @@ def tree(page, name, headings):
     check(f"{name}: the messages are live", live == ["alert", "status"], live)
 
 
-def small_screen(page):
+def small_screen(page: Page) -> None:
     """What a phone needs, with a list of 40 rooms."""
     page.width(*PHONE)
-    heights = page.script("return [...document.querySelectorAll('#list .item')].map(e => e.getBoundingClientRect().height);")
-    check(f"40 rooms have a line each, at most {max(heights):.0f} pixels high", len(heights) == 40 and max(heights) < 60, heights)
+    heights = [row.size["height"] for row in page.elements("#list li")]
+    told = f"40 rooms have a line each, at most {max(heights):.0f} pixels high"
+    check(told, len(heights) == 40 and max(heights) < 60, heights)
     for size in ("360", "412", "landscape"):
         page.width(*SIZES[size])
-        check(f"{size}: no target is smaller than {TARGET} pixels", page.script(SMALL, TARGET) == [], page.script(SMALL, TARGET))
-        check(f"{size}: no box that scrolls is in another", page.script(NESTED) == [], page.script(NESTED))
-        check(f"{size}: the list can be handed in wherever it or the rooms are in sight", page.script(UNREACHED) == [],
-              page.script(UNREACHED))
-        check(f"{size}: the message covers nothing", page.covered() == [], page.covered())
+        for told, found in (
+            (f"no target is smaller than {TARGET} pixels", page.script(SMALL, TARGET)),
+            ("no box that scrolls is in another", page.script(NESTED)),
+            ("the list can be handed in wherever it or the rooms are in sight", page.script(UNREACHED)),
+            ("the message covers nothing", page.covered()),
+        ):
+            check(f"{size}: {told}", found == [], found)
     page.width(*PHONE)
     page.letters(200)
     top = page.script("return document.getElementById('hand-in').getBoundingClientRect().top"
@@ -154,7 +162,7 @@ def small_screen(page):
     check("and are told of where there are", "Alt" in page.text("list-hint"), page.text("list-hint"))
 
 
-def by_keys(page):
+def by_keys(page: Page) -> None:
     """The Tab key goes through all controls, and each is seen when it has the focus."""
     for size in ("360", "landscape", "1280"):
         page.width(*SIZES[size])
@@ -170,12 +178,12 @@ def by_keys(page):
                 hidden.append((name, is_seen, has_ring))
         wanted = ["sign-out", "ask-again", "find", "more", "hand-in", "Move A-1 up", "Remove A-40", "undo", "withdraw"]
         places = [names.index(name) for name in wanted if name in names]
-        check(f"{size}: Tab goes through {len(names)} controls in order", len(places) == len(wanted) and places == sorted(places),
-              names)
+        is_whole = len(places) == len(wanted)
+        check(f"{size}: Tab goes through {len(names)} controls in order", is_whole and places == sorted(places), names)
         check(f"{size}: each is in sight, with a ring", not hidden, hidden)
 
 
-def try_looks(page):
+def try_looks(page: Page) -> None:
     """T1 is signed in; so it is afterwards. N has a list of 40 rooms meanwhile."""
     stand = page.stand
     other = Device(stand, "N")
