@@ -88,7 +88,7 @@ export const TEXTS = {
     handsInNothing: "If you hand in nothing, {outcome}.",
 
     roomsHeading: "Rooms",
-    askForAny: "You may ask for a free room, and also for a room that somebody lives in. Nobody is put out by that: "
+    askForAny: "You may ask for a free room, and also for a room that somebody lives in. Nobody loses a room by that: "
       + "they leave it only for a room that they want more.",
     findLabel: "Find a room",
     findHint: "Type a part of its code, or what stands beside it, such as \"free\".",

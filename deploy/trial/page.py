@@ -44,9 +44,9 @@ FAULTS = [
 FAULTY_FETCH = """
     const real = window.fetch;
     window.fetch = (path, options) => {
-        const fault = options.method === "PUT" ? window.fault : null;
+        const fault = window.fault;
+        if (options.method !== "PUT" || !fault) return real(path, options);
         window.fault = null;
-        if (!fault) return real(path, options);
         if (!fault.status) return Promise.reject(new Error());
         return Promise.resolve(new Response(fault.body, { status: fault.status }));
     };"""

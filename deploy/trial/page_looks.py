@@ -9,7 +9,9 @@ from page_lists import Device
 from stand import check, key_of
 
 SIZES = {"360": PHONE, "412": (412, 915), "1280": DESK, "landscape": (780, 360)}
-MEDIA: dict[str, dict[str, str]] = {"light": {}, "dark": {"prefers_color_scheme": "dark"}, "forced": {"forced_colors": "active"}}
+MEDIA: dict[str, dict[str, str]] = {
+    "light": {}, "dark": {"prefers_color_scheme": "dark"}, "forced": {"forced_colors": "active"},
+}
 LETTERS = (100, 200)
 # The least contrast of text, and of what shows where a control is (WCAG 2.2, 1.4.3 and 1.4.11).
 TEXT, EDGE = 4.5, 3
