@@ -106,7 +106,7 @@ export const TEXTS = {
 
     listHeading: "Your list",
     listHint: "The room that you want most comes first. There may be 40. A room after your own does not count.",
-    keyboardHint: "On a button of a room, Alt with the up or down arrow also moves it.",
+    keyboardHint: "With a keyboard, Alt and an arrow key also move the room whose button has the focus.",
     up: "Move {room} up",
     down: "Move {room} down",
     remove: "Remove {room}",
@@ -306,8 +306,8 @@ export const TEXTS = {
     listHeading: "Ihre Wunschliste",
     listHint: "An erster Stelle steht das Zimmer, das Sie am liebsten hätten. Es dürfen 40 sein. Was nach Ihrem "
       + "eigenen Zimmer kommt, zählt nicht.",
-    keyboardHint: "Auf einer Schaltfläche eines Zimmers verschiebt es auch Alt mit der Pfeiltaste nach oben oder "
-      + "unten.",
+    keyboardHint: "Mit der Tastatur verschieben auch Alt und eine Pfeiltaste das Zimmer, dessen Schaltfläche den "
+      + "Fokus hat.",
     up: "{room} nach oben",
     down: "{room} nach unten",
     remove: "{room} entfernen",

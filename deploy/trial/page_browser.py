@@ -23,7 +23,7 @@ SWITCHES = (
 )
 PHONE = (360, 780)
 DESK = (1280, 900)
-LETTERS = 16
+LETTERS_OF_BROWSER = 16
 # What scrolls: `main`, or on a screen that is low for its letters the page.
 SCROLLER = "const main = document.querySelector('main');" \
            "const scroller = getComputedStyle(main).overflowY === 'auto' ? main : document.scrollingElement;"
@@ -32,7 +32,7 @@ SCROLLER = "const main = document.querySelector('main');" \
 class Browser:
     """A browser of its own, which asks for pages in some languages, with letters of a size."""
 
-    def __init__(self, profile: Path, languages: str = "en", letters: int = LETTERS) -> None:
+    def __init__(self, profile: Path, languages: str = "en", letters: int = LETTERS_OF_BROWSER) -> None:
         options = webdriver.ChromeOptions()
         for word in (*SWITCHES, f"--user-data-dir={profile}", f"--accept-lang={languages}"):
             options.add_argument(word)
@@ -121,7 +121,7 @@ class Browser:
 class Page(Browser):
     """The portal page of a stand."""
 
-    def __init__(self, stand: Stand, shots: Path, languages: str = "en", letters: int = LETTERS) -> None:
+    def __init__(self, stand: Stand, shots: Path, languages: str = "en", letters: int = LETTERS_OF_BROWSER) -> None:
         super().__init__(stand.folder / f"chromium-{languages}-{letters}", languages, letters)
         self.stand, self.shots = stand, shots
 

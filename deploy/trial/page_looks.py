@@ -1,12 +1,13 @@
 """The portal page as it looks: sizes, letters, schemes, contrast, what a screen reader is told, use by keys alone."""
 
+from pathlib import Path
 from typing import Any
 
 from selenium.webdriver.common.keys import Keys
 
-from page_browser import DESK, PHONE, SCROLLER, Page
+from page_browser import DESK, LETTERS_OF_BROWSER, PHONE, SCROLLER, Page
 from page_lists import Device
-from stand import check, key_of
+from stand import Stand, check, key_of
 
 SIZES = {"360": PHONE, "412": (412, 915), "1280": DESK, "landscape": (780, 360)}
 MEDIA: dict[str, dict[str, str]] = {
@@ -185,6 +186,20 @@ def by_keys(page: Page) -> None:
         check(f"{size}: each is in sight, with a ring", not hidden, hidden)
 
 
+def large_letters(stand: Stand, shots: Path) -> None:
+    """A browser whose user has set letters of twice the size."""
+    with Page(stand, shots, letters=2 * LETTERS_OF_BROWSER) as page:
+        page.width(*PHONE)
+        page.open()
+        check("large letters of the browser: nothing is off the screen", page.too_wide() == [], page.too_wide())
+        page.picture(shots / "s8-large-sign-in.png")
+        page.sign_in(key_of("T1"), "Tim Tan")
+        check("nor when signed in", page.too_wide() == [], page.too_wide())
+        check("and nothing is covered", page.covered() == [], page.covered())
+        page.script("document.getElementById('list-heading').scrollIntoView();")
+        page.picture(shots / "s8-large-list.png")
+
+
 def try_looks(page: Page) -> None:
     """T1 is signed in; so it is afterwards. N has a list of 40 rooms meanwhile."""
     stand = page.stand
@@ -219,4 +234,5 @@ def try_looks(page: Page) -> None:
     page.keys(Keys.ESCAPE)
     other.hand_in()
     page.sign_out()
+    large_letters(stand, page.shots)
     page.sign_in(key_of("T1"), "Tim Tan")
