@@ -37,6 +37,7 @@ export const TEXTS = {
     phases: {
       idle: "No round is open.",
       open: "Open: you can change your list.",
+      openToOthers: "Open.",
       closed: "Closed: lists can no longer be changed.",
       drawn: "Closed: the order has been drawn.",
       ran: "Closed: the rooms are being worked out.",
@@ -236,6 +237,7 @@ export const TEXTS = {
     phases: {
       idle: "Zurzeit läuft keine Runde.",
       open: "Offen: Sie können Ihre Wunschliste ändern.",
+      openToOthers: "Offen.",
       closed: "Geschlossen: Wunschlisten können nicht mehr geändert werden.",
       drawn: "Geschlossen: Die Reihenfolge ist ausgelost.",
       ran: "Geschlossen: Die Zimmer werden gerade zugeteilt.",

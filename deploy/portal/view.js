@@ -101,12 +101,13 @@ function drawAbout() {
 function facts() {
   const { me } = desk;
   const part = me.withdrawn ? "withdrawn" : me.phase === "idle" ? "idle" : "yes";
+  const phase = me.phase === "open" && me.withdrawn ? "openToOthers" : me.phase;
   return [
     [text("facts.name"), me.name],
     [text("facts.person"), me.person],
     [text("facts.home"), me.home ?? text("noHome")],
     [text("facts.round"), me.round > 0 ? String(me.round) : text("noRoundYet")],
-    [text("facts.phase"), hasText(`phases.${me.phase}`) ? text(`phases.${me.phase}`) : me.phase],
+    [text("facts.phase"), hasText(`phases.${phase}`) ? text(`phases.${phase}`) : phase],
     [text("facts.part"), text(`part.${part}`)],
   ];
 }
