@@ -107,7 +107,7 @@ export const TEXTS = {
 
     listHeading: "Your list",
     listHint: "The room that you want most comes first. There may be 40. A room after your own does not count.",
-    keyboardHint: "With a keyboard, Alt and an arrow key also move the room whose button has the focus.",
+    keyboardHint: "With a keyboard, Alt and an arrow key also move the room whose button is selected.",
     up: "Move {room} up",
     down: "Move {room} down",
     remove: "Remove {room}",
@@ -308,8 +308,8 @@ export const TEXTS = {
     listHeading: "Ihre Wunschliste",
     listHint: "An erster Stelle steht das Zimmer, das Sie am liebsten hätten. Es dürfen 40 sein. Was nach Ihrem "
       + "eigenen Zimmer kommt, zählt nicht.",
-    keyboardHint: "Mit der Tastatur verschieben auch Alt und eine Pfeiltaste das Zimmer, dessen Schaltfläche den "
-      + "Fokus hat.",
+    keyboardHint: "Mit der Tastatur verschieben auch Alt und eine Pfeiltaste das Zimmer, dessen Schaltfläche "
+      + "ausgewählt ist.",
     up: "{room} nach oben",
     down: "{room} nach unten",
     remove: "{room} entfernen",
@@ -353,9 +353,9 @@ export const TEXTS = {
     withdraw: "Aussteigen ...",
     withdrawText: {
       homed: "Um Ihr Zimmer zu behalten, brauchen Sie nicht auszusteigen: Ohne Liste oder mit einer leeren Liste "
-        + "behalten Sie es auch, und solange die Runde offen ist, können Sie es sich noch anders überlegen. Wenn Sie "
-        + "aussteigen, nehmen weder Sie noch Zimmer {home} an dieser Runde teil. Das lässt sich nicht rückgängig "
-        + "machen.",
+        + "behalten Sie es ebenfalls, und solange die Runde offen ist, können Sie es sich noch anders überlegen. Wenn "
+        + "Sie aussteigen, nehmen weder Sie noch Zimmer {home} an dieser Runde teil. Das lässt sich nicht "
+        + "rückgängig machen.",
       homeless: "Wenn Sie kein Zimmer möchten, brauchen Sie nicht auszusteigen: Ohne Liste oder mit einer leeren Liste "
         + "bekommen Sie keines, und solange die Runde offen ist, können Sie es sich noch anders überlegen. Wenn Sie "
         + "aussteigen, nehmen Sie an dieser Runde nicht teil. Das lässt sich nicht rückgängig machen.",
@@ -415,7 +415,7 @@ export const TEXTS = {
         + "nicht hilft, sagen Sie der Wohnheimverwaltung Bescheid.",
       408: "Die Verbindung ist zu langsam. Es wurde nichts geändert. Bitte versuchen Sie es noch einmal.",
       413: "Die Liste ist zu lang für den Server. Es wurde nichts geändert. Entfernen Sie einige Zimmer, und geben Sie "
-        + "sie erneut ab.",
+        + "die Liste erneut ab.",
       429: "Aus Ihrem Netz kamen zu viele Anfragen. Es wurde nichts geändert. Bitte versuchen Sie es in einer Minute "
         + "noch einmal.",
       busy: "Der Server ist beschäftigt oder wird gerade neu gestartet.",

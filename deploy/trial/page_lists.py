@@ -30,6 +30,17 @@ MORE_MEMBERS = """
         return new Response(JSON.stringify(value), { status: 200 });
     };"""
 
+# The texts that one language has and another lacks, or has with other values.
+UNEQUAL_TEXTS = """
+    const done = arguments[0];
+    const all = (part, name) => typeof part === "string" ? [name + (part.match(/\\{\\w+\\}/g) ?? []).sort()]
+        : Object.entries(part).flatMap(([member, value]) => all(value, `${name}.${member}`));
+    import("/texts.js").then(({ TEXTS }) => {
+        const [first, ...others] = Object.values(TEXTS).map(language => all(language, ""));
+        done(others.flatMap(other => [...first.filter(name => !other.includes(name)),
+            ...other.filter(name => !first.includes(name))]));
+    });"""
+
 
 class Device:
     """Another device of a resident, which needs no page."""
@@ -190,6 +201,8 @@ def empty_list(page: Page, stand: Stand) -> None:
 
 def languages(page: Page, stand: Stand) -> None:
     """The switch, and what the browser asks for."""
+    unequal = page.driver.execute_async_script(UNEQUAL_TEXTS)
+    check("each text stands there in each language, with the same values", unequal == [], unequal)
     page.enter_key("x")
     check("the language can be chosen by the keyboard", page.tab_to("Language"))
     page.keys("D")
