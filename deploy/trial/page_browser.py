@@ -193,6 +193,10 @@ class Page(Browser):
         with contextlib.suppress(Exception):
             self.element("go").click()
 
+    def kept(self) -> list[str]:
+        """What the tab keeps beside the language."""
+        return self.script("return Object.keys(sessionStorage).filter(name => name !== 'rooms-language');")
+
     def too_wide(self) -> list[Any]:
         """By how many pixels the page is wider than the window, and which elements reach beyond it."""
         return self.script("""
