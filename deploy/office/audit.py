@@ -1,0 +1,355 @@
+#!/usr/bin/python3
+"""audit.py RECORD [PERSON ..] [--seed HEX]: checks the results of a room exchange, apart from the program `rooms`.
+
+It needs nothing but Python (3.10 or later). It works the results out anew from the definition (Abdulkadiroglu and
+Sonmez, House Allocation with Existing Tenants, Journal of Economic Theory 88, 1999, as top trading cycles in steps):
+
+    In each step everybody who remains asks for the best room on their list that is left, and else for their own
+    room or, without one, for no room. A room comes from its tenant as long as the tenant remains, and else from
+    the first person in the drawn order who remains. So each person points to one person, and some stand in
+    circles. Everybody in a circle gets the room that they ask for, and leaves with it, until nobody remains.
+
+It compares these results with the recorded ones, and looks for what may never be: a room given twice, somebody with
+less than their own room, a better room that nobody got, people who would all gain by passing on their rooms. With the
+seed it works out the words of the draw. It explains how the result of each PERSON came about.
+
+Exit status: 0 all is right, 1 faults were found, 2 the record cannot be read. The record - is standard input.
+"""
+
+import argparse
+import struct
+import sys
+from collections.abc import Mapping
+from pathlib import Path
+from typing import Any, NamedTuple
+
+
+class Gone(NamedTuple):
+    """A better room that another person got. It came from its tenant, or from the first of those left in the order."""
+
+    choice: int
+    room: str
+    to: str
+    step: int
+    giver: str
+
+
+class Facts(NamedTuple):
+    """How the result of one person came about. Choices count from 1, by the list as it was handed in."""
+
+    place: int                            # in the drawn order, from 1
+    struck: list[tuple[str, str]]         # rooms on the list that did not count, and why
+    gone: list[Gone]
+    step: int                             # when the person left
+    circle: list[tuple[str, str | None]]  # with whom, and who got what; each room came from the next person
+    choice: int | None                    # which choice the room is; None for the own room, or no room
+
+
+class Audit:  # pylint: disable=too-many-instance-attributes  # others read what it found
+    """The results of a round by the definition (`got`), beside those that were recorded (`result`).
+
+    The rows are `rooms` (code, shut, ..), `people` (identifier, name, home, withdrawn), `choices` (each identifier's
+    list), `words` (identifier, word) and `results` (identifier, room). None is no home, or no room.
+    """
+
+    def __init__(self, rows: Mapping[str, Any]) -> None:
+        self.word, self.result = dict(rows["words"]), dict(rows["results"])
+        self.home = {person: home for person, _, home, withdrawn in rows["people"] if not withdrawn}
+        self.kept = {home: person for person, _, home, withdrawn in rows["people"] if withdrawn and home}
+        self.rooms = {code for code, shut, *_ in rows["rooms"] if not shut} - set(self.kept)
+        self.order = sorted(self.home, key=self.turn)
+        self.handed_in = {person: list(rows["choices"].get(person, [])) for person in self.home}
+        self.list = {person: [room for room in listed if not self.cause(person, room)]
+                     for person, listed in self.handed_in.items()}
+        self.got: dict[str, str | None] = {}
+        self.step: dict[str, int] = {}                # in which step somebody left
+        self.taken: dict[str, tuple[str, int]] = {}   # who got a room, and in which step
+        self.giver: dict[str, str] = {}               # from whom a room came
+        self.asked: dict[str, list[tuple[int, str | None]]] = {person: [] for person in self.home}  # from which step on
+        self.exchange()
+
+    def turn(self, person: str) -> tuple[str, str]:
+        """By what the order goes: the word, then the identifier. (Where there are grades, they go first: just here.)"""
+        return self.word.get(person, "").lower(), person
+
+    def cause(self, person: str, room: str) -> str:
+        """Why a room on the list does not count, or nothing where it counts."""
+        listed, home = self.handed_in[person], self.home[person]
+        if home in listed and listed.index(home) <= listed.index(room):
+            return f"it is {person}'s own room" if room == home else "it stands behind the own room"
+        if room in self.kept:
+            return f"{self.kept[room]}, who lives there, has withdrawn"
+        return "" if room in self.rooms else "it is out of use"
+
+    def exchange(self) -> None:
+        """The steps of the definition."""
+        tenant = {home: person for person, home in self.home.items() if home}
+        remaining, best, step = dict.fromkeys(self.order), dict.fromkeys(self.order, 0), 0
+        while remaining:
+            step, first = step + 1, next(iter(remaining))
+            asks: dict[str, str | None] = {}
+            points: dict[str, str] = {}
+            for person in remaining:
+                wishes = self.list[person]
+                while best[person] < len(wishes) and wishes[best[person]] in self.taken:
+                    best[person] += 1
+                room = wishes[best[person]] if best[person] < len(wishes) else self.home[person]
+                holder = tenant.get(room) if room else person
+                asks[person], points[person] = room, holder if holder in remaining else first
+                if not self.asked[person] or self.asked[person][-1][1] != room:
+                    self.asked[person].append((step, room))
+            for person in in_circles(points):
+                room = self.got[person] = asks[person]
+                self.step[person] = step
+                del remaining[person]
+                if room:
+                    self.taken[room], self.giver[room] = (person, step), points[person]
+
+    # --- what is wrong with the recorded results
+
+    def rank(self, person: str, room: str | None) -> int:
+        """How a person ranks a room, 0 being the best: the list, then the own room (or no room), then all else."""
+        wishes = self.list[person]
+        return wishes.index(room) if room in wishes else len(wishes) + int(room != self.home[person])
+
+    def better(self, person: str) -> list[str]:
+        """The rooms that a person ranks above the recorded result."""
+        rank, wishes, home = self.rank(person, self.result[person]), self.list[person], self.home[person]
+        return wishes[:rank] + ([home] if home and rank > len(wishes) else [])
+
+    def faults(self) -> list[str]:
+        """All that is wrong, as sentences; none where the results are right."""
+        said = [f"{person} has {what}" for person in sorted({*self.home, *self.word, *self.result})
+                for what, holds in (("no word", person not in self.word), ("no result", person not in self.result),
+                                    ("a word or a result, and takes no part", person not in self.home)) if holds]
+        return said or self.differences() + self.broken()
+
+    def differences(self) -> list[str]:
+        """Who has another result than by the definition, and how that one comes about."""
+        return [f"{person} has {self.result[person] or 'no room'}, and by the definition gets "
+                f"{self.got[person] or 'no room'}: {self.how(person)}"
+                for person in self.order if self.result[person] != self.got[person]]
+
+    def broken(self) -> list[str]:
+        """Which promises do not hold, whatever the definition gives."""
+        found, owner = [], {room: person for person, room in self.result.items() if room}
+        for person in self.order:
+            room, home = self.result[person], self.home[person]
+            if room and owner[room] != person:
+                found.append(f"{room} was given twice: to {person} and to {owner[room]}")
+            if room and room not in self.rooms:
+                found.append(f"{person} has {room}, which takes no part in the round")
+            if self.rank(person, room) > len(self.list[person]):
+                found.append(f"{person} has {room or 'no room'}, which is "
+                             + (f"less than the own room {home}" if home else "not on the list"))
+            found += [f"{person} would rather have {wish}, which nobody got"
+                      for wish in self.better(person) if wish not in owner]
+        circle = circle_in({person: [owner[room] for room in self.better(person) if room in owner]
+                            for person in self.order})
+        gains = [f"{person} would rather have {self.result[other]}, which {other} has"
+                 for person, other in zip(circle, circle[1:] + circle[:1])]
+        return found + (["all of these would gain by passing on their rooms: " + "; ".join(gains)] if circle else [])
+
+    # --- how a result came about
+
+    def facts(self, person: str) -> Facts | None:
+        """How a person's result came about; None for somebody who takes no part."""
+        if person not in self.home:
+            return None
+        got, wishes = self.got[person], self.list[person]
+        choice = {room: number for number, room in enumerate(self.handed_in[person], 1)}
+        struck = [(room, self.cause(person, room)) for room in choice if room not in wishes]
+        gone = [Gone(choice[room], room, *self.taken[room], self.giver[room])
+                for room in wishes[:self.rank(person, got)]]
+        circle, other = [(person, got)], self.giver.get(got or "", person)
+        while other != person:
+            circle.append((other, self.got[other]))
+            other = self.giver[self.got[other] or ""]
+        return Facts(self.order.index(person) + 1, struck, gone, self.step[person], circle,
+                     choice[got] if got in wishes else None)
+
+    def claim(self, room: str) -> str:
+        """Why a room came from the person from whom it came."""
+        return "who lived there" if self.home[self.giver[room]] == room else "the first in the order of those left"
+
+    def how(self, person: str) -> str:
+        """How a person got the room, in one sentence."""
+        found, got = self.facts(person), self.got[person]
+        if found is None or got is None or got == self.home[person]:
+            return f"in step {self.step[person]} nothing on the list was left" + (" but the own room" if got else "")
+        links = [f"{one}, {self.claim(room)}, asked for {room}" if self.giver[room] == one else
+                 f"{one} asked for {room}, which came from {self.giver[room]}, {self.claim(room)}"
+                 for one, room in found.circle if room]
+        return f"in step {found.step} " + "; ".join(links)
+
+    def explain(self, person: str) -> list[str]:
+        """How a person's result came about, as sentences."""
+        found = self.facts(person)
+        if found is None:
+            return [f"{person} takes no part in the round."]
+        home, got, listed = self.home[person], self.got[person], self.handed_in[person]
+        said = [f"{person} was number {found.place} of {len(self.order)} in the drawn order, and had "
+                + (f"the room {home}, which nobody could take away." if home else "no room."),
+                f"{person} handed in the list {' '.join(listed)}." if listed else f"{person} handed in no list."]
+        said += [f"{room} did not count: {cause}." for room, cause in found.struck]
+        for gone in found.gone:
+            said.append(f"{gone.room}, choice {gone.choice}, went in step {gone.step} to {gone.to}, " + (
+                f"{self.claim(gone.room)}." if gone.giver == gone.to else
+                f"and came from {gone.giver}, {self.claim(gone.room)}, in exchange for {self.got[gone.giver]}."))
+        end = f"got {got}, choice {found.choice}" if found.choice else f"kept {got}" if got else "got no room"
+        return said + ["I" + self.how(person)[1:] + ".", f"So {person} {end}."]
+
+
+def in_circles(points: dict[str, str]) -> list[str]:
+    """Those who stand in a circle, where each person points to one person."""
+    inside: list[str] = []
+    seen: set[str] = set()
+    for person in points:
+        walk: list[str] = []
+        while person not in seen:
+            seen.add(person)
+            walk.append(person)
+            person = points[person]
+        inside += walk[walk.index(person):] if person in walk else []
+    return inside
+
+
+def circle_in(points: dict[str, list[str]]) -> list[str]:
+    """A circle, where each person points to several; nobody where there is none."""
+    inside = set(points)
+    while ends := {person for person in inside if not inside.intersection(points[person])}:
+        inside -= ends  # who points to nobody inside is in no circle
+    walk = sorted(inside)[:1]
+    while walk and walk[-1] not in walk[:-1]:
+        walk.append(next(person for person in points[walk[-1]] if person in inside))
+    return walk[walk.index(walk[-1]):-1] if walk else []
+
+
+def seed_words(seed: str, count: int) -> list[str]:
+    """The words of a seed: the keystream of ChaCha20 (RFC 8439) with this key and all else zero, eight bytes a word."""
+    key = struct.unpack("<8I", bytes.fromhex(seed))
+    stream: list[int] = []
+    for block in range((count + 7) // 8):
+        start = [0x61707865, 0x3320646E, 0x79622D32, 0x6B206574, *key, block, 0, 0, 0]
+        mixed = start[:]
+        for _ in range(10):
+            for places in ((0, 4, 8, 12), (1, 5, 9, 13), (2, 6, 10, 14), (3, 7, 11, 15),
+                           (0, 5, 10, 15), (1, 6, 11, 12), (2, 7, 8, 13), (3, 4, 9, 14)):
+                quarter_round(mixed, *places)
+        stream += [(one + two) & 0xFFFFFFFF for one, two in zip(mixed, start)]
+    return [f"{high:08x}{low:08x}" for low, high in zip(stream[::2], stream[1::2])][:count]
+
+
+def quarter_round(state: list[int], one: int, two: int, three: int, four: int) -> None:
+    """The step of which ChaCha20 is made."""
+    for left, right, turned, bits in ((one, two, four, 16), (three, four, two, 12),
+                                      (one, two, four, 8), (three, four, two, 7)):
+        state[left] = (state[left] + state[right]) & 0xFFFFFFFF
+        both = state[turned] ^ state[left]
+        state[turned] = (both << bits | both >> 32 - bits) & 0xFFFFFFFF
+
+
+# --- the record
+
+class Unreadable(Exception):
+    """This is not the record of a round; says why."""
+
+
+# The order in which the lines of a record stand. Rounds that were opened and cancelled may stand before them.
+LINES = ["room", "person", "home", "open", "cancel", "choose", "withdraw", "shut", "close", "draw", "run", "publish",
+         "round", "order", "results"]
+
+
+class Record:  # pylint: disable=too-many-instance-attributes  # a list for each kind of line
+    """What a record says. Comments have the round's number, the office's own results and, if it is known, the seed."""
+
+    def __init__(self, text: str) -> None:
+        self.number, self.seed, self.last = 0, "", 0
+        self.seen: set[tuple[str, ...]] = set()
+        self.rooms: dict[str, bool] = {}
+        self.homes: dict[str, str | None] = {}
+        self.withdrawn: set[str] = set()
+        self.choices: dict[str, list[str]] = {}
+        self.words: dict[str, str] = {}
+        self.results: dict[str, str | None] = {}
+        for number, line in enumerate(text.split("\n"), 1):
+            try:
+                self.read(line.split())
+            except (KeyError, ValueError) as why:
+                raise Unreadable(f"line {number} is none of a record, or in a wrong place: {line[:60]!r}") from why
+        if self.last < LINES.index("run") or len(self.words) > 0 == len(self.results):
+            raise Unreadable("it ends before `run`, or it has no results of the office (# result PERSON ROOM)")
+
+    def read(self, words: list[str]) -> None:
+        """One line. One that is unknown, out of order or twice there ends in a KeyError or a ValueError."""
+        if words and not words[0].startswith("#"):
+            if LINES.index(words[0]) < self.last or tuple(words[:2]) in self.seen:
+                raise ValueError
+            self.last = 0 if words[0] == "cancel" else LINES.index(words[0])
+            self.seen |= {tuple(words[:2])} if words[1:] else set()
+        match words:
+            case ["#", "round", number, "ran" | "published"]:
+                self.number = int(number)
+            case ["#", "seed", seed]:
+                self.seed = seed
+            case ["#", "result", person, room] if person not in self.results:
+                self.results[person] = None if room == "none" else room
+            case ["room", room]:
+                self.rooms[room] = False
+            case ["person", person, _, _, *_]:
+                self.homes[person] = None
+            case ["home", person, room] if not (self.homes[person] or self.rooms[room] or room in self.homes.values()):
+                self.homes[person] = room
+            case ["choose", person, *listed] if person in self.homes and self.rooms.keys() >= {*listed}:
+                self.choices[person] = list(dict.fromkeys(listed))
+            case ["withdraw", person] if person in self.homes:
+                self.withdrawn.add(person)
+            case ["shut", room] if not self.rooms[room] and room not in self.homes.values():
+                self.rooms[room] = True
+            case ["draw", *drawn]:
+                self.words = dict(zip(sorted(self.homes.keys() - self.withdrawn), drawn, strict=True))
+            case [] | ["open" | "cancel" | "close" | "run" | "publish" | "round" | "order" | "results"]:
+                pass
+            case [first, *_] if not first.startswith("#"):
+                raise ValueError
+
+    def rows(self) -> dict[str, Any]:
+        """The plain rows of the round."""
+        return {"rooms": list(self.rooms.items()), "choices": self.choices, "words": list(self.words.items()),
+                "people": [(person, person, home, person in self.withdrawn) for person, home in self.homes.items()],
+                "results": list(self.results.items())}
+
+    def is_drawn_by(self, seed: str) -> bool:
+        """Whether the words of the draw are those of this seed."""
+        drawn = [word.lower() for _, word in sorted(self.words.items())]
+        return drawn == seed_words(seed, len(drawn))
+
+
+def main(words: list[str]) -> int:
+    """Says what was found, and gives the exit status."""
+    parser = argparse.ArgumentParser(prog="audit.py", description="Checks the results of a room exchange.")
+    parser.add_argument("record", help="the record of the round, as the office wrote it; - is standard input")
+    parser.add_argument("person", nargs="*", help="an identifier: how this person's result came about")
+    parser.add_argument("--seed", help="the seed of the draw: 64 signs out of 0 to 9 and a to f")
+    asked = parser.parse_args(words)
+    try:
+        record = Record((sys.stdin.buffer.read() if asked.record == "-" else Path(asked.record).read_bytes()).decode())
+        drawn = {seed: record.is_drawn_by(seed) for seed in (asked.seed, record.seed) if seed}
+    except (Unreadable, OSError, ValueError, struct.error) as why:
+        print(f"audit.py: {asked.record} cannot be read: {why}", file=sys.stderr)
+        return 2
+    found = Audit(record.rows())
+    faults = found.faults()
+    faults += [f"the words of the draw are not those of the seed {seed}" for seed, right in drawn.items() if not right]
+    right = ["the results are those of the definition", "nobody has less than the own room, no room was given twice",
+             "no other rooms would make somebody better off and nobody worse",
+             *[f"the words of the draw are those of the seed {seed}" for seed in drawn]]
+    print(f"Round {record.number}, {len(found.order)} people: {'not right' if faults else 'all is right'}")
+    print("\n".join(f"- {line}" for line in faults or right))
+    for person in asked.person:
+        print("\n".join(["", *found.explain(person)]))
+    return 1 if faults else 0
+
+
+if __name__ == "__main__":
+    sys.exit(main(sys.argv[1:]))

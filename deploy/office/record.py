@@ -1,0 +1,216 @@
+#!/usr/bin/python3
+"""record.py FILE [--seed HEX]: writes the public record of a round, from an office's file.
+
+The record is the whole round as lines of a rehearsal, without names and keys: each person has the identifier as name,
+and a made-up key. `rooms rehearse < RECORD` gives the office's own results once more, on anybody's machine; audit.py
+checks them without the program. The office's own results stand in it as comments, which a rehearsal passes over.
+
+A round has results from `run` until `settle`, so only then it can be recorded. FILE and its log are copied before they
+are read, and stay as they are. While a server has the file, take the record by `rooms-office record`.
+
+Exit status: 0 the record was written, 1 the round has no results, 2 the file is no office's, or cannot be read.
+"""
+
+import argparse
+import contextlib
+import re
+import shutil
+import sqlite3
+import sys
+import tempfile
+from collections.abc import Iterable, Iterator
+from pathlib import Path
+from typing import NamedTuple
+
+from audit import seed_words
+
+VERSION = 1       # of the file: the tables that are read here
+ROUNDS = 40       # rounds before this one are opened and cancelled up to so many; beyond them the number is only told
+FORMS = {"room": "[A-Z0-9][A-Z0-9-]{0,7}", "person": "[A-Z0-9]{1,12}", "word": "[0-9a-f]{16}"}
+
+
+class Refused(Exception):
+    """The record cannot be written; says why."""
+
+    status = 2
+
+
+class NoResults(Refused):
+    """The round has no results."""
+
+    status = 1
+
+
+class Person(NamedTuple):
+    """A person of the office, without name and key."""
+
+    identifier: str
+    home: str | None
+    withdrawn: bool
+
+
+class Office(NamedTuple):
+    """What the file says of the round."""
+
+    number: int
+    phase: str
+    rooms: list[tuple[str, bool]]
+    people: list[Person]
+    choices: dict[str, list[str]]
+    words: dict[str, str]
+    results: dict[str, str | None]
+
+
+# --- reading
+
+@contextlib.contextmanager
+def opened(file: Path) -> Iterator[sqlite3.Connection]:
+    """A copy of the file, with its log. It has keys: nobody else can read its folder, and it is gone at the end."""
+    with tempfile.TemporaryDirectory() as folder:
+        copy = Path(folder) / "office.db"
+        try:
+            shutil.copyfile(file, copy)
+            for end in ("-wal", "-journal"):
+                with contextlib.suppress(FileNotFoundError):
+                    shutil.copyfile(file.with_name(file.name + end), copy.with_name(copy.name + end))
+        except OSError as why:
+            raise Refused(f"{file} cannot be read ({why.strerror})") from why
+        with contextlib.closing(sqlite3.connect(copy)) as database:
+            yield database
+
+
+def read_office(file: Path) -> Office:
+    """The round of an office's file. Columns are read by their names, so others may stand beside them."""
+    with opened(file) as database:
+        try:
+            found = database.execute("SELECT version, number, phase FROM round").fetchall()
+            if len(found) != 1 or found[0][0] != VERSION:
+                raise Refused(f"{file} is no office's file of version {VERSION}, the one that this program knows")
+            _, number, phase = found[0]
+            if phase not in ("ran", "published"):
+                raise NoResults(f"round {number} is {phase}: a round has results from `run` until `settle`")
+            choices: dict[str, list[str]] = {}
+            for person, room in database.execute("SELECT person, room FROM choice ORDER BY person, place"):
+                choices.setdefault(person, []).append(room)
+            return Office(
+                number, phase,
+                [(code, bool(shut)) for code, shut in database.execute("SELECT code, shut FROM room ORDER BY code")],
+                [Person(identifier, home, bool(withdrawn)) for identifier, home, withdrawn in
+                 database.execute("SELECT id, home, withdrawn FROM person ORDER BY id")],
+                choices,
+                dict(database.execute("SELECT person, hex FROM word ORDER BY person")),
+                dict(database.execute("SELECT person, room FROM result ORDER BY person")))
+        except sqlite3.Error as why:
+            raise Refused(f"{file} is no office's file, its log is not beside it, or it is damaged ({why})") from why
+
+
+def check(office: Office) -> None:
+    """Refuses rows of which no lines can be made that mean the same: the program would refuse such a file too."""
+    texts = {
+        "room": [room for room, _ in office.rooms],
+        "person": [person.identifier for person in office.people],
+        "word": list(office.words.values()),
+    }
+    for kind, form in FORMS.items():
+        for text in texts[kind]:
+            if not isinstance(text, str) or not re.fullmatch(form, text):
+                raise Refused(f"the file is no office's: it has {text!r} for a {kind}")
+    participants = {person.identifier for person in office.people if not person.withdrawn}
+    if set(office.words) != participants or set(office.results) != participants:
+        raise Refused("the file is no office's: its words and results are not those of the people who take part")
+    homes = [person.home for person in office.people if person.home]
+    free = {room for room, shut in office.rooms if not shut}
+    listed = {room for rooms in office.choices.values() for room in rooms}
+    if len(set(homes)) != len(homes) or not free.issuperset(homes) or not listed.issubset(texts["room"]):
+        raise Refused("the file is no office's: two people have one home, or a home or a list a room that is not there")
+
+
+# --- writing
+
+def round_number(office: Office) -> list[str]:
+    """A rehearsal begins at round 1, and each round that is opened and cancelled takes a number."""
+    before = office.number - 1
+    if before <= ROUNDS:
+        return ["open", "cancel"] * before
+    return [f"# A rehearsal begins at round 1: so its answers say 1 where the office's say {office.number}."]
+
+
+def register(office: Office) -> list[str]:
+    """The rooms, the people and who lives where, as they were when the round closed."""
+    return [
+        *(f"room {room}" for room, _ in office.rooms),
+        *(f"person {person.identifier} nokey{number:011} {person.identifier}"
+          for number, person in enumerate(office.people, 1)),
+        *(f"home {person.identifier} {person.home}" for person in office.people if person.home),
+    ]
+
+
+def wishes(office: Office) -> list[str]:
+    """What counted when the round was closed. Lists of people who have withdrawn are left out: they did not count.
+
+    Lists come first, since nobody can list a room that is shut. Nobody lives in such a room: whoever did has no home in
+    the register.
+    """
+    return [
+        *(f"choose {person.identifier} {' '.join(office.choices[person.identifier])}" for person in office.people
+          if not person.withdrawn and office.choices.get(person.identifier)),
+        *(f"withdraw {person.identifier}" for person in office.people if person.withdrawn),
+        *(f"shut {room}" for room, shut in office.rooms if shut),
+    ]
+
+
+def outcome(office: Office) -> list[str]:
+    """The draw and the run, what a rehearsal is asked, and the office's own results."""
+    return [
+        "close",
+        " ".join(["draw", *(office.words[person] for person in sorted(office.words))]),
+        "run",
+        *(["publish"] if office.phase == "published" else []),
+        "round",
+        "order",
+        "results",
+        "# These are the office's own results:",
+        *(f"# result {person:12}  {office.results[person] or 'none'}" for person in sorted(office.results)),
+    ]
+
+
+def seed_of(office: Office, seeds: Iterable[str]) -> str | None:
+    """Which of these seeds has the words of the draw."""
+    words = [office.words[person] for person in sorted(office.words)]
+    return next((seed.lower() for seed in seeds if seed_words(seed, len(words)) == words), None)
+
+
+def record(file: Path, seeds: Iterable[str] = ()) -> str:
+    """The record of the round in an office's file. Of the seeds that may be the draw's, it names the one that is."""
+    office = read_office(file)
+    check(office)
+    seed = seed_of(office, seeds)
+    return "\n".join([
+        f"# round {office.number} {office.phase}",
+        "# The record of a round of room exchange: rooms rehearse < RECORD. Names and keys are made up.",
+        "# Homes and lists are those of the end of the round. Lists of people who have withdrawn are left out.",
+        f"# seed {seed}" if seed else "# No seed of the draw is recorded.",
+        *round_number(office), *register(office), "open", *wishes(office), *outcome(office), ""])
+
+
+def main(words: list[str]) -> int:
+    """Writes the record to standard output."""
+    parser = argparse.ArgumentParser(prog="record.py", description="Writes the public record of a round.")
+    parser.add_argument("file", type=Path, help="an office's file, with its log beside it")
+    parser.add_argument("--seed", help="the seed of the draw, which then stands in the record")
+    asked = parser.parse_args(words)
+    try:
+        if asked.seed and not re.fullmatch("[0-9a-fA-F]{64}", asked.seed):
+            raise Refused("a seed has 64 signs out of 0 to 9 and a to f")
+        text = record(asked.file, [asked.seed] if asked.seed else [])
+        if asked.seed and "\n# seed " not in text:
+            raise Refused("the words of the draw are not those of this seed")
+    except Refused as why:
+        print(f"record.py: {why}", file=sys.stderr)
+        return why.status
+    sys.stdout.write(text)
+    return 0
+
+
+if __name__ == "__main__":
+    sys.exit(main(sys.argv[1:]))

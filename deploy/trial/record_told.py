@@ -1,0 +1,108 @@
+"""What the program says of an office after a round, and a file that holds just that."""
+
+import collections
+import contextlib
+import random
+import shutil
+import sqlite3
+import subprocess
+import sys
+from collections.abc import Callable
+from pathlib import Path
+from typing import NamedTuple
+
+from record_draws import Round, key_of
+
+MARK = "mark"  # no line of the program: its answer stands between two others
+MARKED = "not understood\n"
+
+
+class Trial:  # pylint: disable=too-few-public-methods  # others build on it
+    """Counts what was tried, and ends at the first thing that is not as it should be."""
+
+    def __init__(self, program: str, seed: int, folder: Path) -> None:
+        self.program, self.folder, self.rng = program, folder, random.Random(seed)
+        self.counts: collections.Counter[str] = collections.Counter()
+
+    def check(self, holds: bool, what: str, *shown: object) -> None:
+        """Ends the trial where something does not hold."""
+        if not holds:
+            sys.exit("\n".join([f"not so: {what}", *map(str, shown), f"tried before: {dict(self.counts)}"]))
+
+
+class Told(NamedTuple):
+    """What the program answered once the results were there."""
+
+    round: str
+    order: str
+    results: str
+    moves: str
+    rooms: list[tuple[str, bool]]
+    people: list[tuple[str, str | None, bool]]
+    choices: dict[str, list[str]]
+    words: dict[str, str]
+    result: dict[str, str | None]
+
+
+def answers(program: str, lines: list[str], questions: list[str]) -> tuple[str, list[str]]:
+    """The answers of a rehearsal to these lines, and the answer to each of these questions after them."""
+    asked = lines + [line for question in questions for line in (MARK, question)]
+    text = subprocess.run([program, "rehearse"], input="".join(f"{line}\n" for line in asked), text=True,
+                          capture_output=True, check=False).stdout
+    first, *others = text.split(MARKED)
+    return first, others
+
+
+def to_moves(published: bool, number: int) -> list[str]:
+    """The further lines that lead from the results of a round to its moves."""
+    return [*([] if published else ["publish"]), "settle", f"moves {number}"]
+
+
+def table(text: str) -> list[list[str]]:
+    """The rows of a table."""
+    return [line.split() for line in text.splitlines()[1:]]
+
+
+def or_none(text: str) -> str | None:
+    """A room or a home of an answer."""
+    return None if text == "none" else text
+
+
+def told_of(drawn: Round, ask: Callable[[list[str]], list[str]]) -> Told:
+    """All that the program knows, by its answers to questions. They end with the end of the round."""
+    questions = [*(f"me {key_of(person)}" for person in drawn.people), "rooms", "round", "order", "results",
+                 *to_moves(drawn.lines[-1] == "publish", drawn.number)]
+    found = ask(questions)
+    rooms, asked, order, results = found[len(drawn.people):len(drawn.people) + 4]
+    people, choices = [], {}
+    for answer in found[:len(drawn.people)]:
+        said = {line.split(" ")[0]: line.split(" ")[1:] for line in answer.splitlines()}
+        person = said["person"][0]
+        people.append((person, or_none(said["home"][0]), said["withdrawn"] == ["yes"]))
+        if said["choices"]:
+            choices[person] = said["choices"]
+    words = {person: word for _, word, person in (line.split() for line in order.splitlines())}
+    result = {person: or_none(room) for person, room in table(results)}
+    return Told(asked, order, results, found[-1], [(code, state == "shut") for code, state, _ in table(rooms)],
+                sorted(people), choices, words, result)
+
+
+def file_of(empty: Path, told: Told, target: Path) -> Path:
+    """A file of the office, made of an empty one."""
+    for end in ("", "-wal"):
+        target.with_name(target.name + end).unlink(missing_ok=True)
+        with contextlib.suppress(FileNotFoundError):
+            shutil.copyfile(empty.with_name(empty.name + end), target.with_name(target.name + end))
+    _, number, phase, *_ = told.round.split()
+    people = [(person, f"Name of {person}", key_of(person), home, withdrawn) for person, home, withdrawn in told.people]
+    choices = [(person, place, room) for person, rooms in told.choices.items() for place, room in enumerate(rooms)]
+    with contextlib.closing(sqlite3.connect(target)) as database:
+        database.execute("PRAGMA synchronous = OFF")
+        database.executemany("INSERT INTO room(code, shut) VALUES(?, ?)", told.rooms)
+        database.executemany("INSERT INTO person(id, name, passkey, home, withdrawn) VALUES(?, ?, ?, ?, ?)", people)
+        database.executemany("INSERT INTO choice(person, place, room) VALUES(?, ?, ?)", choices)
+        database.executemany("INSERT INTO word(person, hex) VALUES(?, ?)", told.words.items())
+        database.executemany("INSERT INTO result(person, room) VALUES(?, ?)", told.result.items())
+        database.execute("UPDATE round SET number = ?, phase = ?", (int(number), phase))
+        database.commit()
+    return target
