@@ -48,14 +48,14 @@ class Facts(NamedTuple):
 class Audit:  # pylint: disable=too-many-instance-attributes  # others read what it found
     """The results of a round by the definition (`got`), beside those that were recorded (`result`).
 
-    The rows are `rooms` (code, shut, ..), `people` (identifier, name, home, withdrawn), `choices` (each identifier's
-    list), `words` (identifier, word) and `results` (identifier, room). None is no home, or no room.
+    The rows are `rooms` (code, shut, ..), `people` (identifier, name, home, withdrawn, ..), `choices` (the list of each
+    identifier), `words` (identifier, word) and `results` (identifier, room). None is no home, or no room.
     """
 
     def __init__(self, rows: Mapping[str, Any]) -> None:
         self.word, self.result = dict(rows["words"]), dict(rows["results"])
-        self.home = {person: home for person, _, home, withdrawn in rows["people"] if not withdrawn}
-        self.kept = {home: person for person, _, home, withdrawn in rows["people"] if withdrawn and home}
+        self.home = {person: home for person, _, home, withdrawn, *_ in rows["people"] if not withdrawn}
+        self.kept = {home: person for person, _, home, withdrawn, *_ in rows["people"] if withdrawn and home}
         self.rooms = {code for code, shut, *_ in rows["rooms"] if not shut} - set(self.kept)
         self.order = sorted(self.home, key=self.turn)
         self.handed_in = {person: list(rows["choices"].get(person, [])) for person in self.home}
@@ -176,7 +176,7 @@ class Audit:  # pylint: disable=too-many-instance-attributes  # others read what
         """How a person got the room, in one sentence."""
         found, got = self.facts(person), self.got[person]
         if found is None or got is None or got == self.home[person]:
-            return f"in step {self.step[person]} nothing on the list was left" + (" but the own room" if got else "")
+            return f"in step {self.step[person]} nothing was left to ask for" + (" but the own room" if got else "")
         links = [f"{one}, {self.claim(room)}, asked for {room}" if self.giver[room] == one else
                  f"{one} asked for {room}, which came from {self.giver[room]}, {self.claim(room)}"
                  for one, room in found.circle if room]
@@ -197,7 +197,9 @@ class Audit:  # pylint: disable=too-many-instance-attributes  # others read what
                 f"{self.claim(gone.room)}." if gone.giver == gone.to else
                 f"and came from {gone.giver}, {self.claim(gone.room)}, in exchange for {self.got[gone.giver]}."))
         end = f"got {got}, choice {found.choice}" if found.choice else f"kept {got}" if got else "got no room"
-        return said + ["I" + self.how(person)[1:] + ".", f"So {person} {end}."]
+        said += [self.how(person).replace("in", "In", 1) + ".", f"So {person} {end}."]
+        other = self.result.get(person, got)
+        return said + ([f"But the record has {other or 'no room'} for {person}."] if other != got else [])
 
 
 def in_circles(points: dict[str, str]) -> list[str]:
@@ -249,10 +251,24 @@ def quarter_round(state: list[int], one: int, two: int, three: int, four: int) -
         state[turned] = (both << bits | both >> 32 - bits) & 0xFFFFFFFF
 
 
+def read_seed(text: str) -> str:
+    """A seed, in small letters."""
+    if len(text) != 64 or set(text.lower()) - set("0123456789abcdef"):
+        raise ValueError("a seed has 64 signs out of 0 to 9 and a to f")
+    return text.lower()
+
+
 # --- the record
 
 class Unreadable(Exception):
     """This is not the record of a round; says why."""
+
+
+def new(rows: dict[str, Any], name: str) -> dict[str, Any]:
+    """The rows, where this name is not among them yet."""
+    if name in rows:
+        raise ValueError
+    return rows
 
 
 # The order in which the lines of a record stand. Rounds that were opened and cancelled may stand before them.
@@ -265,7 +281,6 @@ class Record:  # pylint: disable=too-many-instance-attributes  # a list for each
 
     def __init__(self, text: str) -> None:
         self.number, self.seed, self.last = 0, "", 0
-        self.seen: set[tuple[str, ...]] = set()
         self.rooms: dict[str, bool] = {}
         self.homes: dict[str, str | None] = {}
         self.withdrawn: set[str] = set()
@@ -277,31 +292,30 @@ class Record:  # pylint: disable=too-many-instance-attributes  # a list for each
                 self.read(line.split())
             except (KeyError, ValueError) as why:
                 raise Unreadable(f"line {number} is none of a record, or in a wrong place: {line[:60]!r}") from why
-        if self.last < LINES.index("run") or len(self.words) > 0 == len(self.results):
+        if self.last < LINES.index("run") or (self.words and not self.results):
             raise Unreadable("it ends before `run`, or it has no results of the office (# result PERSON ROOM)")
 
     def read(self, words: list[str]) -> None:
         """One line. One that is unknown, out of order or twice there ends in a KeyError or a ValueError."""
         if words and not words[0].startswith("#"):
-            if LINES.index(words[0]) < self.last or tuple(words[:2]) in self.seen:
+            if LINES.index(words[0]) < self.last:
                 raise ValueError
             self.last = 0 if words[0] == "cancel" else LINES.index(words[0])
-            self.seen |= {tuple(words[:2])} if words[1:] else set()
         match words:
             case ["#", "round", number, "ran" | "published"]:
                 self.number = int(number)
             case ["#", "seed", seed]:
-                self.seed = seed
-            case ["#", "result", person, room] if person not in self.results:
-                self.results[person] = None if room == "none" else room
+                self.seed = read_seed(seed)
+            case ["#", "result", person, room]:
+                new(self.results, person)[person] = None if room == "none" else room
             case ["room", room]:
-                self.rooms[room] = False
+                new(self.rooms, room)[room] = False
             case ["person", person, _, _, *_]:
-                self.homes[person] = None
+                new(self.homes, person)[person] = None
             case ["home", person, room] if not (self.homes[person] or self.rooms[room] or room in self.homes.values()):
                 self.homes[person] = room
-            case ["choose", person, *listed] if person in self.homes and self.rooms.keys() >= {*listed}:
-                self.choices[person] = list(dict.fromkeys(listed))
+            case ["choose", person, *rooms] if person in self.homes and len(self.rooms.keys() & {*rooms}) == len(rooms):
+                new(self.choices, person)[person] = rooms
             case ["withdraw", person] if person in self.homes:
                 self.withdrawn.add(person)
             case ["shut", room] if not self.rooms[room] and room not in self.homes.values():
@@ -334,16 +348,18 @@ def main(words: list[str]) -> int:
     asked = parser.parse_args(words)
     try:
         record = Record((sys.stdin.buffer.read() if asked.record == "-" else Path(asked.record).read_bytes()).decode())
-        drawn = {seed: record.is_drawn_by(seed) for seed in (asked.seed, record.seed) if seed}
-    except (Unreadable, OSError, ValueError, struct.error) as why:
+        seeds = [read_seed(asked.seed)] if asked.seed else []
+    except (Unreadable, OSError, ValueError) as why:
         print(f"audit.py: {asked.record} cannot be read: {why}", file=sys.stderr)
         return 2
     found = Audit(record.rows())
     faults = found.faults()
-    faults += [f"the words of the draw are not those of the seed {seed}" for seed, right in drawn.items() if not right]
-    right = ["the results are those of the definition", "nobody has less than the own room, no room was given twice",
-             "no other rooms would make somebody better off and nobody worse",
-             *[f"the words of the draw are those of the seed {seed}" for seed in drawn]]
+    seeds += [record.seed] if record.seed and record.seed not in seeds else []
+    faults += [f"the words of the draw are not those of the seed {seed}" for seed in seeds
+               if not record.is_drawn_by(seed)]
+    right = ["the results are those of the definition", "nobody has less than their own room",
+             "no room was given twice", "no other rooms would make somebody better off and nobody worse",
+             *[f"the words of the draw are those of the seed {seed}" for seed in seeds]]
     print(f"Round {record.number}, {len(found.order)} people: {'not right' if faults else 'all is right'}")
     print("\n".join(f"- {line}" for line in faults or right))
     for person in asked.person:

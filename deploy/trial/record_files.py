@@ -8,7 +8,7 @@ import sys
 from collections.abc import Callable
 from pathlib import Path
 
-import record
+import record  # pylint: disable=wrong-import-order  # it stands in deploy/office, which the trial puts on the path
 from record_draws import Round
 from record_told import Told, Trial, told_of
 

@@ -2,7 +2,7 @@
 
 Each round goes through `rooms rehearse`. Its record, made from a file that holds what the program answered, is
 rehearsed in turn: it has to give the same answers byte by byte, and the audit has to find nothing. Some rounds are kept
-in files of the program's own. Wrong results are planted into the records: the audit has to name each person whose result
+in files of the program's own. Wrong results are planted into records: the audit has to name each person whose result
 is wrong, and to say why. All is drawn from the seed. It takes some two minutes, and leaves nothing.
 """
 
@@ -141,7 +141,7 @@ class Rounds(Trial):
         for person, room in made.changed.items():
             got = found.got[person]
             said = f"{person} has {room or 'no room'}, and by the definition gets {got or 'no room'}: in step "
-            why = f"asked for {got}" if got and got != found.home[person] else "nothing on the list was left"
+            why = f"asked for {got}" if got and got != found.home[person] else "nothing was left to ask for"
             lines = [line for line in differences if line.startswith(said)]
             self.check(len(lines) == 1 and why in lines[0], f"{kind}: {person} is named, and why", false, differences)
         self.check(len(differences) == len(made.changed), f"{kind}: nobody else is named", false, differences)
@@ -166,7 +166,7 @@ class Rounds(Trial):
             self.check(words == audit.seed_words(drawn.seed, len(people)), "the words of a seed", words)
             self.check(f"\n# seed {drawn.seed}\n" in text, "the seed is in the record", text)
             status, said, _ = self.audit(text, "--seed", drawn.seed.upper())
-            self.check(status == 0 and drawn.seed.upper() in said, "the seed", status, said)
+            self.check(status == 0 and said.count(drawn.seed) == 1, "the seed", status, said)
             other = drawn.seed[:20] + ("1" if drawn.seed[20] == "0" else "0") + drawn.seed[21:]
             for status, said, _ in (self.audit(text, "--seed", other), self.audit(text.replace(drawn.seed, other))):
                 self.check(status == 1 and f"not those of the seed {other}" in said, "a wrong seed", status, said)

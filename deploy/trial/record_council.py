@@ -1,0 +1,70 @@
+"""Runs docs/council.md as it stands there: record_council.py PROGRAM.
+
+The record on the page has to be the one that an office writes after the year on the page. Each block of commands is run
+in a folder of its own, which has the record and audit.py, and has to print what the block after it shows.
+"""
+
+import os
+import re
+import shutil
+import subprocess
+import sys
+import tempfile
+from pathlib import Path
+
+ROOT = Path(__file__).resolve().parent.parent.parent
+OFFICE = ROOT / "deploy" / "office"
+BLOCK = re.compile(r"^```(\w*)\n(.*?)^```$", re.MULTILINE | re.DOTALL)
+LIMIT = 120  # lines of the page
+
+
+def run(command: list[str], **options: object) -> str:
+    """Runs a command that has to end well; what it printed."""
+    done = subprocess.run(command, capture_output=True, text=True, check=False, **options)  # type: ignore
+    if done.returncode != 0:
+        sys.exit(f"not so: {command} ended with {done.returncode}: {done.stdout}{done.stderr}")
+    return str(done.stdout)
+
+
+def year(program: str, file: Path, seed: str) -> None:
+    """The year of examples/year.txt in a file, up to its results, with a draw by the seed."""
+    run([program, "new", "--db", str(file)])
+    for line in (ROOT / "examples" / "year.txt").read_text(encoding="utf-8").splitlines():
+        words = line.split(" ")
+        if words[0] == "draw":
+            words[1:] = run([program, "words", "--seed", seed, "--count", str(len(words) - 1)]).split()
+        if words[0] == "settle":
+            return
+        if not line.startswith("#") and words[0] != "whatif":
+            run([program, "do", "--db", str(file), *words])
+
+
+def main(program: str) -> None:
+    """All of it."""
+    text = (ROOT / "docs" / "council.md").read_text(encoding="utf-8")
+    (_, record), *blocks = list(BLOCK.findall(text))
+    with tempfile.TemporaryDirectory() as name:
+        folder = Path(name)
+        year(program, folder / "year.db", seed := re.findall("--seed ([0-9a-f]{64})", text)[0])
+        made = run([sys.executable, "-B", str(OFFICE / "record.py"), str(folder / "year.db"), "--seed", seed])
+        if made != record:
+            sys.exit(f"not so: the record is\n{made}")
+        (folder / "round.txt").write_text(record, encoding="utf-8")
+        shutil.copyfile(OFFICE / "audit.py", folder / "audit.py")
+        (folder / "bin").mkdir()
+        (folder / "bin" / "rooms").symlink_to(program)
+        environment = {**os.environ, "PATH": f"{folder / 'bin'}:/usr/bin:/bin", "PYTHONDONTWRITEBYTECODE": "1"}
+        for (kind, commands), (_, shown) in zip(blocks[::2], blocks[1::2], strict=True):
+            printed = run(["sh", "-eu"], input=commands, cwd=folder, env=environment)
+            if kind != "sh" or printed != shown:
+                sys.exit(f"not so:\n{commands}prints\n{printed}")
+            print(f"ok    {commands.splitlines()[-1]}")
+    if len(text.splitlines()) >= LIMIT:
+        sys.exit(f"the page has {len(text.splitlines())} lines")
+    print(f"docs/council.md: {len(blocks) // 2} blocks of commands, and the record, are as they stand there")
+
+
+if __name__ == "__main__":
+    if len(sys.argv) != 2:
+        sys.exit("usage: /usr/bin/python3 deploy/trial/record_council.py PROGRAM")
+    main(str(Path(sys.argv[1]).resolve()))
