@@ -1,6 +1,7 @@
 """Rounds drawn by chance, as lines of the office: tenants, newcomers, shut rooms, withdrawals, lists of all kinds."""
 
 import random
+from collections.abc import Sequence
 from typing import NamedTuple
 
 from audit import seed_words
@@ -39,10 +40,10 @@ class Drawing:  # pylint: disable=too-many-instance-attributes  # what a round i
         self.waiting: list[str] = []
         self.hot = rng.sample(self.rooms, min(len(self.rooms), max(2, rooms // 3))) if self.rooms else []
 
-    def round(self) -> Round:
-        """The whole round, with what went before it."""
+    def round(self, cancelled: Sequence[int]) -> Round:
+        """The whole round, with what went before it: one of these numbers of rounds was cancelled."""
         self.register()
-        for _ in range(self.rng.choice([0, 0, 0, 0, 1, 2, 45]) if len(self.people) < 20 else 1):
+        for _ in range(self.rng.choice(cancelled)):
             self.begin()
             self.wishes()
             self.end("cancel")

@@ -102,7 +102,8 @@ def cut(file: Path) -> None:
 
 
 def replace(file: Path) -> None:
-    """Puts a text in the place of the file."""
+    """Puts a text in the place of the file. (Beside a log that has all pages it would not matter.)"""
+    beside(file, "-wal").unlink()
     file.write_text("room\nH1\n", encoding="ascii")
 
 
