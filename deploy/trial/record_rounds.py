@@ -3,7 +3,7 @@
 Each round goes through `rooms rehearse`. Its record, made from a file that holds what the program answered, is
 rehearsed in turn: it has to give the same answers byte by byte, and the audit has to find nothing. Some rounds are kept
 in files of the program's own. Wrong results are planted into records: the audit has to name each person whose result
-is wrong, and to say why. All is drawn from the seed. It takes some two minutes, and leaves nothing.
+is wrong, and to say why. All is drawn from the seed. Four processes take some two minutes, and leave nothing.
 """
 
 import sys
@@ -13,30 +13,33 @@ sys.dont_write_bytecode = True  # the repository stays as it is
 sys.path.insert(0, str(Path(__file__).resolve().parent.parent / "office"))
 
 # pylint: disable=wrong-import-position,wrong-import-order  # some of these stand in the folder that was just named
+import collections
 import contextlib
 import io
+import os
 import re
 import subprocess
 import tempfile
 import time
+from concurrent.futures import ProcessPoolExecutor
 
 import audit
 import record
 from record_draws import Drawing, Round
 from record_files import try_file, try_refusals
 from record_plants import KINDS, may_be, plant, planted
-from record_told import Told, Trial, answers, file_of, to_moves, told_of
+from record_told import NotSo, Told, Trial, answers, file_of, to_moves, told_of
 
-ROUNDS, PEOPLE = 1000, 14
-FILES = 50
-LARGE = [(300, 320, 20), (300, 280, 20), (300, 300, 40), (2000, 1990, 40)]  # people, rooms, rooms on a list
+PEOPLE, PARTS = 14, 50
+ROUNDS, FILES = 1000 // PARTS, 50 // PARTS  # of each part
+LARGE = [(2000, 1990, 40), (300, 320, 20), (300, 280, 20), (300, 300, 40)]  # people, rooms, rooms on a list
 SEARCHED = 5  # with so many people at most, all assignments are looked at
 
 
 class Rounds(Trial):
     """The trial of drawn rounds."""
 
-    def __init__(self, program: str, seed: int, folder: Path) -> None:
+    def __init__(self, program: str, seed: str, folder: Path) -> None:
         super().__init__(program, seed, folder)
         self.empty = folder / "empty.db"
         subprocess.run([program, "new", "--db", self.empty], check=True, stdout=subprocess.DEVNULL)
@@ -195,25 +198,35 @@ def seeds_of(drawn: Round) -> list[str]:
     return [f"{1:064x}", drawn.seed] if drawn.seed else []
 
 
-def main(program: str, seed: int) -> None:
+def try_part(program: str, seed: str, number: int) -> collections.Counter[str]:
+    """One part of the trial, in a folder of its own: a few small rounds, and perhaps a large one."""
+    memory = Path("/dev/shm")  # files in memory are quicker, where there is such a place
+    with tempfile.TemporaryDirectory(dir=memory if os.access(memory, os.W_OK) else None) as folder:
+        trial = Rounds(program, f"{seed} {number}", Path(folder))
+        if number < len(LARGE):
+            trial.round(*LARGE[number])
+        for _ in range(ROUNDS):
+            trial.round(trial.rng.randint(0, PEOPLE), trial.rng.randint(0, PEOPLE), trial.rng.randint(1, 8))
+        for _ in range(FILES):
+            trial.in_file()
+        if number == PARTS - 1:
+            try_refusals(trial)
+        return trial.counts
+
+
+def main(program: str, seed: str) -> None:
     """All of it."""
     began = time.monotonic()
     print(f"seed {seed}", flush=True)
-    with tempfile.TemporaryDirectory() as folder:
-        trial = Rounds(program, seed, Path(folder))
-        for _ in range(ROUNDS):
-            trial.round(trial.rng.randint(0, PEOPLE), trial.rng.randint(0, PEOPLE), trial.rng.randint(1, 8))
-        print(f"{ROUNDS} small rounds: {time.monotonic() - began:.0f} s", flush=True)
-        start = time.monotonic()
-        for _ in range(FILES):
-            trial.in_file()
-        try_refusals(trial)
-        print(f"{FILES} rounds in files: {time.monotonic() - start:.0f} s", flush=True)
-        for people, rooms, listed in LARGE:
-            start = time.monotonic()
-            trial.round(people, rooms, listed)
-            print(f"a round of {people} people: {time.monotonic() - start:.1f} s", flush=True)
-    for name, count in sorted(trial.counts.items()):
+    counts: collections.Counter[str] = collections.Counter()
+    with ProcessPoolExecutor(4) as pool:
+        try:
+            for found in pool.map(try_part, [program] * PARTS, [seed] * PARTS, range(PARTS)):
+                counts.update(found)
+        except NotSo as why:
+            pool.shutdown(cancel_futures=True)
+            sys.exit(str(why))
+    for name, count in sorted(counts.items()):
         print(f"{count:6} {name}")
     print(f"all is as it should be ({time.monotonic() - began:.0f} s)")
 
@@ -221,4 +234,4 @@ def main(program: str, seed: int) -> None:
 if __name__ == "__main__":
     if len(sys.argv) not in (2, 3):
         sys.exit("usage: /usr/bin/python3 deploy/trial/record_rounds.py PROGRAM [SEED]")
-    main(str(Path(sys.argv[1]).resolve()), int(sys.argv[2]) if len(sys.argv) == 3 else 1)
+    main(str(Path(sys.argv[1]).resolve()), sys.argv[2] if len(sys.argv) == 3 else "1")

@@ -6,7 +6,6 @@ import random
 import shutil
 import sqlite3
 import subprocess
-import sys
 from collections.abc import Callable
 from pathlib import Path
 from typing import NamedTuple
@@ -17,17 +16,21 @@ MARK = "mark"  # no line of the program: its answer stands between two others
 MARKED = "not understood\n"
 
 
+class NotSo(Exception):
+    """Something is not as it should be."""
+
+
 class Trial:  # pylint: disable=too-few-public-methods  # others build on it
     """Counts what was tried, and ends at the first thing that is not as it should be."""
 
-    def __init__(self, program: str, seed: int, folder: Path) -> None:
+    def __init__(self, program: str, seed: str, folder: Path) -> None:
         self.program, self.folder, self.rng = program, folder, random.Random(seed)
         self.counts: collections.Counter[str] = collections.Counter()
 
     def check(self, holds: bool, what: str, *shown: object) -> None:
         """Ends the trial where something does not hold."""
         if not holds:
-            sys.exit("\n".join([f"not so: {what}", *map(str, shown), f"tried before: {dict(self.counts)}"]))
+            raise NotSo("\n".join([f"not so: {what}", *map(str, shown)]))
 
 
 class Told(NamedTuple):
