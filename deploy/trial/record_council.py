@@ -1,7 +1,8 @@
 """Runs docs/council.md as it stands there: record_council.py PROGRAM.
 
 The record on the page has to be the one that an office writes after the year on the page. Each block of commands is run
-in a folder of its own, which has the record and audit.py, and has to print what the block after it shows.
+in a folder of its own, which has the record and audit.py, and has to print what the block after it shows. The year's own
+draw gives the results in examples/year.out, and the audit finds them right.
 """
 
 import os
@@ -26,17 +27,27 @@ def run(command: list[str], **options: object) -> str:
     return str(done.stdout)
 
 
-def year(program: str, file: Path, seed: str) -> None:
-    """The year of examples/year.txt in a file, up to its results, with a draw by the seed."""
+def year(program: str, file: Path, seed: str) -> str:
+    """The record of the year in examples/year.txt, with a draw by the seed, or with its own."""
     run([program, "new", "--db", str(file)])
-    for line in (ROOT / "examples" / "year.txt").read_text(encoding="utf-8").splitlines():
+    lines = (ROOT / "examples" / "year.txt").read_text(encoding="utf-8").splitlines()
+    for line in lines[:lines.index("settle")]:
         words = line.split(" ")
-        if words[0] == "draw":
+        if words[0] == "draw" and seed:
             words[1:] = run([program, "words", "--seed", seed, "--count", str(len(words) - 1)]).split()
-        if words[0] == "settle":
-            return
-        if not line.startswith("#") and words[0] != "whatif":
+        if words[0] not in ("#", "whatif"):
             run([program, "do", "--db", str(file), *words])
+    return run([sys.executable, "-B", str(OFFICE / "record.py"), str(file), *(["--seed", seed] if seed else [])])
+
+
+def own_draw(program: str, folder: Path) -> None:
+    """The year with its own draw: its results are those of examples/year.out, by the record and by the audit."""
+    (folder / "own.txt").write_text(year(program, folder / "own.db", ""), encoding="utf-8")
+    rows = "\n".join(re.findall("^# result (.*)$", (folder / "own.txt").read_text(encoding="utf-8"), re.MULTILINE))
+    if f"\nperson        room\n{rows}\n" not in (ROOT / "examples" / "year.out").read_text(encoding="utf-8"):
+        sys.exit(f"not so: the results of examples/year.out are\n{rows}")
+    run([sys.executable, "-B", str(OFFICE / "audit.py"), str(folder / "own.txt")])
+    print("ok    examples/year.out")
 
 
 def main(program: str) -> None:
@@ -45,8 +56,8 @@ def main(program: str) -> None:
     (_, record), *blocks = list(BLOCK.findall(text))
     with tempfile.TemporaryDirectory() as name:
         folder = Path(name)
-        year(program, folder / "year.db", seed := re.findall("--seed ([0-9a-f]{64})", text)[0])
-        made = run([sys.executable, "-B", str(OFFICE / "record.py"), str(folder / "year.db"), "--seed", seed])
+        own_draw(program, folder)
+        made = year(program, folder / "year.db", re.findall("--seed ([0-9a-f]{64})", text)[0])
         if made != record:
             sys.exit(f"not so: the record is\n{made}")
         (folder / "round.txt").write_text(record, encoding="utf-8")
