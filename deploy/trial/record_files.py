@@ -70,7 +70,7 @@ def try_file(trial: Trial, drawn: Round) -> tuple[Told, str]:
     words = ["--seed", drawn.seed] if drawn.seed else []
     trial.check(run(sys.executable, "-B", COMMAND, file, *words) == (0, text), "the command writes the same", text)
     trial.check(bytes_of(file) == before, "the file stays as it was")
-    told = told_of(drawn, lambda questions: [tell(question) for question in questions])
+    told = told_of(drawn, lambda questions: ("", [tell(question) for question in questions]))
     no_results(trial, file)
     return told, text
 

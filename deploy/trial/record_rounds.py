@@ -49,7 +49,7 @@ class Rounds(Trial):
     def round(self, people: int, rooms: int, listed: int) -> None:
         """Draws a round, and compares its record and its audit with what the program said."""
         drawn = Drawing(self.rng, people, rooms, listed).round([0, 0, 0, 0, 1, 2, 45] if people <= PEOPLE else [1])
-        told = told_of(drawn, lambda questions: answers(self.program, drawn.lines, questions)[1])
+        told = told_of(drawn, lambda questions: answers(self.program, drawn.lines, questions))
         text = record.record(file_of(self.empty, told, self.folder / "drawn.db"), seeds_of(drawn))
         self.count(drawn, told)
         self.record(drawn, told, text)

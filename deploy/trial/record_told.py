@@ -14,6 +14,9 @@ from record_draws import Round, key_of
 
 MARK = "mark"  # no line of the program: its answer stands between two others
 MARKED = "not understood\n"
+ASKED = 50  # up to so many people the program is asked what each of them sees
+
+Person = tuple[str, str | None, bool]  # the identifier, the home, and whether they have withdrawn
 
 
 class NotSo(Exception):
@@ -41,7 +44,7 @@ class Told(NamedTuple):
     results: str
     moves: str
     rooms: list[tuple[str, bool]]
-    people: list[tuple[str, str | None, bool]]
+    people: list[Person]
     choices: dict[str, list[str]]
     words: dict[str, str]
     result: dict[str, str | None]
@@ -71,23 +74,44 @@ def or_none(text: str) -> str | None:
     return None if text == "none" else text
 
 
-def told_of(drawn: Round, ask: Callable[[list[str]], list[str]]) -> Told:
+def told_of(drawn: Round, ask: Callable[[list[str]], tuple[str, list[str]]]) -> Told:
     """All that the program knows, by its answers to questions. They end with the end of the round."""
-    questions = [*(f"me {key_of(person)}" for person in drawn.people), "rooms", "round", "order", "results",
-                 *to_moves(drawn.lines[-1] == "publish", drawn.number)]
-    found = ask(questions)
-    rooms, asked, order, results = found[len(drawn.people):len(drawn.people) + 4]
+    keys = [key_of(person) for person in drawn.people] if len(drawn.people) <= ASKED else []
+    first, found = ask(["rooms", "people", "round", "order", "results", *(f"me {key}" for key in keys),
+                        *to_moves(drawn.lines[-1] == "publish", drawn.number)])
+    rooms, homes, asked, order, results = found[:5]
+    people, choices = seen_by(found[5:5 + len(keys)]) if keys else followed(drawn.lines, first.splitlines(), homes)
+    words = {person: word for _, word, person in (line.split() for line in order.splitlines())}
+    result = {person: or_none(room) for person, room in table(results)}
+    return Told(asked, order, results, found[-1], [(code, state == "shut") for code, state, _ in table(rooms)],
+                sorted(people), choices, words, result)
+
+
+def seen_by(answers_to_me: list[str]) -> tuple[list[Person], dict[str, list[str]]]:
+    """The people and their lists, by what each of them sees."""
     people, choices = [], {}
-    for answer in found[:len(drawn.people)]:
+    for answer in answers_to_me:
         said = {line.split(" ")[0]: line.split(" ")[1:] for line in answer.splitlines()}
         person = said["person"][0]
         people.append((person, or_none(said["home"][0]), said["withdrawn"] == ["yes"]))
         if said["choices"]:
             choices[person] = said["choices"]
-    words = {person: word for _, word, person in (line.split() for line in order.splitlines())}
-    result = {person: or_none(room) for person, room in table(results)}
-    return Told(asked, order, results, found[-1], [(code, state == "shut") for code, state, _ in table(rooms)],
-                sorted(people), choices, words, result)
+    return people, choices
+
+
+def followed(lines: list[str], said: list[str], homes: str) -> tuple[list[Person], dict[str, list[str]]]:
+    """The same of many people, by the table of people and the answers to the lines of the round, one for each line."""
+    choices: dict[str, list[str]] = {}
+    withdrawn: set[str] = set()
+    for line, answer in zip(lines, said, strict=True):
+        if line in ("cancel", "settle"):
+            choices, withdrawn = {}, set()
+        elif answer.startswith("chosen"):
+            choices[line.split()[1]] = answer.split()[1:]
+        elif answer == "withdrawn":
+            withdrawn.add(line.split()[1])
+    people = [(person, or_none(home), person in withdrawn) for person, home, *_ in table(homes)]
+    return people, {person: listed for person, listed in choices.items() if listed}
 
 
 def file_of(empty: Path, told: Told, target: Path) -> Path:
