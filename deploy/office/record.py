@@ -27,6 +27,7 @@ from audit import seed_words
 VERSION = 1       # of the file: the tables that are read here
 ROUNDS = 40       # rounds before this one are opened and cancelled up to so many; beyond them the number is only told
 FORMS = {"room": "[A-Z0-9][A-Z0-9-]{0,7}", "person": "[A-Z0-9]{1,12}", "word": "[0-9a-f]{16}"}
+SEED = "[0-9a-fA-F]{64}"
 
 
 class Refused(Exception):
@@ -177,7 +178,8 @@ def outcome(office: Office) -> list[str]:
 def seed_of(office: Office, seeds: Iterable[str]) -> str | None:
     """Which of these seeds has the words of the draw."""
     words = [office.words[person] for person in sorted(office.words)]
-    return next((seed.lower() for seed in seeds if seed_words(seed, len(words)) == words), None)
+    whole = [seed.lower() for seed in seeds if re.fullmatch(SEED, seed)]
+    return next((seed for seed in whole if seed_words(seed, len(words)) == words), None)
 
 
 def record(file: Path, seeds: Iterable[str] = ()) -> str:
@@ -200,7 +202,7 @@ def main(words: list[str]) -> int:
     parser.add_argument("--seed", help="the seed of the draw, which then stands in the record")
     asked = parser.parse_args(words)
     try:
-        if asked.seed and not re.fullmatch("[0-9a-fA-F]{64}", asked.seed):
+        if asked.seed and not re.fullmatch(SEED, asked.seed):
             raise Refused("a seed has 64 signs out of 0 to 9 and a to f")
         text = record(asked.file, [asked.seed] if asked.seed else [])
         if asked.seed and "\n# seed " not in text:
