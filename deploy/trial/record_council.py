@@ -1,8 +1,8 @@
 """Runs docs/council.md as it stands there: record_council.py PROGRAM.
 
 The record on the page has to be the one that an office writes after that year. Each block of commands is run in a
-folder of its own, which has the record and audit.py, and has to print what the block after it shows. The year's own draw
-gives the results in examples/year.out, and the audit finds them right.
+folder of its own, which has the record and audit.py, and has to print what the block after it shows. With its own draw
+the year gives the results in examples/year.out, and the audit finds them right.
 """
 
 import os
