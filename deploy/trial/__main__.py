@@ -1,8 +1,8 @@
 """Tries all that stands round `rooms serve`, end to end: /usr/bin/python3 deploy/trial PROGRAM FOLDER.
 
-The folder gets the photographs of the page. It ends at the first thing that is not as it should be, and leaves
-nothing running. Debian: apt-get install haproxy chromium chromium-driver python3-selenium sqlite3 openssl. Selenium
-is there for Debian's own Python.
+The folder gets the photographs of both pages. It ends at the first thing that is not as it should be, and leaves
+nothing running. Debian: apt-get install haproxy chromium chromium-driver python3-selenium python3-bottle
+python3-waitress sqlite3 openssl. Selenium, Bottle and waitress are there for Debian's own Python.
 """
 
 import sys
@@ -18,6 +18,8 @@ from full import try_full
 from keeping import try_keeping
 from kills import try_kills
 from limits import try_limits
+from office_doors import try_office_doors
+from office_page import try_office_page
 from page import try_page
 from parts import try_parts
 from signing import try_signing
@@ -36,6 +38,8 @@ if __name__ == "__main__":
     try_full(sys.argv[1])
     try_signing(sys.argv[1])
     try_page(sys.argv[1], folder)
+    try_office_page(sys.argv[1], folder)
+    try_office_doors(sys.argv[1])
     try_burst(sys.argv[1])
     try_limits(sys.argv[1])
     try_stall(sys.argv[1])
