@@ -82,10 +82,7 @@ fn reads_serve_lines(rt: HostRuntime) {
 
 // What `serve` over the file of this path, at this port, for one connection, ends with, and what it prints.
 fn served<'a>(rt: &HostRuntime, path: &'a str, port: &'a str) -> (u8, Vec<u8>, Vec<u8>) {
-    carried(
-        rt,
-        &["serve", "--db", path, "--port", port, "--count", "1"],
-    )
+    carried(rt, &["serve", "--db", path, "--port", port, "--count", "1"])
 }
 
 // Where there is no office nobody is served, and no file is made. Nor is anybody where the port is taken.
