@@ -3,14 +3,15 @@ ghost use Rattle.std.specs.Prelude.{◌≡◌, ◌<◌, List, IfOk, OnErr, lengt
 ghost use Rattle.std.specs.List.Sorted.{IsPermutation, IsSorted};
 ghost use Rattle.std.specs.Ordering.{on};
 ghost use Rattle.draw_order.specs.Draw.{Lot, IsDrawnOrder, HasOneDrawnOrder, drawn_order, lot_cmp};
-ghost use Rattle.draw_order.specs.Pairs.{lot_of};
+ghost use Rattle.draw_order.specs.Turns.{lot_of};
 
-use room_types::{OutOfMemory, PersonId, Word};
+use room_types::{Grade, OutOfMemory, PersonId, Word};
 use std::alloc::Global;
 
-/// The identifiers of these participants, each with the word that was drawn for it: ascending by word, and by
-/// identifier where words are equal. It takes n log n comparisons, and for no lots no memory.
-pub fn order(alloc: Global, lots: &[(PersonId, Word)]) -> Result<Vec<PersonId>, OutOfMemory>
+/// The identifiers of these participants, each with its grade and the word that was drawn for it: ascending by grade,
+/// where grades are equal by word, and where words are equal by identifier. It takes n log n comparisons, and for no
+/// lots no memory.
+pub fn order(alloc: Global, lots: &[(PersonId, Grade, Word)]) -> Result<Vec<PersonId>, OutOfMemory>
     ensures drawn { IfOk result (λ people. IsDrawnOrder lots.now people.items) }
     ensures computed { IfOk result (λ people. people.items ≡ drawn_order lots.now) }
     ensures memory { OnErr result (0 < length lots.now) }
@@ -18,36 +19,42 @@ pub fn order(alloc: Global, lots: &[(PersonId, Word)]) -> Result<Vec<PersonId>, 
     if lots.is_empty() {
         return Ok(Vec::new(alloc));
     }
-    let mut ascending = words_first(alloc, lots)?;
-    sort_lot_pairs(&mut ascending);
+    let mut ascending = turns(alloc, lots)?;
+    sort_turns(&mut ascending);
     identifiers(alloc, &ascending)
 }
 
-// The lots with their words in front, as they are compared.
-fn words_first(
+// The lots with their grades and words in front, as they are compared.
+fn turns(
     alloc: Global,
-    lots: &[(PersonId, Word)],
-) -> Result<Vec<(Word, &PersonId)>, OutOfMemory>
-    ensures { IfOk result (λ pairs. map lot_of pairs.items ≡ lots.now) }
+    lots: &[(PersonId, Grade, Word)],
+) -> Result<Vec<(Grade, Word, &PersonId)>, OutOfMemory>
+    ensures { IfOk result (λ turns. map lot_of turns.items ≡ lots.now) }
 {
-    let pairs = lots.iter().map(|lot| (lot.1, &lot.0)).collect(alloc)?;
-    Ok(pairs)
+    let turns = lots
+        .iter()
+        .map(|lot| (lot.1, lot.2, &lot.0))
+        .collect(alloc)?;
+    Ok(turns)
 }
 
-// Ascending by word, and by identifier where words are equal.
-fn sort_lot_pairs(pairs: &mut Vec<(Word, &PersonId)>)
-    ensures moved { IsPermutation pairs.old.items pairs.new.items }
-    ensures ascending { IsSorted (on lot_of lot_cmp) pairs.new.items }
+// Ascending by grade, then by word, and by identifier where words are equal.
+fn sort_turns(turns: &mut Vec<(Grade, Word, &PersonId)>)
+    ensures moved { IsPermutation turns.old.items turns.new.items }
+    ensures ascending { IsSorted (on lot_of lot_cmp) turns.new.items }
 {
-    pairs.sort_unstable();
+    turns.sort_unstable();
 }
 
 // The identifiers alone, in the same order.
-fn identifiers(alloc: Global, lots: &[(Word, &PersonId)]) -> Result<Vec<PersonId>, OutOfMemory>
-    ensures { IfOk result (λ people. people.items ≡ map (λ lot. lot.1.now) lots.now) }
+fn identifiers(
+    alloc: Global,
+    turns: &[(Grade, Word, &PersonId)],
+) -> Result<Vec<PersonId>, OutOfMemory>
+    ensures { IfOk result (λ people. people.items ≡ map (λ turn. turn.2.now) turns.now) }
 {
-    let mut people = Vec::with_capacity(alloc, lots.len())?;
-    for (_, person) in lots {
+    let mut people = Vec::with_capacity(alloc, turns.len())?;
+    for (_, _, person) in turns {
         people.push(person.copy()?)?;
     }
     Ok(people)

@@ -13,4 +13,6 @@ mod same;
 #[cfg(test)]
 mod stops;
 #[cfg(test)]
+mod tables;
+#[cfg(test)]
 mod texts;

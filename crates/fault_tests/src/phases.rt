@@ -12,18 +12,18 @@ const MANY: u16 = 100;
 
 // Each phase, and how many of the requests below lead there.
 const PHASES: [(Phase, usize); 6] = [
-    (Phase::Idle, 5),
-    (Phase::Opened, 7),
-    (Phase::Closed, 8),
-    (Phase::Drawn, 9),
-    (Phase::Ran, 10),
-    (Phase::Published, 11),
+    (Phase::Idle, 6),
+    (Phase::Opened, 9),
+    (Phase::Closed, 10),
+    (Phase::Drawn, 11),
+    (Phase::Ran, 12),
+    (Phase::Published, 13),
 ];
 
 const ALL: &str = "idle open closed drawn ran published";
 
 // Lines, each with the phases to which it belongs.
-const ASKED: [(&str, &str); 23] = [
+const ASKED: [(&str, &str); 26] = [
     ("room H200", "idle open"),
     ("person E200 key0000000000200 Ann Ash", "idle open"),
     ("home E90 H90", "idle"),
@@ -34,6 +34,9 @@ const ASKED: [(&str, &str); 23] = [
     ("open", "idle"),
     ("choose E92 H92 H93", "open"),
     ("withdraw E2", "open"),
+    ("grade E92 3", "idle open"),
+    ("grade E3 0", "idle open"),
+    ("going E5", "open"),
     ("close", "open"),
     ("run", "drawn"),
     ("publish", "ran"),
@@ -104,14 +107,16 @@ struct Reached<'a> {
     phase: Phase,
 }
 
-// The requests that lead through the phases. A first round is given up, so that it is over and nobody has moved.
+// The requests that lead through the phases. A first round is given up, so that it is over and nobody has moved; from the second one
+// somebody leaves the college.
 fn steps(alloc: Global) -> Result<Vec<Request>, OutOfMemory> {
     let mut steps = Vec::new(alloc);
     ask_many(alloc, &mut steps, ListKind::Rooms)?;
     ask_many(alloc, &mut steps, ListKind::People)?;
+    ask_many(alloc, &mut steps, ListKind::Grades)?;
     ask_lines(alloc, &mut steps, "shut H99\nopen\ncancel\nopen\n")?;
     ask_many(alloc, &mut steps, ListKind::Choices)?;
-    ask_lines(alloc, &mut steps, "close\n")?;
+    ask_lines(alloc, &mut steps, "going E7\nclose\n")?;
     ask_lines(alloc, &mut steps, draw_line(alloc)?.as_str())?;
     ask_lines(alloc, &mut steps, "run\npublish\n")?;
     Ok(steps)
@@ -130,6 +135,7 @@ fn list(alloc: Global, kind: ListKind) -> Result<String, OutOfMemory> {
             ListKind::Rooms => "room\n",
             ListKind::People => "person,name,key,home\n",
             ListKind::Choices => "person,choices\n",
+            ListKind::Grades => "person,grade\n",
         },
     )?;
     for number in 0..MANY {
@@ -148,24 +154,30 @@ fn record(alloc: Global, kind: ListKind, number: u16) -> Result<String, AllocErr
         }
         ListKind::People => format!(in alloc; "E{number},Pat,key000000000{number:04},\n"),
         ListKind::Choices => format!(in alloc; "E{number},H{next} H{after}\n"),
+        ListKind::Grades => {
+            let grade = number % 10;
+            format!(in alloc; "E{number},{grade}\n")
+        }
     }
 }
 
-// A word for everybody.
+// A word for everybody but the leaver.
 fn draw_line(alloc: Global) -> Result<String, OutOfMemory> {
     let mut line = String::from_str(alloc, "draw")?;
-    for number in 0..MANY {
+    for number in 1..MANY {
         line.push_str(format!(in alloc; " {number:016x}")?.as_str())?;
     }
     Ok(line)
 }
 
-// Lists of rooms and people that did not come yet.
+// Lists of rooms, people and grades that did not come yet.
 fn registers(alloc: Global) -> Result<Vec<Request>, OutOfMemory> {
     let people = "person,name,key,home\nE300,Pat,key0000000000300,\n";
     let mut requests = Vec::new(alloc);
     ask_list(alloc, &mut requests, ListKind::Rooms, "r-2", "room\nH300\n")?;
     ask_list(alloc, &mut requests, ListKind::People, "p-2", people)?;
+    let grades = "person,grade\nE5,3\nE6,0\n";
+    ask_list(alloc, &mut requests, ListKind::Grades, "g-2", grades)?;
     Ok(requests)
 }
 

@@ -12,7 +12,7 @@ mod told;
 mod writing;
 
 use crate::asking::{ask_lines, ask_list, lines_asked};
-use crate::refused::adopting::office_is_adopted;
+use crate::refused::adopting::{office_is_adopted, office_is_brought_over};
 use crate::refused::exporting::exports_are_told;
 use crate::refused::lists::lists_are_read;
 use crate::refused::loading::office_is_read;
@@ -20,7 +20,8 @@ use crate::refused::rehearsing::is_rehearsed;
 use crate::refused::residents::{FAULTS, LIST, LIST_AGAIN, LONGEST_LIST, RESULTS, are_served};
 use crate::refused::told::are_as_accepted;
 use crate::refused::writing::rows_are_sent;
-use crate::texts::{CHOICES, PEOPLE, REGISTER, ROOMS, ROUND};
+use crate::tables::{FIRST, SECOND, THIRD};
+use crate::texts::{CHOICES, GRADES, LEAVING, PEOPLE, REGISTER, ROOMS, ROUND};
 use room_types::{ListKind, OutOfMemory};
 use std::alloc::Global;
 use std::env;
@@ -89,6 +90,30 @@ draw 0000000000000001 0000000000000002\n\
 run\n\
 whatif T1\n";
 
+// A round that is given up, and in which T2 leaves the college.
+const LEAVERS: &str = "\
+grade N 2\n\
+grade T9 1\n\
+open\n\
+going N\n\
+choose T2 H1\n\
+going T2\n\
+going T2\n\
+choose T2 V\n\
+withdraw T2\n\
+round\n\
+cancel\n\
+round\n";
+
+// What is asked after the next round, in which T2 leaves, and then settles it.
+const AFTER_LEAVING: &str = "\
+me key00000000000t2\n\
+order\n\
+whatif T2 V\n\
+settle\n\
+moves 2\n\
+people\n";
+
 // The round goes on.
 const ROUND_OF_THREE: &str = "\
 close\n\
@@ -111,9 +136,17 @@ E3,Cy Coy,key00000000000e3,\r\n\n";
 
 const HEADER: &str = "person,name,key,home\n";
 
+// The second person is not there.
+const UNKNOWN_SECOND: &str = "person,grade\nE1,1\nE9,1\n";
+
 #[test]
 fn a_year_is_told(rt: HostRuntime) {
     assert!(rt; ended_well(&rt, year_is_told(rt.alloc())));
+}
+
+#[test]
+fn leavers_are_told_of(rt: HostRuntime) {
+    assert!(rt; ended_well(&rt, leavers_are_told(rt.alloc())));
 }
 
 #[test]
@@ -176,7 +209,7 @@ fn exports_are_written(rt: HostRuntime) {
     assert!(rt;
         ended_well(
             &rt,
-            exports_are_told(rt.alloc(), &[REGISTER, ROUND, "settle\n"])
+            exports_are_told(rt.alloc(), &[REGISTER, LEAVING, "settle\n"])
         )
     );
 }
@@ -184,6 +217,21 @@ fn exports_are_written(rt: HostRuntime) {
 #[test]
 fn an_office_is_adopted(rt: HostRuntime) {
     assert!(rt; ended_well(&rt, office_is_adopted(rt.alloc(), &[REGISTER, ROUND])));
+}
+
+#[test]
+fn the_first_version_is_migrated(rt: HostRuntime) {
+    assert!(rt; ended_well(&rt, office_is_brought_over(rt.alloc(), &FIRST)));
+}
+
+#[test]
+fn the_second_version_is_migrated(rt: HostRuntime) {
+    assert!(rt; ended_well(&rt, office_is_brought_over(rt.alloc(), &SECOND)));
+}
+
+#[test]
+fn the_documented_order_is_adopted(rt: HostRuntime) {
+    assert!(rt; ended_well(&rt, office_is_brought_over(rt.alloc(), &THIRD)));
 }
 
 #[test]
@@ -215,6 +263,11 @@ pub fn verdict(wanting: usize) -> Result<bool, OutOfMemory> {
 fn year_is_told(alloc: Global) -> Result<bool, OutOfMemory> {
     let requests = lines_asked(alloc, &[REGISTER, REFUSED, ROUND, "settle\n"])?;
     are_as_accepted(alloc, &requests, 3)
+}
+
+fn leavers_are_told(alloc: Global) -> Result<bool, OutOfMemory> {
+    let requests = lines_asked(alloc, &[REGISTER, LEAVERS, LEAVING, AFTER_LEAVING])?;
+    are_as_accepted(alloc, &requests, 5)
 }
 
 fn queries_are_told(alloc: Global) -> Result<bool, OutOfMemory> {
@@ -253,6 +306,14 @@ fn lists_are_told(alloc: Global) -> Result<bool, OutOfMemory> {
     ] {
         ask_list(alloc, &mut requests, ListKind::People, label, list)?;
     }
+    for (label, list) in &[
+        ("g-1", GRADES),
+        ("g-1", GRADES),
+        ("p-1", GRADES),
+        ("g-2", UNKNOWN_SECOND),
+    ] {
+        ask_list(alloc, &mut requests, ListKind::Grades, label, list)?;
+    }
     ask_lines(alloc, &mut requests, "people\n")?;
-    are_as_accepted(alloc, &requests, 3)
+    are_as_accepted(alloc, &requests, 5)
 }

@@ -1,12 +1,13 @@
 //! Whether two offices are the same. It takes no memory.
 use office_state::{Assigned, KeptList, Moved, Office, Person, RoundMoves};
-use room_types::{Choices, Word};
+use room_types::{Choices, Grade, Word};
 
 /// Whether both offices have the same rooms, people, round, moves and lists.
 pub fn is_same_office(one: &Office, other: &Office) -> bool {
     one.number == other.number
         && one.phase == other.phase
         && has_register(one, other)
+        && has_grades(one, other)
         && has_round(one, other)
         && has_records(one, other)
 }
@@ -24,6 +25,14 @@ fn has_register(one: &Office, other: &Office) -> bool {
             .all(|(id, person)| is_person(other.people.get(id), person))
 }
 
+fn has_grades(one: &Office, other: &Office) -> bool {
+    one.grades.len() == other.grades.len()
+        && one
+            .grades
+            .iter()
+            .all(|(id, grade)| is_grade(other.grades.get(id), *grade))
+}
+
 fn has_round(one: &Office, other: &Office) -> bool {
     one.choices.len() == other.choices.len()
         && one.withdrawn.len() == other.withdrawn.len()
@@ -32,6 +41,8 @@ fn has_round(one: &Office, other: &Office) -> bool {
             .withdrawn
             .iter()
             .all(|(id, _)| other.withdrawn.contains_key(id))
+        && one.going.len() == other.going.len()
+        && one.going.iter().all(|(id, _)| other.going.contains_key(id))
         && has_outcome(one, other)
 }
 
@@ -74,6 +85,13 @@ fn is_person(found: Option<&Person>, person: &Person) -> bool {
         Some(found) => {
             found.name == person.name && found.key == person.key && found.home == person.home
         }
+        None => false,
+    }
+}
+
+fn is_grade(found: Option<&Grade>, grade: Grade) -> bool {
+    match found {
+        Some(found) => *found == grade,
         None => false,
     }
 }

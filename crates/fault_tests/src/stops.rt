@@ -1,18 +1,23 @@
 //! Offices in two files of which one stops working, at each of its calls in turn. Whatever is then left of the two files is opened
-//! again: it is the office before the command that was stopped or the one after it, and the latter where the command was answered.
+//! again: it is the office before the command that was stopped or the one after it, and the latter where the command was answered. Where
+//! tables of an earlier version are migrated, they are all as before, or all of this version.
 mod files;
 mod stories;
 mod visits;
 
 use crate::same::is_same_office;
 use crate::stops::files::{Calls, StoppingFile, contents_left, files_of, is_working};
-use crate::stops::stories::{Story, coming_lists, making, small_year};
-use crate::stops::visits::{Visit, Visited, visit_files};
+use crate::stops::stories::{
+    Story, bringing_over, coming_lists, making, small_year, year_of_leavers,
+};
+use crate::stops::visits::{Opening, Visit, Visited, visit_files};
+use crate::tables::{FIRST, SECOND, THIRD, Tables};
 use office_state::Office;
 use office_store::DeskFault;
 use sqlite::Files;
 use std::alloc::Global;
 use std::io;
+use std::process::Abort;
 use std::test::Fail;
 
 // No story asks as much of a file.
@@ -67,6 +72,34 @@ fn commands_are_stored_whole(rt: HostRuntime) -> Result<(), Fail> {
     assert!(rt; is_on_both_sides(count));
     tell(&rt, "a small year", count)?;
     Ok(())
+}
+
+#[test]
+fn leavers_are_stored_whole(rt: HostRuntime) -> Result<(), Fail> {
+    let story = year_of_leavers(rt.alloc()).expect(&rt, "no year is told");
+    let count = both_stopped(rt.alloc(), &story).expect(&rt, "a year of leavers");
+    assert!(rt; is_on_both_sides(count));
+    tell(&rt, "a year of leavers", count)?;
+    Ok(())
+}
+
+#[test]
+fn earlier_versions_are_migrated_whole(rt: HostRuntime) -> Result<(), Fail> {
+    for (what, tables) in [
+        ("version 1", FIRST),
+        ("version 2", SECOND),
+        ("the documented order", THIRD),
+    ] {
+        let count = brought_over(&rt, rt.alloc(), &tables);
+        assert!(rt; is_on_both_sides(count));
+        tell(&rt, what, count)?;
+    }
+    Ok(())
+}
+
+fn brought_over(rt: &impl Abort, alloc: Global, tables: &Tables) -> Count {
+    let story = bringing_over(alloc, tables).expect(rt, "no tables are made");
+    both_stopped(alloc, &story).expect(rt, "tables")
 }
 
 #[test]
@@ -143,7 +176,7 @@ fn run(alloc: Global, story: &Story, calls: Calls) -> Option<Ran> {
     let held = &story.held;
     let files = files_of(alloc, held.log.as_slice(), held.database.as_slice(), calls)?;
     let asking = Visit {
-        is_new: story.is_new,
+        opening: story.opening,
         requests: &story.requests,
         is_read: false,
     };
@@ -198,15 +231,45 @@ fn found_judged(
     database: &[u8],
     count: Count,
 ) -> Result<Count, &'static str> {
-    let found = office_in(alloc, log, database).ok_or("memory is wanting")?;
+    let found = office_in(alloc, log, database, Opening::Held).ok_or("memory is wanting")?;
+    if is_earlier(&found) && story.opening == Opening::Earlier && !told.is_open {
+        let found = office_in(alloc, log, database, Opening::Earlier).ok_or("memory is wanting")?;
+        return earlier_judged(story, &found, count);
+    }
     judged(story, told, &found, count)
 }
 
+// Whether the tables are of an earlier version.
+fn is_earlier(found: &Result<Office, DeskFault>) -> bool {
+    matches!(found, Err(DeskFault::OtherVersion(1 | 2)))
+}
+
+// Counts tables of an earlier version, if the office is brought over from there.
+fn earlier_judged(
+    story: &Story,
+    found: &Result<Office, DeskFault>,
+    mut count: Count,
+) -> Result<Count, &'static str> {
+    match found {
+        Ok(found) if is_nth(story, 0, found) => {
+            count.found = count.found.saturating_add(1);
+            count.before = count.before.saturating_add(1);
+            Ok(count)
+        }
+        _ => Err("the tables of the earlier version are lost"),
+    }
+}
+
 // The office that these bytes hold, or why there is none.
-fn office_in(alloc: Global, log: &[u8], database: &[u8]) -> Option<Result<Office, DeskFault>> {
+fn office_in(
+    alloc: Global,
+    log: &[u8],
+    database: &[u8],
+    opening: Opening,
+) -> Option<Result<Office, DeskFault>> {
     let files = files_of(alloc, log, database, Calls::ALL)?;
     let reading = Visit {
-        is_new: false,
+        opening,
         requests: &[],
         is_read: true,
     };
@@ -233,6 +296,10 @@ fn judged(
     let Ok(found) = found else {
         return fault_judged(story, told, found, count);
     };
+    if is_brought_over(story, told) && is_nth(story, 0, found) {
+        count.after = count.after.saturating_add(1);
+        return Ok(count);
+    }
     if is_nth(story, told.answered, found) {
         count.before = count.before.saturating_add(1);
         return Ok(count);
@@ -244,6 +311,11 @@ fn judged(
     Err("the office is neither the one before the command nor the one after it")
 }
 
+// Whether tables of an earlier version were to be migrated, and nobody was told that they are.
+fn is_brought_over(story: &Story, told: Told) -> bool {
+    story.opening == Opening::Earlier && !told.is_open
+}
+
 // Only an office that was not made to its end may be absent.
 fn fault_judged(
     story: &Story,
@@ -252,7 +324,7 @@ fn fault_judged(
     count: Count,
 ) -> Result<Count, &'static str> {
     let is_absent = matches!(found, Err(DeskFault::NotAnOffice));
-    if is_absent && story.is_new && !told.is_open {
+    if is_absent && story.opening == Opening::Made && !told.is_open {
         Ok(count)
     } else {
         Err("the office is lost")

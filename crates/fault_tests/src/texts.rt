@@ -22,6 +22,22 @@ draw 0000000000000003 0000000000000001 0000000000000002\n\
 run\n\
 publish\n";
 
+/// A round of them in which T2 leaves the college, until the results are published. T1 comes to T2's room, and then N, who goes
+/// behind, to T1's.
+pub const LEAVING: &str = "\
+grade N 2\n\
+grade T1 1\n\
+grade T1 0\n\
+open\n\
+choose T1 H2\n\
+choose T2 H1\n\
+choose N H1 V\n\
+going T2\n\
+close\n\
+draw 0000000000000001 0000000000000002\n\
+run\n\
+publish\n";
+
 /// Two rooms.
 pub const ROOMS: &str = "room\nH1\nH2\n";
 
@@ -30,6 +46,9 @@ pub const PEOPLE: &str = "\u{feff}person,name,key,home\r\n\
 E1,Ann Ash,key00000000000e1,H1\r\n\
 E2,\"Bo, B.\",key00000000000e2,\r\n\
 E3,Cy Coy,key00000000000e3,\r\n";
+
+/// Their grades: one stands there twice.
+pub const GRADES: &str = "person,grade\nE2,3\nE1,0\nE3,9\nE2,1\n";
 
 /// What one of them wants.
 pub const CHOICES: &str = "person,choices\nE1,H2\n";

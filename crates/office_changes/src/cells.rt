@@ -1,5 +1,5 @@
 //! That what an office keeps has the form of a cell, as its types say. Nothing here does anything.
-ghost use Rattle.std.specs.Prelude.{IsUtf8, ◌<◌, ◌^◌, All};
+ghost use Rattle.std.specs.Prelude.{IsUtf8, ◌<◌, ◌≤◌, ◌^◌, All};
 ghost use Rattle.sqlite_value.specs.declared.value.Value.TheVariants as value;
 ghost use Rattle.office_cells.specs.Cells.{IsTextOf, IsOptionalTextOf, IsWave, text_or_null, wave_value};
 ghost use Rattle.office_cells.specs.Columns.{move_columns};
@@ -7,7 +7,7 @@ ghost use Rattle.office_cells.specs.Forms.{IsMoveRow};
 ghost use Rattle.room_types.specs.Grammars.{is_person_id, is_room_code, is_key, is_name};
 
 use room_types::text::{Grammar, Text};
-use room_types::{Move, Wave, Word};
+use room_types::{Grade, Move, Wave, Word};
 
 // A text is UTF-8.
 fn know_changed_row_utf8(text: &str)
@@ -37,6 +37,13 @@ pub(crate) fn know_changed_row_word(word: Word)
     ensures { word < 2 ^ 64 }
 {
     let _value = word.value();
+}
+
+/// A grade is at most 9.
+pub(crate) fn know_changed_row_grade(grade: Grade)
+    ensures { grade ≤ 9 }
+{
+    let _value = grade.value();
 }
 
 fn know_changed_row_wave(wave: Wave)

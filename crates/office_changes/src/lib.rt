@@ -3,6 +3,7 @@
 
 mod cells;
 mod choices;
+mod grades;
 mod lists;
 mod people;
 mod results;

@@ -6,6 +6,7 @@ ghost use Rattle.office_tables.specs.Steps.{StaysInside};
 ghost use Rattle.office_changes.specs.Carries.{CarriesAlways};
 
 use crate::cells::{know_changed_row_optional, know_changed_row_text};
+use office_tables::grades::drop_grade;
 use office_tables::people::{add_person, drop_person, set_home, set_withdrawn};
 use room_types::{Key, Name, PersonId, RoomCode};
 use sqlite::{Alter, Error, Transaction};
@@ -31,7 +32,7 @@ pub(crate) fn put_person<S: Alter>(
     add_person(tx, person, name, key, home)
 }
 
-/// A person is no longer there.
+/// A person is no longer there, and has no grade.
 pub(crate) fn remove_person<S: Alter>(
     tx: &mut Transaction<'_, S>,
     person: &PersonId,
@@ -42,6 +43,7 @@ pub(crate) fn remove_person<S: Alter>(
         (DropPerson person.now)) }
     ensures inside { StaysInside (state S.Store tx.old.conn.now) (state S.Store tx.new.conn.now) }
 {
+    drop_grade(tx, person)?;
     drop_person(tx, person)
 }
 

@@ -6,6 +6,7 @@ ghost use Rattle.office_tables.specs.Steps.{IsHonest, Follows, StaysInside};
 ghost use Rattle.office_changes.specs.Carries.{CarriesOne, Carries};
 
 use crate::choices::put_choices;
+use crate::grades::{put_going, put_grade};
 use crate::lists::keep_list;
 use crate::people::{put_home, put_person, put_withdrawn, remove_person};
 use crate::results::{put_result, record_move};
@@ -101,5 +102,7 @@ fn make_change<S: Alter>(
             bytes,
             count,
         } => keep_list(tx, label, *kind, bytes, *count),
+        Change::PutGrade { person, grade } => put_grade(tx, person, *grade),
+        Change::PutGoing { person } => put_going(tx, person),
     }
 }

@@ -7,6 +7,7 @@ pub mod CloseRound
 pub mod Commands
 pub mod Draw
 pub mod Ended
+pub mod Going
 pub mod Kept
 pub mod Leave
 pub mod OpenRound
@@ -15,6 +16,7 @@ pub mod Remove
 pub mod Reopen
 pub mod Run
 pub mod SetChoices
+pub mod SetGrade
 pub mod SetHome
 pub mod Shut
 pub mod Withdraw

@@ -6,6 +6,7 @@ pub mod Cancel
 pub mod CloseRound
 pub mod Decision
 pub mod Draw
+pub mod Going
 pub mod Import
 pub mod Leave
 pub mod OpenRound
@@ -14,6 +15,7 @@ pub mod Remove
 pub mod Reopen
 pub mod Run
 pub mod SetChoices
+pub mod SetGrade
 pub mod SetHome
 pub mod Settle
 pub mod Shut
@@ -30,6 +32,7 @@ use Rattle.office_core.specs.Command.AddRoom as add_room
 use Rattle.office_core.specs.Command.Cancel as cancel
 use Rattle.office_core.specs.Command.CloseRound as close_round
 use Rattle.office_core.specs.Command.Draw as draw
+use Rattle.office_core.specs.Command.Going as going
 use Rattle.office_core.specs.Command.Import as import_list
 use Rattle.office_core.specs.Command.Leave as leave
 use Rattle.office_core.specs.Command.OpenRound as open_round
@@ -38,6 +41,7 @@ use Rattle.office_core.specs.Command.Remove as remove
 use Rattle.office_core.specs.Command.Reopen as reopen
 use Rattle.office_core.specs.Command.Run as run
 use Rattle.office_core.specs.Command.SetChoices as set_choices
+use Rattle.office_core.specs.Command.SetGrade as set_grade
 use Rattle.office_core.specs.Command.SetHome as set_home
 use Rattle.office_core.specs.Command.Settle as settle
 use Rattle.office_core.specs.Command.Shut as shut
@@ -63,6 +67,8 @@ checks office command.Publish = publish.checks office
 checks office command.Settle = settle.checks office
 checks office command.Cancel = cancel.checks office
 checks office (command.Import label kind bytes) = import_list.checks office label kind bytes
+checks office (command.SetGrade person grade) = set_grade.checks office person
+checks office (command.Going person) = going.checks office person
 
 -- the first refusal that applies, or none
 abbrev pub accepts : Office → Command → Option Refusal
@@ -87,6 +93,8 @@ next office command.Publish = publish.next office
 next office command.Settle = settle.next office
 next office command.Cancel = cancel.next office
 next office (command.Import label kind bytes) = import_list.next office label kind bytes
+next office (command.SetGrade person grade) = set_grade.next office person grade
+next office (command.Going person) = going.next office person
 
 -- the reply to an accepted command
 abbrev pub reply_to : Office → Command → Reply
@@ -107,6 +115,8 @@ reply_to office command.Publish = publish.reply_to office
 reply_to office command.Settle = settle.reply_to office
 reply_to office command.Cancel = cancel.reply_to office
 reply_to office (command.Import label kind bytes) = import_list.reply_to office label kind bytes
+reply_to office (command.SetGrade person grade) = set_grade.reply_to office person
+reply_to office (command.Going person) = going.reply_to office person
 
 -- the changes that carry an accepted command out, in order
 abbrev pub changes_of : Office → Command → List Change
@@ -128,3 +138,5 @@ changes_of office command.Publish = publish.changes_of office
 changes_of office command.Settle = settle.changes_of office
 changes_of office command.Cancel = cancel.changes_of office
 changes_of office (command.Import label kind bytes) = import_list.changes_of office label kind bytes
+changes_of office (command.SetGrade person grade) = set_grade.changes_of office person grade
+changes_of office (command.Going person) = going.changes_of office person

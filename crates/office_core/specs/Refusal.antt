@@ -11,7 +11,7 @@ use Rattle.office_core.specs.declared.refusal.Refusal.TheVariants.{NoHome, Withd
 use Rattle.office_core.specs.declared.refusal.Refusal.TheVariants.{WrongWordCount, LimitReached}
 use Rattle.office_core.specs.declared.refusal.Refusal.TheVariants.{ListDiffers, BadRecord, NotInRound}
 use Rattle.office_core.specs.declared.refusal.Refusal.TheVariants.{NoSuchRound, NotShut}
-use Rattle.office_core.specs.declared.refusal.Refusal.TheVariants.{OutOfMemory}
+use Rattle.office_core.specs.declared.refusal.Refusal.TheVariants.{OutOfMemory, Going}
 
 abbrev pub number_of : Refusal → ℕ
 number_of (BadPhase phase) = 1
@@ -33,6 +33,7 @@ number_of NotInRound = 16
 number_of NoSuchRound = 17
 number_of NotShut = 18
 number_of OutOfMemory = 19
+number_of Going = 24
 
 abbrev pub name_of : Refusal → List ℕ
 name_of (BadPhase phase) = codes "BadPhase"
@@ -54,3 +55,4 @@ name_of NotInRound = codes "NotInRound"
 name_of NoSuchRound = codes "NoSuchRound"
 name_of NotShut = codes "NotShut"
 name_of OutOfMemory = codes "OutOfMemory"
+name_of Going = codes "Going"

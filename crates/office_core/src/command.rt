@@ -6,6 +6,7 @@ pub mod close_round;
 pub mod decide;
 pub mod decision;
 pub mod draw;
+pub mod going;
 pub mod import;
 pub mod leave;
 pub mod open_round;
@@ -14,12 +15,13 @@ pub mod remove;
 pub mod reopen;
 pub mod run;
 pub mod set_choices;
+pub mod set_grade;
 pub mod set_home;
 pub mod settle;
 pub mod shut;
 pub mod withdraw;
 
-use room_types::{Choices, Key, Label, ListKind, Listing, Name, PersonId, RoomCode, Word};
+use room_types::{Choices, Grade, Key, Label, ListKind, Listing, Name, PersonId, RoomCode, Word};
 
 /// A command of the office, or of a resident.
 #[derive(Drop)]
@@ -77,7 +79,8 @@ pub enum Command {
     Run,
     /// Shows each participant the result.
     Publish,
-    /// Moves each participant whose home changes to the room of the result, and ends the round.
+    /// Moves each participant whose home changes to the room of the result, and whoever leaves the college out, and ends
+    /// the round.
     Settle,
     /// Gives the round up.
     Cancel,
@@ -86,5 +89,14 @@ pub enum Command {
         label: Label,
         kind: ListKind,
         bytes: Listing<u8>,
+    },
+    /// Gives a person a grade.
+    SetGrade {
+        person: PersonId,
+        grade: Grade,
+    },
+    /// Has a person leave the college after the round, and gives the room to the round.
+    Going {
+        person: PersonId,
     },
 }

@@ -41,7 +41,7 @@ pub enum Refusal {
     ListDiffers,
     /// Record `at` of the list is bad, where the header is record 0.
     BadRecord { at: u32, cause: Cause },
-    /// The person has withdrawn from the round, and so has no place in the order.
+    /// The person takes no part in the round, and so has no place in the order.
     NotInRound,
     /// No round of this number is over: it is 0, has not begun, or is still under way.
     NoSuchRound,
@@ -49,6 +49,8 @@ pub enum Refusal {
     NotShut,
     /// Memory was refused.
     OutOfMemory,
+    /// The person leaves the college after the round.
+    Going,
 }
 
 impl Refusal {
@@ -76,6 +78,7 @@ impl Refusal {
             Refusal::NoSuchRound => 17,
             Refusal::NotShut => 18,
             Refusal::OutOfMemory => 19,
+            Refusal::Going => 24,
         }
     }
 
@@ -103,6 +106,7 @@ impl Refusal {
             Refusal::NoSuchRound => "NoSuchRound",
             Refusal::NotShut => "NotShut",
             Refusal::OutOfMemory => "OutOfMemory",
+            Refusal::Going => "Going",
         }
     }
 }

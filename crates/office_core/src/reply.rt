@@ -1,13 +1,15 @@
 //! What commands and queries are answered.
 use room_types::{
-    Choices, Listing, Move, Name, PersonId, PersonRow, Phase, ResultRow, RoomCode, RoomRow, Word,
+    Choices, Grade, Listing, Move, Name, PersonId, PersonRow, Phase, ResultRow, RoomCode, RoomRow,
+    Word,
 };
 
-/// A participant, with the word that was drawn.
+/// A participant, with the word that was drawn and the grade.
 #[derive(Debug, Drop)]
 pub struct OrderRow {
     pub word: Word,
     pub person: PersonId,
+    pub grade: Grade,
 }
 
 /// What a person sees.
@@ -22,6 +24,8 @@ pub struct Standing {
     /// The recorded list; the empty one where none is recorded.
     pub choices: Choices,
     pub withdrawn: bool,
+    /// Whether the person leaves the college after the round.
+    pub going: bool,
     /// Whether the result is there to be seen: it is published, and the person takes part.
     pub shown: bool,
     /// The room that the person gets, where it is shown; none for no room.
@@ -77,12 +81,13 @@ pub enum Reply {
     Rooms(Listing<RoomRow>),
     /// The people, by identifier.
     People(Listing<PersonRow>),
-    /// The last round, how many people there are, and how many of them have withdrawn.
+    /// The last round, how many people there are, how many of them have withdrawn, and how many leave the college.
     Round {
         number: u16,
         phase: Phase,
         people: usize,
         withdrawn: usize,
+        going: usize,
     },
     /// The participants, in the drawn order.
     Order(Listing<OrderRow>),
@@ -94,4 +99,6 @@ pub enum Reply {
     Me(Standing),
     /// The room that the other list would give, or none for no room.
     WouldGet(Option<RoomCode>),
+    /// The person leaves the college after the round.
+    Going,
 }

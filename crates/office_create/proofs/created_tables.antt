@@ -1,3 +1,2 @@
 -- Lemmas on the tables of a new office.
-pub mod Declared
 pub mod Empty

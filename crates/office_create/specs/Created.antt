@@ -2,14 +2,8 @@
 use Rattle.std.specs.Prelude.{◌≡◌}
 use Rattle.sqlite.specs.State.{State, HasCleanDisk}
 use Rattle.office_state.specs.Office.{empty_office}
-use Rattle.office_create.specs.Stages.{AtStage}
 use Rattle.office_tables.specs.Schema.{no_schema}
 use Rattle.office_tables.specs.Tables.{HoldsOffice}
-
--- where nothing was declared, the tables are there now, with no rows
-pub record Declares (old new : State) : Type 0 where
-  pub shown : HasCleanDisk new → AtStage 0 old.now → AtStage 8 new.now
-  pub mode : HasCleanDisk new → new.in_transaction ≡ old.in_transaction
 
 -- where nothing was declared, the tables are now the rows of the office with nothing in it
 pub record Starts (old new : State) : Type 0 where

@@ -8,7 +8,7 @@ use Rattle.sqlite.specs.Effect.{Database}
 abbrev pub table_names : List (List ℕ)
 table_names =
     codes "room" ∷ codes "person" ∷ codes "round" ∷ codes "choice" ∷ codes "word" ∷ codes "result"
-    ∷ codes "move" ∷ codes "list" ∷ []
+    ∷ codes "move" ∷ codes "list" ∷ codes "grade" ∷ codes "going" ∷ []
 
 -- a table, an index or a view has one of the names, but for the case of letters
 abbrev pub is_taken : Schema → Bool

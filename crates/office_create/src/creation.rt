@@ -10,7 +10,7 @@ ghost use Rattle.office_tables.specs.Steps.{Follows, IsHonest, StaysInside};
 ghost use Rattle.office_tables.specs.Tables.{HoldsOffice};
 
 use crate::names::{is_blank_for_creation, is_created_table_blocked};
-use crate::tables::make_tables;
+use office_tables::making::make_tables_from;
 use office_tables::rounds::add_round;
 use room_types::Phase;
 use sqlite::{Alter, Connection, Error, Transaction};
@@ -18,9 +18,9 @@ use sqlite::{Alter, Connection, Error, Transaction};
 /// Why no office was made.
 #[derive(Clone, Copy, Debug, PartialEq, Eq, Drop)]
 pub enum CreateFault {
-    /// The database or memory did not serve, or something is declared, though under none of the eight names.
+    /// The database or memory did not serve, or something is declared, though under none of the ten names.
     Unavailable,
-    /// A table, an index, a view or a trigger has the name of one of the eight tables of an office.
+    /// A table, an index, a view or a trigger has the name of one of the ten tables of an office.
     AlreadyThere,
 }
 
@@ -88,6 +88,6 @@ fn start<S: Alter>(tx: &mut Transaction<'_, S>) -> Result<(), Error>
         (Starts (state S.Store tx.old.conn.now) (state S.Store tx.new.conn.now)) }
     ensures inside { StaysInside (state S.Store tx.old.conn.now) (state S.Store tx.new.conn.now) }
 {
-    make_tables(tx)?;
+    make_tables_from(tx, 0)?;
     add_round(tx, 0, Phase::Idle)
 }

@@ -3,6 +3,5 @@
 
 pub mod creation;
 mod names;
-mod tables;
 
 pub use crate::creation::{CreateFault, create};

@@ -19,6 +19,8 @@ pub(crate) fn is_created_table_blocked(schema: &Schema) -> bool
         || is_used(schema, b"result")
         || is_used(schema, b"move")
         || is_used(schema, b"list")
+        || is_used(schema, b"grade")
+        || is_used(schema, b"going")
 }
 
 /// Whether nothing is declared.

@@ -1,32 +1,36 @@
 -- An office that is found in a file, and why there is none.
-use Rattle.std.specs.Prelude.{◌≡◌, ◌⊎◌, ℕ, List, false, IfErr, IsSome, IsTrue, Result}
+use Rattle.std.specs.Prelude.{◌≡◌, ◌⊎◌, ℕ, List, false, IfErr, IsSome, Result, None, Some}
 use Rattle.sqlite.specs.Held.{Held, state}
 use Rattle.sqlite.specs.State.{HasCleanDisk}
 use Rattle.sqlite_trees.specs.declared.store.Store.{Ghosts}
 use Rattle.office_state.specs.declared.office.Office.{Office}
 use Rattle.office_file.specs.Access.{FileAccess}
 use Rattle.office_load.specs.Finding.{AreDeclared, AreWhole, names_round}
-use Rattle.office_load.specs.Layout.{is_laid_out}
-use Rattle.office_store.specs.Adopting.{IsFaultOf, MayRefuse}
+use Rattle.office_load.specs.Layout.{layout_in}
+use Rattle.office_store.specs.Adopting.{IsFaultOf, MayRefuse, StandsInOwnVersion}
 use Rattle.office_store.specs.Desk.{DeskState, Shows}
 use Rattle.office_store.specs.declared.desk.faults.DeskFault.{DeskFault}
 use Rattle.office_store.specs.declared.desk.faults.DeskFault.TheVariants.{NotAnOffice, Unavailable}
 use Rattle.office_tables.specs.Steps.{Follows, IsHonest}
-use Rattle.office_tables.specs.Tables.{HoldsOffice}
+use Rattle.office_tables.specs.Tables.{HoldsOfficeIn}
+use Rattle.office_tables.specs.declared.layouts.Layout.{Layout}
+use Rattle.office_tables.specs.declared.layouts.Layout.TheVariants.{Own}
 
 module _ {S : Type 0} (g : Ghosts S) where
   -- The database of the connection holds the rows of an office, and the desk shows that office, where the disk returned what
   -- was written and the tables are declared as those of an office.
   abbrev pub ShowsFound : Held S → DeskState S → Type 0
   ShowsFound connection desk =
-      HasCleanDisk (state g desk.conn) → AreDeclared (state g connection).now.schema
-      → AreWhole (state g connection).now.trees
-      → (office : Office) × HoldsOffice (state g connection).now office × Shows g desk office
+      HasCleanDisk (state g desk.conn) → AreDeclared (state g connection).now.schema → (layout : Layout)
+      → layout_in (state g connection).now.schema ≡ Some layout → AreWhole layout (state g connection).now.trees
+      → (office : Office) × HoldsOfficeIn layout (state g connection).now office × Shows g desk office
 
-  -- the tables of the desk are those that the connection had, as long as no fault shuts the connection
+  -- The tables of the desk are those that the connection had, where they stand there as this program makes them, as long as no
+  -- fault shuts the connection.
   abbrev pub StaysFound : Held S → DeskState S → Type 0
   StaysFound connection desk =
-      IsHonest (state g desk.conn) → (state g desk.conn).now ≡ (state g connection).now
+      layout_in (state g connection).now.schema ≡ Some Own → IsHonest (state g desk.conn)
+      → (state g desk.conn).now ≡ (state g connection).now
 
   -- The database of a connection is refused for this, and the connection is then the other one: only as what is declared
   -- allows, whatever the disk does (`allowed`); and only as what the tables hold allows, where they are declared as those of an
@@ -34,20 +38,20 @@ module _ {S : Type 0} (g : Ghosts S) where
   pub record RefusesFound (connection refused : Held S) (fault : DeskFault) : Type 0 where
     pub follows : Follows (state g connection) (state g refused)
     pub undone : IsHonest (state g refused) → (state g refused).now ≡ (state g connection).now
-    pub unread : is_laid_out (state g connection).now.schema ≡ false → refused ≡ connection
+    pub unread : layout_in (state g connection).now.schema ≡ None → refused ≡ connection
     pub absent : names_round (state g connection).now.schema ≡ false → fault ≡ NotAnOffice
     pub allowed : IsFaultOf (state g connection).now.schema fault
     pub cause : HasCleanDisk (state g refused) → AreDeclared (state g connection).now.schema
         → MayRefuse (state g connection).now fault
 
 module _ {F S : Type 0} (access : FileAccess F S) where
-  -- The desk goes on from the database that was opened, which has the tables of an office, and nothing beside them. It keeps
-  -- an office. It shows the one that was found, and the tables stay as they were, each under its own premises (`shows`,
-  -- `unchanged`).
+  -- The desk goes on from the database that was opened, which has the tables of an office of the version of this program, and
+  -- nothing beside them. It keeps an office. It shows the one that was found, and tables that stand as this program makes them
+  -- stay as they were, each under its own premises (`shows`, `unchanged`).
   pub record BeginsFound (files : F) (path : List ℕ) (desk : DeskState S) (files' : F) : Type 0 where
     pub connection : Held S
     pub opened : access.finds files path connection files'
-    pub laid : IsTrue (is_laid_out (state access.base connection).now.schema)
+    pub laid : StandsInOwnVersion (state access.base connection).now.schema
     pub follows : Follows (state access.base connection) (state access.base desk.conn)
     pub kept : IsSome desk.kept
     pub shows : ShowsFound access.base connection desk

@@ -17,7 +17,7 @@ use std::alloc::Global;
 ///
 /// # Errors
 ///
-/// `AlreadyThere` exactly where a table, an index, a view or a trigger of the database that was opened has one of the eight
+/// `AlreadyThere` exactly where a table, an index, a view or a trigger of the database that was opened has one of the ten
 /// names. Else `Unavailable`: the file was not opened, other tables are there, the disk failed or memory was refused. The
 /// connection that was opened is then closed, its tables as they were.
 pub fn create_in<B: Alter, F: Files<B> + Closes<Connection<B>>>(

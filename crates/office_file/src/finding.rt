@@ -8,7 +8,8 @@ use office_store::{Desk, DeskFault, Unavailable};
 use sqlite::{Alter, Connection};
 use std::alloc::Global;
 
-/// A desk over the office that the file at this path holds. The file is opened once; a missing one is not made.
+/// A desk over the office that the file at this path holds, whose tables are those of the version of this program, in its
+/// order or in the documented one. The file is opened once; a missing one is not made.
 ///
 /// # Errors
 ///

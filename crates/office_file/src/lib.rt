@@ -5,6 +5,7 @@ pub mod closing;
 pub mod creating;
 pub mod files;
 pub mod finding;
+pub mod migrating;
 pub mod opening;
 pub mod system;
 
@@ -12,5 +13,8 @@ pub use crate::closing::close;
 pub use crate::creating::create_in;
 pub use crate::files::{Closes, Files, SystemFiles};
 pub use crate::finding::find_in;
+pub use crate::migrating::migrate_in;
 pub use crate::opening::{FileConnection, open_file, open_present_file};
-pub use crate::system::{FileDesk, close_file, create_file, create_over, find_over, on_file};
+pub use crate::system::{
+    FileDesk, close_file, create_file, create_over, find_over, migrate_file, migrate_over, on_file,
+};

@@ -6,6 +6,7 @@ ghost use Rattle.sqlite.specs.State.{HasCleanDisk};
 ghost use Rattle.office_state.specs.Office.{empty_office};
 ghost use Rattle.office_file.specs.Adopted.{BeginsFound, IsFileFault};
 ghost use Rattle.office_file.specs.Created.{BeginsBlank, IsCreateFault};
+ghost use Rattle.office_file.specs.Migrated.{BeginsMigrated, IsMigrateFault};
 ghost use Rattle.office_file.specs.System.{system_access};
 ghost use Rattle.office_store.specs.Desk.{Shows};
 
@@ -13,6 +14,7 @@ use crate::closing::close;
 use crate::creating::create_in;
 use crate::files::SystemFiles;
 use crate::finding::find_in;
+use crate::migrating::migrate_in;
 use office_store::{Desk, DeskFault};
 use sqlite::{FileFrom, FileStore, Start, Wary};
 
@@ -81,6 +83,38 @@ pub fn find_over<S: Start>(rt: &HostRuntime, path: &str, start: S) -> Result<Fil
 {
     let mut files = SystemFiles::new(rt, start);
     find_in(rt.alloc(), &mut files, path)
+}
+
+/// A desk over the office of an earlier version that the file at this path holds, whose tables are made those of the
+/// version of this program. A missing file is not made.
+///
+/// # Errors
+///
+/// Those of `migrate_in`.
+pub fn migrate_file(rt: &HostRuntime, path: &str) -> Result<FileDesk<Wary>, DeskFault>
+    ensures shows { IfOk result
+        (λ desk. BeginsMigrated (system_access (image_at ⟦<Wary as Start>⟧)) tt path.now desk tt) }
+    ensures cause { IsMigrateFault (system_access (image_at ⟦<Wary as Start>⟧)) tt path.now result tt }
+{
+    migrate_over(rt, path, Wary)
+}
+
+/// `migrate_file`, whatever the file and its log held, for which `start` stands.
+///
+/// # Errors
+///
+/// Those of `migrate_in`.
+pub fn migrate_over<S: Start>(
+    rt: &HostRuntime,
+    path: &str,
+    start: S,
+) -> Result<FileDesk<S>, DeskFault>
+    ensures shows { IfOk result
+        (λ desk. BeginsMigrated (system_access (image_at S.Start)) tt path.now desk tt) }
+    ensures cause { IsMigrateFault (system_access (image_at S.Start)) tt path.now result tt }
+{
+    let mut files = SystemFiles::new(rt, start);
+    migrate_in(rt.alloc(), &mut files, path)
 }
 
 /// Closes the file of a desk, if there is one. A caller hands the desk to here, since the proof that an open file can be dropped

@@ -1,10 +1,12 @@
 -- The kinds of lists.
-use Rattle.std.specs.Prelude.{ℕ, Bool, true, ◌&&◌, is_none, eqb, List, [], ◌∷◌, codes, Option, Some, None}
+use Rattle.std.specs.Prelude.{ℕ, Bool, true, ◌&&◌, is_none, is_some, eqb, List, [], ◌∷◌, codes, Option, Some, None, unwrap_or}
 use Rattle.std.specs.List.{list_all, slice_split}
 use Rattle.std.specs.Option.{option_map_or}
 use Rattle.room_types.specs.Choices.{choices_fault}
+use Rattle.room_types.specs.Grades.{grade_of}
 use Rattle.room_types.specs.Grammars.{is_room_code, is_person_id, is_key, is_name}
 use Rattle.room_types.specs.Texts.{Text}
+use Rattle.room_types.specs.declared.rows.GradeRow.{GradeRow}
 use Rattle.office_lists.specs.Records.{ListForm, field}
 use Rattle.office_lists.specs.declared.entries.PersonEntry.{PersonEntry}
 use Rattle.office_lists.specs.declared.entries.ChoicesEntry.{ChoicesEntry}
@@ -58,4 +60,23 @@ choices_list = record {
   header = codes "person" ∷ codes "choices" ∷ [];
   grammars = is_person_id ∷ is_choices ∷ [];
   entry = choices_entry;
+}
+
+-- one decimal digit
+abbrev pub is_grade : Text → Bool
+is_grade text = is_some (grade_of text)
+
+-- the grade of a field, and 0 where it is outside its grammar
+abbrev pub grade_in : Text → ℕ
+grade_in text = unwrap_or (grade_of text) 0
+
+abbrev pub grade_entry : List Text → GradeRow
+grade_entry fields = record { person = field 0 fields; grade = grade_in (field 1 fields) }
+
+-- a person's grade in each record
+abbrev pub grades_list : ListForm GradeRow
+grades_list = record {
+  header = codes "person" ∷ codes "grade" ∷ [];
+  grammars = is_person_id ∷ is_grade ∷ [];
+  entry = grade_entry;
 }

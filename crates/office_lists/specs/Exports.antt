@@ -1,4 +1,4 @@
--- Exports: rooms, people and moves as CSV.
+-- Exports: rooms, people, moves and grades as CSV.
 use Rattle.std.specs.Prelude.{◌≡◌, ℕ, List, [], ◌∷◌, map, codes, Option, unwrap_or}
 use Rattle.std.specs.List.{flat_map}
 use Rattle.std.specs.Fmt.{decimal}
@@ -6,15 +6,17 @@ use Rattle.std.specs.List.Sorted.{IsStrictlySortedBy}
 use Rattle.std.specs.declared.cmp.Ordering.{Ordering}
 use Rattle.std.specs.Ordering.{nat_cmp, on, then_cmp}
 use Rattle.csv.specs.Writing.{default_writer, row_text}
+use Rattle.room_types.specs.Grades.{grade_text}
 use Rattle.room_types.specs.Rows.{state_text}
 use Rattle.room_types.specs.Texts.{Text, text_cmp}
 use Rattle.room_types.specs.declared.moves.Move.{Move}
+use Rattle.room_types.specs.declared.rows.GradeRow.{GradeRow}
 use Rattle.room_types.specs.declared.rows.PersonRow.{PersonRow}
 use Rattle.room_types.specs.declared.rows.RoomRow.{RoomRow}
 use Rattle.office_lists.specs.MoveDay.{wave_text}
 use Rattle.office_lists.specs.Records.{Record, records_of}
 use Rattle.office_lists.specs.declared.exports.ExportKind.{ExportKind}
-use Rattle.office_lists.specs.declared.exports.ExportKind.TheVariants.{Rooms, People, Moves}
+use Rattle.office_lists.specs.declared.exports.ExportKind.TheVariants.{Rooms, People, Moves, Grades}
 
 -- the bytes of a record, as `csv` writes it by default: commas between the fields, quotes round a field where it needs
 -- them, a quote inside doubled, and a line feed at the end
@@ -30,6 +32,7 @@ abbrev pub header_of : ExportKind → Record
 header_of Rooms = codes "room" ∷ codes "state" ∷ codes "tenant" ∷ []
 header_of People = codes "person" ∷ codes "name" ∷ codes "home" ∷ []
 header_of Moves = codes "round" ∷ codes "wave" ∷ codes "person" ∷ codes "from" ∷ codes "to" ∷ []
+header_of Grades = codes "person" ∷ codes "grade" ∷ []
 
 -- the text, or an empty field
 abbrev pub field_or_empty : Option Text → Text
@@ -45,6 +48,9 @@ abbrev pub move_fields : Move → Record
 move_fields row =
     decimal row.round ∷ wave_text row.wave ∷ row.person ∷ field_or_empty row.from ∷ field_or_empty row.to ∷ []
 
+abbrev pub grade_fields : GradeRow → Record
+grade_fields row = row.person ∷ grade_text row.grade ∷ []
+
 -- an export: the header, and a record for each row
 abbrev pub export : {Row : Type 0} → ExportKind → (Row → Record) → List Row → List Record
 export kind fields rows = header_of kind ∷ map fields rows
@@ -57,6 +63,9 @@ people_export = export People person_fields
 
 abbrev pub moves_export : List Move → List Record
 moves_export = export Moves move_fields
+
+abbrev pub grades_export : List GradeRow → List Record
+grades_export = export Grades grade_fields
 
 -- by round, and by identifier in one round
 abbrev pub by_round : Move → Move → Ordering
@@ -75,3 +84,4 @@ pub record AreReadBack : Type 0 where
   pub rooms : (rows : List RoomRow) → IsReadBack (rooms_export rows)
   pub people : (rows : List PersonRow) → IsReadBack (people_export rows)
   pub moves : (rows : List Move) → IsReadBack (moves_export rows)
+  pub grades : (rows : List GradeRow) → IsReadBack (grades_export rows)

@@ -1,13 +1,13 @@
 //! What the records of lists tell.
 ghost use Rattle.std.specs.Prelude.{◌≡◌, IfOk, IfErr, None};
 ghost use Rattle.csv.specs.Records.{fields_of};
-ghost use Rattle.office_lists.specs.Entries.{choices_list, people_list, room_list};
+ghost use Rattle.office_lists.specs.Entries.{choices_list, grades_list, people_list, room_list};
 ghost use Rattle.office_lists.specs.Records.{FailsFor, ListForm, field_cause, same_fields};
 
 use crate::fault::RecordFault;
-use crate::fields::{choices, field, has_fields, optional_room, value};
+use crate::fields::{choices, field, grade, has_fields, optional_room, value};
 use csv::{ByteRecord, StringRecord};
-use room_types::{Choices, Key, Name, PersonId, RoomCode};
+use room_types::{Choices, GradeRow, Key, Name, PersonId, RoomCode};
 use std::alloc::Global;
 
 /// What a record of a list of people tells. It has no `Debug`, which would print the key.
@@ -88,5 +88,19 @@ impl ListEntry for ChoicesEntry {
         let person = value(alloc, field(fields, 0), 1)?;
         let choices = choices(alloc, field(fields, 1), 2)?;
         Ok(ChoicesEntry { person, choices })
+    }
+}
+
+impl ListEntry for GradeRow {
+    ghost form = { grades_list };
+
+    fn is_header(row: &ByteRecord) -> bool {
+        has_fields(row, &["person", "grade"])
+    }
+
+    fn from_fields(alloc: Global, fields: &StringRecord) -> Result<GradeRow, RecordFault> {
+        let person = value(alloc, field(fields, 0), 1)?;
+        let grade = grade(field(fields, 1), 2)?;
+        Ok(GradeRow { person, grade })
     }
 }

@@ -1,13 +1,13 @@
 //! The bytes of the records of exports.
 ghost use Rattle.std.specs.Prelude.{◌≡◌, IfOk, map};
 ghost use Rattle.room_types.specs.Rows.{state_text};
-ghost use Rattle.office_lists.specs.Exports.{header_of, move_fields, field_or_empty, person_fields};
+ghost use Rattle.office_lists.specs.Exports.{grade_fields, header_of, move_fields, field_or_empty, person_fields};
 ghost use Rattle.office_lists.specs.Exports.{record_bytes, room_fields};
 ghost use Rattle.office_lists.specs.Records.{Record};
 
 use crate::move_day::wave_text;
 use csv::{StringRecord, WriterBuilder};
-use room_types::{Grammar, Move, OutOfMemory, PersonRow, RoomRow, Text};
+use room_types::{GradeRow, Grammar, Move, OutOfMemory, PersonRow, RoomRow, Text};
 use std::alloc::Global;
 
 /// What is exported.
@@ -19,6 +19,8 @@ pub enum ExportKind {
     People,
     /// The moves, by round and then by identifier.
     Moves,
+    /// The people, by identifier, with their grades.
+    Grades,
 }
 
 /// The bytes of the header of an export of this kind.
@@ -33,6 +35,7 @@ pub fn head_bytes(alloc: Global, kind: ExportKind) -> Result<Vec<u8>, OutOfMemor
         ExportKind::Rooms => record_bytes(alloc, &["room", "state", "tenant"]),
         ExportKind::People => record_bytes(alloc, &["person", "name", "home"]),
         ExportKind::Moves => record_bytes(alloc, &["round", "wave", "person", "from", "to"]),
+        ExportKind::Grades => record_bytes(alloc, &["person", "grade"]),
     }
 }
 
@@ -89,6 +92,19 @@ pub fn move_row_bytes(alloc: Global, row: &Move) -> Result<Vec<u8>, OutOfMemory>
     record_bytes(alloc, &fields)
 }
 
+/// The bytes of the record of a person's grade: the identifier, and the grade as one digit.
+///
+/// # Errors
+///
+/// `OutOfMemory` where memory for the bytes is refused.
+pub fn grade_row_bytes(alloc: Global, row: &GradeRow) -> Result<Vec<u8>, OutOfMemory>
+    ensures { IfOk result (λ bytes. bytes.items ≡ record_bytes (grade_fields row.now)) }
+{
+    let grade = row.grade.to_string(alloc)?;
+    let fields = [row.person.as_str(), grade.as_str()];
+    record_bytes(alloc, &fields)
+}
+
 /// A row that is exported as one record.
 pub trait ExportRow {
     /// The fields of its record.
@@ -120,6 +136,14 @@ impl ExportRow for Move {
 
     fn row_bytes(&self, alloc: Global) -> Result<Vec<u8>, OutOfMemory> {
         move_row_bytes(alloc, self)
+    }
+}
+
+impl ExportRow for GradeRow {
+    ghost fields = { grade_fields };
+
+    fn row_bytes(&self, alloc: Global) -> Result<Vec<u8>, OutOfMemory> {
+        grade_row_bytes(alloc, self)
     }
 }
 

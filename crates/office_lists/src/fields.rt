@@ -1,14 +1,15 @@
 //! The values of a record's fields.
-ghost use Rattle.std.specs.Prelude.{◌≡◌, ◌⊎◌, true, false, map, IfOk, IfErr};
+ghost use Rattle.std.specs.Prelude.{◌≡◌, ◌⊎◌, true, false, map, IfOk, IfErr, MatchResult, None, Some};
 ghost use Rattle.std.specs.List.{list_all};
 ghost use Rattle.csv.specs.Records.{fields_of};
+ghost use Rattle.room_types.specs.Grades.{grade_of};
 ghost use Rattle.room_types.specs.Grammars.{is_room_code};
 ghost use Rattle.office_lists.specs.Entries.{codes_in, is_choices, is_optional_room_code, optional};
 ghost use Rattle.office_lists.specs.Records.{FailsAt, field, field_fault, same_fields};
 
 use crate::fault::{Cause, RecordFault};
 use csv::{ByteRecord, StringRecord};
-use room_types::{Choices, Grammar, RoomCode, Text, TypeFault};
+use room_types::{Choices, Grade, Grammar, RoomCode, Text, TypeFault};
 use std::alloc::{AllocError, Global};
 
 /// Whether the fields of a record are these.
@@ -73,6 +74,17 @@ pub fn choices(alloc: Global, text: &str, number: u8) -> Result<Choices, RecordF
 {
     match read_choices(alloc, text) {
         Ok(choices) => Ok(choices),
+        Err(fault) => Err(field_fault(fault, number)),
+    }
+}
+
+/// The grade of the field of this number. It takes no memory.
+pub fn grade(text: &str, number: u8) -> Result<Grade, RecordFault>
+    ensures { MatchResult result (λ grade. grade_of text.now ≡ Some grade)
+        (λ fault. (fault ≡ RecordFault.Bad (Cause.BadField number)) × (grade_of text.now ≡ None)) }
+{
+    match Grade::read(text) {
+        Ok(grade) => Ok(grade),
         Err(fault) => Err(field_fault(fault, number)),
     }
 }

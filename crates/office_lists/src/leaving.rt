@@ -2,23 +2,20 @@
 ghost use Rattle.std.specs.Prelude.{◌≡◌, ◌<◌, ◌≤◌, ℕ, List, Some, length, IfOk, OnErr};
 ghost use Rattle.std.specs.BTreeMap.{get_by};
 ghost use Rattle.room_types.specs.Texts.{Text, text_cmp};
-ghost use Rattle.office_lists.specs.Waves.{Mover as AnyMover, NewRoomsDiffer, AreWaves, HaveOneWaveEach, leaver, leavers as leavers_of, followed, move_limit, waves_of};
+ghost use Rattle.office_lists.specs.Waves.{Mover as AnyMover, NewRoomsDiffer, AreWaves, HaveOneWaveEach, end_numbers, leaver, leavers as leavers_of, followed, move_limit, own_number, waves_of};
 ghost use Rattle.office_lists.specs.Followers.{AreApart, AreFollowers, NumbersChain};
 
 use room_types::{OutOfMemory, PersonId, RoomCode, Wave};
 use std::alloc::{AllocError, Global};
 use std::collections::BTreeMap;
 
-// The number of an entry at the end of its chain.
-const END_NUMBER: u16 = 1;
-
 /// A person who moves, the old room and the new room.
 pub type Mover = (PersonId, Option<RoomCode>, Option<RoomCode>);
 
-/// The wave of each entry, in order: 1 where nobody leaves the new room, a swap where the movers pass their rooms
-/// round in a circle, and else the wave after that of the new room's leaver. The leaver of a room is the first entry
-/// whose old room it is. There are at most 2,000 entries, and their new rooms differ. No entries take no memory. It takes
-/// n log n comparisons.
+/// The wave of each entry, in order: 0 where there is no new room, 1 where nobody leaves the new room, a swap where the
+/// movers pass their rooms round in a circle, and else the wave after that of the new room's leaver. The leaver of a room
+/// is the first entry whose old room it is. There are at most 2,000 entries, and their new rooms differ. No entries take
+/// no memory. It takes n log n comparisons.
 pub fn waves(alloc: Global, entries: &[Mover]) -> Result<Vec<Wave>, OutOfMemory>
     requires few { length entries.now ≤ move_limit }
     requires new_rooms_differ { NewRoomsDiffer entries.now }
@@ -34,7 +31,8 @@ pub fn waves(alloc: Global, entries: &[Mover]) -> Result<Vec<Wave>, OutOfMemory>
     let mut waves = vec![in alloc; Wave::Swap; entries.len()]?;
     for (end, leaver) in leavers.iter().enumerate() {
         if leaver.is_none() {
-            number_chain(&mut waves, &followers, end, END_NUMBER);
+            let first = chain_end_number(entries, end);
+            number_chain(&mut waves, &followers, end, first);
         }
     }
     Ok(waves)
@@ -86,13 +84,25 @@ fn followers(alloc: Global, leavers: &[Option<usize>]) -> Result<Vec<Option<usiz
     Ok(followers)
 }
 
+// The number of an entry at the end of its chain: 0 where it has no new room, and 1 where nobody leaves its new room.
+fn chain_end_number(entries: &[Mover], end: usize) -> u16
+    requires { end < length entries.now }
+    ensures value { result ≡ own_number (end_numbers entries.now) end }
+    ensures low { result ≤ 1 }
+{
+    match entries[end].2 {
+        Some(_) => 1,
+        None => 0,
+    }
+}
+
 // Numbers the moves of a chain, from the first number on, which is that of its end.
 fn number_chain(waves: &mut [Wave], followers: &[Option<usize>], end: usize, first: u16)
     requires within { (count i : ℕ) → followed followers.now count end ≡ Some i
         → i < length waves.old }
     requires as_many { length followers.now ≡ length waves.old }
     requires short { (count i : ℕ) → followed followers.now count end ≡ Some i
-        → count < move_limit }
+        → count ≤ move_limit }
     requires low { first ≤ 1 }
     ensures { NumbersChain followers.now end first waves.old waves.new }
 {

@@ -14,11 +14,12 @@ mod writing;
 
 pub use crate::entries::{ChoicesEntry, PersonEntry};
 pub use crate::exports::{
-    ExportKind, ExportRow, head_bytes, move_row_bytes, person_row_bytes, room_row_bytes,
+    ExportKind, ExportRow, grade_row_bytes, head_bytes, move_row_bytes, person_row_bytes,
+    room_row_bytes,
 };
 pub use crate::fault::{Cause, ListFault};
 pub use crate::leaving::{Mover, one_wave_each, waves};
 pub use crate::move_day::{in_moving_order, move_day_text, one_move_day_list};
-pub use crate::reading::{RECORD_LIMIT, read_choices, read_people, read_rooms};
+pub use crate::reading::{RECORD_LIMIT, read_choices, read_grades, read_people, read_rooms};
 pub use crate::tables::{or_none, people_text, results_text, rooms_text};
-pub use crate::writing::{WriteEnd, write_moves, write_people, write_rooms};
+pub use crate::writing::{WriteEnd, write_grades, write_moves, write_people, write_rooms};

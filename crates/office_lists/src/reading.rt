@@ -6,13 +6,13 @@ ghost use Rattle.csv.specs.Reading.{source_of, stops_reader, strip_bom};
 ghost use Rattle.csv.specs.Records.{fields_of};
 ghost use Rattle.csv.specs.declared.parser.State.TheVariants as st;
 ghost use Rattle.csv.specs.declared.reader.Trim.TheVariants as trim;
-ghost use Rattle.office_lists.specs.Entries.{choices_list, people_list, room_list};
+ghost use Rattle.office_lists.specs.Entries.{choices_list, grades_list, people_list, room_list};
 ghost use Rattle.office_lists.specs.Records.{Fails, FailsFor, Tells, cause_of};
 
 use crate::entries::{ChoicesEntry, ListEntry, PersonEntry};
 use crate::fault::{Cause, ListFault, RecordFault};
 use csv::{ByteRecord, ByteRecordsIntoIter, ReaderBuilder, StringRecord};
-use room_types::RoomCode;
+use room_types::{GradeRow, RoomCode};
 use std::alloc::Global;
 
 /// How many records a list may have after its header.
@@ -62,6 +62,18 @@ pub fn read_people(alloc: Global, bytes: &[u8]) -> Result<Vec<PersonEntry>, List
 pub fn read_choices(alloc: Global, bytes: &[u8]) -> Result<Vec<ChoicesEntry>, ListFault>
     ensures told { IfOk result (λ choices. Tells choices_list bytes.now choices.items) }
     ensures fault { IfErr result (λ fault. Fails choices_list bytes.now fault) }
+{
+    read_list(alloc, bytes)
+}
+
+/// The grades of a list, in its order. A person may stand there more than once.
+///
+/// # Errors
+///
+/// `Bad` with the first bad record, or `OutOfMemory`, which comes of no empty list.
+pub fn read_grades(alloc: Global, bytes: &[u8]) -> Result<Vec<GradeRow>, ListFault>
+    ensures told { IfOk result (λ grades. Tells grades_list bytes.now grades.items) }
+    ensures fault { IfErr result (λ fault. Fails grades_list bytes.now fault) }
 {
     read_list(alloc, bytes)
 }

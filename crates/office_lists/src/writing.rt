@@ -4,12 +4,12 @@ ghost use Rattle.room_types.specs.Ascending.{AscendsBy};
 ghost use Rattle.room_types.specs.Streams.{Puts, output_of};
 ghost use Rattle.room_types.specs.Watched.{StopsAtFailure, watched_failed, watched_flushes};
 ghost use Rattle.office_lists.specs.Exports.{AscendByRound, export, export_bytes};
-ghost use Rattle.office_lists.specs.Exports.{moves_export, people_export, rooms_export};
+ghost use Rattle.office_lists.specs.Exports.{grades_export, moves_export, people_export, rooms_export};
 ghost use Rattle.office_lists.specs.Writing.{StopsAfter, has_failed, sent_of};
 
 use crate::exports::{ExportKind, ExportRow, head_bytes};
 use room_types::send::send;
-use room_types::{Move, PersonRow, RoomRow, Watched};
+use room_types::{GradeRow, Move, PersonRow, RoomRow, Watched};
 use std::alloc::Global;
 use std::io::Write;
 
@@ -102,6 +102,34 @@ pub fn write_moves<W: Write>(
     ensures stops { StopsAtFailure output.old output.new }
 {
     write_list(alloc, ExportKind::Moves, rows, output)
+}
+
+/// Writes the export of the grades of these people, who ascend by identifier. It does not flush.
+///
+/// # Errors
+///
+/// `Fault` after a write that failed or took nothing, and `OutOfMemory`.
+pub fn write_grades<W: Write>(
+    alloc: Global,
+    rows: &[GradeRow],
+    output: &mut Watched<W>,
+) -> Result<(), WriteEnd>
+    requires ascending { AscendsBy (λ row. row.person) rows.now }
+    ensures sent { OnOk result (Puts (output_of W.contents output.old)
+        (output_of W.contents output.new) (export_bytes (grades_export rows.now))) }
+    ensures front { IfErr result (λ end. Puts (output_of W.contents output.old)
+        (output_of W.contents output.new)
+        (take (sent_of end) (export_bytes (grades_export rows.now)))) }
+    ensures short { IfErr result
+        (λ end. sent_of end < length (export_bytes (grades_export rows.now))) }
+    ensures after { IfErr result (λ end. StopsAfter (grades_export rows.now) end) }
+    ensures kept { OnOk result (watched_failed output.new ≡ watched_failed output.old) }
+    ensures failed { IfErr result
+        (λ end. watched_failed output.new ≡ has_failed (watched_failed output.old) end) }
+    ensures flushes { watched_flushes output.new ≡ watched_flushes output.old }
+    ensures stops { StopsAtFailure output.old output.new }
+{
+    write_list(alloc, ExportKind::Grades, rows, output)
 }
 
 // Writes an export record by record.

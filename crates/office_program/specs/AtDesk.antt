@@ -67,11 +67,12 @@ module _ {S : Type 0} (g : Ghosts S) where
 
   -- The list of a path comes in at the desk, which is then the new one. Where the disk returned what was written, it has come in
   -- at the office that the desk stood for, and the desk stands for the office after it.
-  pub record ImportsDesk (shelf : Shelf) (old new : DeskState S) (kind : ListKind) (label path : Text) (status : ℕ) (out out' : Output) : Type 0 where
+  pub record ImportsDesk {L : Type 0} (shelf : Shelf L) (lists : L) (old : DeskState S) (lists' : L) (new : DeskState S) (kind : ListKind) (label path : Text) (status : ℕ) (out out' : Output)
+      : Type 0 where
     pub follows : Follows (state g old.conn) (state g new.conn)
-    pub heard : ImportsPath (HandlesAt g) shelf old kind label path status new out out'
+    pub heard : ImportsPath (HandlesAt g) shelf lists old kind label path status lists' new out out'
     pub done : HasCleanDisk (state g new.conn) → (office : Office) → StandsFor g old office
-        → (next : Office) × ImportsPath HandlesLawfully shelf office kind label path status next out out' × StandsFor g new next
+        → (next : Office) × ImportsPath HandlesLawfully shelf lists office kind label path status lists' next out out' × StandsFor g new next
 
   -- The desk writes the export, and is then the new one. Where the disk returned what was written, it is the export of the
   -- office that the desk stood for, and the desk stands for that office still.
@@ -86,9 +87,9 @@ module _ {S : Type 0} (g : Ghosts S) where
   DoesAt found last words status out out' = DoneAt (λ old new. HearsWords old new words status out out') found last status out out'
 
   -- the list of a path comes in at the desk that was found, or it is said why none was found
-  abbrev pub ImportsAt : Shelf → Result (DeskState S) DeskFault → Result (DeskState S) DeskFault → ListKind → Text → Text → ℕ → Output → Output → Type 0
-  ImportsAt shelf found last kind label path status out out' =
-      DoneAt (λ old new. ImportsDesk shelf old new kind label path status out out') found last status out out'
+  abbrev pub ImportsAt : {L : Type 0} → Shelf L → L → Result (DeskState S) DeskFault → L → Result (DeskState S) DeskFault → ListKind → Text → Text → ℕ → Output → Output → Type 0
+  ImportsAt shelf lists found lists' last kind label path status out out' =
+      DoneAt (λ old new. ImportsDesk shelf lists old lists' new kind label path status out out') found last status out out'
 
   -- the desk that was found writes the export, or it is said why none was found
   abbrev pub ExportsAt : Result (DeskState S) DeskFault → Result (DeskState S) DeskFault → ExportKind → ℕ → Output → Output → Type 0

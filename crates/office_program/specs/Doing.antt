@@ -7,9 +7,9 @@ use Rattle.office_lines.specs.declared.ending.Ending.{Ending}
 use Rattle.office_words.specs.declared.word_fault.WordFault.{WordFault}
 use Rattle.office_words.specs.declared.word_fault.WordFault.TheVariants.{NotUnderstood, OutOfMemory}
 use Rattle.office_file.specs.Access.{FileAccess}
-use Rattle.office_program.specs.InFile.{DoesInFile, ExportsInFile, ImportsInFile, MakesInFile, ServesInFile}
+use Rattle.office_program.specs.InFile.{DoesInFile, ExportsInFile, ImportsInFile, MakesInFile, MigratesInFile, ServesInFile}
 use Rattle.office_program.specs.Programs.{Line, program_of}
-use Rattle.office_program.specs.Programs.Line.{makes, does, rehearses, prints, imports, exports, serves}
+use Rattle.office_program.specs.Programs.Line.{makes, does, rehearses, prints, imports, exports, serves, migrates}
 use Rattle.office_program.specs.Shelves.{Shelf}
 use Rattle.office_lines.specs.Rehearsals.{Rehearses}
 use Rattle.resident_server.specs.Network.{Network}
@@ -31,30 +31,37 @@ RehearsesAnew status input input' out out' =
     ((ending : Ending) × (office : Office) × Rehearses HandlesLawfully ending status empty_office office input input' out out')
     ⊎ (SaysUnavailable status out out' × (input' ≡ input))
 
--- Files of offices are opened and closed by this access, lists lie on this shelf, and residents connect over this network.
-module _ {F S P : Type 0} (access : FileAccess F S) (shelf : Shelf) (network : Network P) where
-  -- The line is done, or the words are refused that are none. Where the line is of no office's file, none is opened, and only
-  -- where it is of residents a port is listened on.
-  abbrev pub DoesLine : Option Line → F → P → ℕ → F → P → Input → Input → Output → Output → Output → Output → Type 0
-  DoesLine (Some (makes path)) files ports status files' ports' input input' out out' error error' =
-      MakesInFile access files path status files' out out' × (error' ≡ error) × (input' ≡ input) × (ports' ≡ ports)
-  DoesLine (Some (does path words)) files ports status files' ports' input input' out out' error error' =
-      DoesInFile access files path words status files' out out' × (error' ≡ error) × (input' ≡ input) × (ports' ≡ ports)
-  DoesLine (Some rehearses) files ports status files' ports' input input' out out' error error' =
-      RehearsesAnew status input input' out out' × (error' ≡ error) × (files' ≡ files) × (ports' ≡ ports)
-  DoesLine (Some (prints seed count)) files ports status files' ports' input input' out out' error error' =
-      Says (words_text seed count) 0 status out out' × (error' ≡ error) × (input' ≡ input) × (files' ≡ files) × (ports' ≡ ports)
-  DoesLine (Some (imports path kind label list)) files ports status files' ports' input input' out out' error error' =
-      ImportsInFile access shelf files path kind label list status files' out out' × (error' ≡ error) × (input' ≡ input) × (ports' ≡ ports)
-  DoesLine (Some (exports path kind)) files ports status files' ports' input input' out out' error error' =
-      ExportsInFile access files path kind status files' out out' × (error' ≡ error) × (input' ≡ input) × (ports' ≡ ports)
-  DoesLine (Some (serves path port count)) files ports status files' ports' input input' out out' error error' =
+-- Files of offices are opened and closed by this access, lists are opened from this shelf, and residents connect over this network.
+module _ {F S L P : Type 0} (access : FileAccess F S) (shelf : Shelf L) (network : Network P) where
+  -- The line is done, or the words are refused that are none. Where the line is of no office's file, none is opened; only where
+  -- it brings a list in a list is opened, and only where it is of residents a port is listened on.
+  abbrev pub DoesLine : Option Line → F → L → P → ℕ → F → L → P → Input → Input → Output → Output → Output → Output → Type 0
+  DoesLine (Some (makes path)) files lists ports status files' lists' ports' input input' out out' error error' =
+      MakesInFile access files path status files' out out' × (error' ≡ error) × (input' ≡ input) × (lists' ≡ lists) × (ports' ≡ ports)
+  DoesLine (Some (does path words)) files lists ports status files' lists' ports' input input' out out' error error' =
+      DoesInFile access files path words status files' out out' × (error' ≡ error) × (input' ≡ input) × (lists' ≡ lists) × (ports' ≡ ports)
+  DoesLine (Some rehearses) files lists ports status files' lists' ports' input input' out out' error error' =
+      RehearsesAnew status input input' out out' × (error' ≡ error) × (files' ≡ files) × (lists' ≡ lists) × (ports' ≡ ports)
+  DoesLine (Some (prints seed count)) files lists ports status files' lists' ports' input input' out out' error error' =
+      Says (words_text seed count) 0 status out out' × (error' ≡ error) × (input' ≡ input) × (files' ≡ files) × (lists' ≡ lists)
+      × (ports' ≡ ports)
+  DoesLine (Some (imports path kind label list)) files lists ports status files' lists' ports' input input' out out' error error' =
+      ImportsInFile access shelf files path lists kind label list status files' lists' out out' × (error' ≡ error) × (input' ≡ input)
+      × (ports' ≡ ports)
+  DoesLine (Some (exports path kind)) files lists ports status files' lists' ports' input input' out out' error error' =
+      ExportsInFile access files path kind status files' out out' × (error' ≡ error) × (input' ≡ input) × (lists' ≡ lists)
+      × (ports' ≡ ports)
+  DoesLine (Some (serves path port count)) files lists ports status files' lists' ports' input input' out out' error error' =
       ServesInFile access network files path ports port count status files' ports' out out' × (error' ≡ error) × (input' ≡ input)
-  DoesLine None files ports status files' ports' input input' out out' error error' =
-      Refuses NotUnderstood status out out' error error' × (input' ≡ input) × (files' ≡ files) × (ports' ≡ ports)
+      × (lists' ≡ lists)
+  DoesLine (Some (migrates path)) files lists ports status files' lists' ports' input input' out out' error error' =
+      MigratesInFile access files path status files' out out' × (error' ≡ error) × (input' ≡ input) × (lists' ≡ lists) × (ports' ≡ ports)
+  DoesLine None files lists ports status files' lists' ports' input input' out out' error error' =
+      Refuses NotUnderstood status out out' error error' × (input' ≡ input) × (files' ≡ files) × (lists' ≡ lists) × (ports' ≡ ports)
 
   -- What the words ask for is done. Or memory is wanting to read them; no words take none.
-  abbrev pub CarriesOut : List Text → F → P → ℕ → F → P → Input → Input → Output → Output → Output → Output → Type 0
-  CarriesOut words files ports status files' ports' input input' out out' error error' =
-      DoesLine (program_of words) files ports status files' ports' input input' out out' error error'
-      ⊎ ((0 < length words) × Refuses OutOfMemory status out out' error error' × (input' ≡ input) × (files' ≡ files) × (ports' ≡ ports))
+  abbrev pub CarriesOut : List Text → F → L → P → ℕ → F → L → P → Input → Input → Output → Output → Output → Output → Type 0
+  CarriesOut words files lists ports status files' lists' ports' input input' out out' error error' =
+      DoesLine (program_of words) files lists ports status files' lists' ports' input input' out out' error error'
+      ⊎ ((0 < length words) × Refuses OutOfMemory status out out' error error' × (input' ≡ input) × (files' ≡ files)
+      × (lists' ≡ lists) × (ports' ≡ ports))

@@ -9,6 +9,7 @@ use Rattle.office_state.specs.Office.{empty_office}
 use Rattle.office_file.specs.Adopted.{BeginsFound, IsFileFault}
 use Rattle.office_file.specs.Access.{FileAccess}
 use Rattle.office_file.specs.Created.{BeginsBlank, IsCreateFault}
+use Rattle.office_file.specs.Migrated.{BeginsMigrated, IsMigrateFault}
 use Rattle.office_lines.specs.Saying.{Says}
 use Rattle.office_lists.specs.declared.exports.ExportKind.{ExportKind}
 use Rattle.office_store.specs.Desk.{DeskState, Shows}
@@ -37,6 +38,21 @@ module _ {F S : Type 0} (access : FileAccess F S) where
       MakesNew files path status files' out out'
       ⊎ ((fault : DeskFault) × IsCreateFault access files path (Err fault) files' × RefusesDesk fault status out out')
 
+  -- The file of the path was opened, the tables of the office that it held were made those of this program's version, and `ok`
+  -- is said. The connection is closed as it was left.
+  pub record MigratesOffice (files : F) (path : Text) (status : ℕ) (files' : F) (out out' : Output) : Type 0 where
+    pub desk : DeskState S
+    pub between : F
+    pub begins : BeginsMigrated access files path desk between
+    pub says : Says (line_of (codes "ok" ∷ [])) 0 status out out'
+    pub closed : access.closes between desk.conn files'
+
+  -- the tables are made those of this program's version, or it is said why they are not
+  abbrev pub MigratesInFile : F → Text → ℕ → F → Output → Output → Type 0
+  MigratesInFile files path status files' out out' =
+      MigratesOffice files path status files' out out'
+      ⊎ ((fault : DeskFault) × IsMigrateFault access files path (Err fault) files' × RefusesDesk fault status out out')
+
   -- The file of the path was opened, and this is done at the desk over the office that it holds; the desk is then the last
   -- one, and its connection is closed as that desk left it.
   pub record AtFound (IsDone : DeskState S → DeskState S → Type 0) (files : F) (path : Text) (files' : F) : Type 0 where
@@ -57,10 +73,11 @@ module _ {F S : Type 0} (access : FileAccess F S) where
   DoesInFile files path words status files' out out' =
       DoneInFile (λ desk last. HearsWords access.base desk last words status out out') files path status files' out out'
 
-  -- the list of a path comes in at the office in the file, or it is said why there is none
-  abbrev pub ImportsInFile : Shelf → F → Text → ListKind → Text → Text → ℕ → F → Output → Output → Type 0
-  ImportsInFile shelf files path kind label list status files' out out' =
-      DoneInFile (λ desk last. ImportsDesk access.base shelf desk last kind label list status out out') files path status files' out out'
+  -- The list of a path comes in at the office in the file. Or it is said why there is none, and no list is opened.
+  abbrev pub ImportsInFile : {L : Type 0} → Shelf L → F → Text → L → ListKind → Text → Text → ℕ → F → L → Output → Output → Type 0
+  ImportsInFile shelf files path lists kind label list status files' lists' out out' =
+      AtFound (λ desk last. ImportsDesk access.base shelf lists desk lists' last kind label list status out out') files path files'
+      ⊎ ((fault : DeskFault) × IsFileFault access files path (Err fault) files' × RefusesDesk fault status out out' × (lists' ≡ lists))
 
   -- the export of the office in the file is written, or it is said why there is no office
   abbrev pub ExportsInFile : F → Text → ExportKind → ℕ → F → Output → Output → Type 0

@@ -21,7 +21,7 @@ use sqlite::Alter;
 use std::alloc::Global;
 use std::io::Write;
 
-/// Says `ok` where an office was made, and else why it was not. Gives the exit status.
+/// Says `ok` where there is a desk over an office that was made or migrated, and else why there is none. Gives the exit status.
 pub fn say_made<S: Alter, W: Write>(
     alloc: Global,
     made: &Result<Desk<S>, DeskFault>,
@@ -57,12 +57,12 @@ pub fn do_at<S: Alter, W: Write>(
     }
 }
 
-/// Lets the list of the path `list` come in, under this label, at the desk that was found. Where none was found, that is said,
-/// and no list is opened. Where the list can't be opened or read, `unavailable` is said. Gives the exit status.
+/// Lets the list of the path `list` come in, under this label, at the desk that was found. It is opened once. Where no desk was
+/// found, that is said, and no list is opened. Where the list can't be opened or read, `unavailable` is said. Gives the exit status.
 pub fn import_at<S: Alter, L: Lists, W: Write>(
     alloc: Global,
     found: &mut Result<Desk<S>, DeskFault>,
-    lists: &L,
+    lists: &mut L,
     kind: ListKind,
     label: Label,
     list: &str,
@@ -70,9 +70,10 @@ pub fn import_at<S: Alter, L: Lists, W: Write>(
 ) -> u8
     requires fresh_output { IsFresh output.old }
     ensures no_wasted_write { StopsAtFailure output.old output.new }
-    ensures imports { let shelf = shelf_of L.opens L.fails L.List.remaining lists.now in
-        ImportsAt S.Store shelf found.old found.new kind label list.now result
+    ensures imports { let shelf = shelf_of L.opens L.fails L.List.remaining in
+        ImportsAt S.Store shelf lists.old found.old lists.new found.new kind label list.now result
         (output_of W.contents output.old) (output_of W.contents output.new) }
+    ensures unopened { IsErr found.old → lists.new ≡ lists.old }
 {
     match found {
         Ok(desk) => import_desk(alloc, desk, lists, kind, label, list, output),
@@ -84,7 +85,7 @@ pub fn import_at<S: Alter, L: Lists, W: Write>(
 fn import_desk<S: Alter, L: Lists, W: Write>(
     alloc: Global,
     desk: &mut Desk<S>,
-    lists: &L,
+    lists: &mut L,
     kind: ListKind,
     label: Label,
     list: &str,
@@ -92,8 +93,8 @@ fn import_desk<S: Alter, L: Lists, W: Write>(
 ) -> u8
     requires fresh_output { IsFresh output.old }
     ensures no_wasted_write { StopsAtFailure output.old output.new }
-    ensures imports { let shelf = shelf_of L.opens L.fails L.List.remaining lists.now in
-        ImportsDesk S.Store shelf desk.old desk.new kind label list.now result
+    ensures imports { let shelf = shelf_of L.opens L.fails L.List.remaining in
+        ImportsDesk S.Store shelf lists.old desk.old lists.new desk.new kind label list.now result
         (output_of W.contents output.old) (output_of W.contents output.new) }
 {
     match lists.open(list) {
@@ -158,7 +159,8 @@ pub fn serve_at<S: Alter, P: Ports, W: Write>(
 ) -> u8
     requires fresh_output { IsFresh output.old }
     ensures no_wasted_write { StopsAtFailure output.old output.new }
-    ensures serves { let network = network_of P.Socket.Stream.reads P.Socket.Stream.writes P.Socket.Stream.flushes
+    ensures serves { let network = network_of
+        P.Socket.Stream.reads P.Socket.Stream.writes P.Socket.Stream.flushes
         P.Socket.Stream.remaining P.Socket.Stream.contents
         P.Socket.accepts P.Socket.closes P.listens P.fails P.stops in
         ServesAt S.Store network ports.old found.old ports.new found.new port count result

@@ -8,8 +8,10 @@ ghost use Rattle.office_program.specs.Shelves.{shelf_of};
 ghost use Rattle.resident_server.specs.Network.{network_of};
 ghost use Rattle.office_lines.specs.Lines.{read_limit};
 
-use crate::in_file::{do_in_file, export_in_file, import_in_file, make_in_file, serve_in_file};
-use crate::lists::Lists;
+use crate::in_file::{
+    do_in_file, export_in_file, import_in_file, make_in_file, migrate_in_file, serve_in_file,
+};
+use crate::lists::{Lists, SystemLists};
 use crate::program::program;
 use crate::rehearsing::rehearse_in_memory;
 use crate::usage::Program;
@@ -44,7 +46,8 @@ pub fn carry_out<'a, R: Read, W: Write, E: Write>(
     ensures no_wasted_write { StopsAtFailure output.old output.new }
     ensures no_wasted_error { StopsAtFailure error.old error.new }
     ensures carries_out { let shelf = shelf_of
-        ⟦<HostRuntime as Lists>⟧.opens ⟦<HostRuntime as Lists>⟧.fails ⟦<File as Read>⟧.remaining rt.now in
+        ⟦<SystemLists<'static> as Lists>⟧.opens ⟦<SystemLists<'static> as Lists>⟧.fails
+        ⟦<File as Read>⟧.remaining in
         let access = file_access ⟦<FileStore<FileFrom<Wary>> as Store>⟧
         ⟦<SystemFiles<'static, Wary> as Files<FileStore<FileFrom<Wary>>>>⟧.opens ⟦<SystemFiles<'static, Wary> as Files<FileStore<FileFrom<Wary>>>>⟧.finds
         ⟦<SystemFiles<'static, Wary> as Files<FileStore<FileFrom<Wary>>>>⟧.fails ⟦<SystemFiles<'static, Wary> as Closes<Connection<FileStore<FileFrom<Wary>>>>>⟧.closes in
@@ -52,8 +55,9 @@ pub fn carry_out<'a, R: Read, W: Write, E: Write>(
         ⟦<TcpStream as Read>⟧.remaining ⟦<TcpStream as Write>⟧.contents
         ⟦<TcpListener as Listener>⟧.accepts ⟦<TcpListener as Listener>⟧.closes
         ⟦<Loopback<'static> as Ports>⟧.listens ⟦<Loopback<'static> as Ports>⟧.fails ⟦<Loopback<'static> as Ports>⟧.stops in
-        (files : _) × (files' : _) × (ports : _) × (ports' : _) × CarriesOut access shelf network
-        (map (λ word. word.now) words.entry.now) files ports result files' ports'
+        (files : _) × (files' : _) × (lists : _) × (lists' : _) × (ports : _) × (ports' : _)
+        × CarriesOut access shelf network
+        (map (λ word. word.now) words.entry.now) files lists ports result files' lists' ports'
         (input_of R.remaining input.old) (input_of R.remaining input.new)
         (output_of W.contents output.old) (output_of W.contents output.new)
         (output_of E.contents error.old) (output_of E.contents error.new) }
@@ -79,7 +83,8 @@ pub fn carry_out_over<'a, S: Start, R: Read, W: Write, E: Write>(
     ensures no_wasted_write { StopsAtFailure output.old output.new }
     ensures no_wasted_error { StopsAtFailure error.old error.new }
     ensures carries_out { let shelf = shelf_of
-        ⟦<HostRuntime as Lists>⟧.opens ⟦<HostRuntime as Lists>⟧.fails ⟦<File as Read>⟧.remaining rt.now in
+        ⟦<SystemLists<'static> as Lists>⟧.opens ⟦<SystemLists<'static> as Lists>⟧.fails
+        ⟦<File as Read>⟧.remaining in
         let access = file_access ⟦<FileStore<FileFrom<S>> as Store>⟧
         ⟦<SystemFiles<'static, S> as Files<FileStore<FileFrom<S>>>>⟧.opens ⟦<SystemFiles<'static, S> as Files<FileStore<FileFrom<S>>>>⟧.finds
         ⟦<SystemFiles<'static, S> as Files<FileStore<FileFrom<S>>>>⟧.fails ⟦<SystemFiles<'static, S> as Closes<Connection<FileStore<FileFrom<S>>>>>⟧.closes in
@@ -87,19 +92,21 @@ pub fn carry_out_over<'a, S: Start, R: Read, W: Write, E: Write>(
         ⟦<TcpStream as Read>⟧.remaining ⟦<TcpStream as Write>⟧.contents
         ⟦<TcpListener as Listener>⟧.accepts ⟦<TcpListener as Listener>⟧.closes
         ⟦<Loopback<'static> as Ports>⟧.listens ⟦<Loopback<'static> as Ports>⟧.fails ⟦<Loopback<'static> as Ports>⟧.stops in
-        (files : _) × (files' : _) × (ports : _) × (ports' : _) × CarriesOut access shelf network
-        (map (λ word. word.now) words.entry.now) files ports result files' ports'
+        (files : _) × (files' : _) × (lists : _) × (lists' : _) × (ports : _) × (ports' : _)
+        × CarriesOut access shelf network
+        (map (λ word. word.now) words.entry.now) files lists ports result files' lists' ports'
         (input_of R.remaining input.old) (input_of R.remaining input.new)
         (output_of W.contents output.old) (output_of W.contents output.new)
         (output_of E.contents error.old) (output_of E.contents error.new) }
 {
     let mut files = SystemFiles::new(rt, start);
+    let mut lists = SystemLists::new(rt);
     let mut ports = Loopback::new(rt);
     carry_out_from(
         rt.alloc(),
         words,
         &mut files,
-        rt,
+        &mut lists,
         &mut ports,
         input,
         output,
@@ -108,7 +115,7 @@ pub fn carry_out_over<'a, S: Start, R: Read, W: Write, E: Write>(
 }
 
 /// Does what these words after the program's name ask for, and gives the exit status, wherever files of offices and lists lie. A
-/// line over a file opens the file of its path once, is done at its desk, and closes it as that desk left it.
+/// line over a file opens the file of its path once, is done at its desk, and closes it as that desk left it. A list is opened by `import` alone, once.
 pub fn carry_out_from<
     'a,
     B: Alter,
@@ -122,7 +129,7 @@ pub fn carry_out_from<
     alloc: Global,
     words: &'a [&'a str],
     files: &mut F,
-    lists: &L,
+    lists: &mut L,
     ports: &mut P,
     input: &mut Watched<R>,
     output: &mut Watched<W>,
@@ -135,13 +142,15 @@ pub fn carry_out_from<
     ensures no_wasted_read { StopsAtEnd input.old input.new }
     ensures no_wasted_write { StopsAtFailure output.old output.new }
     ensures no_wasted_error { StopsAtFailure error.old error.new }
-    ensures carries_out { let shelf = shelf_of L.opens L.fails L.List.remaining lists.now in
+    ensures carries_out { let shelf = shelf_of L.opens L.fails L.List.remaining in
         let access = file_access B.Store F.opens F.finds F.fails F.closes in
-        let network = network_of P.Socket.Stream.reads P.Socket.Stream.writes P.Socket.Stream.flushes
+        let network = network_of
+        P.Socket.Stream.reads P.Socket.Stream.writes P.Socket.Stream.flushes
         P.Socket.Stream.remaining P.Socket.Stream.contents
         P.Socket.accepts P.Socket.closes P.listens P.fails P.stops in
         CarriesOut access shelf network
-        (map (λ word. word.now) words.entry.now) files.old ports.old result files.new ports.new
+        (map (λ word. word.now) words.entry.now)
+        files.old lists.old ports.old result files.new lists.new ports.new
         (input_of R.remaining input.old) (input_of R.remaining input.new)
         (output_of W.contents output.old) (output_of W.contents output.new)
         (output_of E.contents error.old) (output_of E.contents error.new) }
@@ -172,6 +181,7 @@ pub fn carry_out_from<
                 count,
             },
         ) => serve_in_file(alloc, files, database, ports, port, count, output),
+        Ok(Program::Migrate { database }) => migrate_in_file(alloc, files, database, output),
         Err(fault) => refuse_program_line(fault, output, error),
     }
 }

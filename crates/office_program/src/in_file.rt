@@ -1,16 +1,17 @@
-//! An office in the file of a path: it is made there, or found there to do a line, to take a list in, to be exported or to serve
-//! residents.
+//! An office in the file of a path: it is made there, or brought to the version of this program, or found there to do a line, to take
+//! a list in, to be exported or to serve residents.
 ghost use Rattle.std.specs.Prelude.{map};
 ghost use Rattle.room_types.specs.Streams.{output_of};
 ghost use Rattle.room_types.specs.Watched.{IsFresh, StopsAtFailure};
 ghost use Rattle.office_file.specs.Access.{file_access};
-ghost use Rattle.office_program.specs.InFile.{DoesInFile, ExportsInFile, ImportsInFile, MakesInFile, ServesInFile};
+ghost use Rattle.office_program.specs.InFile.{DoesInFile, ExportsInFile, ImportsInFile, MakesInFile};
+ghost use Rattle.office_program.specs.InFile.{MigratesInFile, ServesInFile};
 ghost use Rattle.office_program.specs.Shelves.{shelf_of};
 ghost use Rattle.resident_server.specs.Network.{network_of};
 
 use crate::at_desk::{do_at, export_at, import_at, say_made, serve_at};
 use crate::lists::Lists;
-use office_file::{Closes, Files, close, create_in, find_in};
+use office_file::{Closes, Files, close, create_in, find_in, migrate_in};
 use office_lists::ExportKind;
 use resident_server::Ports;
 use room_types::{Label, ListKind, Watched};
@@ -38,6 +39,26 @@ pub fn make_in_file<B: Alter, F: Files<B> + Closes<Connection<B>>, W: Write>(
     status
 }
 
+/// Makes the tables of the office in the file of this path, which are of an earlier version, those of this program's, and says
+/// `ok`, or why it can't. Gives the exit status. The file is opened once, and closed as its desk left it.
+pub fn migrate_in_file<B: Alter, F: Files<B> + Closes<Connection<B>>, W: Write>(
+    alloc: Global,
+    files: &mut F,
+    path: &str,
+    output: &mut Watched<W>,
+) -> u8
+    requires fresh_output { IsFresh output.old }
+    ensures no_wasted_write { StopsAtFailure output.old output.new }
+    ensures migrates { let access = file_access B.Store F.opens F.finds F.fails F.closes in
+        MigratesInFile access files.old path.now result files.new
+        (output_of W.contents output.old) (output_of W.contents output.new) }
+{
+    let migrated = migrate_in(alloc, files, path);
+    let status = say_made(alloc, &migrated, output);
+    close(files, migrated);
+    status
+}
+
 /// Lets the office in the file of this path do the line that these words are, or says why there is no office. Gives the exit
 /// status. The file is opened once, and closed as its desk left it.
 pub fn do_in_file<B: Alter, F: Files<B> + Closes<Connection<B>>, W: Write>(
@@ -60,12 +81,12 @@ pub fn do_in_file<B: Alter, F: Files<B> + Closes<Connection<B>>, W: Write>(
 }
 
 /// Lets the list of the path `list` come in, under this label, at the office in the file of this path, or says why there is no
-/// office. Gives the exit status. The office's file is opened once, and closed as its desk left it.
+/// office. Gives the exit status. The office's file is opened once, and closed as its desk left it; the list is opened once then.
 pub fn import_in_file<B: Alter, F: Files<B> + Closes<Connection<B>>, L: Lists, W: Write>(
     alloc: Global,
     files: &mut F,
     path: &str,
-    lists: &L,
+    lists: &mut L,
     kind: ListKind,
     label: Label,
     list: &str,
@@ -73,9 +94,10 @@ pub fn import_in_file<B: Alter, F: Files<B> + Closes<Connection<B>>, L: Lists, W
 ) -> u8
     requires fresh_output { IsFresh output.old }
     ensures no_wasted_write { StopsAtFailure output.old output.new }
-    ensures imports { let shelf = shelf_of L.opens L.fails L.List.remaining lists.now in
+    ensures imports { let shelf = shelf_of L.opens L.fails L.List.remaining in
         let access = file_access B.Store F.opens F.finds F.fails F.closes in
-        ImportsInFile access shelf files.old path.now kind label list.now result files.new
+        ImportsInFile access shelf files.old path.now lists.old kind label list.now result
+        files.new lists.new
         (output_of W.contents output.old) (output_of W.contents output.new) }
 {
     let mut found = find_in(alloc, files, path);
@@ -119,10 +141,12 @@ pub fn serve_in_file<B: Alter, F: Files<B> + Closes<Connection<B>>, P: Ports, W:
     requires fresh_output { IsFresh output.old }
     ensures no_wasted_write { StopsAtFailure output.old output.new }
     ensures serves { let access = file_access B.Store F.opens F.finds F.fails F.closes in
-        let network = network_of P.Socket.Stream.reads P.Socket.Stream.writes P.Socket.Stream.flushes
+        let network = network_of
+        P.Socket.Stream.reads P.Socket.Stream.writes P.Socket.Stream.flushes
         P.Socket.Stream.remaining P.Socket.Stream.contents
         P.Socket.accepts P.Socket.closes P.listens P.fails P.stops in
-        ServesInFile access network files.old path.now ports.old port count result files.new ports.new
+        ServesInFile access network files.old path.now ports.old port count result
+        files.new ports.new
         (output_of W.contents output.old) (output_of W.contents output.new) }
 {
     let mut found = find_in(alloc, files, path);

@@ -1,6 +1,7 @@
 -- Lemmas on rows that are read back into an office.
 pub mod Filling
 pub mod Gathering
+pub mod Keys
 pub mod Memory
 pub mod Moving
 pub mod Peopling

@@ -22,6 +22,10 @@ person_row withdrawn e =
 abbrev pub person_rows : TextMap Person → TextMap (Unit {0}) → List PersonRecord
 person_rows people withdrawn = map (person_row withdrawn) (maps.entries people)
 
+-- the row is of tables of this version
+abbrev pub IsOfVersion : ℕ → RoundRecord → Type 0
+IsOfVersion version round = round.version ≡ version
+
 -- the one row of the round
 abbrev pub only_row : RoundRecord → List RoundRecord
 only_row round = round ∷ []
@@ -52,6 +56,10 @@ round_rows e = map (move_row e.0) (maps.entries e.1.by_person)
 -- a row for each move of all rounds
 abbrev pub move_rows : RoundMap RoundMoves → List Move
 move_rows moves = flat_map round_rows (maps.entries moves)
+
+-- a row for each key of a set
+abbrev pub key_rows : TextMap (Unit {0}) → List Text
+key_rows keys = map (λ e. e.0) (maps.entries keys)
 
 -- What rows can tell: who of the known people has withdrawn, which lists are not empty, and which rounds have moves.
 

@@ -15,6 +15,8 @@ pub record AreSameRows (tables others : Tables) : Type 0 where
   pub results : IsPermutation tables.results others.results
   pub moves : IsPermutation tables.moves others.moves
   pub lists : IsPermutation tables.lists others.lists
+  pub grades : IsPermutation tables.grades others.grades
+  pub going : IsPermutation tables.going others.going
 
 -- two lawful offices with the same rows are one
 abbrev pub RowsTellTheOffice : Type 0

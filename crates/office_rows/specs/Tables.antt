@@ -6,7 +6,7 @@ use Rattle.room_types.specs.declared.moves.Move.{Move}
 use Rattle.office_state.specs.declared.office.Assigned.{Assigned}
 use Rattle.office_state.specs.declared.office.Office.{Office}
 use Rattle.office_state.specs.declared.office.kept_list.KeptList.{KeptList}
-use Rattle.office_rows.specs.Rows.{only_row, person_rows, choice_rows, move_rows}
+use Rattle.office_rows.specs.Rows.{only_row, person_rows, choice_rows, move_rows, key_rows}
 use Rattle.office_rows.specs.declared.records.ChoiceRecord.{ChoiceRecord}
 use Rattle.office_rows.specs.declared.records.PersonRecord.{PersonRecord}
 use Rattle.office_rows.specs.declared.records.RoundRecord.{RoundRecord}
@@ -21,17 +21,29 @@ pub record Tables : Type 0 where
   pub results : List (Text × Assigned)
   pub moves : List Move
   pub lists : List (Text × KeptList)
+  pub grades : List (Text × ℕ)
+  pub going : List Text
 
--- The rows of an office: one for each room, person, listed room, word, result, move and kept list, and one for the
--- round.
-unfoldable pub rows_of : Office → Tables
-rows_of office = record {
+-- the version of the tables that this program makes
+abbrev pub own_version : ℕ
+own_version = 3
+
+-- The rows of an office in tables of this version: one for each room, person, listed room, word, result, move and kept
+-- list, for each grade but 0 and each person who leaves, and one for the round.
+unfoldable pub rows_at : ℕ → Office → Tables
+rows_at version office = record {
   rooms = maps.entries office.rooms;
   people = person_rows office.people office.withdrawn;
-  rounds = only_row (record { number = office.number; phase = office.phase });
+  rounds = only_row (record { version = version; number = office.number; phase = office.phase });
   choices = choice_rows office.choices;
   words = maps.entries office.words;
   results = maps.entries office.results;
   moves = move_rows office.moves;
   lists = maps.entries office.lists;
+  grades = maps.entries office.grades;
+  going = key_rows office.going;
 }
+
+-- the rows of an office
+abbrev pub rows_of : Office → Tables
+rows_of = rows_at own_version

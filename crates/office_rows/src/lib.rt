@@ -17,4 +17,4 @@ pub use crate::office::read_office;
 pub use crate::people::{People, read_people};
 pub use crate::records::{ChoiceRecord, OfficeRecords, PersonRecord, RoundRecord};
 pub use crate::round::read_round;
-pub use crate::tables::read_table;
+pub use crate::tables::{read_keys, read_table};

@@ -8,19 +8,23 @@ use crate::moves::read_moves;
 use crate::people::read_people;
 use crate::records::OfficeRecords;
 use crate::round::read_round;
-use crate::tables::read_table;
+use crate::tables::{read_keys, read_table};
 use office_state::{Office, sound};
 use room_types::OutOfMemory;
 use std::alloc::Global;
 
-/// The lawful office with these rows, in whatever order they come: none where no lawful office has them, and else the
-/// only one that has. It takes n log n steps and those of a run of the round, and is refused only for memory. The row of
+/// The lawful office with these rows in tables of this version, in whatever order they come: none where no lawful office
+/// has them, and else the only one that has. It takes n log n steps and those of a run of the round, and is refused only for memory. The row of
 /// the round is read without any, and none is taken where there is no other row, unless results are found again.
-pub fn read_office(alloc: Global, records: OfficeRecords) -> Result<Option<Office>, OutOfMemory>
-    ensures reads { IfOk result (λ found. ReadsOffice records found) }
-    ensures memory { OnErr result (TakesMemory records) }
+pub fn read_office(
+    alloc: Global,
+    records: OfficeRecords,
+    version: u16,
+) -> Result<Option<Office>, OutOfMemory>
+    ensures reads { IfOk result (λ found. ReadsOffice version records found) }
+    ensures memory { OnErr result (TakesMemory version records) }
 {
-    let Some(office) = make_office(alloc, records)? else {
+    let Some(office) = make_office(alloc, records, version)? else {
         return Ok(None);
     };
     if !sound(alloc, &office)? {
@@ -30,9 +34,13 @@ pub fn read_office(alloc: Global, records: OfficeRecords) -> Result<Option<Offic
 }
 
 // The maps with these rows, whether they are lawful or not.
-#[tactic(auto, unfolding(crate::specs::Tables::rows_of))]
-fn make_office(alloc: Global, records: OfficeRecords) -> Result<Option<Office>, OutOfMemory>
-    ensures makes { IfOk result (λ made. Makes records made) }
+#[tactic(auto, unfolding(crate::specs::Tables::rows_at))]
+fn make_office(
+    alloc: Global,
+    records: OfficeRecords,
+    version: u16,
+) -> Result<Option<Office>, OutOfMemory>
+    ensures makes { IfOk result (λ made. Makes version records made) }
     ensures memory { OnErr result (0 < count_beside_round records) }
 {
     let Some(rooms) = read_table(alloc, records.rooms)? else {
@@ -41,7 +49,7 @@ fn make_office(alloc: Global, records: OfficeRecords) -> Result<Option<Office>, 
     let Some(people) = read_people(alloc, records.people)? else {
         return Ok(None);
     };
-    let Some(round) = read_round(records.rounds.as_slice()) else {
+    let Some(round) = read_round(records.rounds.as_slice(), version) else {
         return Ok(None);
     };
     let Some(choices) = read_choices(alloc, records.choices)? else {
@@ -59,6 +67,12 @@ fn make_office(alloc: Global, records: OfficeRecords) -> Result<Option<Office>, 
     let Some(lists) = read_table(alloc, records.lists)? else {
         return Ok(None);
     };
+    let Some(grades) = read_table(alloc, records.grades)? else {
+        return Ok(None);
+    };
+    let Some(going) = read_keys(alloc, records.going)? else {
+        return Ok(None);
+    };
     Ok(Some(Office {
         rooms,
         people: people.people,
@@ -68,6 +82,8 @@ fn make_office(alloc: Global, records: OfficeRecords) -> Result<Option<Office>, 
         results,
         moves,
         lists,
+        grades,
+        going,
         number: round.number,
         phase: round.phase,
     }))

@@ -1,6 +1,6 @@
 //! The records of the tables of an office.
 use office_state::{Assigned, KeptList, Person};
-use room_types::{Label, Move, PersonId, Phase, RoomCode, Word};
+use room_types::{Grade, Label, Move, PersonId, Phase, RoomCode, Word};
 
 /// A record of a person.
 #[derive(Drop)]
@@ -23,6 +23,8 @@ pub struct ChoiceRecord {
 /// The record of the round.
 #[derive(Clone, Copy, Debug, Drop)]
 pub struct RoundRecord {
+    /// The version of the tables.
+    pub version: u16,
     pub number: u16,
     pub phase: Phase,
 }
@@ -40,4 +42,8 @@ pub struct OfficeRecords {
     pub moves: Vec<Move>,
     /// Each label, and the list that was handed in under it.
     pub lists: Vec<(Label, KeptList)>,
+    /// Each person whose grade is not 0, and the grade.
+    pub grades: Vec<(PersonId, Grade)>,
+    /// Each person who leaves the college after the round.
+    pub going: Vec<PersonId>,
 }

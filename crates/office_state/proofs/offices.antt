@@ -1,8 +1,10 @@
 -- Lemmas on offices: people, homes, rooms, moves, lists.
 pub mod Apply
 pub mod Empty
+pub mod Grades
 pub mod Homes
 pub mod KeptLists
+pub mod Leavers
 pub mod Moves
 pub mod People
 pub mod Register

@@ -1,11 +1,11 @@
 -- What each change does to an office, and what holds on the way through the changes of a command.
-use Rattle.std.specs.Prelude.{◌≡◌, Bool, true, false, not, List, [], ◌∷◌, Option, None, Some}
+use Rattle.std.specs.Prelude.{◌≡◌, ℕ, zero, suc, eqb, Bool, true, false, not, List, [], ◌∷◌, Option, None, Some}
 use Rattle.std.specs.FinMap as map
 use Rattle.room_types.specs.Texts.{Text, TextMap}
 use Rattle.office_state.specs.Empty.{is_empty}
 use Rattle.office_state.specs.Office.Invariants.{HomesDiffer, IsLawful}
 use Rattle.office_state.specs.Office.Moves.{moves_of, with_move}
-use Rattle.office_state.specs.Office.{knows_room, knows_person, has_withdrawn}
+use Rattle.office_state.specs.Office.{knows_room, knows_person, has_withdrawn, is_going}
 use Rattle.office_state.specs.declared.office.Office.{Office}
 use Rattle.office_state.specs.declared.change.Change.{Change}
 use Rattle.office_state.specs.declared.change.Change.TheVariants.{PutRoom, PutPerson, DropPerson}
@@ -13,7 +13,7 @@ use Rattle.office_state.specs.declared.change.Change.TheVariants.{PutHome, PutWi
 use Rattle.office_state.specs.declared.change.Change.TheVariants.{PutChoices, PutWord, PutResult}
 use Rattle.office_state.specs.declared.change.Change.TheVariants.{AddMove}
 use Rattle.office_state.specs.declared.change.Change.TheVariants.{PutRound, ClearRound}
-use Rattle.office_state.specs.declared.change.Change.TheVariants.{KeepList}
+use Rattle.office_state.specs.declared.change.Change.TheVariants.{KeepList, PutGrade, PutGoing}
 
 -- a known person moves to the home
 abbrev pub with_home : Office → Text → Option Text → Office
@@ -28,13 +28,19 @@ abbrev pub with_list : TextMap (List Text) → Text → List Text → TextMap (L
 with_list lists person [] = map.remove lists person
 with_list lists person (code ∷ codes) = map.insert lists person (code ∷ codes)
 
--- no lists, withdrawals, words and results
+-- grade 0 and none are the same: none is kept
+abbrev pub with_grade : TextMap ℕ → Text → ℕ → TextMap ℕ
+with_grade grades person zero = map.remove grades person
+with_grade grades person (suc grade) = map.insert grades person (suc grade)
+
+-- no lists, withdrawals, words and results, and nobody who leaves the college
 abbrev pub without_round : Office → Office
 without_round office = record office {
   choices = map.empty;
   withdrawn = map.empty;
   words = map.empty;
   results = map.empty;
+  going = map.empty;
 }
 
 -- the office after the change
@@ -45,7 +51,11 @@ applied office (PutPerson person name key home) =
       people = map.insert office.people person
           (record { name = name; key = key; home = home });
     }
-applied office (DropPerson person) = record office { people = map.remove office.people person }
+applied office (DropPerson person) =
+    record office {
+      people = map.remove office.people person;
+      grades = map.remove office.grades person;
+    }
 applied office (PutHome person home) = with_home office person home
 applied office (PutWithdrawn person) =
     record office { withdrawn = map.insert office.withdrawn person tt }
@@ -62,6 +72,9 @@ applied office (KeepList label kind bytes count) =
       lists = map.insert office.lists label
           (record { kind = kind; bytes = bytes; count = count });
     }
+applied office (PutGrade person grade) =
+    record office { grades = with_grade office.grades person grade }
+applied office (PutGoing person) = record office { going = map.insert office.going person tt }
 
 -- whether the change takes memory: what is taken out, or only set, takes none, and neither does the
 -- home of somebody unknown
@@ -78,6 +91,8 @@ change_takes_memory office (AddMove move) = true
 change_takes_memory office (PutRound number phase) = false
 change_takes_memory office ClearRound = false
 change_takes_memory office (KeepList label kind bytes count) = true
+change_takes_memory office (PutGrade person grade) = not (eqb grade 0)
+change_takes_memory office (PutGoing person) = true
 
 -- the changes in turn
 abbrev pub applied_all : Office → List Change → Office
@@ -92,13 +107,15 @@ StaysApart office (change ∷ changes) =
 
 -- What a keeper of rows may rely on at each change, `first` being the office before all of them: a
 -- room is known now as it was at first, who is put is new, who is put or dropped has not withdrawn,
--- who withdraws or gets a list is known, and so is who gets a word or a result, and has none yet; a
--- person moves once a round, and a label is new.
+-- and who is dropped does not leave the college; who withdraws or gets a list or a grade is known, and
+-- so is who gets a word or a result, and has none yet, and who leaves the college, and did not before;
+-- a person moves once a round, and a label is new.
 abbrev pub Fits : Office → Office → Change → Type 0
 Fits first office (PutRoom room shut) = knows_room office room ≡ knows_room first room
 Fits first office (PutPerson person name key home) =
     (knows_person office person ≡ false) × (has_withdrawn office person ≡ false)
-Fits first office (DropPerson person) = has_withdrawn office person ≡ false
+Fits first office (DropPerson person) =
+    (has_withdrawn office person ≡ false) × (is_going office person ≡ false)
 Fits first office (PutWithdrawn person) = knows_person office person ≡ true
 Fits first office (PutChoices person choices) = knows_person office person ≡ true
 Fits first office (PutWord person word) =
@@ -109,6 +126,9 @@ Fits first office (AddMove move) =
     map.contains_key (moves_of office.moves move.round) move.person ≡ false
 Fits first office (KeepList label kind bytes count) =
     map.contains_key office.lists label ≡ false
+Fits first office (PutGrade person grade) = knows_person office person ≡ true
+Fits first office (PutGoing person) =
+    (knows_person office person ≡ true) × (is_going office person ≡ false)
 Fits first office _ = Unit {0}
 
 abbrev pub AllFit : Office → Office → List Change → Type 0

@@ -3,7 +3,7 @@ pub mod Invariants
 pub mod Limits
 pub mod Moves
 pub mod Phases
-use Rattle.std.specs.Prelude.{ℕ, ◌+◌, Bool, true, false, ◌&&◌, List, [], ◌∷◌, Option, None, Some}
+use Rattle.std.specs.Prelude.{ℕ, ◌+◌, Bool, true, false, ◌&&◌, ◌||◌, List, [], ◌∷◌, Option, None, Some}
 use Rattle.std.specs.Prelude.{if◌then◌else◌, nat_le, eqb, not, map as map_list}
 use Rattle.std.specs.Option.{is_some, unwrap_or, option_and_then}
 use Rattle.std.specs.List.{filter}
@@ -26,6 +26,8 @@ empty_office = record {
   results = map.empty;
   moves = map.empty;
   lists = map.empty;
+  grades = map.empty;
+  going = map.empty;
   number = 0;
   phase = Idle;
 }
@@ -35,7 +37,7 @@ abbrev pub entry_count : Office → ℕ
 entry_count office =
     map.len office.rooms + map.len office.people + map.len office.choices
     + map.len office.withdrawn + map.len office.words + map.len office.results
-    + map.len office.moves + map.len office.lists
+    + map.len office.moves + map.len office.lists + map.len office.grades + map.len office.going
 
 abbrev pub knows_room : Office → Text → Bool
 knows_room office room = map.contains_key office.rooms room
@@ -95,6 +97,18 @@ key_in_use office key = is_some (owner office key)
 abbrev pub has_withdrawn : Office → Text → Bool
 has_withdrawn office person = map.contains_key office.withdrawn person
 
+-- whether a person leaves the college after the round
+abbrev pub is_going : Office → Text → Bool
+is_going office person = map.contains_key office.going person
+
+-- whether a person takes no part in the round: has withdrawn, or leaves the college
+abbrev pub sits_out : Office → Text → Bool
+sits_out office person = has_withdrawn office person || is_going office person
+
+-- the recorded grade; 0 where none is recorded
+abbrev pub grade_of : Office → Text → ℕ
+grade_of office person = unwrap_or (map.get office.grades person) 0
+
 -- the recorded list; the empty one where none is recorded
 abbrev pub choices_of : Office → Text → List Text
 choices_of office person = unwrap_or (map.get office.choices person) []
@@ -104,9 +118,14 @@ abbrev pub recorded_result : Office → Text → Option Text
 recorded_result office person =
     option_and_then (λ (given : Assigned). given.room) (map.get office.results person)
 
--- who has not withdrawn, by identifier
+-- who has neither withdrawn nor leaves the college, by identifier
 abbrev pub participants : Office → List Text
 participants office =
+    map_list (λ e. e.0) (filter (λ e. not (sits_out office e.0)) (map.entries office.people))
+
+-- who has not withdrawn, by identifier: the participants, and those who leave the college
+abbrev pub people_not_withdrawn : Office → List Text
+people_not_withdrawn office =
     map_list (λ e. e.0) (filter (λ e. not (has_withdrawn office e.0)) (map.entries office.people))
 
 -- whether the round has begun, and is neither settled nor cancelled
@@ -120,4 +139,4 @@ is_over office round =
 
 -- whether a person sees the result
 abbrev pub is_shown : Office → Text → Bool
-is_shown office person = is_published office.phase && not (has_withdrawn office person)
+is_shown office person = is_published office.phase && not (sits_out office person)

@@ -15,21 +15,23 @@ use Rattle.trade_line.specs.OtherList.{with_list}
 use Rattle.trade_line.specs.Rank.{rank}
 use Rattle.trade_line.specs.TopTradingCycles.{gets}
 use Rattle.office_state.specs.Office.{is_text, knows_person, lives_in, home_of, has_withdrawn}
-use Rattle.office_state.specs.Office.{choices_of, participants}
+use Rattle.office_state.specs.Office.{sits_out, grade_of, choices_of, participants}
 use Rattle.office_state.specs.declared.office.Assigned.{Assigned}
 use Rattle.office_state.specs.declared.office.Office.{Office}
 
--- whether a person takes part
+-- whether a person takes part: is known, and has neither withdrawn nor leaves the college
 abbrev pub is_participant : Office → Text → Bool
-is_participant office person = knows_person office person && not (has_withdrawn office person)
+is_participant office person = knows_person office person && not (sits_out office person)
 
 -- the word that a person drew
 abbrev pub word_of : Office → Text → ℕ
 word_of office person = unwrap_or (map.get office.words person) 0
 
--- the participants, by identifier, with their words
+-- the participants, by identifier, with their grades and words
 abbrev pub lots_of : Office → List Lot
-lots_of office = map_list (λ person. (person, word_of office person)) (participants office)
+lots_of office =
+    map_list (λ person. (person, grade_of office person, word_of office person))
+    (participants office)
 
 -- the participants in the drawn order
 unfoldable pub round_people : Office → List Text

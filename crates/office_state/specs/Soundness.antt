@@ -2,7 +2,8 @@
 use Rattle.std.specs.Prelude.{◌≡◌, ◌≤◌, ◌<◌, ◌⊎◌, Bool, true}
 use Rattle.std.specs.FinMap as map
 use Rattle.room_types.specs.Texts.{TextMap}
-use Rattle.office_state.specs.Office.Invariants.{AreKept, AreLists, AreMoves, AreWords, HomesOpen}
+use Rattle.office_state.specs.Office.Invariants.{AreGrades, AreKept, AreLeavers, AreLists, AreMoves}
+use Rattle.office_state.specs.Office.Invariants.{AreWords, HomesOpen}
 use Rattle.office_state.specs.Office.Invariants.{IsRegister, IsRound}
 use Rattle.office_state.specs.Office.Limits.{people_limit, room_limit}
 use Rattle.office_state.specs.Office.Phases.{has_results}
@@ -23,7 +24,9 @@ pub record AreFoundAgain (office : Office) : Type 0 where
   pub register : IsRegister office.rooms office.people
   pub lists : AreLists office.rooms office.people office.choices office.withdrawn
   pub round : IsRound office.number office.phase office.choices office.withdrawn
-  pub words : AreWords office.phase office.people office.withdrawn office.words
+  pub grades : AreGrades office.people office.grades
+  pub leavers : AreLeavers office.phase office.people office.withdrawn office.going
+  pub words : AreWords office.phase office.people office.withdrawn office.going office.words
   pub moves : AreMoves office
   pub kept : AreKept office.lists
 

@@ -2,7 +2,7 @@
 pub mod apply;
 
 use room_types::{
-    Choices, Key, Label, ListKind, Listing, Move, Name, PersonId, Phase, RoomCode, Word,
+    Choices, Grade, Key, Label, ListKind, Listing, Move, Name, PersonId, Phase, RoomCode, Word,
 };
 
 /// One change of an office.
@@ -20,7 +20,7 @@ pub enum Change {
         key: Key,
         home: Option<RoomCode>,
     },
-    /// A person is no longer there.
+    /// A person is no longer there, and has no grade.
     DropPerson {
         person: PersonId,
     },
@@ -55,7 +55,7 @@ pub enum Change {
         number: u16,
         phase: Phase,
     },
-    /// Lists, withdrawals, words and results go.
+    /// Lists, withdrawals, words and results go, and nobody leaves the college.
     ClearRound,
     /// A list is kept under a label, and added so many records.
     KeepList {
@@ -63,5 +63,14 @@ pub enum Change {
         kind: ListKind,
         bytes: Listing<u8>,
         count: u16,
+    },
+    /// A person has this grade. Grade 0 is not recorded.
+    PutGrade {
+        person: PersonId,
+        grade: Grade,
+    },
+    /// A person leaves the college after the round.
+    PutGoing {
+        person: PersonId,
     },
 }

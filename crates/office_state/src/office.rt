@@ -15,7 +15,7 @@ use crate::office::moves::{RoundMoves, Rounds};
 use crate::office::person::Person;
 use room_types::grammars::{Labels, PersonIds, RoomCodes};
 use room_types::rows::copy_optional;
-use room_types::{Choices, Copied, OutOfMemory, Phase, RoomCode, Table, Word};
+use room_types::{Choices, Copied, Grade, OutOfMemory, Phase, RoomCode, Table, Word};
 use std::alloc::{AllocError, Global};
 
 /// What a participant gets in a round.
@@ -60,6 +60,10 @@ pub struct Office {
     pub moves: Rounds<RoundMoves>,
     /// The lists that were handed in, by label.
     pub lists: Table<Labels, KeptList>,
+    /// The grade of each person whose grade is not 0.
+    pub grades: Table<PersonIds, Grade>,
+    /// Who leaves the college after the round.
+    pub going: Table<PersonIds, ()>,
     /// The number of the last round, or 0 before the first.
     pub number: u16,
     pub phase: Phase,
@@ -80,6 +84,8 @@ impl Office {
             results: Table::new(alloc),
             moves: Rounds::new(alloc),
             lists: Table::new(alloc),
+            grades: Table::new(alloc),
+            going: Table::new(alloc),
             number: 0,
             phase: Phase::Idle,
         }
@@ -99,6 +105,8 @@ impl Office {
             results: self.results.copy()?,
             moves: self.moves.copy()?,
             lists: self.lists.copy()?,
+            grades: self.grades.copy()?,
+            going: self.going.copy()?,
             number: self.number,
             phase: self.phase,
         })

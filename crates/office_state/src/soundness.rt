@@ -1,5 +1,7 @@
 //! Whether what was read is a lawful office.
+mod grades;
 mod kept;
+mod leavers;
 mod lists;
 mod moves;
 mod register;
@@ -13,7 +15,9 @@ ghost use Rattle.office_state.specs.Office.Invariants.{IsLawful};
 ghost use Rattle.office_state.specs.Soundness.{TakesMemory};
 
 use crate::office::Office;
+use crate::soundness::grades::are_grades;
 use crate::soundness::kept::are_kept;
+use crate::soundness::leavers::are_leavers;
 use crate::soundness::lists::are_lists;
 use crate::soundness::moves::are_moves;
 use crate::soundness::register::is_register;
@@ -37,6 +41,12 @@ pub fn sound(alloc: Global, office: &Office) -> Result<bool, OutOfMemory>
         return Ok(false);
     }
     if !is_round(office) {
+        return Ok(false);
+    }
+    if !are_grades(office) {
+        return Ok(false);
+    }
+    if !are_leavers(office) {
         return Ok(false);
     }
     if !are_words(office) {

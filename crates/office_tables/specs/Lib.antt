@@ -1,7 +1,9 @@
 pub mod Declaring
 pub mod Edits
 pub mod Holds
+pub mod Layouts
 pub mod Makes
+pub mod Refilling
 pub mod Schema
 pub mod Steps
 pub mod Tables

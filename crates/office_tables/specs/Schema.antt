@@ -1,4 +1,5 @@
--- The eight tables of an office: the texts that declare them, and the schema that these make.
+-- The ten tables of an office: the texts that declare them, and the schemas that these make in the orders in which tables of an
+-- office are known to be made. The first three stand in the same place in all of them.
 use Rattle.std.specs.Prelude.{true, false, ℕ, pos, List, [], ◌∷◌, ◌++◌, map, codes, take, slice_index_or}
 use Rattle.std.specs.Prelude.{Option, Some, None}
 use Rattle.sqlite_value.specs.declared.keys.Collation.TheVariants.{Binary}
@@ -44,6 +45,11 @@ list_text =
     codes "CREATE TABLE list(label TEXT PRIMARY KEY NOT NULL, kind TEXT NOT NULL,\n"
     ++ codes "  body BLOB NOT NULL, added INTEGER NOT NULL) STRICT"
 
+abbrev pub grade_text : List ℕ
+grade_text =
+    codes "CREATE TABLE grade(person TEXT PRIMARY KEY NOT NULL REFERENCES person(id),\n"
+    ++ codes "  value INTEGER NOT NULL CHECK(value IN (1,2,3,4,5,6,7,8,9))) STRICT"
+
 abbrev pub word_text : List ℕ
 word_text =
     codes "CREATE TABLE word(person TEXT PRIMARY KEY NOT NULL REFERENCES person(id),\n"
@@ -59,6 +65,18 @@ choice_text =
     codes "CREATE TABLE choice(person TEXT NOT NULL REFERENCES person(id),\n"
     ++ codes "  place INTEGER NOT NULL, room TEXT NOT NULL REFERENCES room(code),\n"
     ++ codes "  PRIMARY KEY(person, place), UNIQUE(person, room)) STRICT"
+
+abbrev pub going_text : List ℕ
+going_text = codes "CREATE TABLE going(person TEXT PRIMARY KEY NOT NULL REFERENCES person(id)) STRICT"
+
+-- What declares the tables, in the order in which this program makes them. A table comes after those that it refers to, and
+-- those of a round come last, since they are dropped and made anew.
+abbrev pub table_text : ℕ → List ℕ
+table_text place =
+    slice_index_or
+    (room_text ∷ person_text ∷ round_text ∷ move_text ∷ list_text ∷ grade_text ∷ word_text
+    ∷ result_text ∷ choice_text ∷ going_text ∷ [])
+    place []
 
 -- ---- columns, references and checks
 
@@ -95,6 +113,18 @@ refers_to parent column place = record {
 
 abbrev pub equals : ℕ → ℕ → Term
 equals place n = op2 (Compare Eq Binary) (col 1 place) (lit (Int (pos n)))
+
+-- one of the two tests passes
+abbrev pub either : Term → Term → Term
+either = op2 Or
+
+-- a number from 1 to 9, as the engine halves the list of them
+abbrev pub is_digit : ℕ → Term
+is_digit place =
+    either
+    (either (either (equals place 1) (equals place 2)) (either (equals place 3) (equals place 4)))
+    (either (either (equals place 5) (equals place 6))
+    (either (equals place 7) (either (equals place 8) (equals place 9))))
 
 abbrev pub is_flag : ℕ → Term
 is_flag place = op2 Or (equals place 0) (equals place 1)
@@ -157,6 +187,13 @@ list tree =
     ∷ required Integer (codes "added") ∷ [])
     None first (first ∷ []) [] []
 
+abbrev pub grade : ℕ → Table
+grade tree =
+    table_of (codes "grade") tree (required Text (codes "person") ∷ required Integer (codes "value") ∷ [])
+    None first (first ∷ [])
+    (is_digit 2 ∷ [])
+    (refers_to (codes "person") (codes "id") 1 ∷ [])
+
 abbrev pub word : ℕ → Table
 word tree =
     table_of (codes "word") tree (required Text (codes "person") ∷ required Text (codes "hex") ∷ [])
@@ -176,6 +213,11 @@ choice tree =
     None (1 ∷ 2 ∷ []) ((1 ∷ 2 ∷ []) ∷ (1 ∷ 3 ∷ []) ∷ []) []
     (refers_to (codes "person") (codes "id") 1 ∷ refers_to (codes "room") (codes "code") 3 ∷ [])
 
+abbrev pub going : ℕ → Table
+going tree =
+    table_of (codes "going") tree (required Text (codes "person") ∷ []) None first (first ∷ []) []
+    (refers_to (codes "person") (codes "id") 1 ∷ [])
+
 -- ---- the schema
 
 -- what a constraint of a table is kept by
@@ -192,11 +234,65 @@ index_of name tree table columns = record {
 abbrev pub no_schema : Schema
 no_schema = record { tables = []; indexes = []; views = [] }
 
--- The schema that the texts make, one after another. The tables of a round are the last, so that they can be taken out and
--- made anew where they were.
+-- the schema that the texts make, one after another
 abbrev pub office_schema : Schema
 office_schema = record {
-  tables = room 0 ∷ person 2 ∷ round 6 ∷ move 7 ∷ list 9 ∷ word 11 ∷ result 13 ∷ choice 16 ∷ [];
+  tables =
+      room 0 ∷ person 2 ∷ round 6 ∷ move 7 ∷ list 9 ∷ grade 11 ∷ word 13 ∷ result 15 ∷ choice 18
+      ∷ going 21 ∷ [];
+  indexes =
+      index_of (codes "room_1") 1 0 first ∷ index_of (codes "person_1") 3 2 first
+      ∷ index_of (codes "person_2") 4 2 (3 ∷ []) ∷ index_of (codes "person_3") 5 2 (4 ∷ [])
+      ∷ index_of (codes "move_1") 8 7 (1 ∷ 2 ∷ []) ∷ index_of (codes "list_1") 10 9 first
+      ∷ index_of (codes "grade_1") 12 11 first
+      ∷ index_of (codes "word_1") 14 13 first ∷ index_of (codes "result_1") 16 15 first
+      ∷ index_of (codes "result_2") 17 15 (2 ∷ []) ∷ index_of (codes "choice_1") 19 18 (1 ∷ 2 ∷ [])
+      ∷ index_of (codes "choice_2") 20 18 (1 ∷ 3 ∷ []) ∷ index_of (codes "going_1") 22 21 first ∷ [];
+  views = [];
+}
+
+-- the first so many tables of an office, with their indexes: all but the tables of a round are the first six
+abbrev pub first_tables : ℕ → Schema
+first_tables tables = record {
+  tables = take tables office_schema.tables;
+  indexes =
+      take (slice_index_or (0 ∷ 1 ∷ 4 ∷ 4 ∷ 5 ∷ 6 ∷ 7 ∷ 8 ∷ 10 ∷ 12 ∷ 13 ∷ []) tables 13)
+      office_schema.indexes;
+  views = [];
+}
+
+-- the same tables, made in the documented order
+abbrev pub documented_schema : Schema
+documented_schema = record {
+  tables =
+      room 0 ∷ person 2 ∷ round 6 ∷ choice 7 ∷ word 10 ∷ result 12 ∷ move 15 ∷ list 17 ∷ grade 19
+      ∷ going 21 ∷ [];
+  indexes =
+      index_of (codes "room_1") 1 0 first ∷ index_of (codes "person_1") 3 2 first
+      ∷ index_of (codes "person_2") 4 2 (3 ∷ []) ∷ index_of (codes "person_3") 5 2 (4 ∷ [])
+      ∷ index_of (codes "choice_1") 8 7 (1 ∷ 2 ∷ []) ∷ index_of (codes "choice_2") 9 7 (1 ∷ 3 ∷ [])
+      ∷ index_of (codes "word_1") 11 10 first ∷ index_of (codes "result_1") 13 12 first
+      ∷ index_of (codes "result_2") 14 12 (2 ∷ []) ∷ index_of (codes "move_1") 16 15 (1 ∷ 2 ∷ [])
+      ∷ index_of (codes "list_1") 18 17 first ∷ index_of (codes "grade_1") 20 19 first
+      ∷ index_of (codes "going_1") 22 21 first ∷ [];
+  views = [];
+}
+
+-- the first so many of them: those of version 2 are the first nine, and those of version 1 the first eight
+abbrev pub documented_tables : ℕ → Schema
+documented_tables tables = record {
+  tables = take tables documented_schema.tables;
+  indexes =
+      take (slice_index_or (0 ∷ 1 ∷ 4 ∷ 4 ∷ 6 ∷ 7 ∷ 9 ∷ 10 ∷ 11 ∷ 12 ∷ 13 ∷ []) tables 13)
+      documented_schema.indexes;
+  views = [];
+}
+
+-- the tables of version 1 as this program made them
+abbrev pub earlier_schema : Schema
+earlier_schema = record {
+  tables =
+      room 0 ∷ person 2 ∷ round 6 ∷ move 7 ∷ list 9 ∷ word 11 ∷ result 13 ∷ choice 16 ∷ [];
   indexes =
       index_of (codes "room_1") 1 0 first ∷ index_of (codes "person_1") 3 2 first
       ∷ index_of (codes "person_2") 4 2 (3 ∷ []) ∷ index_of (codes "person_3") 5 2 (4 ∷ [])
@@ -207,15 +303,11 @@ office_schema = record {
   views = [];
 }
 
--- so many indexes keep the constraints of so many tables, from the first on
-abbrev pub indexes_with : ℕ → ℕ
-indexes_with tables =
-    slice_index_or (0 ∷ 1 ∷ 4 ∷ 4 ∷ 5 ∷ 6 ∷ 7 ∷ 9 ∷ 11 ∷ []) tables 11
-
--- the first tables of an office, with their indexes: all but the tables of a round are the first five
-abbrev pub first_tables : ℕ → Schema
-first_tables tables = record {
-  tables = take tables office_schema.tables;
-  indexes = take (indexes_with tables) office_schema.indexes;
+-- the first so many of them
+abbrev pub earlier_tables : ℕ → Schema
+earlier_tables tables = record {
+  tables = take tables earlier_schema.tables;
+  indexes =
+      take (slice_index_or (0 ∷ 1 ∷ 4 ∷ 4 ∷ 5 ∷ 6 ∷ 7 ∷ 9 ∷ 11 ∷ []) tables 11) earlier_schema.indexes;
   views = [];
 }

@@ -1,7 +1,8 @@
 //! The table of the round, which has one row.
 ghost use Rattle.std.specs.Prelude.{◌≡◌, OnOk, OnErr};
 ghost use Rattle.sqlite.specs.Held.{state};
-ghost use Rattle.office_tables.specs.Edits.{with_first_round, with_round};
+ghost use Rattle.office_rows.specs.Tables.{own_version};
+ghost use Rattle.office_tables.specs.Edits.{with_first_round, with_round, with_version};
 ghost use Rattle.office_tables.specs.Makes.{Makes};
 ghost use Rattle.office_tables.specs.Steps.{IsUndone, StaysInside};
 
@@ -25,7 +26,7 @@ pub fn add_round<S: Alter>(
 {
     run(
         tx,
-        "INSERT INTO round(one, version, number, phase) VALUES (1, 1, ?1, ?2)",
+        "INSERT INTO round(one, version, number, phase) VALUES (1, 3, ?1, ?2)",
         params![u32::from(number), phase.as_str()],
     )
 }
@@ -49,4 +50,17 @@ pub fn set_round<S: Alter>(
         "UPDATE round SET number = ?1, phase = ?2",
         params![u32::from(number), phase.as_str()],
     )
+}
+
+/// Notes that the tables are of the version that this program makes.
+pub fn set_version<S: Alter>(tx: &mut Transaction<'_, S>) -> Result<(), Error>
+    ensures same_reference { tx.new.conn.ghost_name ≡ tx.old.conn.ghost_name }
+    ensures made { OnOk result
+        (Makes (state S.Store tx.old.conn.now) (state S.Store tx.new.conn.now)
+        (with_version own_version)) }
+    ensures undone { OnErr result
+        (IsUndone (state S.Store tx.old.conn.now) (state S.Store tx.new.conn.now)) }
+    ensures inside { StaysInside (state S.Store tx.old.conn.now) (state S.Store tx.new.conn.now) }
+{
+    run(tx, "UPDATE round SET version = 3", &[])
 }

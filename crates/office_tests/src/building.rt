@@ -1,6 +1,7 @@
 //! Values and requests as tests write them. Whoever writes a text that spells no value has the test end.
 use office_core::{Command, Office};
 use office_store::{Answer, Desk, Request};
+use office_words::{Sentence, read_line};
 use room_types::{Choices, Grammar, Phase, RoomCode, Text};
 use sqlite::MemStore;
 use std::alloc::Global;
@@ -63,10 +64,29 @@ pub fn new_desk(rt: &impl Abort, alloc: Global) -> Desk<MemStore> {
 pub fn is_bare(office: &Office) -> bool {
     let people = office.people.len() == 0 && office.withdrawn.len() == 0;
     let lists = office.choices.len() == 0 && office.lists.len() == 0;
+    let others = office.grades.len() == 0 && office.going.len() == 0;
     let draw = office.words.len() == 0 && office.results.len() == 0;
     let moves = office.moves.iter().next().is_none();
     let rounds = office.number == 0 && office.phase == Phase::Idle;
-    people && lists && draw && moves && rounds
+    people && lists && others && draw && moves && rounds
+}
+
+/// The requests of these lines.
+pub fn lines_asked(rt: &impl Abort, alloc: Global, lines: &str) -> Vec<Request> {
+    let mut requests = Vec::new(alloc);
+    for line in lines.lines() {
+        requests
+            .push(line_asked(rt, alloc, line))
+            .expect(rt, "memory");
+    }
+    requests
+}
+
+fn line_asked(rt: &impl Abort, alloc: Global, line: &str) -> Request {
+    match read_line(alloc, line.as_bytes()).expect(rt, "memory") {
+        Sentence::Asks(request) => request,
+        _ => panic!(rt; "no request: {line}"),
+    }
 }
 
 /// What the desk answers to these requests.

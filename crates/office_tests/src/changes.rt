@@ -4,13 +4,13 @@ use crate::building::{choices, text};
 use office_changes::store_changes;
 use office_core::{Change, Office, apply};
 use office_create::create;
-use room_types::{Move, Phase, Wave, Word};
+use room_types::{Grade, Move, Phase, Wave, Word};
 use sqlite::{Connection, MemStore};
 use std::alloc::Global;
 use std::process::Abort;
 
 // What the tables answer after the changes.
-const STORED: [(&str, i64); 8] = [
+const STORED: [(&str, i64); 11] = [
     (
         "SELECT count(*) FROM room WHERE code = 'H1' AND shut = 1",
         1,
@@ -23,12 +23,18 @@ const STORED: [(&str, i64); 8] = [
     ("SELECT count(*) FROM choice", 0),
     ("SELECT count(*) FROM word", 0),
     ("SELECT count(*) FROM result", 0),
+    ("SELECT count(*) FROM going", 0),
+    ("SELECT count(*) FROM grade", 1),
+    (
+        "SELECT count(*) FROM grade WHERE person = 'T1' AND value = 9",
+        1,
+    ),
     (
         "SELECT count(*) FROM move WHERE person = 'T1' AND to_room = 'H1' AND wave = 1",
         1,
     ),
     (
-        "SELECT count(*) FROM round WHERE version = 1 AND number = 1 AND phase = 'idle'",
+        "SELECT count(*) FROM round WHERE version = 3 AND number = 1 AND phase = 'idle'",
         1,
     ),
 ];
@@ -80,6 +86,13 @@ fn newcomer(rt: &impl Abort, alloc: Global, id: &str, key: &str) -> Change {
     }
 }
 
+fn graded(rt: &impl Abort, alloc: Global, id: &str, grade: u8) -> Change {
+    Change::PutGrade {
+        person: text(rt, alloc, id),
+        grade: Grade::new(grade).expect(rt, "a grade"),
+    }
+}
+
 fn round_under_way(rt: &impl Abort, alloc: Global) -> Vec<Change> {
     vec![in alloc;
         Change::PutRoom {
@@ -88,6 +101,12 @@ fn round_under_way(rt: &impl Abort, alloc: Global) -> Vec<Change> {
         },
         newcomer(rt, alloc, "T1", "key00000000000t1"),
         newcomer(rt, alloc, "T2", "key00000000000t2"),
+        newcomer(rt, alloc, "T3", "key00000000000t3"),
+        graded(rt, alloc, "T1", 2),
+        graded(rt, alloc, "T1", 9),
+        graded(rt, alloc, "T2", 1),
+        graded(rt, alloc, "T3", 1),
+        graded(rt, alloc, "T3", 0),
         Change::PutRound {
             number: 1,
             phase: Phase::Opened,
@@ -106,6 +125,9 @@ fn round_under_way(rt: &impl Abort, alloc: Global) -> Vec<Change> {
         Change::PutResult {
             person: text(rt, alloc, "T1"),
             room: Some(text(rt, alloc, "H1")),
+        },
+        Change::PutGoing {
+            person: text(rt, alloc, "T2"),
         },
     ]
     .expect(rt, "memory")
@@ -131,6 +153,9 @@ fn round_over(rt: &impl Abort, alloc: Global) -> Vec<Change> {
         },
         Change::DropPerson {
             person: text(rt, alloc, "T2"),
+        },
+        Change::DropPerson {
+            person: text(rt, alloc, "T3"),
         },
         Change::PutRoom {
             room: text(rt, alloc, "H1"),

@@ -3,6 +3,8 @@ use crate::asserting::assert_same;
 use crate::building::text;
 use office_create::{CreateFault, create};
 use office_tables::choices::{add_choice, drop_choices};
+use office_tables::going::add_going;
+use office_tables::grades::{add_grade, drop_grade};
 use office_tables::moves::add_move;
 use office_tables::people::{add_person, clear_withdrawn, drop_person, set_home, set_withdrawn};
 use office_tables::results::add_result;
@@ -10,7 +12,7 @@ use office_tables::rooms::{add_room, set_shut};
 use office_tables::round_tables::clear_round_tables;
 use office_tables::rounds::set_round;
 use office_tables::words::add_word;
-use room_types::{Move, PersonId, Phase, RoomCode, Wave, Word};
+use room_types::{Grade, Move, PersonId, Phase, RoomCode, Wave, Word};
 use sqlite::{Connection, Error, MemStore, Transaction};
 use std::alloc::Global;
 use std::process::Abort;
@@ -34,6 +36,25 @@ fn leaves_what_others_declared(rt: HostRuntime) {
     assert!(rt; count(&rt, &mut conn, others) == 0);
 }
 
+// The name of any table of an office may be taken.
+#[test]
+fn finds_names_that_are_taken(rt: HostRuntime) {
+    for name in [
+        "room", "person", "round", "choice", "word", "result", "move", "list", "grade", "Going",
+    ] {
+        assert!(rt; is_taken(&rt, rt.alloc(), name), "{name}");
+    }
+}
+
+// Whether a table of this name keeps an office from being made.
+fn is_taken(rt: &impl Abort, alloc: Global, name: &str) -> bool {
+    let mut conn = Connection::open_in_memory(alloc).expect(rt, "memory");
+    let declared = format!(in alloc; "CREATE TABLE {name}(text TEXT)").expect(rt, "memory");
+    conn.execute_batch(&declared).expect(rt, name);
+    let outside = conn.is_autocommit();
+    outside && create(&mut conn) == Err(CreateFault::AlreadyThere)
+}
+
 // Whether no office can be made there.
 fn is_refused(conn: &mut Connection<MemStore>) -> bool {
     let outside = conn.is_autocommit();
@@ -47,7 +68,7 @@ fn count(rt: &impl Abort, conn: &mut Connection<MemStore>, query: &str) -> i64 {
 }
 
 // What one row in each table answers.
-const ADDED: [(&str, i64); 7] = [
+const ADDED: [(&str, i64); 9] = [
     (
         "SELECT count(*) FROM room WHERE code = 'H1' AND shut = 0",
         1,
@@ -73,18 +94,25 @@ const ADDED: [(&str, i64); 7] = [
         1,
     ),
     (
-        "SELECT count(*) FROM round WHERE version = 1 AND number = 1 AND phase = 'ran'",
+        "SELECT count(*) FROM round WHERE version = 3 AND number = 1 AND phase = 'ran'",
         1,
     ),
+    (
+        "SELECT count(*) FROM grade WHERE person = 'T1' AND value = 9",
+        1,
+    ),
+    ("SELECT count(*) FROM going WHERE person = 'T1'", 1),
 ];
 
 // What the tables answer once their rows are gone.
-const CLEARED: [(&str, i64); 5] = [
+const CLEARED: [(&str, i64); 7] = [
     ("SELECT count(*) FROM room WHERE shut = 1", 1),
     ("SELECT count(*) FROM person", 0),
     ("SELECT count(*) FROM choice", 0),
     ("SELECT count(*) FROM word", 0),
     ("SELECT count(*) FROM result", 0),
+    ("SELECT count(*) FROM grade", 0),
+    ("SELECT count(*) FROM going", 0),
 ];
 
 #[test]
@@ -128,6 +156,8 @@ fn add(
     add_word(alloc, tx, person, Word::new(255))?;
     add_result(tx, person, &None)?;
     set_round(tx, 1, Phase::Ran)?;
+    add_grade(tx, person, Grade::new(9).expect(rt, "a grade"))?;
+    add_going(tx, person)?;
     add_move(
         tx,
         &Move {
@@ -149,6 +179,7 @@ fn clear(
     clear_round_tables(tx)?;
     clear_withdrawn(tx)?;
     set_home(tx, person, &None)?;
+    drop_grade(tx, person)?;
     drop_person(tx, person)?;
     set_shut(tx, room, true)?;
     Ok(())

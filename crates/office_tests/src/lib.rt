@@ -12,6 +12,8 @@ mod create;
 #[cfg(test)]
 mod file;
 #[cfg(test)]
+mod layouts;
+#[cfg(test)]
 mod load;
 #[cfg(test)]
 mod office;

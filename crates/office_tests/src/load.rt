@@ -1,6 +1,8 @@
-//! Loading what the documented statements wrote, and what is no office.
+//! Loading what the documented statements wrote, in each order of tables, and what is no office.
+use crate::layouts::tables_made;
 use office_core::Office;
 use office_load::held;
+use office_tables::layouts::Layout;
 use room_types::Phase;
 use sqlite::{Connection, MemStore};
 use std::alloc::Global;
@@ -8,33 +10,25 @@ use std::process::Abort;
 
 // An office after its second round is published: T1 moves from H1 to R1, and N1 has withdrawn. In the first round T1 got H1,
 // and somebody who is gone took part in a swap. The people do not stand in the order of their identifiers.
-const STATEMENTS: &str = "CREATE TABLE room(code TEXT PRIMARY KEY NOT NULL,
-  shut INTEGER NOT NULL CHECK(shut IN (0, 1))) STRICT;
-CREATE TABLE person(id TEXT PRIMARY KEY NOT NULL, name TEXT NOT NULL,
-  passkey TEXT NOT NULL UNIQUE, home TEXT UNIQUE REFERENCES room(code),
-  withdrawn INTEGER NOT NULL CHECK(withdrawn IN (0, 1))) STRICT;
-CREATE TABLE round(one INTEGER PRIMARY KEY CHECK(one = 1),
-  version INTEGER NOT NULL, number INTEGER NOT NULL, phase TEXT NOT NULL) STRICT;
-CREATE TABLE move(round INTEGER NOT NULL, person TEXT NOT NULL,
-  from_room TEXT, to_room TEXT, wave INTEGER, PRIMARY KEY(round, person)) STRICT;
-CREATE TABLE list(label TEXT PRIMARY KEY NOT NULL, kind TEXT NOT NULL,
-  body BLOB NOT NULL, added INTEGER NOT NULL) STRICT;
-CREATE TABLE word(person TEXT PRIMARY KEY NOT NULL REFERENCES person(id),
-  hex TEXT NOT NULL) STRICT;
-CREATE TABLE result(person TEXT PRIMARY KEY NOT NULL REFERENCES person(id),
-  room TEXT UNIQUE REFERENCES room(code)) STRICT;
-CREATE TABLE choice(person TEXT NOT NULL REFERENCES person(id),
-  place INTEGER NOT NULL, room TEXT NOT NULL REFERENCES room(code),
-  PRIMARY KEY(person, place), UNIQUE(person, room)) STRICT;
+const ROWS: &str = "
 INSERT INTO room VALUES ('H1', 0), ('R1', 0), ('S1', 1);
 INSERT INTO person VALUES ('T1', 'Tim Tan', 'aaaaaaaaaaaaaaaa', 'H1', 0);
 INSERT INTO person VALUES ('N1', 'Ann Lee', 'bbbbbbbbbbbbbbbb', NULL, 1);
+INSERT INTO person VALUES ('L1', 'Lea Low', 'cccccccccccccccc', NULL, 1);
 INSERT INTO round VALUES (1, 1, 2, 'published');
 INSERT INTO choice VALUES ('T1', 0, 'R1');
 INSERT INTO word VALUES ('T1', '00000000000000ff');
 INSERT INTO result VALUES ('T1', 'R1');
 INSERT INTO move VALUES (1, 'T1', NULL, 'H1', 1);
 INSERT INTO move VALUES (1, 'N9', 'H1', 'S1', NULL);";
+
+// The same with two grades.
+const GRADES: &str = "UPDATE round SET version = 2; INSERT INTO grade VALUES ('T1', 9), ('N1', 1);";
+
+// The same where L1 leaves the college, and somebody left it after the first round.
+const LEAVERS: &str =
+    "UPDATE round SET version = 3; INSERT INTO move VALUES (1, 'N8', 'R1', NULL, 0);
+UPDATE person SET withdrawn = 0 WHERE id = 'L1'; INSERT INTO going VALUES ('L1');";
 
 // Statements that leave no office's rows, each with one that mends it.
 const BREAKS: [(&str, &str); 3] = [
@@ -47,47 +41,101 @@ const BREAKS: [(&str, &str); 3] = [
         "UPDATE word SET hex = '00000000000000ff'",
     ),
     (
-        "UPDATE round SET version = 2",
-        "UPDATE round SET version = 1",
+        "UPDATE round SET version = version + 1",
+        "UPDATE round SET version = version - 1",
     ),
 ];
 
+// The same in tables with leavers.
+const LEAVERS_BREAK: [(&str, &str); 3] = [
+    (
+        "UPDATE person SET withdrawn = 1 WHERE id = 'L1'",
+        "UPDATE person SET withdrawn = 0 WHERE id = 'L1'",
+    ),
+    (
+        "INSERT INTO going VALUES ('T1')",
+        "DELETE FROM going WHERE person = 'T1'",
+    ),
+    (
+        "UPDATE move SET wave = 1 WHERE person = 'N8'",
+        "UPDATE move SET wave = 0 WHERE person = 'N8'",
+    ),
+];
+
+// The tables in this layout, with the rows of the office above.
+fn office_made(rt: &impl Abort, alloc: Global, layout: Layout) -> Connection<MemStore> {
+    let mut conn = tables_made(rt, alloc, layout);
+    conn.execute_batch(ROWS).expect(rt, ROWS);
+    if layout.has_grades() {
+        conn.execute_batch(GRADES).expect(rt, GRADES);
+    }
+    if layout.has_leavers() {
+        conn.execute_batch(LEAVERS).expect(rt, LEAVERS);
+    }
+    conn
+}
+
 // Whether the tables are those of the office above.
-fn is_office(rt: &impl Abort, alloc: Global, conn: &mut Connection<MemStore>) -> bool {
+fn is_office(
+    rt: &impl Abort,
+    alloc: Global,
+    conn: &mut Connection<MemStore>,
+    layout: Layout,
+) -> bool {
     let outside = conn.is_autocommit();
     if !outside {
         return false;
     }
-    match held(alloc, conn).expect(rt, "the tables are read") {
-        Some(office) => is_published(&office),
+    match held(alloc, conn, layout).expect(rt, "the tables are read") {
+        Some(office) => is_published(&office, layout),
         None => false,
     }
 }
 
-fn is_published(office: &Office) -> bool {
-    let people = office.people.len() == 2 && office.withdrawn.len() == 1;
+fn is_published(office: &Office, layout: Layout) -> bool {
+    let people = office.people.len() == 3 && office.results.len() == 1;
     let round = office.number == 2 && office.phase == Phase::Published;
-    people && round && office.rooms.len() == 3 && office.results.len() == 1
+    let grades = if layout.has_grades() { 2 } else { 0 };
+    let leavers = if layout.has_leavers() { 1 } else { 0 };
+    people
+        && round
+        && office.rooms.len() == 3
+        && office.grades.len() == grades
+        && office.going.len() == leavers
+        && office.withdrawn.len() == 2 - leavers
 }
 
-// Whether they are, after these statements.
-fn is_office_after(
+// That they are, but not while they are broken.
+fn stands_and_breaks(
     rt: &impl Abort,
     alloc: Global,
     conn: &mut Connection<MemStore>,
-    statements: &str,
-) -> bool {
-    conn.execute_batch(statements).expect(rt, statements);
-    is_office(rt, alloc, conn)
+    layout: Layout,
+    breaks: &[(&str, &str)],
+) {
+    assert!(rt; is_office(rt, alloc, conn, layout), "{layout:?}");
+    for (breaks, mends) in breaks {
+        conn.execute_batch(breaks).expect(rt, breaks);
+        assert!(rt; !is_office(rt, alloc, conn, layout), "{layout:?}: {breaks}");
+        conn.execute_batch(mends).expect(rt, mends);
+        assert!(rt; is_office(rt, alloc, conn, layout), "{layout:?}: {mends}");
+    }
 }
 
 #[test]
 fn loads_what_the_documented_statements_wrote(rt: HostRuntime) {
     let alloc = rt.alloc();
-    let mut conn = Connection::open_in_memory(alloc).expect(&rt, "memory");
-    assert!(rt; is_office_after(&rt, alloc, &mut conn, STATEMENTS));
-    for (breaks, mends) in BREAKS {
-        assert!(rt; !is_office_after(&rt, alloc, &mut conn, breaks));
-        assert!(rt; is_office_after(&rt, alloc, &mut conn, mends));
+    for layout in [
+        Layout::Own,
+        Layout::Documented,
+        Layout::DocumentedSecond,
+        Layout::DocumentedFirst,
+        Layout::EarlierFirst,
+    ] {
+        let mut conn = office_made(&rt, alloc, layout);
+        stands_and_breaks(&rt, alloc, &mut conn, layout, &BREAKS);
+        if layout.has_leavers() {
+            stands_and_breaks(&rt, alloc, &mut conn, layout, &LEAVERS_BREAK);
+        }
     }
 }

@@ -221,8 +221,9 @@ fn has_list(rt: &impl Abort, alloc: Global, office: &Office) -> bool {
 // Whether the first round is over, and nothing is left of it but its move.
 fn is_over(office: &Office) -> bool {
     let lists = office.choices.len() == 0 && office.withdrawn.len() == 0;
+    let others = office.grades.len() == 0 && office.going.len() == 0;
     let draw = office.words.len() == 0 && office.results.len() == 0;
-    lists && draw && office.number == 1 && office.phase == Phase::Idle
+    lists && others && draw && office.number == 1 && office.phase == Phase::Idle
 }
 
 // Whether all this is so, which leaves nothing of the office open.

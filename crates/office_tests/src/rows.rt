@@ -1,11 +1,11 @@
 //! Each reader once with ample memory, on rows out of order.
 use crate::building::{optional, text};
 use office_rows::{
-    ChoiceRecord, OfficeRecords, PersonRecord, RoundRecord, read_choices, read_moves, read_office,
-    read_people, read_round, read_table,
+    ChoiceRecord, OfficeRecords, PersonRecord, RoundRecord, read_choices, read_keys, read_moves,
+    read_office, read_people, read_round, read_table,
 };
 use office_state::{KeptList, Person};
-use room_types::{Label, ListKind, Listing, Move, Phase, RoomCode, Wave};
+use room_types::{Grade, Label, ListKind, Listing, Move, PersonId, Phase, RoomCode, Wave};
 use std::alloc::Global;
 use std::process::Abort;
 
@@ -76,7 +76,12 @@ fn moves(rt: &impl Abort, alloc: Global, times: usize) -> Vec<Move> {
 }
 
 fn round(rt: &impl Abort, alloc: Global, phase: Phase) -> Vec<RoundRecord> {
-    vec![in alloc; RoundRecord { number: 2, phase }].expect(rt, "memory")
+    let row = RoundRecord {
+        version: 3,
+        number: 2,
+        phase,
+    };
+    vec![in alloc; row].expect(rt, "memory")
 }
 
 #[test]
@@ -121,9 +126,29 @@ fn lists(rt: &impl Abort, alloc: Global, count: u16) -> Vec<(Label, KeptList)> {
     vec![in alloc; (text(rt, alloc, "r-1"), kept)].expect(rt, "memory")
 }
 
-// How many lists the office with these rows has that is read, if it is an office's.
-fn lists_read(rt: &impl Abort, alloc: Global, phase: Phase, count: u16) -> Option<usize> {
-    let records = OfficeRecords {
+// The newcomer's grade.
+fn grades(rt: &impl Abort, alloc: Global) -> Vec<(PersonId, Grade)> {
+    let grade = Grade::new(9).expect(rt, "a grade");
+    vec![in alloc; (text(rt, alloc, "N"), grade)].expect(rt, "memory")
+}
+
+fn people_called(rt: &impl Abort, alloc: Global, ids: &[&str]) -> Vec<PersonId> {
+    let mut people = Vec::new(alloc);
+    for id in ids {
+        people.push(text(rt, alloc, id)).expect(rt, "memory");
+    }
+    people
+}
+
+// All rows of an office, but perhaps of no lawful one.
+fn records(
+    rt: &impl Abort,
+    alloc: Global,
+    phase: Phase,
+    count: u16,
+    going: &[&str],
+) -> OfficeRecords {
+    OfficeRecords {
         rooms: rooms(rt, alloc),
         people: people(rt, alloc),
         rounds: round(rt, alloc, phase),
@@ -132,10 +157,25 @@ fn lists_read(rt: &impl Abort, alloc: Global, phase: Phase, count: u16) -> Optio
         results: Vec::new(alloc),
         moves: moves(rt, alloc, 1),
         lists: lists(rt, alloc, count),
-    };
-    match read_office(alloc, records).expect(rt, "memory") {
-        Some(office) => Some(office.lists.len()),
-        None => None,
+        grades: grades(rt, alloc),
+        going: people_called(rt, alloc, going),
+    }
+}
+
+// Whether these rows are a lawful office's of this version, with so many leavers.
+fn is_read(
+    rt: &impl Abort,
+    alloc: Global,
+    records: OfficeRecords,
+    version: u16,
+    leavers: usize,
+) -> bool {
+    match read_office(alloc, records, version).expect(rt, "memory") {
+        Some(office) => {
+            let kept = office.lists.len() == 1 && office.grades.len() == 1;
+            kept && office.going.len() == leavers
+        }
+        None => false,
     }
 }
 
@@ -144,11 +184,12 @@ fn lists_read(rt: &impl Abort, alloc: Global, phase: Phase, count: u16) -> Optio
 fn reads_a_lawful_office_alone(rt: HostRuntime) {
     let alloc = rt.alloc();
     for phase in [Phase::Idle, Phase::Opened, Phase::Closed, Phase::Drawn] {
-        let found = lists_read(&rt, alloc, phase, 1).is_some();
+        let records = records(&rt, alloc, phase, 1, &[]);
+        let found = is_read(&rt, alloc, records, 3, 0);
         assert!(rt; found == matches!(phase, Phase::Opened | Phase::Closed));
     }
     let round = round(&rt, alloc, Phase::Ran);
-    assert!(rt; read_round(round.as_slice()).is_some());
+    assert!(rt; read_round(round.as_slice(), 3).is_some());
 }
 
 // A kept list adds 10,000 records at most.
@@ -156,7 +197,33 @@ fn reads_a_lawful_office_alone(rt: HostRuntime) {
 fn keeps_lists_of_few_records(rt: HostRuntime) {
     let alloc = rt.alloc();
     for count in [10_000, 10_001] {
-        let kept = lists_read(&rt, alloc, Phase::Opened, count) == Some(1);
-        assert!(rt; kept == (count == 10_000));
+        let records = records(&rt, alloc, Phase::Opened, count, &[]);
+        assert!(rt; is_read(&rt, alloc, records, 3, 0) == (count == 10_000));
     }
+}
+
+#[test]
+fn reads_rows_of_one_version(rt: HostRuntime) {
+    let alloc = rt.alloc();
+    for version in 0..5 {
+        let records = records(&rt, alloc, Phase::Opened, 1, &[]);
+        assert!(rt; is_read(&rt, alloc, records, version, 0) == (version == 3));
+    }
+}
+
+// Leavers are people who have not withdrawn, each of whom stands there once.
+#[test]
+fn reads_leavers(rt: HostRuntime) {
+    let alloc = rt.alloc();
+    for (going, wanted) in [
+        (["N"].as_slice(), true),
+        (["N", "N"].as_slice(), false),
+        (["T"].as_slice(), false),
+        (["X"].as_slice(), false),
+    ] {
+        let records = records(&rt, alloc, Phase::Opened, 1, going);
+        assert!(rt; is_read(&rt, alloc, records, 3, 1) == wanted);
+    }
+    let twice = people_called(&rt, alloc, &["N", "T", "N"]);
+    assert!(rt; read_keys(alloc, twice).expect(&rt, "memory").is_none());
 }

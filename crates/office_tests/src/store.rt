@@ -2,6 +2,7 @@
 mod adopting;
 mod exporting;
 mod importing;
+mod migrating;
 
 use crate::asserting::assert_same;
 use crate::building::{add_room, answers, is_bare, new_desk};

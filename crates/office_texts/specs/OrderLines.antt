@@ -1,6 +1,7 @@
 -- The drawn order, as it is printed.
-use Rattle.std.specs.Prelude.{ℕ, ◌+◌, ◌-◌, List, [], ◌∷◌, ◌++◌, length, replicate, codes}
+use Rattle.std.specs.Prelude.{ℕ, ◌+◌, ◌-◌, ◌==◌, List, [], ◌∷◌, ◌++◌, length, replicate, codes, if◌then◌else◌}
 use Rattle.std.specs.Fmt.{decimal}
+use Rattle.room_types.specs.Grades.{grade_text}
 use Rattle.room_types.specs.Texts.{Text}
 use Rattle.room_types.specs.Words.{word_text}
 use Rattle.office_core.specs.declared.reply.OrderRow.{OrderRow}
@@ -10,9 +11,13 @@ use Rattle.office_texts.specs.OutputLines.{line_of}
 abbrev pub right_in : ℕ → Text → Text
 right_in width text = replicate (width - length text) 32 ++ text
 
--- the place right in 4, the word and the identifier
+-- the grade after a space, unless it is 0
+abbrev pub told_grade : ℕ → Text
+told_grade grade = if grade == 0 then [] else codes " grade " ++ grade_text grade
+
+-- the place right in 4, the word, the identifier and the grade
 abbrev pub order_line : ℕ → OrderRow → Text
-order_line place row = line_of (right_in 4 (decimal place) ∷ codes " " ∷ word_text row.word ∷ codes " " ∷ row.person ∷ [])
+order_line place row = line_of (right_in 4 (decimal place) ∷ codes " " ∷ word_text row.word ∷ codes " " ∷ row.person ∷ told_grade row.grade ∷ [])
 
 -- a line for each row, the first one at this place
 abbrev pub order_lines : ℕ → List OrderRow → Text

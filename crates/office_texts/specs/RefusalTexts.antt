@@ -8,7 +8,7 @@ use Rattle.office_lists.specs.declared.fault.Cause.TheVariants.{Header, NotText,
 use Rattle.office_core.specs.Refusal.{name_of, number_of}
 use Rattle.office_core.specs.declared.refusal.Refusal.{Refusal}
 use Rattle.office_texts.specs.OutputLines.{line_of}
-use Rattle.office_core.specs.declared.refusal.Refusal.TheVariants.{BadPhase, UnknownPerson, UnknownRoom, DuplicateRoom, DuplicatePerson, KeyInUse, RoomShut, RoomTaken, HasHome, NoHome, Withdrawn, WrongWordCount, LimitReached, ListDiffers, BadRecord, NotInRound, NoSuchRound, NotShut, OutOfMemory}
+use Rattle.office_core.specs.declared.refusal.Refusal.TheVariants.{BadPhase, UnknownPerson, UnknownRoom, DuplicateRoom, DuplicatePerson, KeyInUse, RoomShut, RoomTaken, HasHome, NoHome, Withdrawn, WrongWordCount, LimitReached, ListDiffers, BadRecord, NotInRound, NoSuchRound, NotShut, OutOfMemory, Going}
 
 -- what is wrong with a record of a list
 abbrev pub cause_text : Cause → Text
@@ -40,6 +40,7 @@ refusal_values NotInRound = []
 refusal_values NoSuchRound = []
 refusal_values NotShut = []
 refusal_values OutOfMemory = []
+refusal_values Going = []
 
 -- the number, the name and the values
 abbrev pub refusal_text : Refusal → Text

@@ -1,5 +1,5 @@
 -- The lines of replies.
-use Rattle.std.specs.Prelude.{Bool, List, [], ◌∷◌, ◌++◌, Option, None, Some, codes, if◌then◌else◌}
+use Rattle.std.specs.Prelude.{ℕ, Bool, List, [], ◌∷◌, ◌++◌, ◌==◌, Option, None, Some, codes, if◌then◌else◌}
 use Rattle.std.specs.Fmt.{decimal}
 use Rattle.std.specs.List.{flat_map}
 use Rattle.room_types.specs.Phases.{phase_text}
@@ -28,7 +28,11 @@ yes_or_no answer = if answer then codes "yes" else codes "no"
 abbrev pub result_text : Standing → Text
 result_text standing = if standing.shown then or_none standing.result else codes "hidden"
 
--- the seven lines of what a person sees
+-- how many people leave the college, where anybody does
+abbrev pub going_text : ℕ → Text
+going_text going = if going == 0 then [] else codes " going " ++ decimal going
+
+-- the eight lines of what a person sees
 abbrev pub standing_text : Standing → Text
 standing_text standing =
     line_of (codes "person " ∷ standing.person ∷ [])
@@ -37,6 +41,7 @@ standing_text standing =
     ++ line_of (codes "round " ∷ decimal standing.round ∷ codes " " ∷ phase_text standing.phase ∷ [])
     ++ line_of (codes "choices" ∷ spaced standing.choices ∷ [])
     ++ line_of (codes "withdrawn " ∷ yes_or_no standing.withdrawn ∷ [])
+    ++ line_of (codes "going " ∷ yes_or_no standing.going ∷ [])
     ++ line_of (codes "result " ∷ result_text standing ∷ [])
 
 abbrev pub reply_text : Reply → Text
@@ -54,10 +59,12 @@ reply_text reply.Cancelled = line_of (codes "cancelled" ∷ [])
 reply_text (reply.Added count) = line_of (codes "added " ∷ decimal count ∷ [])
 reply_text (reply.Rooms rows) = rooms_table rows
 reply_text (reply.People rows) = people_table rows
-reply_text (reply.Round number phase people withdrawn) =
-    line_of (codes "round " ∷ decimal number ∷ codes " " ∷ phase_text phase ∷ codes " people " ∷ decimal people ∷ codes " withdrawn " ∷ decimal withdrawn ∷ [])
+reply_text (reply.Round number phase people withdrawn going) =
+    line_of (codes "round " ∷ decimal number ∷ codes " " ∷ phase_text phase ∷ codes " people " ∷ decimal people ∷ codes " withdrawn " ∷ decimal withdrawn
+    ∷ going_text going ∷ [])
 reply_text (reply.Order rows) = order_text rows
 reply_text (reply.Results rows) = results_table rows
 reply_text (reply.Moves rows) = move_day_table rows
 reply_text (reply.Me standing) = standing_text standing
 reply_text (reply.WouldGet room) = line_of (codes "would get " ∷ or_none room ∷ [])
+reply_text reply.Going = line_of (codes "going" ∷ [])

@@ -1,9 +1,9 @@
 //! The drawn order, as it is printed.
 ghost use Rattle.std.specs.Prelude.{◌≡◌, ◌<◌, ◌++◌, IfOk, OnErr, OnOk, length, string_bytes};
-ghost use Rattle.office_texts.specs.OrderLines.{order_line, order_text, right_in};
+ghost use Rattle.office_texts.specs.OrderLines.{order_line, order_text, right_in, told_grade};
 
 use office_core::OrderRow;
-use room_types::OutOfMemory;
+use room_types::{Grade, OutOfMemory};
 use std::alloc::{AllocError, Global};
 
 /// The width of the column of places.
@@ -38,7 +38,18 @@ fn push_order_row(
     push_right(text, number.as_str(), PLACE_WIDTH)?;
     write!(text, " {word} ")?;
     text.push_str(row.person.as_str())?;
+    push_told_grade(text, row.grade)?;
     text.push_str("\n")
+}
+
+// Adds the grade, unless it is 0.
+fn push_told_grade(text: &mut String, grade: Grade) -> Result<(), AllocError>
+    ensures { OnOk result (string_bytes text.new ≡ string_bytes text.old ++ told_grade grade) }
+{
+    if grade.is_first() {
+        return Ok(());
+    }
+    write!(text, " grade {grade}")
 }
 
 // Adds a text, right in its width.

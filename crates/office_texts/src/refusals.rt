@@ -45,7 +45,8 @@ fn push_refused_values(text: &mut String, refusal: &Refusal) -> Result<(), Alloc
         | Refusal::NotInRound
         | Refusal::NoSuchRound
         | Refusal::NotShut
-        | Refusal::OutOfMemory => Ok(()),
+        | Refusal::OutOfMemory
+        | Refusal::Going => Ok(()),
     }
 }
 

@@ -2,13 +2,13 @@
 ghost use Rattle.std.specs.Prelude.{◌≡◌, ◌<◌, ◌++◌, [], ◌∷◌, IfOk, OnErr, OnOk, length, string_bytes};
 ghost use Rattle.office_core.specs.Replies.{RowsAscend};
 ghost use Rattle.office_texts.specs.OutputLines.{line_of};
-ghost use Rattle.office_texts.specs.Replies.{reply_text, result_text, spaced, standing_text, yes_or_no};
+ghost use Rattle.office_texts.specs.Replies.{going_text, reply_text, result_text, spaced, standing_text, yes_or_no};
 
 use crate::order_lines::text_of_order;
 use crate::output_lines::output_line;
 use office_core::{Reply, Standing};
 use office_lists::{move_day_text, or_none, people_text, results_text, rooms_text};
-use room_types::{OutOfMemory, PersonId, RoomCode};
+use room_types::{OutOfMemory, PersonId, Phase, RoomCode};
 use std::alloc::{AllocError, Global};
 
 /// The lines of a reply, whose rows ascend, as `answer` and `decide` give them. Where they have no bytes, no memory is
@@ -38,14 +38,14 @@ pub fn text_of_reply(alloc: Global, reply: &Reply) -> Result<String, OutOfMemory
             phase,
             people,
             withdrawn,
-        } => Ok(format!(in alloc;
-            "round {number} {phase} people {people} withdrawn {withdrawn}\n"
-        )?),
+            going,
+        } => text_of_round(alloc, *number, *phase, *people, *withdrawn, *going),
         Reply::Order(rows) => text_of_order(alloc, rows.as_slice()),
         Reply::Results(rows) => results_text(alloc, rows.as_slice()),
         Reply::Moves(rows) => move_day_text(alloc, rows.as_slice()),
         Reply::Me(standing) => text_of_standing(alloc, standing),
         Reply::WouldGet(room) => text_of_room(alloc, room),
+        Reply::Going => output_line(alloc, "going\n"),
     }
 }
 
@@ -74,7 +74,36 @@ fn text_of_room(alloc: Global, room: &Option<RoomCode>) -> Result<String, OutOfM
     Ok(text)
 }
 
-// The seven lines of what a person sees.
+fn text_of_round(
+    alloc: Global,
+    number: u16,
+    phase: Phase,
+    people: usize,
+    withdrawn: usize,
+    going: usize,
+) -> Result<String, OutOfMemory>
+    ensures { IfOk result (λ text. string_bytes text
+        ≡ reply_text (Reply.Round number phase people withdrawn going)) }
+{
+    let mut text = format!(in alloc;
+        "round {number} {phase} people {people} withdrawn {withdrawn}"
+    )?;
+    push_going(&mut text, going)?;
+    text.push_str("\n")?;
+    Ok(text)
+}
+
+// Adds how many people leave the college, where anybody does.
+fn push_going(text: &mut String, going: usize) -> Result<(), AllocError>
+    ensures { OnOk result (string_bytes text.new ≡ string_bytes text.old ++ going_text going) }
+{
+    if going == 0 {
+        return Ok(());
+    }
+    write!(text, " going {going}")
+}
+
+// The eight lines of what a person sees.
 fn text_of_standing(alloc: Global, standing: &Standing) -> Result<String, OutOfMemory>
     ensures { IfOk result (λ text. string_bytes text ≡ standing_text standing.now) }
 {
@@ -87,6 +116,7 @@ fn text_of_standing(alloc: Global, standing: &Standing) -> Result<String, OutOfM
     writeln!(text, "round {round} {phase}")?;
     push_rooms(&mut text, "choices", standing.choices.as_slice())?;
     push_line(&mut text, "withdrawn ", reply_yes_or_no(standing.withdrawn))?;
+    push_line(&mut text, "going ", reply_yes_or_no(standing.going))?;
     push_line(&mut text, "result ", shown_result(standing))?;
     Ok(text)
 }

@@ -13,6 +13,7 @@ verb_of word =
     else if bytes_eq word (codes "home") then Some verb.Home
     else if bytes_eq word (codes "leave") then Some verb.Leave
     else if bytes_eq word (codes "remove") then Some verb.Remove
+    else if bytes_eq word (codes "grade") then Some verb.Grade
     else if bytes_eq word (codes "shut") then Some verb.Shut
     else if bytes_eq word (codes "reopen") then Some verb.Reopen
     else if bytes_eq word (codes "open") then Some verb.Open
@@ -23,6 +24,7 @@ verb_of word =
     else if bytes_eq word (codes "cancel") then Some verb.Cancel
     else if bytes_eq word (codes "choose") then Some verb.Choose
     else if bytes_eq word (codes "withdraw") then Some verb.Withdraw
+    else if bytes_eq word (codes "going") then Some verb.Going
     else if bytes_eq word (codes "draw") then Some verb.Draw
     else if bytes_eq word (codes "rooms") then Some verb.Rooms
     else if bytes_eq word (codes "people") then Some verb.People

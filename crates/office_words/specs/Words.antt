@@ -1,9 +1,10 @@
 -- The request that the words of a line are.
 use Rattle.std.specs.Prelude.{Bool, false, ◌&&◌, List, [], ◌∷◌, length, ◌==◌, nat_le, Option, Some, None, is_some, option_and_then, option_map}
+use Rattle.room_types.specs.Grades.{grade_of}
 use Rattle.room_types.specs.Grammars.{is_key, is_name, is_person_id, is_room_code}
 use Rattle.room_types.specs.Texts.{Text}
 use Rattle.room_types.specs.Words.{word_of}
-use Rattle.office_core.specs.declared.command.Command.TheVariants.{AddPerson, AddRoom, Cancel, CloseRound, Draw, Leave, OpenRound, Publish, Remove, Reopen, Run, SetChoices, SetHome, Settle, Shut, Withdraw}
+use Rattle.office_core.specs.declared.command.Command.TheVariants.{AddPerson, AddRoom, Cancel, CloseRound, Draw, Going, Leave, OpenRound, Publish, Remove, Reopen, Run, SetChoices, SetGrade, SetHome, Settle, Shut, Withdraw}
 use Rattle.office_core.specs.declared.query.Query.TheVariants.{Me, Moves, Order, People, Results, Rooms, Round, WhatIf}
 use Rattle.office_words.specs.Verbs.{verb_of}
 use Rattle.office_words.specs.declared.verbs.Verb.{Verb}
@@ -37,6 +38,11 @@ leave words = option_map (λ person. Office (Leave person)) (only is_person_id w
 abbrev pub remove : List Text → Option Request
 remove words = option_map (λ person. Office (Remove person)) (only is_person_id words)
 
+-- `grade ID G`, G being one decimal digit
+abbrev pub set_grade : List Text → Option Request
+set_grade (person ∷ grade ∷ []) = option_and_then (λ id. option_map (λ value. Office (SetGrade id value)) (grade_of grade)) (in_grammar is_person_id person)
+set_grade _ = None
+
 -- `shut CODE`
 abbrev pub shut : List Text → Option Request
 shut words = option_map (λ room. Office (Shut room)) (only is_room_code words)
@@ -53,6 +59,10 @@ set_choices [] = None
 -- `withdraw ID`
 abbrev pub withdraw : List Text → Option Request
 withdraw words = option_map (λ person. Office (Withdraw person)) (only is_person_id words)
+
+-- `going ID`
+abbrev pub going : List Text → Option Request
+going words = option_map (λ person. Office (Going person)) (only is_person_id words)
 
 -- `draw WORD..`, no word or more
 abbrev pub draw : List Text → Option Request
@@ -84,6 +94,7 @@ request_after_word verb.Person rest = add_person rest
 request_after_word verb.Home rest = set_home rest
 request_after_word verb.Leave rest = leave rest
 request_after_word verb.Remove rest = remove rest
+request_after_word verb.Grade rest = set_grade rest
 request_after_word verb.Shut rest = shut rest
 request_after_word verb.Reopen rest = reopen rest
 request_after_word verb.Open rest = alone (Office OpenRound) rest
@@ -94,6 +105,7 @@ request_after_word verb.Settle rest = alone (Office Settle) rest
 request_after_word verb.Cancel rest = alone (Office Cancel) rest
 request_after_word verb.Choose rest = set_choices rest
 request_after_word verb.Withdraw rest = withdraw rest
+request_after_word verb.Going rest = going rest
 request_after_word verb.Draw rest = draw rest
 request_after_word verb.Rooms rest = alone (Ask Rooms) rest
 request_after_word verb.People rest = alone (Ask People) rest
@@ -114,13 +126,14 @@ abbrev pub is_drawn_word : Text → Bool
 is_drawn_word word = is_some (word_of word)
 
 -- Memory is taken for the words after a first one. Values are copied, from the first on, up to one that is out of its grammar,
--- and only where there are as many as the request has. Nothing is copied of a number, or where no word may stand.
+-- and only where there are as many as the request has. Nothing is copied of a number or a grade, or where no word may stand.
 abbrev pub copies : Verb → List Text → Bool
 copies verb.Room rest = is_some (add_room rest)
 copies verb.Person rest = nat_le 3 (length rest) && first_in is_person_id rest
 copies verb.Home rest = length rest == 2 && first_in is_person_id rest
 copies verb.Leave rest = is_some (leave rest)
 copies verb.Remove rest = is_some (remove rest)
+copies verb.Grade rest = length rest == 2 && first_in is_person_id rest
 copies verb.Shut rest = is_some (shut rest)
 copies verb.Reopen rest = is_some (reopen rest)
 copies verb.Open rest = false
@@ -131,6 +144,7 @@ copies verb.Settle rest = false
 copies verb.Cancel rest = false
 copies verb.Choose rest = first_in is_person_id rest
 copies verb.Withdraw rest = is_some (withdraw rest)
+copies verb.Going rest = is_some (going rest)
 copies verb.Draw rest = first_in is_drawn_word rest
 copies verb.Rooms rest = false
 copies verb.People rest = false

@@ -4,13 +4,14 @@ ghost use Rattle.std.specs.Char.{is_ascii_digit};
 ghost use Rattle.std.specs.Int.{is_in_range};
 ghost use Rattle.std.specs.List.{list_all};
 ghost use Rattle.office_words.specs.Understanding.{Understands, UnderstandsAs, WantsMemoryOnlyIf};
+ghost use Rattle.room_types.specs.Grades.{grade_of};
 ghost use Rattle.room_types.specs.Words.{word_of};
 ghost use Rattle.office_words.specs.Values.{all_of, choices_in, codes_of, in_grammar, is_round_number_word, joined, only, round_number};
 ghost use Rattle.office_words.specs.Words.{first_in, is_drawn_word};
 ghost use Rattle.room_types.specs.Grammars.{is_name};
 
 use crate::word_fault::WordFault;
-use room_types::{Choices, Grammar, Listing, Name, RoomCode, Text, TypeFault, Word};
+use room_types::{Choices, Grade, Grammar, Listing, Name, RoomCode, Text, TypeFault, Word};
 use std::alloc::Global;
 
 /// How many digits the number of a round has at most.
@@ -94,6 +95,17 @@ fn drawn_request_word(word: &str) -> Result<Word, WordFault>
 {
     match Word::read(word) {
         Ok(word) => Ok(word),
+        Err(_) => Err(WordFault::NotUnderstood),
+    }
+}
+
+/// The grade that a word of one digit is. It takes no memory.
+pub(crate) fn grade_word_of(word: &str) -> Result<Grade, WordFault>
+    ensures understands { Understands (grade_of word.now) result }
+    ensures memory { WantsMemoryOnlyIf false result }
+{
+    match Grade::read(word) {
+        Ok(grade) => Ok(grade),
         Err(_) => Err(WordFault::NotUnderstood),
     }
 }

@@ -1,12 +1,13 @@
 //! The request that the words of a line are.
 ghost use Rattle.std.specs.Prelude.{false, map};
 ghost use Rattle.office_words.specs.Understanding.{Understands, WantsMemoryOnlyIf};
-ghost use Rattle.office_words.specs.Words.{add_person, add_room, alone, ask_me, ask_moves, ask_what_if, draw, leave, remove, reopen, request_after_word, request_of, set_choices, set_home, shut, withdraw};
+ghost use Rattle.office_words.specs.Words.{add_person, add_room, alone, ask_me, ask_moves, ask_what_if, draw, going, leave, remove, reopen, request_after_word, request_of, set_choices, set_grade, set_home, shut, withdraw};
 ghost use Rattle.office_words.specs.Words.{copies, takes_memory};
 ghost use Rattle.office_words.specs.declared.verbs.Verb.TheVariants as verb;
 
 use crate::values::{
-    drawn_words, name_of, only_value_in_words, request_choices_of, request_value_of, round_of,
+    drawn_words, grade_word_of, name_of, only_value_in_words, request_choices_of, request_value_of,
+    round_of,
 };
 use crate::verbs::{Verb, verb_of};
 use crate::word_fault::WordFault;
@@ -41,6 +42,7 @@ fn request_after_word(alloc: Global, verb: Verb, rest: &[&str]) -> Result<Reques
         Verb::Home => words_to_set_home(alloc, rest),
         Verb::Leave => words_to_leave(alloc, rest),
         Verb::Remove => words_to_remove(alloc, rest),
+        Verb::Grade => words_to_set_grade(alloc, rest),
         Verb::Shut => words_to_shut(alloc, rest),
         Verb::Reopen => words_to_reopen(alloc, rest),
         Verb::Open => request_alone(rest, Request::Office(Command::OpenRound)),
@@ -51,6 +53,7 @@ fn request_after_word(alloc: Global, verb: Verb, rest: &[&str]) -> Result<Reques
         Verb::Cancel => request_alone(rest, Request::Office(Command::Cancel)),
         Verb::Choose => words_to_set_choices(alloc, rest),
         Verb::Withdraw => words_to_withdraw(alloc, rest),
+        Verb::Going => words_to_going(alloc, rest),
         Verb::Draw => words_to_draw(alloc, rest),
         Verb::Rooms => request_alone(rest, Request::Ask(Query::Rooms)),
         Verb::People => request_alone(rest, Request::Ask(Query::People)),
@@ -127,6 +130,21 @@ fn words_to_remove(alloc: Global, words: &[&str]) -> Result<Request, WordFault>
     Ok(Request::Office(Command::Remove { person }))
 }
 
+fn words_to_set_grade(alloc: Global, words: &[&str]) -> Result<Request, WordFault>
+    ensures understands { Understands (set_grade (map (λ word. word.now) words.now)) result }
+    ensures memory { WantsMemoryOnlyIf (copies verb.Grade (map (λ word. word.now) words.now))
+        result }
+{
+    match words {
+        [person, grade] => {
+            let person = request_value_of(alloc, person)?;
+            let grade = grade_word_of(grade)?;
+            Ok(Request::Office(Command::SetGrade { person, grade }))
+        }
+        _ => Err(WordFault::NotUnderstood),
+    }
+}
+
 fn words_to_shut(alloc: Global, words: &[&str]) -> Result<Request, WordFault>
     ensures understands { Understands (shut (map (λ word. word.now) words.now)) result }
     ensures memory { WantsMemoryOnlyIf (copies verb.Shut (map (λ word. word.now) words.now))
@@ -167,6 +185,15 @@ fn words_to_withdraw(alloc: Global, words: &[&str]) -> Result<Request, WordFault
 {
     let person = only_value_in_words(alloc, words)?;
     Ok(Request::Office(Command::Withdraw { person }))
+}
+
+fn words_to_going(alloc: Global, words: &[&str]) -> Result<Request, WordFault>
+    ensures understands { Understands (going (map (λ word. word.now) words.now)) result }
+    ensures memory { WantsMemoryOnlyIf (copies verb.Going (map (λ word. word.now) words.now))
+        result }
+{
+    let person = only_value_in_words(alloc, words)?;
+    Ok(Request::Office(Command::Going { person }))
 }
 
 fn words_to_draw(alloc: Global, words: &[&str]) -> Result<Request, WordFault>

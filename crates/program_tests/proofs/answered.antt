@@ -52,6 +52,8 @@ answered-reply_ascends office command.Run = tt
 answered-reply_ascends office command.Publish = tt
 answered-reply_ascends office command.Settle = tt
 answered-reply_ascends office command.Cancel = tt
+answered-reply_ascends office (command.SetGrade person grade) = tt
+answered-reply_ascends office (command.Going person) = tt
 answered-reply_ascends office (command.Import label kind bytes) =
     answered-added_ascends (maps.get office.lists label) bytes
 

@@ -31,6 +31,45 @@ const DRAW: [(&str, &str); 14] = [
     ("round", "round 1 idle people 3 withdrawn 0\n"),
 ];
 
+// The same people and the same words, where E3 has grade 1, and then has not. A grade that was taken back does not count.
+const GRADES: [(&str, &str); 23] = [
+    ("person E3 key00000000000e3 Cy Coy", "ok\n"),
+    ("person E1 key00000000000e1 Ann Ash", "ok\n"),
+    ("person E2 key00000000000e2 Bo", "ok\n"),
+    ("grade E1 7", "ok\n"),
+    ("grade E1 0", "ok\n"),
+    ("open", "round 1 open\n"),
+    ("grade E3 9", "ok\n"),
+    ("grade E3 1", "ok\n"),
+    ("close", "closed 3\n"),
+    (
+        "draw 0000000000000005 0000000000000005 0000000000000000",
+        "drawn 3\n",
+    ),
+    (
+        "order",
+        "   1 0000000000000005 E1\n   2 0000000000000005 E2\n   3 0000000000000000 E3 grade 1\n",
+    ),
+    ("grade E1 2", "refused 1 BadPhase drawn\n"),
+    ("cancel", "cancelled\n"),
+    ("grade E3 2", "ok\n"),
+    ("remove E3", "ok\n"),
+    ("person E3 key00000000000e3 Cy Coy", "ok\n"),
+    ("grade E2 3", "ok\n"),
+    ("open", "round 2 open\n"),
+    ("close", "closed 3\n"),
+    (
+        "draw 0000000000000005 0000000000000005 0000000000000000",
+        "drawn 3\n",
+    ),
+    (
+        "order",
+        "   1 0000000000000000 E3\n   2 0000000000000005 E1\n   3 0000000000000005 E2 grade 3\n",
+    ),
+    ("cancel", "cancelled\n"),
+    ("round", "round 2 idle people 3 withdrawn 0\n"),
+];
+
 // Nobody takes part, so there is nothing to print.
 const NOBODY: [(&str, &str); 5] = [
     ("open", "round 1 open\n"),
@@ -43,6 +82,7 @@ const NOBODY: [(&str, &str); 5] = [
 #[test]
 fn draws_words(rt: HostRuntime) -> Result<(), Fail> {
     assert!(rt; hears(&rt, &DRAW, 2)?);
+    assert!(rt; hears(&rt, &GRADES, 1)?);
     assert!(rt; hears(&rt, &NOBODY, 0)?);
     Ok(())
 }

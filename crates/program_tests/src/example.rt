@@ -54,7 +54,7 @@ const YEAR: [(&str, &str); 36] = [
     ("publish", "published 4\n"),
     (
         "me key00000000000t1",
-        "person T1\nname Tim Tan\nhome H1\nround 1 published\nchoices H2\nwithdrawn no\nresult H2\n",
+        "person T1\nname Tim Tan\nhome H1\nround 1 published\nchoices H2\nwithdrawn no\ngoing no\nresult H2\n",
     ),
     ("# Everybody moves.", ""),
     ("settle", "settled 4\n"),

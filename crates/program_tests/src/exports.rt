@@ -16,6 +16,12 @@ const YEAR: &str = "room X\nroom H1\nroom H2\nroom V\nshut X\nperson T1 key00000
     choose T1 H2\nchoose T2 H1\nchoose N H1 V\nclose\n\
     draw 0000000000000003 0000000000000001 0000000000000002\nrun\n";
 
+// T2 leaves the college, and T1 comes to that room.
+const LEAVING: &str = "room H1\nroom H2\nperson T1 key00000000000t1 Tim Tan\n\
+    person T2 key00000000000t2 Tom Tao\nperson N key000000000000n Nan\nhome T1 H1\nhome T2 H2\n\
+    grade N 9\nopen\nchoose T1 H2\ngoing T2\nclose\ndraw 0000000000000001 0000000000000002\n\
+    run\npublish\nsettle\ngrade T2 1\n";
+
 const MOVES: &str = "round,wave,person,from,to\n1,1,N,,V\n1,swap,T1,H1,H2\n1,swap,T2,H2,H1\n";
 
 // A desk that has heard these lines.
@@ -63,6 +69,25 @@ fn exports_a_year(rt: HostRuntime) -> Result<(), Fail> {
             ExportKind::People,
             "person,name,home\nN,\"Nan, Now\",V\nT1,Tim Tan,H2\nT2,Tom Tao,H1\n",
         ),
+        (ExportKind::Grades, "person,grade\nN,0\nT1,0\nT2,0\n"),
+    ] {
+        let (status, bytes) = exported(alloc, &mut found, kind);
+        assert_same!(rt; status, 0);
+        assert_same!(rt; bytes.as_slice(), text.as_bytes());
+    }
+    Ok(())
+}
+
+#[test]
+fn exports_grades_and_moves_of_leavers(rt: HostRuntime) -> Result<(), Fail> {
+    let alloc = rt.alloc();
+    let mut found = Ok(desk_after(alloc, LEAVING)?);
+    for (kind, text) in [
+        (
+            ExportKind::Moves,
+            "round,wave,person,from,to\n1,1,T1,H1,H2\n1,0,T2,H2,\n",
+        ),
+        (ExportKind::Grades, "person,grade\nN,9\nT1,0\nT2,1\n"),
     ] {
         let (status, bytes) = exported(alloc, &mut found, kind);
         assert_same!(rt; status, 0);

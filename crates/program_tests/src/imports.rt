@@ -15,6 +15,8 @@ const ROOMS: &str = "room\nH1\nH2\nV\n";
 const PEOPLE: &str = "\u{feff}person,name,key,home\r\nT1,\"Tan, Tim\",key00000000000t1,H1\r\n\
     T2,\"Tao \"\"Tom\"\" T.\",key00000000000t2,H2\r\nN,Nöé Ng,key000000000000n,\r\n";
 
+const GRADES: &str = "person,grade\r\nT1,4\r\nN,2\r\nT1,5\r\n";
+
 const CHOICES: &str = "person,choices\nT1,H2 V\nT2,H1\nN,\nT2,V H1";
 
 // The status where this list comes in at the office of a folder, and what is printed. What is told on standard error fits no
@@ -58,6 +60,7 @@ fn brings_lists_in_once(rt: HostRuntime) -> Result<(), Fail> {
     fs::write(&rt, "imports_once/rooms.csv", ROOMS)?;
     fs::write(&rt, "imports_once/people.csv", PEOPLE)?;
     fs::write(&rt, "imports_once/choices.csv", CHOICES)?;
+    fs::write(&rt, "imports_once/grades.csv", GRADES)?;
     for (kind, label, list, status, answer) in [
         (
             "choices",
@@ -78,6 +81,15 @@ fn brings_lists_in_once(rt: HostRuntime) -> Result<(), Fail> {
             "people.csv",
             1,
             "refused 15 BadRecord 1 refusal 5\n",
+        ),
+        ("grades", "g-1", "grades.csv", 0, "added 3\n"),
+        ("grades", "g-1", "grades.csv", 0, "added 3\n"),
+        (
+            "grades",
+            "g-2",
+            "people.csv",
+            1,
+            "refused 15 BadRecord 0 header\n",
         ),
     ] {
         let (ended, text) = import(&rt, "imports_once", kind, label, list)?;
@@ -105,11 +117,13 @@ fn brings_lists_in_once(rt: HostRuntime) -> Result<(), Fail> {
         ],
     );
     let told =
-        "person T2\nname Tao \"Tom\" T.\nhome H2\nround 1 closed\nchoices V H1\nwithdrawn no\nresult hidden\n";
+        "person T2\nname Tao \"Tom\" T.\nhome H2\nround 1 closed\nchoices V H1\nwithdrawn no\ngoing no\nresult hidden\n";
     assert_same!(rt; text.as_slice(), told.as_bytes());
     let (_, text, _) = carried(&rt, &["export", "--db", "imports_once/office.db", "people"]);
     let told = "person,name,home\nN,Nöé Ng,\nT1,\"Tan, Tim\",H1\nT2,\"Tao \"\"Tom\"\" T.\",H2\n";
     assert_same!(rt; text.as_slice(), told.as_bytes());
+    let (_, text, _) = carried(&rt, &["export", "--db", "imports_once/office.db", "grades"]);
+    assert_same!(rt; text.as_slice(), b"person,grade\nN,2\nT1,5\nT2,0\n".as_slice());
     fs::remove_dir_all(&rt, "imports_once")?;
     Ok(())
 }

@@ -25,6 +25,8 @@ mod imports;
 #[cfg(test)]
 mod lines;
 #[cfg(test)]
+mod migrate_lines;
+#[cfg(test)]
 mod one_file;
 #[cfg(test)]
 mod refusals;

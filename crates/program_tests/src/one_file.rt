@@ -69,14 +69,17 @@ impl Closes<Connection<MemStore>> for OneFile {
     }
 }
 
-// A list of two rooms, at one path.
+// A list of two rooms, at one path: how often a list was asked for.
 #[derive(Drop)]
-struct OneList;
+struct OneList {
+    asked: u32,
+}
 
 impl Lists for OneList {
     type List = &'static [u8];
 
-    fn open(&self, path: &str) -> Result<&'static [u8], Unavailable> {
+    fn open(&mut self, path: &str) -> Result<&'static [u8], Unavailable> {
+        self.asked = self.asked.saturating_add(1);
         if path == "rooms.csv" {
             Ok(b"room\nH1\nH2\n".as_slice())
         } else {
@@ -111,7 +114,11 @@ impl Listener for OneSocket {
         None
     }
 
-    fn close(&mut self, connection: Watched<Pair<&'static [u8], Vec<u8>>>)
+    fn close<W: Write>(
+        &mut self,
+        connection: Watched<Pair<&'static [u8], Vec<u8>>>,
+        _said: &Watched<W>,
+    )
         ensures { ⊤ }
     {
         drop(connection);
@@ -138,12 +145,19 @@ impl Ports for OnePort {
 }
 
 // Lines in turn, with their status and what each prints, and how often it opens the file and closes it.
-const LINES: [(&[&str], u8, &str, u32); 15] = [
+const LINES: [(&[&str], u8, &str, u32); 17] = [
     (&["do", "--db", OFFICE, "rooms"], 3, "unavailable\n", 0),
     (&["new", "--db", "other.db"], 3, "unavailable\n", 0),
     (&["export", "--db", OFFICE, "rooms"], 3, "unavailable\n", 0),
+    (&["migrate", "--db", OFFICE], 3, "unavailable\n", 0),
     (&["new", "--db", OFFICE], 0, "ok\n", 1),
     (&["new", "--db", OFFICE], 1, "refused 23 AlreadyThere\n", 1),
+    (
+        &["migrate", "--db", OFFICE],
+        1,
+        "refused 22 OtherVersion 3\n",
+        1,
+    ),
     (&["do", "--db", OFFICE, "room", "V"], 0, "ok\n", 1),
     (
         &["do", "--db", OFFICE, "room", "V"],
@@ -191,6 +205,7 @@ fn carried(
     alloc: Global,
     words: &[&str],
     files: &mut OneFile,
+    lists: &mut OneList,
     ports: &mut OnePort,
 ) -> (u8, Vec<u8>) {
     let mut input = Watched::new(b"room H1\n".as_slice());
@@ -200,7 +215,7 @@ fn carried(
         alloc,
         words,
         files,
-        &OneList,
+        lists,
         ports,
         &mut input,
         &mut output,
@@ -217,6 +232,7 @@ fn opens_and_closes_a_file_once_a_line(rt: HostRuntime) -> Result<(), Fail> {
         opened: 0,
         closed: 0,
     };
+    let mut lists = OneList { asked: 0 };
     let mut ports = OnePort {
         listened: 0,
         asked: 0,
@@ -224,12 +240,13 @@ fn opens_and_closes_a_file_once_a_line(rt: HostRuntime) -> Result<(), Fail> {
     };
     for (words, status, printed, times) in LINES {
         let before = (files.opened, files.closed);
-        let (ended, text) = carried(rt.alloc(), words, &mut files, &mut ports);
+        let (ended, text) = carried(rt.alloc(), words, &mut files, &mut lists, &mut ports);
         assert_same!(rt; ended, status, printed);
         assert_same!(rt; text.as_slice(), printed.as_bytes());
         assert_same!(rt; files.opened.saturating_sub(before.0), times, printed);
         assert_same!(rt; files.closed.saturating_sub(before.1), times, printed);
     }
+    assert_same!(rt; lists.asked, 2);
     assert_same!(rt; (ports.listened, ports.asked, ports.stopped), (1, 2, 1));
     Ok(())
 }

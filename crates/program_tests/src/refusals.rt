@@ -99,9 +99,89 @@ const REFUSALS: [(&str, &str); 72] = [
     ("settle", "settled 0\n"),
 ];
 
+// Grades and leavers: two tenants, and a newcomer who withdraws.
+const GRADES_AND_LEAVERS: [(&str, &str); 60] = [
+    ("room H1", "ok\n"),
+    ("room H2", "ok\n"),
+    ("person T key000000000000t Tim", "ok\n"),
+    ("person U key000000000000u Una", "ok\n"),
+    ("person N key000000000000n Nia", "ok\n"),
+    ("home T H1", "ok\n"),
+    ("home U H2", "ok\n"),
+    ("grade X 1", "refused 2 UnknownPerson\n"),
+    ("grade T 9", "ok\n"),
+    ("grade T 0", "ok\n"),
+    ("grade T 10", "not understood\n"),
+    ("grade T", "not understood\n"),
+    ("grade T 1 2", "not understood\n"),
+    ("grade t 1", "not understood\n"),
+    ("going", "not understood\n"),
+    ("going T U", "not understood\n"),
+    ("going X", "refused 1 BadPhase idle\n"),
+    ("open", "round 1 open\n"),
+    // The round is open.
+    ("grade X 1", "refused 2 UnknownPerson\n"),
+    ("grade N 1", "ok\n"),
+    ("going X", "refused 2 UnknownPerson\n"),
+    ("going N", "refused 10 NoHome\n"),
+    ("withdraw N", "withdrawn\n"),
+    ("going N", "refused 11 Withdrawn\n"),
+    ("choose T H2", "chosen H2\n"),
+    ("going T", "going\n"),
+    ("choose T X", "refused 24 Going\n"),
+    ("choose T", "refused 24 Going\n"),
+    ("withdraw T", "refused 24 Going\n"),
+    ("shut H1", "shut displaced T\n"),
+    ("going T", "going\n"),
+    ("withdraw T", "refused 24 Going\n"),
+    (
+        "me key000000000000t",
+        "person T\nname Tim\nhome none\nround 1 open\nchoices H2\nwithdrawn no\ngoing yes\nresult hidden\n",
+    ),
+    ("round", "round 1 open people 3 withdrawn 1 going 1\n"),
+    ("going U", "going\n"),
+    ("round", "round 1 open people 3 withdrawn 1 going 2\n"),
+    // Whoever leaves stays where the round is given up.
+    ("cancel", "cancelled\n"),
+    ("round", "round 1 idle people 3 withdrawn 0\n"),
+    (
+        "people",
+        "person        home      name\nN             none      Nia\nT             none      Tim\nU             H2        Una\n",
+    ),
+    ("reopen H1", "ok\n"),
+    ("home T H1", "ok\n"),
+    // A leaver whose room is shut has no move.
+    ("open", "round 2 open\n"),
+    ("going T", "going\n"),
+    ("shut H1", "shut displaced T\n"),
+    ("choose N H2", "chosen H2\n"),
+    ("close", "closed 2\n"),
+    ("going X", "refused 1 BadPhase closed\n"),
+    ("grade X 1", "refused 1 BadPhase closed\n"),
+    ("draw 0000000000000001 0000000000000002", "drawn 2\n"),
+    (
+        "order",
+        "   1 0000000000000002 U\n   2 0000000000000001 N grade 1\n",
+    ),
+    ("run", "ran 2\n"),
+    (
+        "results",
+        "person        room\nN             none\nU             H2\n",
+    ),
+    ("going X", "refused 1 BadPhase ran\n"),
+    ("publish", "published 2\n"),
+    ("grade X 1", "refused 1 BadPhase published\n"),
+    ("settle", "settled 0\n"),
+    ("moves 2", "wave  person        from      to\n"),
+    ("remove N", "ok\n"),
+    ("person N key000000000000n Nia", "ok\n"),
+    ("round", "round 2 idle people 3 withdrawn 0\n"),
+];
+
 #[test]
 fn refuses_each_command(rt: HostRuntime) -> Result<(), Fail> {
     assert!(rt; hears(&rt, &REFUSALS, 1)?);
+    assert!(rt; hears(&rt, &GRADES_AND_LEAVERS, 2)?);
     Ok(())
 }
 

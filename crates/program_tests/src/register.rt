@@ -37,7 +37,7 @@ pub const REGISTER: [(&str, &str); 28] = [
     ("moves 2", "refused 17 NoSuchRound\n"),
     (
         "me key00000000000t1",
-        "person T1\nname Tim Tan\nhome none\nround 2 open\nchoices\nwithdrawn no\nresult hidden\n",
+        "person T1\nname Tim Tan\nhome none\nround 2 open\nchoices\nwithdrawn no\ngoing no\nresult hidden\n",
     ),
     ("me key00000000000t9", "refused 2 UnknownPerson\n"),
     ("round", "round 2 open people 2 withdrawn 0\n"),
@@ -63,11 +63,11 @@ const ROUND: [(&str, &str); 18] = [
     ("choose T1 H1", "refused 7 RoomShut H1\n"),
     (
         "me key00000000000t1",
-        "person T1\nname Tim Tan\nhome none\nround 1 open\nchoices H2 V\nwithdrawn no\nresult hidden\n",
+        "person T1\nname Tim Tan\nhome none\nround 1 open\nchoices H2 V\nwithdrawn no\ngoing no\nresult hidden\n",
     ),
     (
         "me key00000000000t2",
-        "person T2\nname Ann\nhome H2\nround 1 open\nchoices\nwithdrawn yes\nresult hidden\n",
+        "person T2\nname Ann\nhome H2\nround 1 open\nchoices\nwithdrawn yes\ngoing no\nresult hidden\n",
     ),
     ("close", "closed 1\n"),
 ];

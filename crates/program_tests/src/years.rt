@@ -82,7 +82,7 @@ const SWAP: [(&str, &str); 30] = [
     ("run", "ran 3\n"),
     (
         "me key00000000000t1",
-        "person T1\nname Tim Tan\nhome H1\nround 1 ran\nchoices H2\nwithdrawn no\nresult hidden\n",
+        "person T1\nname Tim Tan\nhome H1\nround 1 ran\nchoices H2\nwithdrawn no\ngoing no\nresult hidden\n",
     ),
     ("whatif N V", "would get V\n"),
     ("whatif T1 V H2", "would get V\n"),
@@ -91,7 +91,7 @@ const SWAP: [(&str, &str); 30] = [
     ("publish", "published 3\n"),
     (
         "me key00000000000t1",
-        "person T1\nname Tim Tan\nhome H1\nround 1 published\nchoices H2\nwithdrawn no\nresult H2\n",
+        "person T1\nname Tim Tan\nhome H1\nround 1 published\nchoices H2\nwithdrawn no\ngoing no\nresult H2\n",
     ),
     ("cancel", "refused 1 BadPhase published\n"),
     ("settle", "settled 3\n"),
@@ -215,6 +215,48 @@ const ROUND_AFTER_ROUND: [(&str, &str); 38] = [
     ("round", "round 3 idle people 2 withdrawn 0\n"),
 ];
 
+// T2 leaves the college, and T1 comes to that room.
+const LEAVER: [(&str, &str); 29] = [
+    ("room H1", "ok\n"),
+    ("room H2", "ok\n"),
+    ("person T1 key00000000000t1 Tim Tan", "ok\n"),
+    ("person T2 key00000000000t2 Tom Tao", "ok\n"),
+    ("home T1 H1", "ok\n"),
+    ("home T2 H2", "ok\n"),
+    ("open", "round 1 open\n"),
+    ("choose T1 H2", "chosen H2\n"),
+    ("going T2", "going\n"),
+    ("going T2", "going\n"),
+    ("withdraw T2", "refused 24 Going\n"),
+    ("choose T2 H1", "refused 24 Going\n"),
+    ("round", "round 1 open people 2 withdrawn 0 going 1\n"),
+    ("close", "closed 1\n"),
+    ("draw 0000000000000001", "drawn 1\n"),
+    ("order", "   1 0000000000000001 T1\n"),
+    ("run", "ran 1\n"),
+    ("results", "person        room\nT1            H2\n"),
+    ("whatif T2 H1", "refused 16 NotInRound\n"),
+    ("whatif T1", "would get H1\n"),
+    ("publish", "published 1\n"),
+    (
+        "me key00000000000t2",
+        "person T2\nname Tom Tao\nhome H2\nround 1 published\nchoices\nwithdrawn no\ngoing yes\nresult hidden\n",
+    ),
+    ("settle", "settled 2\n"),
+    (
+        "moves 1",
+        "wave  person        from      to\n0     T2            H2        none\n1     T1            H1        H2\n",
+    ),
+    (
+        "people",
+        "person        home      name\nT1            H2        Tim Tan\nT2            none      Tom Tao\n",
+    ),
+    ("round", "round 1 idle people 2 withdrawn 0\n"),
+    ("remove T2", "ok\n"),
+    ("open", "round 2 open\n"),
+    ("going T1", "going\n"),
+];
+
 #[test]
 fn hears_round_after_round(rt: HostRuntime) -> Result<(), Fail> {
     assert!(rt; hears(&rt, &ROUND_AFTER_ROUND, 0)?);
@@ -234,5 +276,6 @@ fn hears_whole_rounds(rt: HostRuntime) -> Result<(), Fail> {
 fn hears_days_of_moving(rt: HostRuntime) -> Result<(), Fail> {
     assert!(rt; hears(&rt, &SWAP, 1)?);
     assert!(rt; hears(&rt, &CHAIN, 0)?);
+    assert!(rt; hears(&rt, &LEAVER, 1)?);
     Ok(())
 }

@@ -10,10 +10,11 @@ use Rattle.resident_desk.specs.declared.served.Served.TheVariants.{Answered, Rea
 module _ {T : Type 0} (calls : Calls T) where
   -- The bytes so far ask for more, and one read gave at least one byte more.
   pub record ReadsOnce (before bytes : List ℕ) (old new : T) : Type 0 where
+    pub buffer_before : List ℕ
     pub buffer : List ℕ
     pub count : ℕ
     pub asks : Asks before more
-    pub called : calls.reads old buffer (Ok count) new
+    pub called : calls.reads old buffer_before buffer (Ok count) new
     pub some : 0 < count
     pub within : count ≤ length buffer
     pub joined : bytes ≡ before ++ take count buffer
@@ -30,11 +31,14 @@ module _ {T : Type 0} (calls : Calls T) where
 
   -- one read, with room for at least one byte, found the end
   abbrev pub FindsEnd : T → T → Type 0
-  FindsEnd old new = (buffer : List ℕ) × (0 < length buffer) × calls.reads old buffer (Ok 0) new
+  FindsEnd old new =
+      (buffer_before : List ℕ) × (buffer : List ℕ) × (0 < length buffer) × calls.reads old buffer_before buffer (Ok 0) new
 
   -- one read, with room for at least one byte, failed
   abbrev pub FailsToRead : T → T → Type 0
-  FailsToRead old new = (buffer : List ℕ) × (error : Error) × (0 < length buffer) × calls.reads old buffer (Err error) new
+  FailsToRead old new =
+      (buffer_before : List ℕ) × (buffer : List ℕ) × (error : Error) × (0 < length buffer)
+      × calls.reads old buffer_before buffer (Err error) new
 
   -- Reads gave these bytes. Where they ask for more, one read more found the end.
   abbrev pub ReadsAll : List ℕ → Asked → T → T → Type 0

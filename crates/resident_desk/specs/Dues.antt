@@ -40,6 +40,7 @@ list_fault (fault.RoomRepeated room) = fault_answer 422 (codes "RoomRepeated")
 abbrev pub refusal_answer : Refusal → Answer
 refusal_answer (refusal.BadPhase phase) = fault_answer 409 (codes "BadPhase")
 refusal_answer refusal.Withdrawn = fault_answer 409 (codes "Withdrawn")
+refusal_answer refusal.Going = fault_answer 409 (codes "Going")
 refusal_answer (refusal.UnknownRoom room) = fault_answer 422 (codes "UnknownRoom")
 refusal_answer (refusal.RoomShut room) = fault_answer 422 (codes "RoomShut")
 refusal_answer _ = unavailable_answer

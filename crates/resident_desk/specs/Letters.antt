@@ -22,5 +22,6 @@ pub record AreDrafts (drafts : Drafts) (body : List ℕ) : Type 0 where
   pub success : IsLetter drafts.success (success_answer body)
   pub bad_phase : IsLetter drafts.bad_phase (fault_answer 409 (codes "BadPhase"))
   pub withdrawn : IsLetter drafts.withdrawn (fault_answer 409 (codes "Withdrawn"))
+  pub going : IsLetter drafts.going (fault_answer 409 (codes "Going"))
   pub unknown_room : IsLetter drafts.unknown_room (fault_answer 422 (codes "UnknownRoom"))
   pub room_shut : IsLetter drafts.room_shut (fault_answer 422 (codes "RoomShut"))

@@ -2,7 +2,7 @@
 use Rattle.std.specs.Prelude.{◌≡◌, ℕ, true, List, Some}
 use Rattle.std.specs.FinMap as map
 use Rattle.room_types.specs.Texts.{Text}
-use Rattle.office_state.specs.Office.{choices_of, has_withdrawn, is_taken, owner, recorded_result}
+use Rattle.office_state.specs.Office.{choices_of, has_withdrawn, is_going, is_taken, owner, recorded_result}
 use Rattle.office_state.specs.Office.Phases.{is_published}
 use Rattle.office_state.specs.declared.office.Office.{Office}
 use Rattle.office_store.specs.Requests.{Handles}
@@ -10,12 +10,13 @@ use Rattle.resident_http.specs.Answers.{Answer}
 use Rattle.resident_http.specs.Asks.{Asks, ask}
 use Rattle.resident_desk.specs.Serving.{Serves}
 
--- All that is recorded of this person is the same: the name, the key and the home, the list, whether the person has
--- withdrawn, and, once it is published, the result.
+-- What a resident can learn of this person is the same: the name, the key and the home, the list, whether the person has
+-- withdrawn or leaves the college, and, once it is published, the result. The grade may differ.
 pub record AgreeOnPerson (a b : Office) (person : Text) : Type 0 where
   pub record_of : map.get a.people person ≡ map.get b.people person
   pub choices : choices_of a person ≡ choices_of b person
   pub withdrawn : has_withdrawn a person ≡ has_withdrawn b person
+  pub going : is_going a person ≡ is_going b person
   pub result : is_published a.phase ≡ true → recorded_result a person ≡ recorded_result b person
 
 -- The key belongs to the same person, if to anybody, and the offices agree on that person.
@@ -23,8 +24,8 @@ pub record AgreeOnKey (a b : Office) (key : Text) : Type 0 where
   pub whose : owner a key ≡ owner b key
   pub person : (person : Text) → owner a key ≡ Some person → AgreeOnPerson a b person
 
--- The rooms, which of them are occupied, the round and its phase are the same, and so is all that is recorded of whoever
--- the key of a request belongs to that the bytes ask.
+-- The rooms, which of them are occupied, the round and its phase are the same, and so is what can be learned of the person
+-- to whom the key of a request belongs that the bytes ask.
 pub record AgreeFor (bytes : List ℕ) (a b : Office) : Type 0 where
   pub rooms : a.rooms ≡ b.rooms
   pub occupied : (room : Text) → is_taken a room ≡ is_taken b room

@@ -16,6 +16,7 @@ pub struct Drafts {
     pub success: Letter,
     pub bad_phase: Letter,
     pub withdrawn: Letter,
+    pub going: Letter,
     pub unknown_room: Letter,
     pub room_shut: Letter,
 }
@@ -31,6 +32,7 @@ impl Drafts {
             success: success_letter(alloc, body)?,
             bad_phase: fault_letter(alloc, StatusCode::CONFLICT, "BadPhase")?,
             withdrawn: fault_letter(alloc, StatusCode::CONFLICT, "Withdrawn")?,
+            going: fault_letter(alloc, StatusCode::CONFLICT, "Going")?,
             unknown_room: fault_letter(alloc, StatusCode::UNPROCESSABLE_ENTITY, "UnknownRoom")?,
             room_shut: fault_letter(alloc, StatusCode::UNPROCESSABLE_ENTITY, "RoomShut")?,
         })
@@ -45,6 +47,7 @@ impl Drafts {
             Answer::Reply(_) => Ok(self.success),
             Answer::Refused(Refusal::BadPhase(_)) => Ok(self.bad_phase),
             Answer::Refused(Refusal::Withdrawn) => Ok(self.withdrawn),
+            Answer::Refused(Refusal::Going) => Ok(self.going),
             Answer::Refused(Refusal::UnknownRoom(_)) => Ok(self.unknown_room),
             Answer::Refused(Refusal::RoomShut(_)) => Ok(self.room_shut),
             Answer::Refused(_) | Answer::Unavailable => Err(NoLetter),

@@ -35,6 +35,7 @@ choices_data choices = object (member (codes "choices") (text_array choices) no_
 abbrev pub standing_data : Standing → Data
 standing_data standing =
     object (member (codes "choices") (text_array standing.choices)
+    (member (codes "going") (boolean standing.going)
     (member (codes "home") (text_or_null standing.home)
     (member (codes "name") (string standing.name)
     (member (codes "person") (string standing.person)
@@ -42,7 +43,7 @@ standing_data standing =
     (member (codes "result") (text_or_null standing.result)
     (member (codes "round") (number (unsigned standing.round))
     (member (codes "shown") (boolean standing.shown)
-    (member (codes "withdrawn") (boolean standing.withdrawn) no_members)))))))))
+    (member (codes "withdrawn") (boolean standing.withdrawn) no_members))))))))))
 
 -- a room and its state, without who lives there
 abbrev pub room_data : RoomRow → Data

@@ -28,7 +28,7 @@ name_of status =
 abbrev pub fault_names : ℕ → List Text
 fault_names status =
     if status == 405 then []
-    else if status == 409 then codes "BadPhase" ∷ codes "Withdrawn" ∷ []
+    else if status == 409 then codes "BadPhase" ∷ codes "Withdrawn" ∷ codes "Going" ∷ []
     else if status == 422 then codes "TooManyChoices" ∷ codes "RoomRepeated" ∷ codes "UnknownRoom" ∷ codes "RoomShut" ∷ []
     else if is_one_fault status then name_of status ∷ []
     else []

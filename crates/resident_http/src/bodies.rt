@@ -75,6 +75,7 @@ fn standing_value(alloc: Global, standing: &Standing) -> Result<Value, AllocErro
     ensures { IfOk result (λ value. view value ≡ standing_data standing.now) }
 {
     let choices = text_array(alloc, standing.choices.as_slice())?;
+    let going = standing.going;
     let home = json_text_or_null(alloc, &standing.home)?;
     let name = standing.name.as_str();
     let person = standing.person.as_str();
@@ -85,6 +86,7 @@ fn standing_value(alloc: Global, standing: &Standing) -> Result<Value, AllocErro
     let withdrawn = standing.withdrawn;
     json!(in alloc; {
         "choices": choices,
+        "going": going,
         "home": home,
         "name": name,
         "person": person,

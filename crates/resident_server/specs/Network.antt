@@ -6,8 +6,8 @@ use Rattle.room_types.specs.declared.stream.Stream.{Ghosts as Calls}
 use Rattle.room_types.specs.declared.watched.Watched.{Watched}
 
 -- What ports, sockets and connections do. Listening on a port gives a socket or fails, and a socket is closed; a socket accepts
--- connections, after some output, and a connection is closed. Each relates a state to the next. Of a connection, the bytes that
--- are left to read and those that were written, where they are known, and what its calls do.
+-- connections and closes them, each after some output. Each relates a state to the next. Of a connection, the bytes that are left
+-- to read and those that were written, where they are known, and what its calls do.
 pub record Network (P : Type 0) : Type 1 where
   pub Socket : Type 0
   pub Stream : Type 0
@@ -15,14 +15,14 @@ pub record Network (P : Type 0) : Type 1 where
   pub remaining : Stream → Option (List ℕ)
   pub contents : Stream → Option (List ℕ)
   pub accepts : Socket → Output → Option (Watched Stream) → Socket → Type 0
-  pub closes : Socket → Watched Stream → Socket → Type 0
+  pub closes : Socket → Output → Watched Stream → Socket → Type 0
   pub listens : P → ℕ → Socket → P → Type 0
   pub fails : P → ℕ → P → Type 0
   pub stops : P → Socket → P → Type 0
 
 -- the same, from the ghost members of the traits `Ports` and `Listener`
-abbrev pub network_of : {P L T : Type 0} → (T → List ℕ → Result ℕ Error → T → Type 0) → (T → List ℕ → Result ℕ Error → T → Type 0) → (T → Result ⊤ Error → T → Type 0)
-    → (T → Option (List ℕ)) → (T → Option (List ℕ)) → (L → Output → Option (Watched T) → L → Type 0) → (L → Watched T → L → Type 0)
+abbrev pub network_of : {P L T : Type 0} → (T → List ℕ → List ℕ → Result ℕ Error → T → Type 0) → (T → List ℕ → Result ℕ Error → T → Type 0) → (T → Result ⊤ Error → T → Type 0)
+    → (T → Option (List ℕ)) → (T → Option (List ℕ)) → (L → Output → Option (Watched T) → L → Type 0) → (L → Output → Watched T → L → Type 0)
     → (P → ℕ → L → P → Type 0) → (P → ℕ → P → Type 0) → (P → L → P → Type 0) → Network P
 network_of {L = L} {T = T} reads writes flushes remaining contents accepts closes listens fails stops = record {
   Socket = L;

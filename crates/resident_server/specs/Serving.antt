@@ -28,8 +28,8 @@ module _ {S : Type 0} (g : Ghosts S) where
     pub serves : HasCleanDisk (state g new.conn) → (office : Office) → StandsFor g old office
         → (next : Office) × Converses calls Handles served office next before after × StandsFor g new next
 
-  module _ {L T : Type 0} (calls : Calls T) (remaining contents : T → Option (List ℕ)) (accepts : L → Output → Option (Watched T) → L → Type 0) (closes : L → Watched T → L → Type 0) (said : Output) where
-    -- A connection was accepted, unused; it had its conversation, and was closed. No call of it was wasted.
+  module _ {L T : Type 0} (calls : Calls T) (remaining contents : T → Option (List ℕ)) (accepts : L → Output → Option (Watched T) → L → Type 0) (closes : L → Output → Watched T → L → Type 0) (said : Output) where
+    -- A connection was accepted, unused; it had its conversation, and was closed before more was said. No call of it was wasted.
     pub record Serves (listener : L) (old : DeskState S) (listener' : L) (new : DeskState S) : Type 0 where
       pub between : L
       pub before : Watched T
@@ -39,7 +39,7 @@ module _ {S : Type 0} (g : Ghosts S) where
       pub talks : Talks calls old new (connection_of remaining contents before) (connection_of remaining contents after)
       pub few : watched_reads after ≤ connection_limit
       pub no_wasted : StopsAtEnd before after
-      pub closed : closes between after listener'
+      pub closed : closes between said after listener'
 
     -- A connection was asked for: one was served, or none could be accepted and nothing happened.
     abbrev pub MeetsOne : L → DeskState S → L → DeskState S → Type 0
@@ -52,10 +52,10 @@ module _ {S : Type 0} (g : Ghosts S) where
     MeetsEach listener old (suc count) listener' new =
         (middle : L) × (between : DeskState S) × MeetsEach listener old count middle between × MeetsOne middle between listener' new
 
-  module _ {L T : Type 0} (calls : Calls T) (remaining contents : T → Option (List ℕ)) (accepts : L → Output → Option (Watched T) → L → Type 0) (closes : L → Watched T → L → Type 0) where
-    -- It was said on which port the server listens, and flushed; then each connection was met, with nothing more said until it was
-    -- said how many they were. Or memory was wanting for what is said, or it could not be said that the server listens; then
-    -- no connection was asked for.
+  module _ {L T : Type 0} (calls : Calls T) (remaining contents : T → Option (List ℕ)) (accepts : L → Output → Option (Watched T) → L → Type 0) (closes : L → Output → Watched T → L → Type 0) where
+    -- It was said on which port the server listens, and flushed; then each connection was met, with nothing more said until the
+    -- last one was closed; then it was said how many they were. Or memory was wanting for what is said, or it could not be said
+    -- that the server listens; then no connection was asked for.
     abbrev pub ServesAll : L → DeskState S → L → DeskState S → ℕ → ℕ → ℕ → Output → Output → Type 0
     ServesAll listener old listener' new port count status out out' =
         ((said : Output) × Says (listening_text port) 0 0 out said × MeetsEach calls remaining contents accepts closes said listener old count listener' new

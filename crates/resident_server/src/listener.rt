@@ -19,8 +19,8 @@ pub trait Listener {
     /// After this output was written, an accept returned this connection, or none, and led from the one state to the other.
     ghost accepts: { Self → Output → Option (Watched Self.Stream) → Self → Type 0 } = { λ _ _ _ _. ⊤ };
 
-    /// Closing this connection led from the one state to the other.
-    ghost closes: { Self → Watched Self.Stream → Self → Type 0 } = { λ _ _ _. ⊤ };
+    /// After this output was written, closing this connection led from the one state to the other.
+    ghost closes: { Self → Output → Watched Self.Stream → Self → Type 0 } = { λ _ _ _ _. ⊤ };
 
     /// The next connection, for which it may wait, or none where one could not be accepted. It is watched from the start, and
     /// not yet used. The output is what was written before.
@@ -28,9 +28,9 @@ pub trait Listener {
         ensures accepts { accepts self.old (output_of W.contents said.now) result self.new }
         ensures unused { IfSome result IsUnused };
 
-    /// Closes a connection.
-    fn close(&mut self, connection: Watched<Self::Stream>)
-        ensures { closes self.old connection self.new };
+    /// Closes a connection. The output is what was written before.
+    fn close<W: Write>(&mut self, connection: Watched<Self::Stream>, said: &Watched<W>)
+        ensures { closes self.old (output_of W.contents said.now) connection self.new };
 }
 
 impl Listener for TcpListener {
@@ -43,7 +43,7 @@ impl Listener for TcpListener {
         }
     }
 
-    fn close(&mut self, connection: Watched<TcpStream>)
+    fn close<W: Write>(&mut self, connection: Watched<TcpStream>, _said: &Watched<W>)
         ensures { ⊤ }
     {
         drop(connection);

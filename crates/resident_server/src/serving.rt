@@ -27,7 +27,8 @@ pub fn serve_port<S: Alter, P: Ports, W: Write>(
     output: &mut Watched<W>,
 ) -> u8
     ensures no_wasted_write { StopsAtFailure output.old output.new }
-    ensures serves { let network = network_of P.Socket.Stream.reads P.Socket.Stream.writes P.Socket.Stream.flushes
+    ensures serves { let network = network_of
+        P.Socket.Stream.reads P.Socket.Stream.writes P.Socket.Stream.flushes
         P.Socket.Stream.remaining P.Socket.Stream.contents
         P.Socket.accepts P.Socket.closes P.listens P.fails P.stops in
         ServesPort S.Store network ports.old desk.old ports.new desk.new port count result
@@ -44,9 +45,9 @@ pub fn serve_port<S: Alter, P: Ports, W: Write>(
     }
 }
 
-/// Says `listening on 127.0.0.1:PORT`, meets so many connections one after the other, and says `served COUNT`. Both lines are
-/// made first, so that memory is wanting before anybody is served or not at all. Where the first line can't be said, no
-/// connection is asked for. Gives the exit status.
+/// Says `listening on 127.0.0.1:PORT`, meets so many connections one after the other, and says `served COUNT` once the last of
+/// them is closed. Both lines are made first, so that memory is wanting before anybody is served or not at all. Where the first
+/// line can't be said, no connection is asked for. Gives the exit status.
 pub fn serve_listener<S: Alter, L: Listener, W: Write>(
     alloc: Global,
     desk: &mut Desk<S>,
@@ -102,7 +103,7 @@ fn meet_one<S: Alter, L: Listener, W: Write>(
         None => return,
     };
     let _served = serve_one(alloc, desk, &mut connection);
-    listener.close(connection);
+    listener.close(connection, said);
 }
 
 // What is said before and after.

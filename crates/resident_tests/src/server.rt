@@ -53,7 +53,7 @@ impl<'a> Listener for Script<'a> {
         }
     }
 
-    fn close(&mut self, connection: Watched<Pair<&'a [u8], Vec<u8>>>)
+    fn close<W: Write>(&mut self, connection: Watched<Pair<&'a [u8], Vec<u8>>>, _said: &Watched<W>)
         ensures { ⊤ }
     {
         let _ = self.written.push(connection.into_inner().writer);
@@ -78,7 +78,7 @@ const COMING: [Option<&[u8]>; 5] = [
 ];
 
 const TIM_TAN: &[u8] =
-    b"person T1\nname Tim Tan\nhome H1\nround 1 open\nchoices H2\nwithdrawn yes\nresult hidden\n";
+    b"person T1\nname Tim Tan\nhome H1\nround 1 open\nchoices H2\nwithdrawn yes\ngoing no\nresult hidden\n";
 
 // What the office says to this line.
 fn said(alloc: Global, desk: &mut Desk<MemStore>, line: &str) -> Vec<u8> {

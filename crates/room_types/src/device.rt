@@ -9,19 +9,19 @@ use std::io::{Read, Result, Write};
 /// A reader each of whose reads is a relation between its states. `Read` has no word for that it was called; generic code can
 /// show `reads` only by one call.
 pub trait Source: Read {
-    /// One read filled the buffer to these bytes, had this result, and led from the one state to the other.
-    ghost reads: { Self → List ℕ → Result ℕ Error → Self → Type 0 };
+    /// One read of a buffer that held the first bytes left the second in it, had this result, and led from the one state to the other.
+    ghost reads: { Self → List ℕ → List ℕ → Result ℕ Error → Self → Type 0 };
 
     /// `read`, once.
     fn read_once(&mut self, buf: &mut [u8]) -> Result<usize>
         ensures bound { ReadsAtMost result buf.new }
         ensures bytes { ReadConsumes (Self.remaining self.old) (Self.remaining self.new) result
             buf.new }
-        ensures called { reads self.old buf.new result self.new };
+        ensures called { reads self.old buf.old buf.new result self.new };
 }
 
 impl<R: Read> Source for R {
-    ghost reads = { λ _ _ _ _. ⊤ };
+    ghost reads = { λ _ _ _ _ _. ⊤ };
 
     fn read_once(&mut self, buf: &mut [u8]) -> Result<usize> {
         self.read(buf)

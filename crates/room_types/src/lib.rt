@@ -1,9 +1,10 @@
-//! The small types of a college's room exchange: texts, words, lists of rooms, maps, and streams that are watched.
+//! The small types of a college's room exchange: texts, words, grades, lists of rooms, maps, and streams that are watched.
 #![tactic(auto)]
 
 pub mod choices;
 pub mod device;
 pub mod fault;
+pub mod grade;
 pub mod grammars;
 pub mod kinds;
 pub mod laws;
@@ -21,13 +22,14 @@ pub mod word;
 pub use crate::choices::{CHOICE_LIMIT, Choices};
 pub use crate::device::{Sink, Source};
 pub use crate::fault::{OutOfMemory, TypeFault};
+pub use crate::grade::{GRADE_LIMIT, Grade};
 pub use crate::grammars::{Key, Label, Name, PersonId, RoomCode};
 pub use crate::kinds::ListKind;
 pub use crate::laws::one_arrangement;
 pub use crate::listing::Listing;
 pub use crate::moves::{Move, Wave};
 pub use crate::phase::Phase;
-pub use crate::rows::{PersonRow, ResultRow, RoomRow, State};
+pub use crate::rows::{GradeRow, PersonRow, ResultRow, RoomRow, State};
 pub use crate::stream::Stream;
 pub use crate::table::{Copied, Table};
 pub use crate::text::{Grammar, Text};

@@ -12,8 +12,8 @@ use std::alloc::AllocError;
 pub enum Wave {
     /// The movers pass their rooms round in a circle, so that none can be the first.
     Swap,
-    /// The first wave moves into rooms that nobody leaves, and each further one into rooms that the wave before has
-    /// left.
+    /// Wave 0 leaves the college. The first wave moves into rooms that nobody leaves, or that wave 0 has left, and each
+    /// further one into rooms that the wave before has left.
     Nth(u16),
 }
 
@@ -25,7 +25,7 @@ pub struct Move {
     pub person: PersonId,
     /// The old room, or none for a newcomer.
     pub from: Option<RoomCode>,
-    /// The new room.
+    /// The new room, or none for somebody who leaves the college.
     pub to: Option<RoomCode>,
     pub wave: Wave,
 }

@@ -2,6 +2,7 @@
 ghost use Rattle.std.specs.Prelude.{◌≡◌, IfOk, IsSome, OnErr, Some};
 ghost use Rattle.room_types.specs.Rows.{state_text};
 
+use crate::grade::Grade;
 use crate::grammars::{Name, PersonId, RoomCode};
 use crate::text::{Grammar, Text};
 use std::alloc::AllocError;
@@ -53,6 +54,13 @@ pub struct PersonRow {
     pub person: PersonId,
     pub name: Name,
     pub home: Option<RoomCode>,
+}
+
+/// A person's grade.
+#[derive(Debug, Drop)]
+pub struct GradeRow {
+    pub person: PersonId,
+    pub grade: Grade,
 }
 
 /// What a participant of a round gets.

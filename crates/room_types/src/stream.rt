@@ -11,8 +11,8 @@ use std::net::TcpStream;
 /// A reader and writer in one. `Read` alone says nothing of what was written, and `Write` nothing of what is left to read; here a
 /// read keeps the one and a write the other. As with `Source` and `Sink`, each call is a relation between the states of the stream.
 pub trait Stream: Read + Write {
-    /// One read filled the buffer to these bytes, had this result, and led from the one state to the other.
-    ghost reads: { Self → List ℕ → Result ℕ Error → Self → Type 0 };
+    /// One read of a buffer that held the first bytes left the second in it, had this result, and led from the one state to the other.
+    ghost reads: { Self → List ℕ → List ℕ → Result ℕ Error → Self → Type 0 };
 
     /// One write of these bytes had this result and led from the one state to the other.
     ghost writes: { Self → List ℕ → Result ℕ Error → Self → Type 0 };
@@ -26,7 +26,7 @@ pub trait Stream: Read + Write {
         ensures bytes { ReadConsumes (Self.remaining self.old) (Self.remaining self.new) result
             buf.new }
         ensures kept { Keeps (Self.contents self.old) (Self.contents self.new) }
-        ensures called { reads self.old buf.new result self.new };
+        ensures called { reads self.old buf.old buf.new result self.new };
 
     /// `write`, which keeps what is left to read.
     fn write_some(&mut self, buf: &[u8]) -> Result<usize>
@@ -44,7 +44,7 @@ pub trait Stream: Read + Write {
 }
 
 impl Stream for TcpStream {
-    ghost reads = { λ _ _ _ _. ⊤ };
+    ghost reads = { λ _ _ _ _ _. ⊤ };
 
     ghost writes = { λ _ _ _ _. ⊤ };
 
@@ -91,7 +91,7 @@ impl<R, W: Write> Write for Pair<R, W> {
 }
 
 impl<R: Source, W: Sink> Stream for Pair<R, W> {
-    ghost reads = { λ old buf result new. R.reads old.reader buf result new.reader
+    ghost reads = { λ old before after result new. R.reads old.reader before after result new.reader
         × (new.writer ≡ old.writer) };
 
     ghost writes = { λ old buf result new. W.writes old.writer buf result new.writer

@@ -5,7 +5,7 @@ use crate::asserting::assert_same;
 use draw_order::{order, words_from};
 use rand_core::Rng;
 use rand_core::utils::{self, NextWord};
-use room_types::{PersonId, Word};
+use room_types::{Grade, PersonId, Word};
 use std::alloc::Global;
 use std::marker::Model;
 use std::process::Abort;
@@ -73,9 +73,9 @@ fn no_words_are_drawn_for_nobody(rt: HostRuntime) -> Result<(), Fail> {
 fn equal_words_by_identifier(rt: HostRuntime) -> Result<(), Fail> {
     let alloc = rt.alloc();
     let lots = vec![in alloc;
-        (person(&rt, alloc, "E1"), Word::new(5)),
-        (person(&rt, alloc, "E2"), Word::new(5)),
-        (person(&rt, alloc, "E3"), Word::new(0)),
+        (person(&rt, alloc, "E1"), Grade::first(), Word::new(5)),
+        (person(&rt, alloc, "E2"), Grade::first(), Word::new(5)),
+        (person(&rt, alloc, "E3"), Grade::first(), Word::new(0)),
     ]?;
     let people = order(alloc, &lots)?;
     assert!(rt;
@@ -83,6 +83,30 @@ fn equal_words_by_identifier(rt: HostRuntime) -> Result<(), Fail> {
             if first.as_str() == "E3" && second.as_str() == "E1" && third.as_str() == "E2")
     );
     Ok(())
+}
+
+// The same draw, where who has the least word has grade 1.
+#[test]
+fn a_smaller_grade_before_a_smaller_word(rt: HostRuntime) -> Result<(), Fail> {
+    let alloc = rt.alloc();
+    let lots = vec![in alloc;
+        (person(&rt, alloc, "E1"), Grade::first(), Word::new(5)),
+        (person(&rt, alloc, "E2"), Grade::first(), Word::new(5)),
+        (person(&rt, alloc, "E3"), grade(&rt, "1"), Word::new(0)),
+    ]?;
+    let people = order(alloc, &lots)?;
+    assert!(rt;
+        matches!(people.as_slice(), [first, second, third]
+            if first.as_str() == "E1" && second.as_str() == "E2" && third.as_str() == "E3")
+    );
+    Ok(())
+}
+
+fn grade(rt: &impl Abort, text: &str) -> Grade {
+    match Grade::read(text) {
+        Ok(grade) => grade,
+        Err(_) => panic!(rt; "{text} is no grade"),
+    }
 }
 
 fn person(rt: &impl Abort, alloc: Global, text: &str) -> PersonId {

@@ -142,6 +142,32 @@ fn waves_of_a_chain(rt: HostRuntime) -> Result<(), Fail> {
     Ok(())
 }
 
+// T2 leaves the college, and T1 comes to that room.
+#[test]
+fn waves_and_move_day_of_somebody_who_leaves(rt: HostRuntime) -> Result<(), Fail> {
+    let alloc = rt.alloc();
+    let entries = vec![in alloc;
+        entry(&rt, alloc, "T1", Some("H1"), "H2"),
+        (
+            text(&rt, alloc, "T2"),
+            optional(&rt, alloc, Some("H2")),
+            None
+        ),
+    ]?;
+    let waves = waves(alloc, &entries)?;
+    assert_same!(rt; waves.as_slice(), [Wave::Nth(1), Wave::Nth(0)].as_slice());
+    let moves = vec![in alloc;
+        moved(&rt, alloc, 1, "T1", Some("H1"), "H2", Wave::Nth(1)),
+        gone(&rt, alloc, 1, "T2", "H2"),
+    ]?;
+    let table = move_day_text(alloc, &moves)?;
+    assert_same!(rt;
+        table.as_str(),
+        "wave  person        from      to\n0     T2            H2        none\n1     T1            H1        H2\n"
+    );
+    Ok(())
+}
+
 fn entry(rt: &impl Abort, alloc: Global, person: &str, from: Option<&str>, to: &str) -> Mover
     ensures { result.2 ≡ Some to.now }
 {
@@ -224,5 +250,15 @@ fn moved(
         from: optional(rt, alloc, from),
         to: Some(text(rt, alloc, to)),
         wave,
+    }
+}
+
+fn gone(rt: &impl Abort, alloc: Global, round: u16, person: &str, from: &str) -> Move {
+    Move {
+        round,
+        person: text(rt, alloc, person),
+        from: Some(text(rt, alloc, from)),
+        to: None,
+        wave: Wave::Nth(0),
     }
 }

@@ -1,9 +1,10 @@
-//! A desk lets its database go, and another one takes it over.
-ghost use Rattle.std.specs.Prelude.{◌≡◌, false, IfOk};
+//! A desk lets its database go, and another one takes it over; and desks take over databases that statements made.
+ghost use Rattle.std.specs.Prelude.{◌≡◌, false, IfErr, IfOk};
 
 use crate::asking::{furnish, let_go, lines_asked, office_after};
 use crate::refused::verdict;
 use crate::same::is_same_office;
+use crate::tables::Tables;
 use office_state::Office;
 use office_store::{Back, Desk, DeskFault, Request};
 use room_types::OutOfMemory;
@@ -15,18 +16,64 @@ use std::alloc::Global;
 pub fn office_is_adopted(alloc: Global, texts: &[&str]) -> Result<bool, OutOfMemory> {
     let requests = lines_asked(alloc, texts)?;
     let office = office_after(alloc, &requests)?;
-    adopted_judged(alloc, &requests, &office)
+    let connection = connection_after(alloc, &requests)?;
+    taken_judged(alloc, connection, false, &office)
 }
 
-fn adopted_judged(
+/// The same of a database in which these tables are made.
+pub fn office_is_brought_over(alloc: Global, tables: &Tables) -> Result<bool, OutOfMemory> {
+    let requests = lines_asked(alloc, tables.lines)?;
+    let office = office_after(alloc, &requests)?;
+    let connection = tables_made(alloc, tables.statements)?;
+    taken_judged(alloc, connection, tables.are_earlier, &office)
+}
+
+fn tables_made(alloc: Global, statements: &[&str]) -> Result<Connection<MemStore>, OutOfMemory>
+    ensures { IfOk result (λ connection. connection.in_transaction ≡ false) }
+{
+    let Ok(mut connection) = Connection::open_in_memory(alloc) else {
+        return Err(OutOfMemory {});
+    };
+    for statement in statements {
+        if connection.execute_batch(statement).is_err() {
+            return Err(OutOfMemory {});
+        }
+    }
+    let outside = connection.is_autocommit();
+    if outside {
+        Ok(connection)
+    } else {
+        Err(OutOfMemory {})
+    }
+}
+
+fn taken_judged(
     alloc: Global,
-    requests: &[Request],
+    connection: Connection<MemStore>,
+    are_earlier: bool,
     office: &Office,
-) -> Result<bool, OutOfMemory> {
-    let connection = connection_after(alloc, requests)?;
-    match Desk::adopt(alloc, connection) {
+) -> Result<bool, OutOfMemory>
+    requires { connection.in_transaction ≡ false }
+{
+    match taken(alloc, connection, are_earlier) {
         Ok(desk) => shown_judged(alloc, desk, office, 0),
-        Err(back) => back_judged(alloc, back, office),
+        Err(back) => back_judged(alloc, back, are_earlier, office),
+    }
+}
+
+// The desk that adopts the database, or migrates it where its tables are of an earlier version.
+fn taken(
+    alloc: Global,
+    connection: Connection<MemStore>,
+    are_earlier: bool,
+) -> Result<Desk<MemStore>, Back<MemStore>>
+    requires { connection.in_transaction ≡ false }
+    ensures { IfErr result (λ back. back.connection.in_transaction ≡ false) }
+{
+    if are_earlier {
+        Desk::migrate(alloc, connection)
+    } else {
+        Desk::adopt(alloc, connection)
     }
 }
 
@@ -49,13 +96,18 @@ fn connection_after(
     }
 }
 
-fn back_judged(alloc: Global, back: Back<MemStore>, office: &Office) -> Result<bool, OutOfMemory>
+fn back_judged(
+    alloc: Global,
+    back: Back<MemStore>,
+    are_earlier: bool,
+    office: &Office,
+) -> Result<bool, OutOfMemory>
     requires { back.connection.in_transaction ≡ false }
 {
     if back.fault != DeskFault::Unavailable {
         return Ok(false);
     }
-    match Desk::adopt(alloc, back.connection) {
+    match taken(alloc, back.connection, are_earlier) {
         Ok(desk) => shown_judged(alloc, desk, office, 1),
         Err(_) => Ok(false),
     }

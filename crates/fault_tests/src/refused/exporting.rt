@@ -9,20 +9,21 @@ use room_types::{OutOfMemory, Watched};
 use sqlite::MemStore;
 use std::alloc::Global;
 
-// What is exported after the year.
-const EXPORTS: [(ExportKind, &str); 3] = [
+// What is exported after the year in which T2 leaves.
+const EXPORTS: [(ExportKind, &str); 4] = [
     (
         ExportKind::Rooms,
-        "room,state,tenant\nH1,occupied,T2\nH2,occupied,T1\nV,occupied,N\n",
+        "room,state,tenant\nH1,occupied,N\nH2,occupied,T1\nV,free,\n",
     ),
     (
         ExportKind::People,
-        "person,name,home\nN,Nia Noor,V\nT1,Tim Tan,H2\nT2,Tom Tao,H1\n",
+        "person,name,home\nN,Nia Noor,H1\nT1,Tim Tan,H2\nT2,Tom Tao,\n",
     ),
     (
         ExportKind::Moves,
-        "round,wave,person,from,to\n1,1,N,,V\n1,swap,T1,H1,H2\n1,swap,T2,H2,H1\n",
+        "round,wave,person,from,to\n1,2,N,,H1\n1,1,T1,H1,H2\n1,0,T2,H2,\n",
     ),
+    (ExportKind::Grades, "person,grade\nN,2\nT1,0\nT2,0\n"),
 ];
 
 /// Whether the exports after the lines of these texts are written, each whole or a front of it that is told, and the office stays.

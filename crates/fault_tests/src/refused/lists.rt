@@ -1,13 +1,14 @@
 //! Lists are read, good and bad ones.
 use crate::refused::verdict;
 use office_lists::{
-    ChoicesEntry, ListFault, PersonEntry, or_none, read_choices, read_people, read_rooms,
+    ChoicesEntry, ListFault, PersonEntry, or_none, read_choices, read_grades, read_people,
+    read_rooms,
 };
-use room_types::{ListKind, OutOfMemory, RoomCode};
+use room_types::{GradeRow, ListKind, OutOfMemory, RoomCode};
 use std::alloc::{AllocError, Global};
 
 // Lists, and what is read of them.
-const LISTS: [(ListKind, &str, &str); 6] = [
+const LISTS: [(ListKind, &str, &str); 8] = [
     (ListKind::Rooms, "room\nH1\nH2\n", "H1;H2;"),
     (
         ListKind::Rooms,
@@ -34,6 +35,12 @@ const LISTS: [(ListKind, &str, &str); 6] = [
         "person,choices\nE1,H1 H2\nE2,H1 H2 H1\n",
         "Bad { at: 2, cause: BadField(2) }",
     ),
+    (ListKind::Grades, "person,grade\nE1,3\nE2,0\n", "E1 3;E2 0;"),
+    (
+        ListKind::Grades,
+        "person,grade\nE1,3\nE2,10\n",
+        "Bad { at: 2, cause: BadField(2) }",
+    ),
 ];
 
 /// Whether each list is read, or refused for its first bad record.
@@ -58,6 +65,7 @@ fn read_as(alloc: Global, kind: ListKind, list: &[u8]) -> Result<String, OutOfMe
         ListKind::Rooms => rooms_text(alloc, list),
         ListKind::People => people_text(alloc, list),
         ListKind::Choices => choices_text(alloc, list),
+        ListKind::Grades => grades_text(alloc, list),
     }
 }
 
@@ -117,6 +125,27 @@ fn entries_joined(alloc: Global, entries: &[ChoicesEntry]) -> Result<String, Out
         text.push_str(rooms.as_str())?;
     }
     Ok(text)
+}
+
+fn grades_text(alloc: Global, list: &[u8]) -> Result<String, OutOfMemory> {
+    match read_grades(alloc, list) {
+        Ok(grades) => grades_joined(alloc, &grades),
+        Err(fault) => fault_text(alloc, fault),
+    }
+}
+
+fn grades_joined(alloc: Global, grades: &[GradeRow]) -> Result<String, OutOfMemory> {
+    let mut text = String::new(alloc);
+    for row in grades {
+        text.push_str(grade_text(alloc, row)?.as_str())?;
+    }
+    Ok(text)
+}
+
+fn grade_text(alloc: Global, row: &GradeRow) -> Result<String, AllocError> {
+    let person = row.person.as_str();
+    let grade = row.grade;
+    format!(in alloc; "{person} {grade};")
 }
 
 fn fault_text(alloc: Global, fault: ListFault) -> Result<String, OutOfMemory> {

@@ -128,7 +128,7 @@ pub const FAULTS: [Step; 5] = [
 const SHOWN: Step = Step {
     lines: "choose T1 H2\nclose\ndraw 0000000000000001 0000000000000002\nrun\n",
     request: "GET /me HTTP/1.1\r\nHost: a\r\nRoom-Key: key00000000000t1\r\n\r\n",
-    body: "{\"choices\":[\"H2\"],\"home\":\"H1\",\"name\":\"Tim Tan\",\"person\":\"T1\",\"phase\":\"ran\",\"result\":null,\"round\":1,\"shown\":false,\"withdrawn\":false}",
+    body: "{\"choices\":[\"H2\"],\"going\":false,\"home\":\"H1\",\"name\":\"Tim Tan\",\"person\":\"T1\",\"phase\":\"ran\",\"result\":null,\"round\":1,\"shown\":false,\"withdrawn\":false}",
     records: "",
     ..RECORDED
 };
@@ -138,7 +138,7 @@ pub const RESULTS: [Step; 2] = [
     SHOWN,
     Step {
         lines: "publish\n",
-        body: "{\"choices\":[\"H2\"],\"home\":\"H1\",\"name\":\"Tim Tan\",\"person\":\"T1\",\"phase\":\"published\",\"result\":\"H2\",\"round\":1,\"shown\":true,\"withdrawn\":false}",
+        body: "{\"choices\":[\"H2\"],\"going\":false,\"home\":\"H1\",\"name\":\"Tim Tan\",\"person\":\"T1\",\"phase\":\"published\",\"result\":\"H2\",\"round\":1,\"shown\":true,\"withdrawn\":false}",
         ..SHOWN
     },
 ];

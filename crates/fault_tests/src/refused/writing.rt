@@ -1,8 +1,9 @@
 //! Rows are written as exports, one of each kind.
 use crate::refused::verdict;
-use office_lists::{WriteEnd, write_moves, write_people, write_rooms};
+use office_lists::{WriteEnd, write_grades, write_moves, write_people, write_rooms};
 use room_types::{
-    Move, Name, OutOfMemory, PersonId, PersonRow, RoomCode, RoomRow, State, Watched, Wave,
+    Grade, GradeRow, Move, Name, OutOfMemory, PersonId, PersonRow, RoomCode, RoomRow, State,
+    Watched, Wave,
 };
 use std::alloc::Global;
 
@@ -12,10 +13,17 @@ const PERSON: &[u8] = b"person,name,home\nT1,\"Tan, Tim\",H1\n";
 
 const MOVE: &[u8] = b"round,wave,person,from,to\n1,swap,T1,H1,H2\n";
 
+const GRADE: &[u8] = b"person,grade\nT1,0\n";
+
 /// Whether each export is written, whole or a front of it that is told.
 pub fn rows_are_sent(alloc: Global) -> Result<bool, OutOfMemory> {
     let mut all = 0usize;
-    for wanting in [room_sent(alloc)?, person_sent(alloc)?, move_sent(alloc)?] {
+    for wanting in [
+        room_sent(alloc)?,
+        person_sent(alloc)?,
+        move_sent(alloc)?,
+        grade_sent(alloc)?,
+    ] {
         let Some(wanting) = wanting else {
             return Ok(false);
         };
@@ -83,4 +91,14 @@ fn move_sent(alloc: Global) -> Result<Option<usize>, OutOfMemory> {
     let mut output = output(alloc)?;
     let ended = write_moves(alloc, &rows, &mut output);
     Ok(wanting_in(&ended, &output.into_inner(), MOVE))
+}
+
+fn grade_sent(alloc: Global) -> Result<Option<usize>, OutOfMemory> {
+    let rows = [GradeRow {
+        person: person(alloc)?,
+        grade: Grade::first(),
+    }];
+    let mut output = output(alloc)?;
+    let ended = write_grades(alloc, &rows, &mut output);
+    Ok(wanting_in(&ended, &output.into_inner(), GRADE))
 }

@@ -1,11 +1,13 @@
 //! What an office is asked while one of its files stops.
 use crate::asking::{ask_lines, ask_list, lines_asked, office_after};
-use crate::stops::files::{Calls, Held, files_of};
-use crate::stops::visits::{Visit, visit_files};
-use crate::texts::{CHOICES, PEOPLE, REGISTER, ROOMS, ROUND};
+use crate::stops::files::{Calls, Held, StoppingFile, files_of};
+use crate::stops::visits::{Opening, Visit, visit_files, write_files};
+use crate::tables::Tables;
+use crate::texts::{CHOICES, GRADES, LEAVING, PEOPLE, REGISTER, ROOMS, ROUND};
 use office_state::Office;
 use office_store::Request;
 use room_types::{ListKind, OutOfMemory};
+use sqlite::Files;
 use std::alloc::Global;
 
 /// What is asked of an office, and what the office is before and after each request.
@@ -13,8 +15,8 @@ use std::alloc::Global;
 pub struct Story {
     /// What the files hold at first.
     pub held: Held,
-    /// Whether the office is made there first.
-    pub is_new: bool,
+    /// How the desk comes to its office.
+    pub opening: Opening,
     pub requests: Vec<Request>,
     pub offices: Vec<Office>,
 }
@@ -25,7 +27,7 @@ pub fn making(alloc: Global) -> Option<Story> {
     let offices = offices_of(alloc, &requests).ok()?;
     Some(Story {
         held: nothing_held(alloc),
-        is_new: true,
+        opening: Opening::Made,
         requests,
         offices,
     })
@@ -37,7 +39,40 @@ pub fn small_year(alloc: Global) -> Option<Story> {
     story_of(alloc, lines_asked(alloc, &texts).ok()?)
 }
 
-/// Lists that come in, one of them twice.
+/// A year with grades in which somebody leaves the college, and a round that is given up, in which somebody would have.
+pub fn year_of_leavers(alloc: Global) -> Option<Story> {
+    let texts = [REGISTER, LEAVING, "settle\nopen\ngoing T1\ncancel\n"];
+    story_of(alloc, lines_asked(alloc, &texts).ok()?)
+}
+
+/// An office comes out of these tables, and the round is settled.
+pub fn bringing_over(alloc: Global, tables: &Tables) -> Option<Story> {
+    let files = files_of(alloc, b"", b"", Calls::ALL)?;
+    let held = held_in(alloc, write_files(alloc, files, tables.statements)?)?;
+    let lines = lines_asked(alloc, tables.lines).ok()?;
+    let mut offices = Vec::new(alloc);
+    offices.push(office_after(alloc, &lines).ok()?).ok()?;
+    let requests = lines_asked(alloc, &["settle\n"]).ok()?;
+    offices.push(settled_office(alloc, tables)?).ok()?;
+    Some(Story {
+        held,
+        opening: if tables.are_earlier {
+            Opening::Earlier
+        } else {
+            Opening::Held
+        },
+        requests,
+        offices,
+    })
+}
+
+fn settled_office(alloc: Global, tables: &Tables) -> Option<Office> {
+    let mut requests = lines_asked(alloc, tables.lines).ok()?;
+    ask_lines(alloc, &mut requests, "settle\n").ok()?;
+    office_after(alloc, &requests).ok()
+}
+
+/// Lists that come in, two of them twice.
 pub fn coming_lists(alloc: Global) -> Option<Story> {
     story_of(alloc, lists_coming(alloc).ok()?)
 }
@@ -46,6 +81,8 @@ fn lists_coming(alloc: Global) -> Result<Vec<Request>, OutOfMemory> {
     let mut requests = Vec::new(alloc);
     ask_list(alloc, &mut requests, ListKind::Rooms, "r-1", ROOMS)?;
     ask_list(alloc, &mut requests, ListKind::People, "p-1", PEOPLE)?;
+    ask_list(alloc, &mut requests, ListKind::Grades, "g-1", GRADES)?;
+    ask_list(alloc, &mut requests, ListKind::Grades, "g-1", GRADES)?;
     ask_lines(alloc, &mut requests, "open\n")?;
     ask_list(alloc, &mut requests, ListKind::Choices, "c-1", CHOICES)?;
     ask_list(alloc, &mut requests, ListKind::Choices, "c-1", CHOICES)?;
@@ -58,7 +95,7 @@ fn story_of(alloc: Global, requests: Vec<Request>) -> Option<Story> {
     let held = empty_office_held(alloc)?;
     Some(Story {
         held,
-        is_new: false,
+        opening: Opening::Held,
         requests,
         offices,
     })
@@ -85,7 +122,7 @@ fn nothing_held(alloc: Global) -> Held {
 fn empty_office_held(alloc: Global) -> Option<Held> {
     let files = files_of(alloc, b"", b"", Calls::ALL)?;
     let making = Visit {
-        is_new: true,
+        opening: Opening::Made,
         requests: &[],
         is_read: false,
     };
@@ -93,6 +130,10 @@ fn empty_office_held(alloc: Global) -> Option<Held> {
     if made.fault.is_some() {
         return None;
     }
+    held_in(alloc, files)
+}
+
+fn held_in(alloc: Global, files: Files<StoppingFile>) -> Option<Held> {
     Some(Held {
         log: Vec::from_slice(alloc, files.log.inner().bytes()).ok()?,
         database: Vec::from_slice(alloc, files.db.inner().bytes()).ok()?,

@@ -17,11 +17,22 @@ const OPTIONS: Options = Options {
     seed: 7,
 };
 
+/// How a desk comes to the office in its files.
+#[derive(Clone, Copy, PartialEq, Eq, Drop)]
+pub enum Opening {
+    /// The office is made there.
+    Made,
+    /// It is the one that they hold.
+    Held,
+    /// It is the one that they hold in tables of an earlier version.
+    Earlier,
+}
+
 /// What is done at a desk over two files.
 #[derive(Clone, Copy, Drop)]
 pub struct Visit<'a> {
-    /// Whether the office is made there, or is the one that they hold.
-    pub is_new: bool,
+    /// How the desk comes to its office.
+    pub opening: Opening,
     /// What is asked, until a request is not answered by a reply.
     pub requests: &'a [Request],
     /// Whether the office is read at the end.
@@ -72,7 +83,7 @@ fn visit_over<S: Alter + Drop>(
 ) -> (Visited, S)
     requires { connection.in_transaction ≡ false }
 {
-    match desk_over(alloc, connection, visit.is_new) {
+    match desk_over(alloc, connection, visit.opening) {
         Ok(mut desk) => {
             let visited = visit_desk(alloc, &mut desk, visit);
             (visited, desk.release().into_store())
@@ -84,15 +95,39 @@ fn visit_over<S: Alter + Drop>(
 fn desk_over<S: Alter + Drop>(
     alloc: Global,
     connection: Connection<S>,
-    is_new: bool,
+    opening: Opening,
 ) -> Result<Desk<S>, Back<S>>
     requires { connection.in_transaction ≡ false }
 {
-    if is_new {
-        Desk::create(alloc, connection)
-    } else {
-        Desk::adopt(alloc, connection)
+    match opening {
+        Opening::Made => Desk::create(alloc, connection),
+        Opening::Held => Desk::adopt(alloc, connection),
+        Opening::Earlier => Desk::migrate(alloc, connection),
     }
+}
+
+/// Has these statements done over the files, and gives them back.
+pub fn write_files(
+    alloc: Global,
+    files: Files<StoppingFile>,
+    statements: &[&str],
+) -> Option<Files<StoppingFile>> {
+    if !files.may_be_used() {
+        return None;
+    }
+    match Connection::open_files(alloc, files, OPTIONS) {
+        Ok(connection) => written(connection, statements).map(|store| store.close()),
+        Err(_) => None,
+    }
+}
+
+fn written<S: Alter + Drop>(mut connection: Connection<S>, statements: &[&str]) -> Option<S> {
+    for statement in statements {
+        if connection.execute_batch(statement).is_err() {
+            return None;
+        }
+    }
+    Some(connection.into_store())
 }
 
 fn visit_desk<S: Alter + Drop>(alloc: Global, desk: &mut Desk<S>, visit: Visit<'_>) -> Visited {

@@ -21,6 +21,8 @@ alike_tables-alike-refl t = record {
   results = IsPermutation-refl t.results;
   moves = IsPermutation-refl t.moves;
   lists = IsPermutation-refl t.lists;
+  grades = IsPermutation-refl t.grades;
+  going = IsPermutation-refl t.going;
 }
 
 pub alike_tables-alike-trans : (a b c : Tables) → AreSameRows a b → AreSameRows b c → AreSameRows a c
@@ -33,6 +35,8 @@ alike_tables-alike-trans a b c h k = record {
   results = IsPermutation-trans _ _ _ h.results k.results;
   moves = IsPermutation-trans _ _ _ h.moves k.moves;
   lists = IsPermutation-trans _ _ _ h.lists k.lists;
+  grades = IsPermutation-trans _ _ _ h.grades k.grades;
+  going = IsPermutation-trans _ _ _ h.going k.going;
 }
 
 module _ (t : Tables) where
@@ -47,6 +51,8 @@ module _ (t : Tables) where
     results = still.results;
     moves = still.moves;
     lists = still.lists;
+    grades = still.grades;
+    going = still.going;
   }
 
   pub alike_tables-people_alike : (xs ys : List PersonRecord) → IsPermutation xs ys
@@ -60,6 +66,8 @@ module _ (t : Tables) where
     results = still.results;
     moves = still.moves;
     lists = still.lists;
+    grades = still.grades;
+    going = still.going;
   }
 
   pub alike_tables-choices_alike : (xs ys : List ChoiceRecord) → IsPermutation xs ys
@@ -73,6 +81,8 @@ module _ (t : Tables) where
     results = still.results;
     moves = still.moves;
     lists = still.lists;
+    grades = still.grades;
+    going = still.going;
   }
 
   pub alike_tables-words_alike : (xs ys : List (Text × ℕ)) → IsPermutation xs ys
@@ -86,6 +96,8 @@ module _ (t : Tables) where
     results = still.results;
     moves = still.moves;
     lists = still.lists;
+    grades = still.grades;
+    going = still.going;
   }
 
   pub alike_tables-results_alike : (xs ys : List (Text × Assigned)) → IsPermutation xs ys
@@ -99,6 +111,8 @@ module _ (t : Tables) where
     results = same;
     moves = still.moves;
     lists = still.lists;
+    grades = still.grades;
+    going = still.going;
   }
 
   pub alike_tables-moves_alike : (xs ys : List Move) → IsPermutation xs ys
@@ -112,6 +126,8 @@ module _ (t : Tables) where
     results = still.results;
     moves = same;
     lists = still.lists;
+    grades = still.grades;
+    going = still.going;
   }
 
   pub alike_tables-lists_alike : (xs ys : List (Text × KeptList)) → IsPermutation xs ys
@@ -125,4 +141,36 @@ module _ (t : Tables) where
     results = still.results;
     moves = still.moves;
     lists = same;
+    grades = still.grades;
+    going = still.going;
+  }
+
+  pub alike_tables-grades_alike : (xs ys : List (Text × ℕ)) → IsPermutation xs ys
+      → AreSameRows (record t { grades = xs }) (record t { grades = ys })
+  alike_tables-grades_alike xs ys same = let still = alike_tables-alike-refl t in record {
+    rooms = still.rooms;
+    people = still.people;
+    rounds = still.rounds;
+    choices = still.choices;
+    words = still.words;
+    results = still.results;
+    moves = still.moves;
+    lists = still.lists;
+    grades = same;
+    going = still.going;
+  }
+
+  pub alike_tables-going_alike : (xs ys : List Text) → IsPermutation xs ys
+      → AreSameRows (record t { going = xs }) (record t { going = ys })
+  alike_tables-going_alike xs ys same = let still = alike_tables-alike-refl t in record {
+    rooms = still.rooms;
+    people = still.people;
+    rounds = still.rounds;
+    choices = still.choices;
+    words = still.words;
+    results = still.results;
+    moves = still.moves;
+    lists = still.lists;
+    grades = still.grades;
+    going = same;
   }

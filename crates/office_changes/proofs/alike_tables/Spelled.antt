@@ -1,5 +1,5 @@
 -- What is written keeps the form of its table.
-use Rattle.std.proofs.Common.{ℕ, ◌<◌, ◌^◌, Bool, true, false, not, List, [], ◌∷◌, map, Option}
+use Rattle.std.proofs.Common.{ℕ, ◌<◌, ◌≤◌, ◌^◌, Bool, true, false, not, List, [], ◌∷◌, map, Option}
 use Rattle.std.proofs.Common.{cond, refl}
 use Rattle.std.specs.List.{All, AllByRecursion}
 use Rattle.std.proofs.lemmas.List.Elements.{All-nil, All-cons, recursion_from_All, All-from_recursion}
@@ -17,9 +17,9 @@ use Rattle.office_state.specs.declared.office.kept_list.KeptList.{KeptList}
 use Rattle.office_state.specs.declared.office.person.Person.{Person}
 use Rattle.office_cells.specs.Cells.{IsTextOf, IsOptionalTextOf, text_or_null}
 use Rattle.office_cells.specs.Columns.{room_columns, person_columns, round_shown, choice_columns, word_columns}
-use Rattle.office_cells.specs.Columns.{result_columns, move_columns, list_columns}
+use Rattle.office_cells.specs.Columns.{result_columns, move_columns, list_columns, grade_columns, going_columns}
 use Rattle.office_cells.specs.Forms.{IsRoomRow, IsPersonRow, IsRoundRow, IsChoiceRow, IsWordRow, IsResultRow, IsMoveRow}
-use Rattle.office_cells.specs.Forms.{IsListRow}
+use Rattle.office_cells.specs.Forms.{IsListRow, IsGradeRow, IsGoingRow}
 use Rattle.office_cells.specs.Spelled.{IsSpelled}
 use Rattle.office_rows.specs.Tables.{Tables}
 use Rattle.office_rows.specs.declared.records.ChoiceRecord.{ChoiceRecord}
@@ -27,7 +27,7 @@ use Rattle.office_rows.specs.declared.records.PersonRecord.{PersonRecord}
 use Rattle.office_tables.specs.Edits.{with_room, with_shut, with_person, without_person, with_home, with_withdrawn}
 use Rattle.office_tables.specs.Edits.{without_withdrawn, with_round, with_choice, without_choices_of, without_round_tables}
 use Rattle.office_tables.specs.Edits.{with_word, with_result}
-use Rattle.office_tables.specs.Edits.{with_move, with_kept}
+use Rattle.office_tables.specs.Edits.{with_move, with_kept, with_grade, without_grade_of, with_going}
 use Rattle.office_rows.specs.SameRows.{AreSameRows}
 
 module _ {X : Type 0} (columns : X → Row) (IsRow : Row → Type 0) where
@@ -41,7 +41,8 @@ module _ {X : Type 0} (columns : X → Row) (IsRow : Row → Type 0) where
   alike_tables-every xs h = All-from_recursion IsRow (map columns xs) (all_map IsRow columns xs h)
 
   alike_tables-formed_left : (q : X → Bool) (xs : List X) → Formed xs → Formed (delete_where q xs)
-  alike_tables-formed_left q xs h = alike_tables-every (delete_where q xs) (all-filter (λ x. IsRow (columns x)) (λ x. not (q x)) xs (alike_tables-each xs h))
+  alike_tables-formed_left q xs h =
+      alike_tables-every (delete_where q xs) (all-filter (λ x. IsRow (columns x)) (λ x. not (q x)) xs (alike_tables-each xs h))
 
   module _ (q : X → Bool) (f : X → X) (keeps : (x : X) → IsRow (columns x) → IsRow (columns (f x))) where
     alike_tables-one_changed : (b : Bool) (x : X) → IsRow (columns x) → IsRow (columns (cond b (f x) x))
@@ -54,7 +55,8 @@ module _ {X : Type 0} (columns : X → Row) (IsRow : Row → Type 0) where
     alike_tables-all_changed (x ∷ xs) h = (alike_tables-one_changed (q x) x h.0, alike_tables-all_changed xs h.1)
 
     alike_tables-formed_changed : (xs : List X) → Formed xs → Formed (update_where q f xs)
-    alike_tables-formed_changed xs h = alike_tables-every (update_where q f xs) (alike_tables-all_changed xs (alike_tables-each xs h))
+    alike_tables-formed_changed xs h =
+        alike_tables-every (update_where q f xs) (alike_tables-all_changed xs (alike_tables-each xs h))
 
 -- the order of rows is no matter
 pub alike_tables-spelled_alike : (these those : Tables) → AreSameRows these those → IsSpelled those → IsSpelled these
@@ -67,10 +69,13 @@ alike_tables-spelled_alike these those same h = record {
   results = All-map-IsPermutation result_columns IsResultRow _ _ (IsPermutation-sym _ _ same.results) h.results;
   moves = All-map-IsPermutation move_columns IsMoveRow _ _ (IsPermutation-sym _ _ same.moves) h.moves;
   lists = All-map-IsPermutation list_columns IsListRow _ _ (IsPermutation-sym _ _ same.lists) h.lists;
+  grades = All-map-IsPermutation grade_columns IsGradeRow _ _ (IsPermutation-sym _ _ same.grades) h.grades;
+  going = All-map-IsPermutation going_columns IsGoingRow _ _ (IsPermutation-sym _ _ same.going) h.going;
 }
 
 module _ (t : Tables) (h : IsSpelled t) where
-  alike_tables-rooms_spelled : (xs : List (Text × Bool)) → All IsRoomRow (map room_columns xs) → IsSpelled (record t { rooms = xs })
+  alike_tables-rooms_spelled : (xs : List (Text × Bool)) → All IsRoomRow (map room_columns xs)
+      → IsSpelled (record t { rooms = xs })
   alike_tables-rooms_spelled xs k = record {
     rooms = k;
     people = h.people;
@@ -80,6 +85,8 @@ module _ (t : Tables) (h : IsSpelled t) where
     results = h.results;
     moves = h.moves;
     lists = h.lists;
+    grades = h.grades;
+    going = h.going;
   }
 
   alike_tables-people_spelled : (xs : List PersonRecord) → All IsPersonRow (map person_columns xs)
@@ -93,6 +100,8 @@ module _ (t : Tables) (h : IsSpelled t) where
     results = h.results;
     moves = h.moves;
     lists = h.lists;
+    grades = h.grades;
+    going = h.going;
   }
 
   pub alike_tables-room_spelled : (room : Text) (shut : Bool) → IsTextOf is_room_code (value.Text room)
@@ -104,7 +113,8 @@ module _ (t : Tables) (h : IsSpelled t) where
   pub alike_tables-shut_spelled : (room : Text) (shut : Bool) → IsSpelled (with_shut room shut t)
   unfolding with_shut
   alike_tables-shut_spelled room shut =
-      alike_tables-rooms_spelled _ (alike_tables-formed_changed room_columns IsRoomRow (λ r. text_eq r.0 room) (λ r. (r.0, shut))
+      alike_tables-rooms_spelled _
+      (alike_tables-formed_changed room_columns IsRoomRow (λ r. text_eq r.0 room) (λ r. (r.0, shut))
       (λ r was. (was.0, (shut, refl))) t.rooms h.rooms)
 
   pub alike_tables-person_spelled : (id : Text) (person : Person) → IsTextOf is_person_id (value.Text id)
@@ -124,20 +134,23 @@ module _ (t : Tables) (h : IsSpelled t) where
       → IsSpelled (with_home id home t)
   unfolding with_home
   alike_tables-home_spelled id home lives =
-      alike_tables-people_spelled _ (alike_tables-formed_changed person_columns IsPersonRow (λ (r : PersonRecord). text_eq r.id id)
+      alike_tables-people_spelled _
+      (alike_tables-formed_changed person_columns IsPersonRow (λ (r : PersonRecord). text_eq r.id id)
       (λ r. record r { person = record r.person { home = home } })
       (λ r was. (was.0, was.1, was.2, lives, was.4)) t.people h.people)
 
   pub alike_tables-withdrawn_spelled : (id : Text) → IsSpelled (with_withdrawn id t)
   unfolding with_withdrawn
   alike_tables-withdrawn_spelled id =
-      alike_tables-people_spelled _ (alike_tables-formed_changed person_columns IsPersonRow (λ (r : PersonRecord). text_eq r.id id)
+      alike_tables-people_spelled _
+      (alike_tables-formed_changed person_columns IsPersonRow (λ (r : PersonRecord). text_eq r.id id)
       (λ r. record r { withdrawn = true }) (λ r was. (was.0, was.1, was.2, was.3, (true, refl))) t.people h.people)
 
   pub alike_tables-without_withdrawn_spelled : IsSpelled (without_withdrawn t)
   unfolding without_withdrawn
   alike_tables-without_withdrawn_spelled =
-      alike_tables-people_spelled _ (alike_tables-formed_changed person_columns IsPersonRow (λ r. true) (λ r. record r { withdrawn = false })
+      alike_tables-people_spelled _
+      (alike_tables-formed_changed person_columns IsPersonRow (λ r. true) (λ r. record r { withdrawn = false })
       (λ r was. (was.0, was.1, was.2, was.3, (false, refl))) t.people h.people)
 
   alike_tables-choices_spelled : (xs : List ChoiceRecord) → All IsChoiceRow (map choice_columns xs)
@@ -151,6 +164,8 @@ module _ (t : Tables) (h : IsSpelled t) where
     results = h.results;
     moves = h.moves;
     lists = h.lists;
+    grades = h.grades;
+    going = h.going;
   }
 
   pub alike_tables-choice_spelled : (person : Text) (place : ℕ) (room : Text) → IsTextOf is_person_id (value.Text person)
@@ -165,7 +180,8 @@ module _ (t : Tables) (h : IsSpelled t) where
       alike_tables-choices_spelled _ (alike_tables-formed_left choice_columns IsChoiceRow
       (λ (r : ChoiceRecord). text_eq r.person person) t.choices h.choices)
 
-  alike_tables-words_spelled : (xs : List (Text × ℕ)) → All IsWordRow (map word_columns xs) → IsSpelled (record t { words = xs })
+  alike_tables-words_spelled : (xs : List (Text × ℕ)) → All IsWordRow (map word_columns xs)
+      → IsSpelled (record t { words = xs })
   alike_tables-words_spelled xs k = record {
     rooms = h.rooms;
     people = h.people;
@@ -175,12 +191,15 @@ module _ (t : Tables) (h : IsSpelled t) where
     results = h.results;
     moves = h.moves;
     lists = h.lists;
+    grades = h.grades;
+    going = h.going;
   }
 
   pub alike_tables-word_spelled : (person : Text) (word : ℕ) → IsTextOf is_person_id (value.Text person) → word < 2 ^ 64
       → IsSpelled (with_word person word t)
   unfolding with_word
-  alike_tables-word_spelled person word id low = alike_tables-words_spelled _ (All-cons IsWordRow _ _ (id, (word, refl, low)) h.words)
+  alike_tables-word_spelled person word id low =
+      alike_tables-words_spelled _ (All-cons IsWordRow _ _ (id, (word, refl, low)) h.words)
 
   pub alike_tables-result_spelled : (person : Text) (room : Option Text) → IsTextOf is_person_id (value.Text person)
       → IsOptionalTextOf is_room_code (text_or_null room) → IsSpelled (with_result person room t)
@@ -194,6 +213,8 @@ module _ (t : Tables) (h : IsSpelled t) where
     results = All-cons IsResultRow _ _ (id, code) h.results;
     moves = h.moves;
     lists = h.lists;
+    grades = h.grades;
+    going = h.going;
   }
 
   pub alike_tables-without_round_tables_spelled : IsSpelled (without_round_tables t)
@@ -207,6 +228,8 @@ module _ (t : Tables) (h : IsSpelled t) where
     results = All-nil IsResultRow;
     moves = h.moves;
     lists = h.lists;
+    grades = h.grades;
+    going = All-nil IsGoingRow;
   }
 
   pub alike_tables-move_spelled : (move : Move) → IsMoveRow (move_columns move) → IsSpelled (with_move move t)
@@ -220,6 +243,8 @@ module _ (t : Tables) (h : IsSpelled t) where
     results = h.results;
     moves = All-cons IsMoveRow _ _ form h.moves;
     lists = h.lists;
+    grades = h.grades;
+    going = h.going;
   }
 
   pub alike_tables-kept_spelled : (label : Text) (kept : KeptList) → IsTextOf is_label (value.Text label) → kept.count < 2 ^ 16
@@ -235,6 +260,8 @@ module _ (t : Tables) (h : IsSpelled t) where
     moves = h.moves;
     lists = All-cons IsListRow _ _
         (is_its_label, (kept.kind, refl), (kept.bytes, refl), (kept.count, refl, low)) h.lists;
+    grades = h.grades;
+    going = h.going;
   }
 
   pub alike_tables-round_spelled : (number : ℕ) (phase : Phase) → number < 2 ^ 16 → IsSpelled (with_round number phase t)
@@ -242,11 +269,56 @@ module _ (t : Tables) (h : IsSpelled t) where
   alike_tables-round_spelled number phase low = record {
     rooms = h.rooms;
     people = h.people;
-    rounds = alike_tables-formed_changed round_shown IsRoundRow (λ r. true) (λ r. record { number = number; phase = phase })
-        (λ r was. (refl, (number, refl, low), (phase, refl))) t.rounds h.rounds;
+    rounds = alike_tables-formed_changed round_shown IsRoundRow (λ r. true) (λ r. record r { number = number; phase = phase })
+        (λ r was. (was.0, (number, refl, low), (phase, refl))) t.rounds h.rounds;
     choices = h.choices;
     words = h.words;
     results = h.results;
     moves = h.moves;
     lists = h.lists;
+    grades = h.grades;
+    going = h.going;
+  }
+
+  alike_tables-grades_spelled : (xs : List (Text × ℕ)) → All IsGradeRow (map grade_columns xs)
+      → IsSpelled (record t { grades = xs })
+  alike_tables-grades_spelled xs k = record {
+    rooms = h.rooms;
+    people = h.people;
+    rounds = h.rounds;
+    choices = h.choices;
+    words = h.words;
+    results = h.results;
+    moves = h.moves;
+    lists = h.lists;
+    grades = k;
+    going = h.going;
+  }
+
+  pub alike_tables-grade_spelled : (person : Text) (grade : ℕ) → IsTextOf is_person_id (value.Text person) → 1 ≤ grade
+      → grade ≤ 9
+      → IsSpelled (with_grade person grade t)
+  unfolding with_grade
+  alike_tables-grade_spelled person grade id some low =
+      alike_tables-grades_spelled _ (All-cons IsGradeRow _ _ (id, (grade, refl, some, low)) h.grades)
+
+  pub alike_tables-without_grade_of_spelled : (person : Text) → IsSpelled (without_grade_of person t)
+  unfolding without_grade_of
+  alike_tables-without_grade_of_spelled person =
+      alike_tables-grades_spelled _
+      (alike_tables-formed_left grade_columns IsGradeRow (λ r. text_eq r.0 person) t.grades h.grades)
+
+  pub alike_tables-going_spelled : (person : Text) → IsTextOf is_person_id (value.Text person) → IsSpelled (with_going person t)
+  unfolding with_going
+  alike_tables-going_spelled person id = record {
+    rooms = h.rooms;
+    people = h.people;
+    rounds = h.rounds;
+    choices = h.choices;
+    words = h.words;
+    results = h.results;
+    moves = h.moves;
+    lists = h.lists;
+    grades = h.grades;
+    going = All-cons IsGoingRow _ _ id h.going;
   }

@@ -6,7 +6,7 @@ use Rattle.office_state.specs.Change.{applied, Fits}
 use Rattle.office_state.specs.declared.change.Change.{Change}
 use Rattle.office_state.specs.declared.office.Office.{Office}
 use Rattle.office_cells.specs.Columns.{room_columns, person_columns, round_columns, choice_columns}
-use Rattle.office_cells.specs.Columns.{word_columns, result_columns, move_columns, list_columns}
+use Rattle.office_cells.specs.Columns.{word_columns, result_columns, move_columns, list_columns, grade_columns, going_columns}
 use Rattle.office_cells.specs.Spelled.{IsSpelled}
 use Rattle.office_rows.specs.Tables.{Tables, rows_of}
 use Rattle.office_tables.specs.Makes.{Makes}
@@ -17,18 +17,21 @@ use Rattle.office_changes.specs.Carries.{Turns, CarriesOne}
 use Rattle.office_changes.proofs.alike_tables.Spelled.{alike_tables-spelled_alike}
 
 -- a database that has some tables has all that are alike
-pub changed_rows-has_alike : (db : Database) (these those : Tables) → AreSameRows these those → HasTables db those → HasTables db these
+pub changed_rows-has_alike : (db : Database) (these those : Tables) → AreSameRows these those → HasTables db those
+    → HasTables db these
 changed_rows-has_alike db these those same h = record {
   schema = h.schema;
   rows = record {
     rooms = statements-held_permuted room_columns (db.trees 0) _ _ same.rooms h.rows.rooms;
     people = statements-held_permuted person_columns (db.trees 2) _ _ same.people h.rows.people;
     rounds = statements-held_permuted round_columns (db.trees 6) _ _ same.rounds h.rows.rounds;
-    choices = statements-held_permuted choice_columns (db.trees 16) _ _ same.choices h.rows.choices;
-    words = statements-held_permuted word_columns (db.trees 11) _ _ same.words h.rows.words;
-    results = statements-held_permuted result_columns (db.trees 13) _ _ same.results h.rows.results;
+    choices = statements-held_permuted choice_columns (db.trees 18) _ _ same.choices h.rows.choices;
+    words = statements-held_permuted word_columns (db.trees 13) _ _ same.words h.rows.words;
+    results = statements-held_permuted result_columns (db.trees 15) _ _ same.results h.rows.results;
     moves = statements-held_permuted move_columns (db.trees 7) _ _ same.moves h.rows.moves;
     lists = statements-held_permuted list_columns (db.trees 9) _ _ same.lists h.rows.lists;
+    grades = statements-held_permuted grade_columns (db.trees 11) _ _ same.grades h.rows.grades;
+    going = statements-held_permuted going_columns (db.trees 21) _ _ same.going h.rows.going;
   };
 }
 

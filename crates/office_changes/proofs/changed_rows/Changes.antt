@@ -1,5 +1,5 @@
 -- The rows of an office after each change, by what its statements make of the rows before.
-use Rattle.std.proofs.Common.{◌≡◌, ℕ, ◌+◌, Bool, true, false, List, [], ◌∷◌, ◌++◌, map, map-id}
+use Rattle.std.proofs.Common.{◌≡◌, ℕ, zero, suc, ◌+◌, Bool, true, false, List, [], ◌∷◌, ◌++◌, map, map-id}
 use Rattle.std.proofs.Common.{Option, Some, None, cond}
 use Rattle.std.proofs.Common.{refl, sym, ap, ◌∙◌, subst, IsPermutation}
 use Rattle.std.specs.List.{AllByRecursion, flat_map}
@@ -10,7 +10,7 @@ use Rattle.std.specs.FinMap as maps
 use Rattle.std.specs.FinMap.{get-insert, get-empty}
 use Rattle.std.proofs.lemmas.List.Sorted.{IsPermutation-sym, IsPermutation-middle}
 use Rattle.std.proofs.lemmas.Map.Text.{is_eq-slice_cmp}
-use Rattle.sqlite_keyed.specs.Lists.{update_where}
+use Rattle.sqlite_keyed.specs.Lists.{update_where, delete_where}
 use Rattle.sqlite_keyed.proofs.ListLemmas.{map-map, map_same, IsPermutation-same}
 use Rattle.room_types.specs.Texts.{Text, TextMap, text_cmp, text_eq}
 use Rattle.room_types.specs.declared.kinds.ListKind.{ListKind}
@@ -20,25 +20,32 @@ use Rattle.room_types.proofs.maps.Trees.{maps-entries-empty}
 use Rattle.room_types.proofs.options.Options.{options-none_if_not_some, options-some_of}
 use Rattle.office_state.specs.Change.{applied}
 use Rattle.office_state.specs.Office.Moves.{moves_of}
-use Rattle.office_state.specs.Office.{knows_room, knows_person, has_withdrawn}
+use Rattle.office_state.specs.Office.{knows_room, knows_person, has_withdrawn, is_going}
 use Rattle.office_state.specs.declared.change.Change.TheVariants.{PutRoom, PutPerson, DropPerson, PutHome, PutWithdrawn}
 use Rattle.office_state.specs.declared.change.Change.TheVariants.{PutChoices, PutWord, PutResult, AddMove}
-use Rattle.office_state.specs.declared.change.Change.TheVariants.{PutRound, ClearRound, KeepList}
+use Rattle.office_state.specs.declared.change.Change.TheVariants.{PutRound, ClearRound, KeepList, PutGrade, PutGoing}
 use Rattle.office_state.specs.declared.office.Office.{Office}
 use Rattle.office_state.specs.declared.office.person.Person.{Person}
 use Rattle.office_rows.specs.Rows.{person_row, person_rows, choices_from, list_rows}
 use Rattle.office_rows.specs.SameRows.{AreSameRows}
-use Rattle.office_rows.specs.Tables.{Tables, rows_of}
+use Rattle.office_rows.specs.Tables.{Tables, rows_at, rows_of}
 use Rattle.office_rows.specs.declared.records.ChoiceRecord.{ChoiceRecord}
 use Rattle.office_rows.specs.declared.records.PersonRecord.{PersonRecord}
 use Rattle.office_rows.proofs.rows_read.Moving.{rows_read-rows_more}
 use Rattle.office_changes.specs.Choosing.{with_choices}
+use Rattle.office_changes.specs.Grading.{with_grade_recorded}
 use Rattle.office_tables.specs.Edits.{with_room, with_shut, with_person, without_person, with_home, with_withdrawn}
 use Rattle.office_tables.specs.Edits.{without_withdrawn, with_round, with_choice, without_choices_of, without_round_tables}
-use Rattle.office_tables.specs.Edits.{with_word, with_result, with_move, with_kept, taking_part}
-use Rattle.office_changes.proofs.alike_tables.Alike.{alike_tables-alike-refl, alike_tables-rooms_alike, alike_tables-people_alike, alike_tables-choices_alike, alike_tables-words_alike}
-use Rattle.office_changes.proofs.alike_tables.Alike.{alike_tables-results_alike, alike_tables-moves_alike, alike_tables-lists_alike, alike_tables-alike-trans}
-use Rattle.office_changes.proofs.changed_rows.Entries.{changed_rows-rows_put, changed_rows-rows_gone, changed_rows-row_gone, changed_rows-row_added}
+use Rattle.office_tables.specs.Edits.{with_word, with_result, with_move, with_kept, with_grade, without_grade_of}
+use Rattle.office_tables.specs.Edits.{with_going, taking_part}
+use Rattle.office_changes.proofs.alike_tables.Alike.{alike_tables-alike-refl, alike_tables-rooms_alike}
+use Rattle.office_changes.proofs.alike_tables.Alike.{alike_tables-people_alike, alike_tables-choices_alike}
+use Rattle.office_changes.proofs.alike_tables.Alike.{alike_tables-words_alike}
+use Rattle.office_changes.proofs.alike_tables.Alike.{alike_tables-results_alike, alike_tables-moves_alike}
+use Rattle.office_changes.proofs.alike_tables.Alike.{alike_tables-lists_alike, alike_tables-grades_alike}
+use Rattle.office_changes.proofs.alike_tables.Alike.{alike_tables-going_alike, alike_tables-alike-trans}
+use Rattle.office_changes.proofs.changed_rows.Entries.{changed_rows-rows_put, changed_rows-rows_gone, changed_rows-row_gone}
+use Rattle.office_changes.proofs.changed_rows.Entries.{changed_rows-row_added, changed_rows-row_put}
 use Rattle.office_changes.proofs.changed_rows.Entries.{changed_rows-row_unknown, changed_rows-row_changed}
 
 -- the test of a statement tells the rows of one key
@@ -57,15 +64,31 @@ module _ {X : Type 0} (m : TextMap X) (k : Text) where
       subst (λ l. IsPermutation l ((k, v) ∷ maps.entries m)) (map-id (maps.entries (maps.insert m k v)))
       (subst (λ l. IsPermutation (map (λ e. e) (maps.entries (maps.insert m k v))) ((k, v) ∷ l))
       (map-id (maps.entries m))
-      (changed_rows-row_added (λ e. e) (λ r. r.0) (λ e. refl) k is_its (λ r. changed_rows-tells r.0 k) m v (options-none_if_not_some (maps.get m k) new)))
+      (changed_rows-row_added (λ e. e) (λ r. r.0) (λ e. refl) k is_its (λ r. changed_rows-tells r.0 k) m v
+      (options-none_if_not_some (maps.get m k) new)))
 
   changed_rows-entry_changed : (v : X) → maps.contains_key m k ≡ true
       → maps.entries (maps.insert m k v) ≡ update_where is_its (λ r. (r.0, v)) (maps.entries m)
   changed_rows-entry_changed v known =
       let kept = options-some_of (maps.get m k) known in
       sym (map-id (maps.entries (maps.insert m k v)))
-      ∙ changed_rows-row_changed (λ e. e) (λ r. r.0) (λ e. refl) k is_its (λ r. changed_rows-tells r.0 k) (λ r. (r.0, v)) m v kept.0 kept.1 refl
+      ∙ changed_rows-row_changed (λ e. e) (λ r. r.0) (λ e. refl) k is_its (λ r. changed_rows-tells r.0 k)
+      (λ r. (r.0, v)) m v kept.0 kept.1 refl
       ∙ ap (update_where is_its (λ r. (r.0, v))) (map-id (maps.entries m))
+
+  changed_rows-entry_gone : maps.entries (maps.remove m k) ≡ delete_where is_its (maps.entries m)
+  changed_rows-entry_gone =
+      sym (map-id (maps.entries (maps.remove m k)))
+      ∙ changed_rows-row_gone (λ e. e) (λ r. r.0) (λ e. refl) k is_its (λ r. changed_rows-tells r.0 k) m
+      ∙ ap (delete_where is_its) (map-id (maps.entries m))
+
+  changed_rows-entry_put : (v : X)
+      → IsPermutation (maps.entries (maps.insert m k v)) ((k, v) ∷ delete_where is_its (maps.entries m))
+  changed_rows-entry_put v =
+      subst (λ l. IsPermutation l ((k, v) ∷ delete_where is_its (maps.entries m))) (map-id (maps.entries (maps.insert m k v)))
+      (subst (λ l. IsPermutation (map (λ e. e) (maps.entries (maps.insert m k v))) ((k, v) ∷ delete_where is_its l))
+      (map-id (maps.entries m))
+      (changed_rows-row_put (λ e. e) (λ r. r.0) (λ e. refl) k is_its (λ r. changed_rows-tells r.0 k) m v))
 
 -- ---- rooms
 
@@ -73,15 +96,17 @@ module _ (office : Office) (room : Text) (shut : Bool) where
   -- a room that is not known
   pub changed_rows-room_added : knows_room office room ≡ false
       → AreSameRows (rows_of (applied office (PutRoom room shut))) (with_room room shut (rows_of office))
-  unfolding rows_of with_room
-  changed_rows-room_added new = alike_tables-rooms_alike (rows_of office) _ _ (changed_rows-entry_added office.rooms room shut new)
+  unfolding rows_at with_room
+  changed_rows-room_added new =
+      alike_tables-rooms_alike (rows_of office) _ _ (changed_rows-entry_added office.rooms room shut new)
 
   -- one that is
   pub changed_rows-room_shut : knows_room office room ≡ true
       → AreSameRows (rows_of (applied office (PutRoom room shut))) (with_shut room shut (rows_of office))
-  unfolding rows_of with_shut
+  unfolding rows_at with_shut
   changed_rows-room_shut known =
-      alike_tables-rooms_alike (rows_of office) _ _ (IsPermutation-same _ _ (changed_rows-entry_changed office.rooms room shut known))
+      alike_tables-rooms_alike (rows_of office) _ _
+      (IsPermutation-same _ _ (changed_rows-entry_changed office.rooms room shut known))
 
 -- ---- people
 
@@ -97,7 +122,7 @@ module _ (office : Office) (person : Text) where
       → has_withdrawn office person ≡ false
       → AreSameRows (rows_of (applied office (PutPerson person name key home)))
       (with_person person (record { name = name; key = key; home = home }) (rows_of office))
-  unfolding rows_of with_person
+  unfolding rows_at with_person
   changed_rows-person_added name key home new here =
       let v : Person = record { name = name; key = key; home = home } in
       let head : shown (person, v) ≡ record { id = person; person = v; withdrawn = false } =
@@ -105,18 +130,25 @@ module _ (office : Office) (person : Text) where
       alike_tables-people_alike (rows_of office) _ _
       (subst (λ r. IsPermutation (person_rows (maps.insert office.people person v) office.withdrawn)
       (r ∷ person_rows office.people office.withdrawn)) head
-      (changed_rows-row_added shown (λ (r : PersonRecord). r.id) (λ e. refl) person is_that (λ r. changed_rows-tells r.id person) office.people v
+      (changed_rows-row_added shown (λ (r : PersonRecord). r.id) (λ e. refl) person is_that
+      (λ r. changed_rows-tells r.id person) office.people v
       (options-none_if_not_some (maps.get office.people person) new)))
 
-  pub changed_rows-person_gone : AreSameRows (rows_of (applied office (DropPerson person))) (without_person person (rows_of office))
-  unfolding rows_of without_person
+  -- a person who goes takes the grade along
+  pub changed_rows-person_gone : AreSameRows (rows_of (applied office (DropPerson person)))
+      (without_person person (without_grade_of person (rows_of office)))
+  unfolding rows_at without_person without_grade_of
   changed_rows-person_gone =
-      alike_tables-people_alike (rows_of office) _ _ (IsPermutation-same _ _
-      (changed_rows-row_gone shown (λ (r : PersonRecord). r.id) (λ e. refl) person is_that (λ r. changed_rows-tells r.id person) office.people))
+      alike_tables-alike-trans _ _ _
+      (alike_tables-people_alike (rows_of (applied office (DropPerson person))) _ _ (IsPermutation-same _ _
+      (changed_rows-row_gone shown (λ (r : PersonRecord). r.id) (λ e. refl) person is_that
+      (λ r. changed_rows-tells r.id person) office.people)))
+      (alike_tables-grades_alike (without_person person (rows_of office)) _ _
+      (IsPermutation-same _ _ (changed_rows-entry_gone office.grades person)))
 
   pub changed_rows-home_put : (home : Option Text)
       → AreSameRows (rows_of (applied office (PutHome person home))) (with_home person home (rows_of office))
-  unfolding rows_of with_home
+  unfolding rows_at with_home
   changed_rows-home_put home =
       let f : PersonRecord → PersonRecord = λ r. record r { person = record r.person { home = home } } in
       elim (maps.get office.people person) as (λ o. maps.get office.people person ≡ o
@@ -151,8 +183,9 @@ module _ (office : Office) (person : Text) where
       either true = refl
       either false = refl
 
-  pub changed_rows-withdrawn_put : AreSameRows (rows_of (applied office (PutWithdrawn person))) (with_withdrawn person (rows_of office))
-  unfolding rows_of with_withdrawn
+  pub changed_rows-withdrawn_put : AreSameRows (rows_of (applied office (PutWithdrawn person)))
+      (with_withdrawn person (rows_of office))
+  unfolding rows_at with_withdrawn
   changed_rows-withdrawn_put =
       alike_tables-people_alike (rows_of office) _ _ (IsPermutation-same _ _
       (map_same _ _ changed_rows-marked (maps.entries office.people)
@@ -186,15 +219,17 @@ module _ (office : Office) (person : Text) where
   pub changed_rows-choices_put : (rooms : List Text)
       → AreSameRows (rows_of (applied office (PutChoices person rooms)))
       (with_choices person 0 rooms (without_choices_of person (rows_of office)))
-  unfolding rows_of without_choices_of
+  unfolding rows_at without_choices_of
   changed_rows-choices_put [] =
       alike_tables-choices_alike (rows_of office) _ _ (IsPermutation-same _ _
-      (changed_rows-rows_gone list_rows (λ (r : ChoiceRecord). r.person) (λ e. changed_rows-choices_keyed e.0 0 e.1) person is_choice
+      (changed_rows-rows_gone list_rows (λ (r : ChoiceRecord). r.person)
+      (λ e. changed_rows-choices_keyed e.0 0 e.1) person is_choice
       (λ r. changed_rows-tells r.person person) office.choices))
   changed_rows-choices_put (room ∷ rooms) =
       alike_tables-alike-trans _ _ _
       (alike_tables-choices_alike (rows_of office) _ _
-      (changed_rows-rows_put list_rows (λ (r : ChoiceRecord). r.person) (λ e. changed_rows-choices_keyed e.0 0 e.1) person is_choice
+      (changed_rows-rows_put list_rows (λ (r : ChoiceRecord). r.person)
+      (λ e. changed_rows-choices_keyed e.0 0 e.1) person is_choice
       (λ r. changed_rows-tells r.person person)
       office.choices (room ∷ rooms)))
       (changed_rows-choices_added person 0 (room ∷ rooms) (without_choices_of person (rows_of office)))
@@ -205,21 +240,23 @@ module _ (office : Office) (person : Text) where
   -- somebody has a word who had none
   pub changed_rows-word_added : (word : ℕ) → maps.contains_key office.words person ≡ false
       → AreSameRows (rows_of (applied office (PutWord person word))) (with_word person word (rows_of office))
-  unfolding rows_of with_word
-  changed_rows-word_added word new = alike_tables-words_alike (rows_of office) _ _ (changed_rows-entry_added office.words person word new)
+  unfolding rows_at with_word
+  changed_rows-word_added word new =
+      alike_tables-words_alike (rows_of office) _ _ (changed_rows-entry_added office.words person word new)
 
   -- and likewise a result
   pub changed_rows-result_added : (room : Option Text) → maps.contains_key office.results person ≡ false
       → AreSameRows (rows_of (applied office (PutResult person room))) (with_result person room (rows_of office))
-  unfolding rows_of with_result
+  unfolding rows_at with_result
   changed_rows-result_added room new =
-      alike_tables-results_alike (rows_of office) _ _ (changed_rows-entry_added office.results person (record { room = room }) new)
+      alike_tables-results_alike (rows_of office) _ _
+      (changed_rows-entry_added office.results person (record { room = room }) new)
 
 -- somebody moves who has not moved in the round
 pub changed_rows-move_added : (office : Office) (move : Move)
     → maps.contains_key (moves_of office.moves move.round) move.person ≡ false
     → AreSameRows (rows_of (applied office (AddMove move))) (with_move move (rows_of office))
-unfolding rows_of with_move
+unfolding rows_at with_move
 changed_rows-move_added office move new =
     alike_tables-moves_alike (rows_of office) _ _ (IsPermutation-sym _ _ (rows_read-rows_more office.moves move new))
 
@@ -228,16 +265,39 @@ pub changed_rows-list_kept : (office : Office) (label : Text) (kind : ListKind) 
     → maps.contains_key office.lists label ≡ false
     → AreSameRows (rows_of (applied office (KeepList label kind bytes count)))
     (with_kept label (record { kind = kind; bytes = bytes; count = count }) (rows_of office))
-unfolding rows_of with_kept
+unfolding rows_at with_kept
 changed_rows-list_kept office label kind bytes count new =
     alike_tables-lists_alike (rows_of office) _ _
     (changed_rows-entry_added office.lists label (record { kind = kind; bytes = bytes; count = count }) new)
+
+-- ---- grades and leavers
+
+module _ (office : Office) (person : Text) where
+  -- a person's grade is replaced, and grade 0 is not recorded
+  pub changed_rows-grade_put : (grade : ℕ)
+      → AreSameRows (rows_of (applied office (PutGrade person grade)))
+      (with_grade_recorded person grade (without_grade_of person (rows_of office)))
+  unfolding rows_at with_grade without_grade_of
+  changed_rows-grade_put zero =
+      alike_tables-grades_alike (rows_of office) _ _ (IsPermutation-same _ _ (changed_rows-entry_gone office.grades person))
+  changed_rows-grade_put (suc grade) =
+      alike_tables-grades_alike (rows_of office) _ _ (changed_rows-entry_put office.grades person (suc grade))
+
+  -- somebody leaves who did not before
+  pub changed_rows-going_put : is_going office person ≡ false
+      → AreSameRows (rows_of (applied office (PutGoing person))) (with_going person (rows_of office))
+  unfolding rows_at with_going
+  changed_rows-going_put new =
+      alike_tables-going_alike (rows_of office) _ _
+      (changed_rows-row_added (λ (e : Text × Unit {0}). e.0) (λ k. k) (λ e. refl) person (λ k. text_eq k person)
+      (λ k. changed_rows-tells k person) office.going tt
+      (options-none_if_not_some (maps.get office.going person) new))
 
 -- ---- the round
 
 pub changed_rows-round_put : (office : Office) (number : ℕ) (phase : Phase)
     → AreSameRows (rows_of (applied office (PutRound number phase))) (with_round number phase (rows_of office))
-unfolding rows_of with_round
+unfolding rows_at with_round
 changed_rows-round_put office number phase = alike_tables-alike-refl (rows_of (applied office (PutRound number phase)))
 
 changed_rows-unmarked : (people : TextMap Person) (withdrawn : TextMap (Unit {0}))
@@ -247,11 +307,11 @@ changed_rows-unmarked people withdrawn =
     (maps.entries people)
     ∙ sym (map-map taking_part (person_row withdrawn) (maps.entries people))
 
--- lists, withdrawals, words and results go
+-- lists, withdrawals, words and results go, and nobody leaves
 pub changed_rows-round_cleared : (office : Office)
     → AreSameRows (rows_of (applied office ClearRound))
     (without_withdrawn (without_round_tables (rows_of office)))
-unfolding rows_of without_withdrawn without_round_tables
+unfolding rows_at without_withdrawn without_round_tables
 changed_rows-round_cleared office = let still = alike_tables-alike-refl (rows_of office) in record {
   rooms = still.rooms;
   people = IsPermutation-same _ _ (changed_rows-unmarked office.people office.withdrawn);
@@ -261,4 +321,6 @@ changed_rows-round_cleared office = let still = alike_tables-alike-refl (rows_of
   results = IsPermutation-same _ _ (maps-entries-empty nat_list_cmp_total);
   moves = still.moves;
   lists = still.lists;
+  grades = still.grades;
+  going = IsPermutation-same _ _ (ap (map (λ (e : Text × Unit {0}). e.0)) (maps-entries-empty nat_list_cmp_total));
 }

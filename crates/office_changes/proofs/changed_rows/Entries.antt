@@ -31,7 +31,8 @@ changed_rows-turned false x y = refl
 abbrev others : {X : Type 0} → Text → List (Text × X) → List (Text × X)
 others k es = where_key text_cmp (λ x. not (eq_by_cmp text_cmp k x)) es
 
-changed_rows-entries-remove : {X : Type 0} (m : TextMap X) (k : Text) → maps.entries (maps.remove m k) ≡ others k (maps.entries m)
+changed_rows-entries-remove : {X : Type 0} (m : TextMap X) (k : Text)
+    → maps.entries (maps.remove m k) ≡ others k (maps.entries m)
 changed_rows-entries-remove {X = X} m k =
     let p : Text → Bool = λ x. not (eq_by_cmp text_cmp k x) in
     let es : List (Text × X) = where_key text_cmp p (maps.entries m) in
@@ -104,7 +105,8 @@ module _ {X Row : Type 0} (rows : Text × X → List Row) (key : Row → Text)
         | Less ↦ λ c.
             let kept : delete_where mine (rows e ++ flat_map rows es) ≡ rows e ++ flat_map rows es =
             changed_rows-stays e es (maps-key_after nat_list_cmp_total k e.0 c)
-            ∙ ap (λ l. rows e ++ l) (changed_rows-kept_later es (maps-below_less nat_list_cmp_total k e.0 es c (maps-first_holds _ _ s))) in
+            ∙ ap (λ l. rows e ++ l)
+            (changed_rows-kept_later es (maps-below_less nat_list_cmp_total k e.0 es c (maps-first_holds _ _ s))) in
             subst (λ l. IsPermutation (rows (k, v) ++ (rows e ++ flat_map rows es)) (rows (k, v) ++ l)) (sym kept)
             (IsPermutation-refl _)
         | Equal ↦ λ c.
@@ -133,9 +135,11 @@ module _ {X Row : Type 0} (rows : Text × X → List Row) (key : Row → Text)
       elim (text_cmp k e.0) as (λ o. text_cmp k e.0 ≡ o
       → flat_map rows (cond (not (is_eq o)) (e ∷ others k es) (others k es))
       ≡ delete_where mine (rows e ++ flat_map rows es)) [
-        | Less ↦ λ c. ap (λ l. rows e ++ l) (changed_rows-gone-rows es) ∙ sym (changed_rows-stays e es (maps-key_after nat_list_cmp_total k e.0 c))
+        | Less ↦ λ c. ap (λ l. rows e ++ l) (changed_rows-gone-rows es)
+            ∙ sym (changed_rows-stays e es (maps-key_after nat_list_cmp_total k e.0 c))
         | Equal ↦ λ c. changed_rows-gone-rows es ∙ sym (changed_rows-goes e es (sym (maps-exact_texts k e.0 c)))
-        | Greater ↦ λ c. ap (λ l. rows e ++ l) (changed_rows-gone-rows es) ∙ sym (changed_rows-stays e es (changed_rows-earlier k e.0 c))
+        | Greater ↦ λ c. ap (λ l. rows e ++ l) (changed_rows-gone-rows es)
+            ∙ sym (changed_rows-stays e es (changed_rows-earlier k e.0 c))
       ] refl
 
   changed_rows-kept-rows : (es : List (Text × X)) → find text_cmp k es ≡ None → delete_where mine (flat_map rows es)
@@ -144,9 +148,11 @@ module _ {X Row : Type 0} (rows : Text × X → List Row) (key : Row → Text)
   changed_rows-kept-rows (e ∷ es) h =
       elim (text_cmp k e.0) as (λ o. text_cmp k e.0 ≡ o → cond (is_eq o) (Some e.1) (find text_cmp k es) ≡ None
       → delete_where mine (rows e ++ flat_map rows es) ≡ rows e ++ flat_map rows es) [
-        | Less ↦ λ c m. changed_rows-stays e es (maps-key_after nat_list_cmp_total k e.0 c) ∙ ap (λ l. rows e ++ l) (changed_rows-kept-rows es m)
+        | Less ↦ λ c m. changed_rows-stays e es (maps-key_after nat_list_cmp_total k e.0 c)
+            ∙ ap (λ l. rows e ++ l) (changed_rows-kept-rows es m)
         | Equal ↦ λ c m. absurd (cc)
-        | Greater ↦ λ c m. changed_rows-stays e es (changed_rows-earlier k e.0 c) ∙ ap (λ l. rows e ++ l) (changed_rows-kept-rows es m)
+        | Greater ↦ λ c m. changed_rows-stays e es (changed_rows-earlier k e.0 c)
+            ∙ ap (λ l. rows e ++ l) (changed_rows-kept-rows es m)
       ] refl h
 
   -- what is put at a key: its rows, after those of the key are deleted
@@ -207,10 +213,12 @@ module _ {X Row : Type 0} (row : Text × X → Row) (key : Row → Text) (keyed 
     changed_rows-other e differs =
         ap (λ b. cond b (f (row e)) (row e)) (tells (row e) ∙ ap (λ q. eq_by_cmp text_cmp q k) (keyed e) ∙ differs)
 
-    changed_rows-same_later : (es : List (Text × X)) → T (below_all text_cmp k es) → update_where mine f (map row es) ≡ map row es
+    changed_rows-same_later : (es : List (Text × X)) → T (below_all text_cmp k es)
+        → update_where mine f (map row es) ≡ map row es
     changed_rows-same_later [] b = refl
     changed_rows-same_later (e ∷ es) b =
-        ap₂ (λ r rs. r ∷ rs) (changed_rows-other e (maps-key_after nat_list_cmp_total k e.0 (maps-less_from_test _ (maps-first_holds _ _ b))))
+        ap₂ (λ r rs. r ∷ rs)
+        (changed_rows-other e (maps-key_after nat_list_cmp_total k e.0 (maps-less_from_test _ (maps-first_holds _ _ b))))
         (changed_rows-same_later es (maps-second_holds _ _ b))
 
     changed_rows-unchanged : (es : List (Text × X)) → find text_cmp k es ≡ None → update_where mine f (map row es) ≡ map row es
@@ -218,9 +226,11 @@ module _ {X Row : Type 0} (row : Text × X → Row) (key : Row → Text) (keyed 
     changed_rows-unchanged (e ∷ es) h =
         elim (text_cmp k e.0) as (λ o. text_cmp k e.0 ≡ o → cond (is_eq o) (Some e.1) (find text_cmp k es) ≡ None
         → cond (mine (row e)) (f (row e)) (row e) ∷ update_where mine f (map row es) ≡ row e ∷ map row es) [
-          | Less ↦ λ c m. ap₂ (λ r rs. r ∷ rs) (changed_rows-other e (maps-key_after nat_list_cmp_total k e.0 c)) (changed_rows-unchanged es m)
+          | Less ↦ λ c m. ap₂ (λ r rs. r ∷ rs) (changed_rows-other e (maps-key_after nat_list_cmp_total k e.0 c))
+              (changed_rows-unchanged es m)
           | Equal ↦ λ c m. absurd (cc)
-          | Greater ↦ λ c m. ap₂ (λ r rs. r ∷ rs) (changed_rows-other e (changed_rows-earlier k e.0 c)) (changed_rows-unchanged es m)
+          | Greater ↦ λ c m. ap₂ (λ r rs. r ∷ rs) (changed_rows-other e (changed_rows-earlier k e.0 c))
+              (changed_rows-unchanged es m)
         ] refl h
 
     changed_rows-changed : (v kept : X) (es : List (Text × X)) → T (is_sorted text_cmp es) → find text_cmp k es ≡ Some kept

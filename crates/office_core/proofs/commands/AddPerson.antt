@@ -15,6 +15,8 @@ use Rattle.office_state.proofs.offices.People.{offices-nobody_has}
 use Rattle.office_state.proofs.offices.Register.{offices-person_put, offices-len-put_within}
 use Rattle.office_state.proofs.round_phases.Untouched.{round_phases-prepared, round_phases-undrawn, round_phases-words_undrawn}
 use Rattle.office_state.proofs.round_phases.Untouched.{round_phases-results_undrawn, round_phases-moves_stay}
+use Rattle.office_state.proofs.offices.Grades.{offices-graded_person}
+use Rattle.office_state.proofs.offices.Leavers.{offices-leaver_person}
 use Rattle.office_state.proofs.offices.KeptLists.{offices-person_known, offices-unknown_stays}
 use Rattle.office_core.specs.Refusal.Checks.{first_refusal}
 use Rattle.office_core.proofs.refusals.Checks.{refusals-none_applies}
@@ -34,6 +36,9 @@ commands-add_person-leads office person name key home l h =
     let new : Office = next office person name key home in
     let lawful : IsLawful new = record {
       kept = l.kept;
+      grades = offices-graded_person office.people office.grades l.grades person v;
+      leavers = offices-leaver_person office.phase office.people office.withdrawn office.going l.leavers
+          person v;
       register = offices-person_put office.rooms office.people l.register person v
           (λ q e. absurd (offices-nobody_has (λ p. Some p.key) office.people key
           (options-none_if_not_some (owner office key) n.1.1.0) q e))
@@ -43,7 +48,7 @@ commands-add_person-leads office person name key home l h =
       lists = offices-person_known office.rooms office.people office.choices office.withdrawn l.lists person
           v;
       round = l.round;
-      words = round_phases-words_undrawn office.phase new.people office.withdrawn office.words u.has_no_words
+      words = round_phases-words_undrawn office.phase new.people office.withdrawn office.going office.words u.has_no_words
           u.no_words;
       results = round_phases-results_undrawn new u.has_no_results u.no_results;
       moves = round_phases-moves_stay office new refl (λ round o. o) l.moves;

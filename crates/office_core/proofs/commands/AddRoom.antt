@@ -22,6 +22,8 @@ commands-add_room-leads office room l h =
     let u = round_phases-undrawn office l (round_phases-prepared office.phase (not-false _ n.0)) in
     let lawful : IsLawful (next office room) = record {
       kept = l.kept;
+      grades = l.grades;
+      leavers = l.leavers;
       register = offices-room_put office.rooms office.people l.register room
           (offices-len-put_within office.rooms room false room_limit n.1.0 n.1.1.0);
       lists = offices-room_known office.rooms office.people office.choices office.withdrawn l.lists room

@@ -13,7 +13,7 @@ pub commands-cancel-leads : (office : Office) → IsLawful office → first_refu
     → LeadsOn office (next office) (changes_of office)
 commands-cancel-leads office l h =
     let lawful : IsLawful (next office) =
-    commands-ended-lawful office office.people office.moves l l.register
+    commands-ended-lawful office office.people office.moves l l.register l.grades
     (round_phases-moves_stay office (next office) refl (round_phases-over-idle office) l.moves) in
     record {
       leads = refl;

@@ -5,6 +5,7 @@ use Rattle.room_types.specs.declared.phase.Phase.TheVariants.{Closed}
 use Rattle.office_state.specs.Change.{LeadsOn}
 use Rattle.office_state.specs.Office.Invariants.{IsLawful}
 use Rattle.office_state.specs.declared.office.Office.{Office}
+use Rattle.office_state.proofs.offices.Leavers.{offices-leaver_phase}
 use Rattle.office_state.proofs.round_phases.Over.{round_phases-over-under_way}
 use Rattle.office_state.proofs.round_phases.Untouched.{round_phases-prepared, round_phases-open_preparing, round_phases-open_busy, round_phases-undrawn}
 use Rattle.office_state.proofs.round_phases.Untouched.{round_phases-words_undrawn, round_phases-results_undrawn, round_phases-moves_stay}
@@ -21,6 +22,9 @@ commands-close_round-leads office l h =
     (round_phases-open_preparing office.phase (not-false _ n.0))) in
     let lawful : IsLawful (next office) = record {
       kept = l.kept;
+      grades = l.grades;
+      leavers = offices-leaver_phase office.phase office.people office.withdrawn office.going l.leavers
+          Closed refl;
       register = l.register;
       lists = l.lists;
       round = record {
@@ -29,7 +33,7 @@ commands-close_round-leads office l h =
         idle_choices = λ e. absurd (cc);
         idle_withdrawn = λ e. absurd (cc);
       };
-      words = round_phases-words_undrawn Closed office.people office.withdrawn office.words refl u.no_words;
+      words = round_phases-words_undrawn Closed office.people office.withdrawn office.going office.words refl u.no_words;
       results = round_phases-results_undrawn (next office) refl u.no_results;
       moves = round_phases-moves_stay office (next office) refl (round_phases-over-under_way office Closed busy refl) l.moves;
     } in

@@ -1,5 +1,5 @@
 -- The changes of each accepted command lead from a lawful office to a lawful one.
-use Rattle.std.proofs.Common.{◌≡◌, List, Option, Some, None, sym, subst}
+use Rattle.std.proofs.Common.{◌≡◌, None, sym, subst}
 use Rattle.std.specs.Prelude.{Result, Ok, Err, IfOk, OnOk}
 use Rattle.office_state.specs.Change.{LeadsOn}
 use Rattle.office_state.specs.Office.Invariants.{IsLawful}
@@ -16,6 +16,7 @@ use Rattle.office_core.proofs.commands.AddRoom.{commands-add_room-leads}
 use Rattle.office_core.proofs.commands.Cancel.{commands-cancel-leads}
 use Rattle.office_core.proofs.commands.CloseRound.{commands-close_round-leads}
 use Rattle.office_core.proofs.commands.Draw.{commands-draw-leads}
+use Rattle.office_core.proofs.commands.Going.{commands-going-leads}
 use Rattle.office_core.proofs.imports.Import.{imports-import-leads}
 use Rattle.office_core.proofs.commands.Leave.{commands-leave-leads}
 use Rattle.office_core.proofs.commands.OpenRound.{commands-open_round-leads}
@@ -25,6 +26,7 @@ use Rattle.office_core.proofs.settlements.Settle.{settlements-settle-leads}
 use Rattle.office_core.proofs.commands.Remove.{commands-remove-leads}
 use Rattle.office_core.proofs.commands.Reopen.{commands-reopen-leads}
 use Rattle.office_core.proofs.commands.SetChoices.{commands-set_choices-leads}
+use Rattle.office_core.proofs.commands.SetGrade.{commands-set_grade-leads}
 use Rattle.office_core.proofs.commands.SetHome.{commands-set_home-leads}
 use Rattle.office_core.proofs.commands.Shut.{commands-shut-leads}
 use Rattle.office_core.proofs.commands.Withdraw.{commands-withdraw-leads}
@@ -51,6 +53,8 @@ commands-accepted_command_leads office command.Settle f l h = settlements-settle
 commands-accepted_command_leads office command.Cancel f l h = commands-cancel-leads office l h
 commands-accepted_command_leads office (command.Import label kind bytes) f l h =
     imports-import-leads office label kind bytes l h
+commands-accepted_command_leads office (command.SetGrade person grade) f l h = commands-set_grade-leads office person grade l h
+commands-accepted_command_leads office (command.Going person) f l h = commands-going-leads office person l h
 
 pub commands-decision_leads : (office : Office) (given : Command) (result : Result Decision Refusal)
     → IsLawful office → OnOk result (IsFormed given)

@@ -12,10 +12,11 @@ use Rattle.room_types.specs.Texts.{Text, text_cmp}
 use Rattle.room_types.specs.declared.phase.Phase.TheVariants.{Drawn}
 use Rattle.office_state.specs.Change.{LeadsOn}
 use Rattle.office_state.specs.Office.Invariants.{IsLawful}
-use Rattle.office_state.specs.Office.{participants, knows_person, has_withdrawn}
+use Rattle.office_state.specs.Office.{participants, knows_person, sits_out}
 use Rattle.office_state.specs.declared.change.Change.{Change}
 use Rattle.office_state.specs.declared.change.Change.TheVariants.{PutRound}
 use Rattle.office_state.specs.declared.office.Office.{Office}
+use Rattle.office_state.proofs.offices.Leavers.{offices-leaver_phase}
 use Rattle.office_state.proofs.round_problems.People.{round_problems-participants_ascend, round_problems-participants_hold}
 use Rattle.office_state.proofs.round_phases.Over.{round_phases-over-under_way}
 use Rattle.office_state.proofs.round_phases.Untouched.{round_phases-closed_undrawn, round_phases-closed_busy, round_phases-undrawn}
@@ -40,6 +41,9 @@ commands-draw-leads office words l h =
     let rest : List Change = PutRound office.number Drawn ∷ [] in
     let lawful : IsLawful new = record {
       kept = l.kept;
+      grades = l.grades;
+      leavers = offices-leaver_phase office.phase office.people office.withdrawn office.going l.leavers
+          Drawn refl;
       register = l.register;
       lists = l.lists;
       round = record {
@@ -69,7 +73,7 @@ commands-draw-leads office words l h =
       fits = commands-words_put-fit office office people words rest
           (IsDistinct-from_sorted text_cmp people (round_problems-participants_ascend office))
           (λ q e. (
-            (and_parts (knows_person office q) (not (has_withdrawn office q))
+            (and_parts (knows_person office q) (not (sits_out office q))
                 (sym (round_problems-participants_hold office q) ∙ e)).0,
             ap (λ kept. map.contains_key kept q) u.no_words ∙ ap is_some (get-empty text_cmp q),
           ))

@@ -3,7 +3,7 @@ use Rattle.std.proofs.Common.{◌≡◌, Bool, true, false, not, List, [], ◌�
 use Rattle.std.specs.Prelude.{if◌then◌else◌}
 use Rattle.std.specs.FinMap as map
 use Rattle.room_types.specs.declared.kinds.ListKind.{ListKind}
-use Rattle.room_types.specs.declared.kinds.ListKind.TheVariants.{Rooms, People, Choices}
+use Rattle.room_types.specs.declared.kinds.ListKind.TheVariants.{Rooms, People, Choices, Grades}
 use Rattle.room_types.specs.declared.phase.Phase.{Phase}
 use Rattle.room_types.specs.declared.phase.Phase.TheVariants.{Idle, Opened, Closed, Drawn, Ran}
 use Rattle.room_types.specs.declared.phase.Phase.TheVariants.{Published}
@@ -56,6 +56,7 @@ commands-comes_too_late : (kind : ListKind) (phase : Phase) → IsPast phase →
 commands-comes_too_late Rooms phase p = p.preparing
 commands-comes_too_late People phase p = p.preparing
 commands-comes_too_late Choices phase p = p.opened
+commands-comes_too_late Grades phase p = p.preparing
 
 pub commands-results_kept : (office : Office) (c : Command) → has_results office.phase ≡ true
     → accepts office c ≡ None → ends_round c ≡ false → KeepsResults office (next office c)
@@ -99,7 +100,15 @@ commands-results_kept office command.Run there ok goes_on =
     absurd (commands-stops (is_drawn office.phase) (commands-past office.phase there).drawn
     (commands-passes (checks office command.Run) ok))
 commands-results_kept office command.Publish there ok goes_on = record {
-  entries = record { rooms = refl; people = refl; choices = refl; withdrawn = refl; words = refl };
+  entries = record {
+    rooms = refl;
+    people = refl;
+    choices = refl;
+    withdrawn = refl;
+    words = refl;
+    grades = refl;
+    going = refl;
+  };
   number = refl;
   results = refl;
   still = refl;
@@ -117,6 +126,8 @@ commands-results_kept office (command.Import label kind bytes) there ok goes_on 
           choices = refl;
           withdrawn = refl;
           words = refl;
+          grades = refl;
+          going = refl;
         };
         number = refl;
         results = refl;
@@ -126,3 +137,9 @@ commands-results_kept office (command.Import label kind bytes) there ok goes_on 
           (commands-comes_too_late kind office.phase (commands-past office.phase there))
           (commands-passes (new_label_checks office kind bytes) first))
     ] ok
+commands-results_kept office (command.SetGrade person grade) there ok goes_on =
+    absurd (commands-stops (is_preparing office.phase) (commands-past office.phase there).preparing
+    (commands-passes (checks office (command.SetGrade person grade)) ok))
+commands-results_kept office (command.Going person) there ok goes_on =
+    absurd (commands-stops (is_open office.phase) (commands-past office.phase there).opened
+    (commands-passes (checks office (command.Going person)) ok))

@@ -7,6 +7,7 @@ use Rattle.office_state.specs.Change.{LeadsOn}
 use Rattle.office_state.specs.Office.Invariants.{IsLawful}
 use Rattle.office_state.specs.declared.office.Office.{Office}
 use Rattle.office_state.specs.Office.Limits.{round_limit}
+use Rattle.office_state.proofs.offices.Leavers.{offices-leaver_phase}
 use Rattle.office_state.proofs.round_phases.Over.{round_phases-over-begun}
 use Rattle.office_state.proofs.round_phases.Untouched.{round_phases-prepared, round_phases-idle_preparing, round_phases-undrawn}
 use Rattle.office_state.proofs.round_phases.Untouched.{round_phases-words_undrawn, round_phases-results_undrawn, round_phases-moves_stay}
@@ -23,6 +24,9 @@ commands-open_round-leads office l h =
     let few = leb-false round_limit office.number n.1.0 in
     let lawful : IsLawful (next office) = record {
       kept = l.kept;
+      grades = l.grades;
+      leavers = offices-leaver_phase office.phase office.people office.withdrawn office.going l.leavers
+          Opened refl;
       register = l.register;
       lists = l.lists;
       round = record {
@@ -31,7 +35,7 @@ commands-open_round-leads office l h =
         idle_choices = λ e. absurd (cc);
         idle_withdrawn = λ e. absurd (cc);
       };
-      words = round_phases-words_undrawn Opened office.people office.withdrawn office.words refl u.no_words;
+      words = round_phases-words_undrawn Opened office.people office.withdrawn office.going office.words refl u.no_words;
       results = round_phases-results_undrawn (next office) refl u.no_results;
       moves = round_phases-moves_stay office (next office) refl (round_phases-over-begun office idle) l.moves;
     } in

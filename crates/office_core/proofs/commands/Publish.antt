@@ -5,6 +5,7 @@ use Rattle.room_types.specs.declared.phase.Phase.TheVariants.{Published}
 use Rattle.office_state.specs.Change.{LeadsOn}
 use Rattle.office_state.specs.Office.Invariants.{IsLawful}
 use Rattle.office_state.specs.declared.office.Office.{Office}
+use Rattle.office_state.proofs.offices.Leavers.{offices-leaver_phase}
 use Rattle.office_state.proofs.round_phases.Over.{round_phases-over-under_way}
 use Rattle.office_state.proofs.round_outcomes.Stays.{round_outcomes-round_results-along}
 use Rattle.office_state.proofs.round_phases.Untouched.{round_phases-ran_worded, round_phases-ran_busy, round_phases-ran_given, round_phases-moves_stay}
@@ -20,6 +21,9 @@ commands-publish-leads office l h =
     let busy = round_phases-ran_busy office.phase ran in
     let lawful : IsLawful (next office) = record {
       kept = l.kept;
+      grades = l.grades;
+      leavers = offices-leaver_phase office.phase office.people office.withdrawn office.going l.leavers
+          Published refl;
       register = l.register;
       lists = l.lists;
       round = record {

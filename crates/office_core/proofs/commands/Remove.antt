@@ -1,5 +1,5 @@
 -- A person who goes keeps the laws.
-use Rattle.std.proofs.Common.{◌≡◌, None, refl, ap, ◌∙◌, sym, subst}
+use Rattle.std.proofs.Common.{◌≡◌, false, None, refl, ap, ◌∙◌, sym, subst}
 use Rattle.std.proofs.lemmas.Bool.{not-false}
 use Rattle.std.specs.FinMap as map
 use Rattle.room_types.specs.Texts.{Text}
@@ -11,6 +11,8 @@ use Rattle.office_state.specs.Office.Invariants.{IsLawful}
 use Rattle.office_state.specs.declared.office.Office.{Office}
 use Rattle.office_state.specs.Office.Invariants.{AreLists}
 use Rattle.office_state.proofs.offices.Empty.{offices-no_lists}
+use Rattle.office_state.proofs.offices.Grades.{offices-grade_dropped}
+use Rattle.office_state.proofs.offices.Leavers.{offices-leaver_dropped}
 use Rattle.office_state.proofs.offices.Register.{offices-person_gone}
 use Rattle.office_state.proofs.round_phases.Untouched.{round_phases-prepared, round_phases-idle_preparing, round_phases-undrawn}
 use Rattle.office_state.proofs.round_phases.Untouched.{round_phases-words_undrawn, round_phases-results_undrawn, round_phases-moves_stay}
@@ -28,15 +30,21 @@ commands-remove-leads office person l h =
     let new : Office = next office person in
     let no_choices = l.round.idle_choices idle in
     let nobody = l.round.idle_withdrawn idle in
+    let stays : map.contains_key office.going person ≡ false =
+    ap (λ going. map.contains_key going person) (l.leavers.idle_going idle)
+    ∙ ap is_some (get-empty text_cmp person) in
     let lawful : IsLawful new = record {
       kept = l.kept;
+      grades = offices-grade_dropped office.people office.grades l.grades person;
+      leavers = offices-leaver_dropped office.phase office.people office.withdrawn office.going l.leavers
+          person stays;
       register = offices-person_gone office.rooms office.people l.register person;
       lists = subst (λ choices. AreLists office.rooms new.people choices office.withdrawn)
           (sym no_choices)
           (subst (λ withdrawn. AreLists office.rooms new.people map.empty withdrawn) (sym nobody)
           (offices-no_lists office.rooms new.people));
       round = l.round;
-      words = round_phases-words_undrawn office.phase new.people office.withdrawn office.words u.has_no_words
+      words = round_phases-words_undrawn office.phase new.people office.withdrawn office.going office.words u.has_no_words
           u.no_words;
       results = round_phases-results_undrawn new u.has_no_results u.no_results;
       moves = round_phases-moves_stay office new refl (λ round o. o) l.moves;
@@ -45,8 +53,11 @@ commands-remove-leads office person l h =
       leads = refl;
       apart = (l.register.homes, lawful.register.homes);
       fits = (
-        ap (λ withdrawn. map.contains_key withdrawn person) nobody
-            ∙ ap is_some (get-empty text_cmp person),
+        (
+          ap (λ withdrawn. map.contains_key withdrawn person) nobody
+              ∙ ap is_some (get-empty text_cmp person),
+          stays,
+        ),
         tt,
       );
       lawful = lawful;

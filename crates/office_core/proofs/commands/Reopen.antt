@@ -23,6 +23,8 @@ commands-reopen-leads office room l h =
     let u = round_phases-undrawn office l (round_phases-prepared office.phase (not-false _ n.0)) in
     let lawful : IsLawful (next office room) = record {
       kept = l.kept;
+      grades = l.grades;
+      leavers = l.leavers;
       register = offices-room_put office.rooms office.people l.register room
           (subst (λ k. k ≤ room_limit) (sym
           (maps-len-put_known office.rooms room false (not-false _ n.1.0))) l.register.few_rooms);

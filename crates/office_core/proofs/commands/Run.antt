@@ -15,13 +15,14 @@ use Rattle.room_types.proofs.maps.Entries.{maps-none_below}
 use Rattle.room_types.specs.declared.phase.Phase.TheVariants.{Ran}
 use Rattle.office_state.specs.Change.{applied_all, LeadsOn, StaysApart, AllFit}
 use Rattle.office_state.specs.Office.Invariants.{IsLawful, HomesDiffer}
-use Rattle.office_state.specs.Office.{knows_person, has_withdrawn}
+use Rattle.office_state.specs.Office.{knows_person, sits_out}
 use Rattle.office_state.specs.Round.{round_results}
 use Rattle.office_state.specs.Puts.{with_all}
 use Rattle.office_state.specs.declared.change.Change.{Change}
 use Rattle.office_state.specs.declared.change.Change.TheVariants.{PutRound}
 use Rattle.office_state.specs.declared.office.Assigned.{Assigned}
 use Rattle.office_state.specs.declared.office.Office.{Office}
+use Rattle.office_state.proofs.offices.Leavers.{offices-leaver_phase}
 use Rattle.office_state.proofs.round_phases.Over.{round_phases-over-under_way}
 use Rattle.office_state.proofs.round_problems.Puts.{round_problems-with_all-entries}
 use Rattle.office_state.proofs.round_outcomes.Results.{round_outcomes-contains_key-round_results}
@@ -98,6 +99,9 @@ commands-run-leads office l h =
     let entries = map.entries (round_results office) in
     let lawful : IsLawful new = record {
       kept = l.kept;
+      grades = l.grades;
+      leavers = offices-leaver_phase office.phase office.people office.withdrawn office.going l.leavers
+          Ran refl;
       register = l.register;
       lists = l.lists;
       round = record {
@@ -125,7 +129,7 @@ commands-run-leads office l h =
           (l.register.homes, l.register.homes);
       fits = commands-results-fit office office entries rest (entries_sorted (round_results office))
           (λ q e. (
-            (and_parts (knows_person office q) (not (has_withdrawn office q))
+            (and_parts (knows_person office q) (not (sits_out office q))
                 (sym (round_outcomes-contains_key-round_results office q)
                 ∙ ap is_some (get-entries (round_results office) q) ∙ e)).0,
             ap (λ kept. map.contains_key kept q) (l.results.none (round_phases-drawn_unran office.phase drawn))

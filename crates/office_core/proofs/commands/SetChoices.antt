@@ -25,9 +25,11 @@ commands-set_choices-leads office person choices formed l h =
     let new : Office = next office person choices in
     let lawful : IsLawful new = record {
       kept = l.kept;
+      grades = l.grades;
+      leavers = l.leavers;
       register = l.register;
       lists = offices-list_put office.rooms office.people office.choices office.withdrawn l.lists person
-          choices (not-false _ n.1.0) (refusals-known_all office choices n.1.1.1) formed;
+          choices (not-false _ n.1.0) (refusals-known_all office choices n.1.1.1.1) formed;
       round = record {
         few_rounds = l.round.few_rounds;
         numbered = l.round.numbered;

@@ -31,6 +31,8 @@ commands-shut-lawful office room l before known empty =
     let new : Office = record office { rooms = map.insert office.rooms room true } in
     record {
       kept = l.kept;
+      grades = l.grades;
+      leavers = l.leavers;
       register = offices-room_shut office.rooms office.people l.register room known empty;
       lists = offices-room_known office.rooms office.people office.choices office.withdrawn l.lists room
           true;

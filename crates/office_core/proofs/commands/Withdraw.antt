@@ -17,6 +17,7 @@ use Rattle.office_state.specs.Office.{has_withdrawn}
 use Rattle.office_state.specs.declared.change.Change.TheVariants.{PutWithdrawn}
 use Rattle.office_state.proofs.round_phases.Untouched.{round_phases-prepared, round_phases-open_preparing, round_phases-open_busy, round_phases-undrawn}
 use Rattle.office_state.proofs.round_phases.Untouched.{round_phases-words_undrawn, round_phases-results_undrawn, round_phases-moves_stay}
+use Rattle.office_state.proofs.offices.Leavers.{offices-leaver_withdrawn}
 use Rattle.office_state.proofs.offices.KeptLists.{offices-withdrawn_put}
 use Rattle.office_core.specs.Refusal.Checks.{first_refusal}
 use Rattle.office_core.proofs.refusals.Checks.{refusals-none_applies}
@@ -34,7 +35,7 @@ commands-same_at m q k ties = elim (maps-text_cases q k) as (λ _. map.get m q �
 ]
 
 -- who is in a set already adds nothing to it
-commands-put_again : (m : TextMap (Unit {0})) (k : Text) → map.contains_key m k ≡ true
+pub commands-put_again : (m : TextMap (Unit {0})) (k : Text) → map.contains_key m k ≡ true
     → map.insert m k tt ≡ m
 commands-put_again m k known = same_map nat_list_cmp_total maps-exact_texts (map.insert m k tt) m (λ q.
     get-insert nat_list_cmp_total m k tt q
@@ -76,6 +77,9 @@ commands-withdraw-leads office person l h =
     let new : Office = next office person in
     let lawful : IsLawful new = record {
       kept = l.kept;
+      grades = l.grades;
+      leavers = offices-leaver_withdrawn office.phase office.people office.withdrawn office.going l.leavers
+          person n.1.1.0;
       register = l.register;
       lists = offices-withdrawn_put office.rooms office.people office.choices office.withdrawn l.lists
           person known;
@@ -85,7 +89,7 @@ commands-withdraw-leads office person l h =
         idle_choices = λ e. absurd (cc);
         idle_withdrawn = λ e. absurd (cc);
       };
-      words = round_phases-words_undrawn office.phase office.people new.withdrawn office.words u.has_no_words
+      words = round_phases-words_undrawn office.phase office.people new.withdrawn office.going office.words u.has_no_words
           u.no_words;
       results = round_phases-results_undrawn new u.has_no_results u.no_results;
       moves = round_phases-moves_stay office new refl (λ round o. o) l.moves;

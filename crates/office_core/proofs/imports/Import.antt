@@ -9,7 +9,7 @@ use Rattle.room_types.specs.Choices.{IsChoices}
 use Rattle.room_types.proofs.maps.TextMaps.{maps-contains_key-put, maps-get-put_other, maps-get-put_same, maps-text_cases}
 use Rattle.room_types.specs.Texts.{Text, TextMap}
 use Rattle.room_types.specs.declared.kinds.ListKind.{ListKind}
-use Rattle.room_types.specs.declared.kinds.ListKind.TheVariants.{Rooms, People, Choices}
+use Rattle.room_types.specs.declared.kinds.ListKind.TheVariants.{Rooms, People, Choices, Grades}
 use Rattle.office_lists.specs.Records.{list_fault, record_limit, records_of}
 use Rattle.office_lists.specs.declared.fault.Cause.TheVariants.{Denied}
 use Rattle.office_state.specs.Change.{AllFit, Fits, LeadsOn, StaysApart, applied, applied_all}
@@ -25,7 +25,7 @@ use Rattle.office_state.proofs.offices.Register.{offices-len-put_within}
 use Rattle.office_state.proofs.round_phases.Untouched.{round_phases-moves_stay, round_phases-open_preparing, round_phases-prepared}
 use Rattle.office_state.proofs.round_phases.Untouched.{round_phases-results_undrawn, round_phases-undrawn}
 use Rattle.office_core.specs.Command.Import.{EntryCommand, bad_list, changes_by, changes_of, changes_where}
-use Rattle.office_core.specs.Command.Import.{checks, checks_where, choices_command, entries_in}
+use Rattle.office_core.specs.Command.Import.{checks, checks_where, choices_command, entries_in, grade_command}
 use Rattle.office_core.specs.Command.Import.{new_label_changes, new_label_checks, first_denied, keeping}
 use Rattle.office_core.specs.Command.Import.{list_refusal, may_import, next, next_where, office_after}
 use Rattle.office_core.specs.Command.Import.{office_with, person_command, record_count, refusal_of}
@@ -38,6 +38,7 @@ use Rattle.office_core.proofs.commands.AddRoom.{commands-add_room-leads}
 use Rattle.office_core.proofs.imports.ListChecks.{imports-first_of_list}
 use Rattle.office_core.proofs.imports.Records.{Each, imports-each_recordable, imports-few_records, imports-none_of}
 use Rattle.office_core.proofs.commands.SetChoices.{commands-set_choices-leads}
+use Rattle.office_core.proofs.commands.SetGrade.{commands-set_grade-leads}
 use Rattle.office_core.proofs.refusals.Checks.{refusals-none_applies}
 
 -- rooms that were known are known
@@ -100,6 +101,17 @@ imports-choices_steps = record {
       (commands-set_choices-leads office e.person e.choices good l h).lawful;
   fits = λ first office e good grows l h.
       (commands-set_choices-leads office e.person e.choices good l h).fits.0;
+  grows = λ first office e grows q known. grows q known;
+  lists = λ office e. refl;
+  phase = λ office e. refl;
+}
+
+imports-grade_steps : Steps grade_command (λ entry. Unit {0})
+imports-grade_steps = record {
+  applies = λ office e. refl;
+  lawful = λ office e good l h. (commands-set_grade-leads office e.person e.grade l h).lawful;
+  fits = λ first office e good grows l h.
+      (commands-set_grade-leads office e.person e.grade l h).fits.0;
   grows = λ first office e grows q known. grows q known;
   lists = λ office e. refl;
   phase = λ office e. refl;
@@ -191,6 +203,8 @@ imports-keeping-lawful office label kind bytes l before kept =
     record {
       kept = kept;
       register = l.register;
+      grades = l.grades;
+      leavers = l.leavers;
       lists = l.lists;
       round = l.round;
       words = l.words;
@@ -240,6 +254,7 @@ imports-comes_before : (kind : ListKind) (office : Office) → may_import kind o
 imports-comes_before Rooms office h = h
 imports-comes_before People office h = h
 imports-comes_before Choices office h = round_phases-open_preparing office.phase h
+imports-comes_before Grades office h = h
 
 -- a list under a new label
 imports-new-leads : (office : Office) (label : Text) (kind : ListKind) (bytes : List ℕ) → IsLawful office
@@ -267,6 +282,9 @@ imports-new-leads office label kind bytes l new h =
     by Choices few short before good =
         imports-tried-leads office label Choices bytes l new few short before choices_command
         (λ entry. IsChoices entry.choices) imports-choices_steps (imports-each_recordable bytes) good
+    by Grades few short before good =
+        imports-tried-leads office label Grades bytes l new few short before grade_command (λ x. Unit {0})
+        imports-grade_steps (λ e. imports-each_any (entries_in grade_command bytes)) good
 
 pub imports-import-leads : (office : Office) (label : Text) (kind : ListKind) (bytes : List ℕ)
     → IsLawful office → first_refusal (checks office label kind bytes) ≡ None

@@ -9,20 +9,21 @@ use Rattle.std.specs.Option.{option_map_or}
 use Rattle.office_lists.specs.Records.{ListForm, Tells, data_records, list_fault, record_limit, records_of}
 use Rattle.room_types.specs.Texts.{Text, TextMap}
 use Rattle.room_types.specs.declared.kinds.ListKind.{ListKind}
-use Rattle.room_types.specs.declared.kinds.ListKind.TheVariants.{Rooms, People, Choices}
+use Rattle.room_types.specs.declared.rows.GradeRow.{GradeRow}
+use Rattle.room_types.specs.declared.kinds.ListKind.TheVariants.{Rooms, People, Choices, Grades}
 use Rattle.office_lists.specs.declared.entries.ChoicesEntry.{ChoicesEntry}
 use Rattle.office_lists.specs.declared.fault.Cause.TheVariants.{Denied}
 use Rattle.office_lists.specs.declared.fault.ListFault.{ListFault}
 use Rattle.office_lists.specs.declared.fault.ListFault.TheVariants as list
 use Rattle.office_state.specs.Empty.{is_empty}
 use Rattle.office_state.specs.Office.Limits.{byte_limit, label_limit}
-use Rattle.office_state.specs.Change.{with_list}
+use Rattle.office_state.specs.Change.{with_grade, with_list}
 use Rattle.office_state.specs.declared.change.Change.{Change}
 use Rattle.office_state.specs.declared.change.Change.TheVariants.{KeepList}
 use Rattle.office_state.specs.declared.office.Office.{Office}
 use Rattle.office_core.specs.Command.Decision.{IsRefusal, refusal_takes_memory}
 use Rattle.office_core.specs.Command.Import.{EntryCommand, bad_list, check_of, entries_in, first_denied}
-use Rattle.office_core.specs.Command.Import.{choices_command, list_refusal, record_count, refusal_of}
+use Rattle.office_core.specs.Command.Import.{choices_command, grade_command, list_refusal, record_count, refusal_of}
 use Rattle.office_core.specs.Command.Import.{new_label_changes, new_label_checks, may_import, person_command}
 use Rattle.office_core.specs.Command.Import.{record_changes, room_command}
 use Rattle.office_core.specs.Inner.Tries.{AreAdded, AreAllowed, IsOrMemory}
@@ -107,6 +108,26 @@ pub imports-choices_later : (office : Office) (at : ℕ) (entry : ChoicesEntry) 
 imports-choices_later office at entry entries =
     imports-choices_free office (with_list office.choices entry.person entry.choices) at entries
 
+-- the recorded grades do not count for what a list of grades is refused for
+imports-grades_free : (office : Office) (grades : TextMap ℕ) (at : ℕ) (entries : List GradeRow)
+    → first_denied grade_command (record office { grades = grades }) at entries
+    ≡ first_denied grade_command office at entries
+imports-grades_free office grades at [] = refl
+imports-grades_free office grades at (entry ∷ entries) =
+    ap (λ rest. option_map_or
+    (λ refusal. Some (refused.BadRecord at (Denied (number_of refusal))))
+    (first_refusal (grade_command.checks office entry)) rest)
+    (imports-grades_free office (with_grade grades entry.person entry.grade) (at + 1) entries
+    ∙ sym (imports-grades_free office (with_grade office.grades entry.person entry.grade) (at + 1)
+    entries))
+
+pub imports-grades_later : (office : Office) (at : ℕ) (entry : GradeRow) (entries : List GradeRow)
+    → first_denied grade_command
+    (record office { grades = with_grade office.grades entry.person entry.grade }) at entries
+    ≡ first_denied grade_command office at entries
+imports-grades_later office at entry entries =
+    imports-grades_free office (with_grade office.grades entry.person entry.grade) at entries
+
 -- a list is refused for a record, or for memory
 pub imports-tells_of_record : (command : EntryCommand) (office : Office) (bytes : List ℕ) (refusal : Refusal)
     → list_refusal command office bytes ≡ Some refusal
@@ -133,6 +154,7 @@ imports-kind_tells : (kind : ListKind) (office : Office) (bytes : List ℕ) (ref
 imports-kind_tells Rooms = imports-tells_of_record room_command
 imports-kind_tells People = imports-tells_of_record person_command
 imports-kind_tells Choices = imports-tells_of_record choices_command
+imports-kind_tells Grades = imports-tells_of_record grade_command
 
 -- a list that may come is refused for its records, or for the memory that is taken for it
 imports-list_refused : (changes : List Change) (checks : List Check) (wanted : Option Refusal)

@@ -99,6 +99,8 @@ reply_rows-reply_ascends office command.Settle = tt
 reply_rows-reply_ascends office command.Cancel = tt
 reply_rows-reply_ascends office (command.Import label kind bytes) =
     reply_rows-added_ascends (maps.get office.lists label) bytes
+reply_rows-reply_ascends office (command.SetGrade person grade) = tt
+reply_rows-reply_ascends office (command.Going person) = tt
 
 pub reply_rows-answer_ascends : (office : Office) (asked : Query) (result : Result Reply Refusal)
     → Tells (told office asked) result → IfOk result RowsAscend

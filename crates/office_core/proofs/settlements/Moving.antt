@@ -1,14 +1,14 @@
 -- The movers in the order of the day: they are the same people, and whoever comes to a room finds it empty, but for those who
 -- swap, who have left before.
-use Rattle.std.proofs.Common.{◌≡◌, ℕ, zero, suc, ◌<◌, true, false, ◌||◌, List, [], ◌∷◌, length, get_or}
+use Rattle.std.proofs.Common.{◌≡◌, ℕ, zero, suc, ◌<◌, true, false, Bool, not, ◌||◌, ◌++◌, List, [], ◌∷◌, length, get_or}
 use Rattle.std.proofs.Common.{map as map_list, Option, Some, None, cond, refl, ap, ◌∙◌, sym, subst, inl, inr, ◌⊎◌, arith}
-use Rattle.std.specs.Option.{option_and_then}
-use Rattle.std.specs.List.{All, Contains, list_any, position_or_len}
+use Rattle.std.specs.Option.{is_some, option_and_then}
+use Rattle.std.specs.List.{All, Contains, filter, list_any, position_or_len}
 use Rattle.std.specs.Ordering.{eq_by_cmp, is_eq, is_lt, ordering_then}
 use Rattle.std.specs.Cmp.{nat_cmp_is, tied_itself}
 use Rattle.std.specs.Cmp.Lexicographic.{nat_list_cmp_total}
 use Rattle.std.specs.declared.cmp.Ordering.TheVariants.{Less}
-use Rattle.std.proofs.lemmas.Bool.{false≢true, cases_lt, or_right}
+use Rattle.std.proofs.lemmas.Bool.{false≢true, cases_lt, or_parts, or_right}
 use Rattle.std.proofs.lemmas.List.{get_or_default, get_or-map, length-map}
 use Rattle.std.proofs.lemmas.List.Folds.{Any-from_list_any}
 use Rattle.std.proofs.lemmas.List.FromFn.{get_or-map-range_with_len}
@@ -28,7 +28,7 @@ use Rattle.office_lists.proofs.move_days.Leavers.{move_days-as_many_waves, has_l
 use Rattle.office_lists.proofs.move_days.Lists.{move_days-move_total}
 use Rattle.office_state.specs.Round.Settlement.{moves_with}
 use Rattle.office_state.proofs.moving_people.Movers.{is_mover}
-use Rattle.office_core.specs.Command.Settle.{swaps}
+use Rattle.office_core.specs.Command.Settle.{first_out, goers, swaps}
 
 -- who moves, without the wave
 abbrev pub mover_of : Move → Mover
@@ -49,21 +49,56 @@ settlements-is_mover-ascending ms q =
     (ascending move_cmp ms) (arranged-one_arrangement move_cmp move_days-move_total ms).some.same_items)
     ∙ sym (settlements-any_mover ms q)
 
-pub settlements-is_mover-swaps : (ms : List Move) (q : Text) → is_mover (map_list mover_of (swaps ms)) q ≡ true
-    → is_mover (map_list mover_of ms) q ≡ true
-settlements-is_mover-swaps [] q h = h
-settlements-is_mover-swaps (m ∷ ms) q h =
-    elim (is_swap m.wave) as
-    (λ b. is_mover (map_list mover_of (cond b (m ∷ swaps ms) (swaps ms))) q ≡ true
+-- those who pass a test are movers
+settlements-is_mover-some : (test : Move → Bool) (ms : List Move) (q : Text)
+    → is_mover (map_list mover_of (filter test ms)) q ≡ true → is_mover (map_list mover_of ms) q ≡ true
+settlements-is_mover-some test [] q h = h
+settlements-is_mover-some test (m ∷ ms) q h =
+    elim (test m) as
+    (λ b. is_mover (map_list mover_of (cond b (m ∷ filter test ms) (filter test ms))) q ≡ true
     → is_mover (map_list mover_of (m ∷ ms)) q ≡ true) [
       | true ↦ λ there. elim (eq_by_cmp text_cmp q m.person) as
-          (λ b. (b || is_mover (map_list mover_of (swaps ms)) q) ≡ true
+          (λ b. (b || is_mover (map_list mover_of (filter test ms)) q) ≡ true
           → (b || is_mover (map_list mover_of ms) q) ≡ true) [
             | true ↦ λ _. refl
-            | false ↦ settlements-is_mover-swaps ms q
+            | false ↦ settlements-is_mover-some test ms q
           ] there
-      | false ↦ λ there. or_right (eq_by_cmp text_cmp q m.person) _ (settlements-is_mover-swaps ms q there)
+      | false ↦ λ there. or_right (eq_by_cmp text_cmp q m.person) _ (settlements-is_mover-some test ms q there)
     ] h
+
+settlements-is_mover-append : (ms others : List Move) (q : Text)
+    → is_mover (map_list mover_of (ms ++ others)) q
+    ≡ (is_mover (map_list mover_of ms) q || is_mover (map_list mover_of others) q)
+settlements-is_mover-append [] others q = refl
+settlements-is_mover-append (m ∷ ms) others q =
+    ap (λ b. eq_by_cmp text_cmp q m.person || b) (settlements-is_mover-append ms others q)
+    ∙ either (eq_by_cmp text_cmp q m.person) _ _
+  where
+    either : (a b c : Bool) → (a || (b || c)) ≡ ((a || b) || c)
+    either true b c = refl
+    either false b c = refl
+
+-- those who leave before anybody arrives are movers
+pub settlements-is_mover-first_out : (ms : List Move) (q : Text)
+    → is_mover (map_list mover_of (first_out ms)) q ≡ true → is_mover (map_list mover_of ms) q ≡ true
+settlements-is_mover-first_out ms q h =
+    by (is_mover (map_list mover_of (goers ms)) q) (is_mover (map_list mover_of (swaps ms)) q)
+    (settlements-is_mover-some (λ move. not (is_some move.to)) ms q)
+    (settlements-is_mover-some (λ move. is_swap move.wave) ms q)
+    (sym (settlements-is_mover-append (goers ms) (swaps ms) q) ∙ h)
+  where
+    by : (a b : Bool) → (a ≡ true → is_mover (map_list mover_of ms) q ≡ true)
+        → (b ≡ true → is_mover (map_list mover_of ms) q ≡ true) → (a || b) ≡ true
+        → is_mover (map_list mover_of ms) q ≡ true
+    by true b f g e = f refl
+    by false b f g e = g e
+
+-- and who is none of them does not swap
+pub settlements-no_swap : (ms : List Move) (q : Text)
+    → is_mover (map_list mover_of (first_out ms)) q ≡ false → is_mover (map_list mover_of (swaps ms)) q ≡ false
+settlements-no_swap ms q h =
+    (or_parts (is_mover (map_list mover_of (goers ms)) q) (is_mover (map_list mover_of (swaps ms)) q)
+    (sym (settlements-is_mover-append (goers ms) (swaps ms) q) ∙ h)).1
 
 -- the person of a move whose wave is a swap is among those who swap
 settlements-swap_at : (ms : List Move) (k : ℕ) (d : Move) → k < length ms → is_swap (get_or ms k d).wave ≡ true

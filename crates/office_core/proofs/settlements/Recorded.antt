@@ -1,5 +1,6 @@
 -- Moves with their waves, one by one.
-use Rattle.std.proofs.Common.{◌≡◌, ℕ, ◌+◌, ◌<◌, List, [], ◌∷◌, ◌++◌, length, take, drop, get_or, cond, ap, ◌∙◌}
+use Rattle.std.proofs.Common.{◌≡◌, ℕ, ◌+◌, ◌<◌, List, [], ◌∷◌, ◌++◌, length, take, drop, get_or, cond, not, ap, ◌∙◌}
+use Rattle.std.specs.Option.{is_some}
 use Rattle.std.proofs.lemmas.List.{drop_more}
 use Rattle.std.proofs.lemmas.List.Elements.{filter_more}
 use Rattle.room_types.specs.declared.moves.Move.{Move}
@@ -9,7 +10,7 @@ use Rattle.office_lists.specs.Waves.{Mover, waves_of}
 use Rattle.office_lists.proofs.move_days.Leavers.{move_days-as_many_waves}
 use Rattle.office_state.specs.Round.Settlement.{movers, moves_with, settled_moves}
 use Rattle.office_state.specs.declared.office.Office.{Office}
-use Rattle.office_core.specs.Command.Settle.{swaps}
+use Rattle.office_core.specs.Command.Settle.{goers, swaps}
 use Rattle.office_core.proofs.settlements.Moving.{settlements-length-moves_with}
 
 pub settlements_moves_with_more : (round : ℕ) (ms : List Mover) (waves : List Wave) (i : ℕ) (d : Mover)
@@ -31,6 +32,11 @@ pub settlements_swaps_more : (moves : List Move) (i : ℕ) (d : Move) → i < le
     → swaps (take (i + 1) moves)
     ≡ swaps (take i moves) ++ cond (is_swap (get_or moves i d).wave) (get_or moves i d ∷ []) []
 settlements_swaps_more moves i d within = filter_more (λ move. is_swap move.wave) moves i d within
+
+pub settlements_goers_more : (moves : List Move) (i : ℕ) (d : Move) → i < length moves
+    → goers (take (i + 1) moves)
+    ≡ goers (take i moves) ++ cond (not (is_some (get_or moves i d).to)) (get_or moves i d ∷ []) []
+settlements_goers_more moves i d within = filter_more (λ move. not (is_some move.to)) moves i d within
 
 -- as many moves as movers
 pub settlements-as_many_settled : (office : Office) → length (settled_moves office) ≡ length (movers office)

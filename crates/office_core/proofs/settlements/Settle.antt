@@ -1,7 +1,7 @@
 -- A settlement keeps the laws.
 use Rattle.std.proofs.Common.{◌≡◌, ℕ, ◌≤◌, ◌<◌, true, false, ◌&&◌, List, [], ◌∷◌, length, get_or, map as map_list}
 use Rattle.std.proofs.Common.{Some, None, cond, refl, ap, ◌∙◌, sym, subst, inl, inr, ◌⊎◌, arith}
-use Rattle.std.specs.Option.{option_and_then}
+use Rattle.std.specs.Option.{is_some, option_and_then, option_map}
 use Rattle.std.specs.List.{All, AllByRecursion}
 use Rattle.std.proofs.lemmas.Bool.{not-false, le-leb}
 use Rattle.std.proofs.lemmas.List.Elements.{All-map, recursion_from_All}
@@ -30,18 +30,18 @@ use Rattle.office_state.specs.declared.office.person.Person.{Person}
 use Rattle.office_state.proofs.offices.Moves.{offices-no_moves_known}
 use Rattle.office_state.proofs.round_phases.Over.{round_phases-over-idle, round_phases-under_way-not_over}
 use Rattle.office_state.proofs.round_phases.Untouched.{round_phases-published_busy, round_phases-published_given}
-use Rattle.office_state.proofs.moving_people.Movers.{is_mover, mover_to, moving_people-mover_to-by, moving_people-each_mover}
+use Rattle.office_state.proofs.moving_people.Movers.{is_mover, mover_to, settled, moving_people-get-settled, moving_people-mover_to-by, moving_people-each_mover}
 use Rattle.office_state.proofs.moving_people.Movers.{left_people, arrived_people, moving_people-people_settled, moving_people-left_home, moving_people-stays_settled}
 use Rattle.office_state.proofs.round_problems.Problem.{round_problems-lawful-IsMarket}
-use Rattle.office_state.proofs.moving_people.Settled.{KeepsMoves, moving_people-with_moves-keeps, moving_people-fresh, moving_people-movers_go}
+use Rattle.office_state.proofs.moving_people.Settled.{KeepsMoves, moving_people-with_moves-keeps, moving_people-fresh, moving_people-leave_first}
 use Rattle.office_state.proofs.moving_people.Settled.{moving_people-movers_lead, moving_people-movers_differ, moving_people-new_rooms_differ, moving_people-settled_register}
 use Rattle.office_state.proofs.moving_people.Settling.{home_in}
 use Rattle.office_core.specs.Refusal.Checks.{first_refusal}
-use Rattle.office_core.specs.Command.Settle.{checks, next, changes_of, swaps}
+use Rattle.office_core.specs.Command.Settle.{checks, next, changes_of, first_out}
 use Rattle.office_core.proofs.refusals.Checks.{refusals-none_applies}
 use Rattle.office_core.proofs.commands.Ended.{commands-ended-lawful}
 use Rattle.office_core.proofs.settlements.Moving.{mover_of, settlements-movers_of, settlements-all_moves, settlements-all_cleared}
-use Rattle.office_core.proofs.settlements.Moving.{settlements-is_mover-ascending, settlements-is_mover-swaps, FindEmpty, settlements-empty_in_order}
+use Rattle.office_core.proofs.settlements.Moving.{settlements-is_mover-ascending, settlements-is_mover-first_out, settlements-no_swap, FindEmpty, settlements-empty_in_order}
 use Rattle.office_core.proofs.settlements.Settling.{settlements-left-lead, settlements-arrived-lead, settlements-moves-lead, settlements-left-apart}
 use Rattle.office_core.proofs.settlements.Settling.{settlements-arrived-apart, settlements-moves-apart, settlements-left-fit, Leads}
 use Rattle.office_core.proofs.settlements.Settling.{settlements-arrived-fit, settlements-moves-fit}
@@ -68,7 +68,7 @@ module _ (office : Office) (l : IsLawful office) (h : first_refusal (checks offi
   order = ascending move_cmp moves
 
   abbrev gone : List Mover
-  gone = map_list mover_of (swaps moves)
+  gone = map_list mover_of (first_out moves)
 
   abbrev left : TextMap Person
   left = left_people office.people gone
@@ -78,6 +78,17 @@ module _ (office : Office) (l : IsLawful office) (h : first_refusal (checks offi
 
   settlements-given : office.results ≡ round_results office
   settlements-given = l.results.given (round_phases-published_given office.phase settlements-published)
+
+  -- the settlement forgets nobody
+  settlements-still_known : (p : Text) → map.contains_key office.people p ≡ true
+      → map.contains_key (settled_people office) p ≡ true
+  settlements-still_known p known =
+      ap is_some (moving_people-get-settled office p)
+      ∙ elim (map.get office.people p) as
+      (λ o. is_some o ≡ true → is_some (option_map (settled office p) o) ≡ true) [
+        | None ↦ λ h. h
+        | Some kept ↦ λ h. refl
+      ] known
 
   -- what holds of the moves holds of them in order
   settlements-in_order : (P : Move → Type 0) → All P moves → All P order
@@ -112,7 +123,7 @@ module _ (office : Office) (l : IsLawful office) (h : first_refusal (checks offi
   -- the changes settle the people
   settlements-settled : arrived_people left (map_list mover_of order) ≡ settled_people office
   settlements-settled = moving_people-people_settled office gone (map_list mover_of order)
-      (λ q h. settlements-is_mover-ascending moves q ∙ settlements-is_mover-swaps moves q h) settlements-same_rooms
+      (λ q h. settlements-is_mover-ascending moves q ∙ settlements-is_mover-first_out moves q h) settlements-same_rooms
 
   settlements-register : IsRegister office.rooms (settled_people office)
   settlements-register = moving_people-settled_register office l.register (round_problems-lawful-IsMarket office l) settlements-given
@@ -144,7 +155,7 @@ module _ (office : Office) (l : IsLawful office) (h : first_refusal (checks offi
       (settlements-all_cleared office.number ms
       (moving_people-new_rooms_differ office l.register (round_problems-lawful-IsMarket office l) settlements-given) (home_of office)
       (home_in left) l.register.homes each_from
-      (λ q room lives. let h = moving_people-left_home office.people gone q room lives in (h.1, h.0))
+      (λ q room lives. let h = moving_people-left_home office.people gone q room lives in (h.1, settlements-no_swap moves q h.0))
       known)
     where
       each_from : (k : ℕ) → k < length ms
@@ -172,28 +183,29 @@ module _ (office : Office) (l : IsLawful office) (h : first_refusal (checks offi
         none_empty = l.moves.none_empty;
         arrived = l.moves.arrived;
       })
-      fine (moving_people-movers_go office l.register ok settlements-given) in
+      fine (moving_people-leave_first ms) in
       record {
         leads =
-            settlements-left-lead office (swaps moves) _
+            settlements-left-lead office (first_out moves) _
             ∙ settlements-arrived-lead (record office { people = left }) order _
             ∙ settlements-moves-lead (record office { people = there }) moves rest
             ∙ ap (λ people. record (without_round office)
             { people = people; moves = with_moves office.moves moves; phase = Idle }) settlements-settled;
         apart =
-            settlements-left-apart office (swaps moves) _ l.register.homes
+            settlements-left-apart office (first_out moves) _ l.register.homes
             (λ apart. settlements-arrived-apart (record office { people = left })
             (settled_people office) order _ apart settlements-register.homes
             (settlements-in_order (Leads (settled_people office)) settlements-moves_lead) settlements-find_empty
             (settlements-moves-apart (record office { people = there }) moves rest differ
             (differ, (differ, differ))));
         fits =
-            settlements-left-fit office office (swaps moves) _
+            settlements-left-fit office office (first_out moves) _
             (settlements-arrived-fit office (record office { people = left }) order _
             (settlements-moves-fit office (record office { people = there }) moves rest
             (moving_people-fresh office.moves office.number ms (waves_of ms)
             (settlements-none_yet office l (round_phases-under_way-not_over office busy) ms)
             (moving_people-movers_differ office l.register ok settlements-given)) (tt, (tt, tt))));
         lawful = commands-ended-lawful office (settled_people office) new.moves l settlements-register
+            (record { graded = λ p h. settlements-still_known p (l.grades.graded p h); none_zero = l.grades.none_zero })
             (record { over = kept.over; none_empty = kept.none_empty; arrived = kept.arrived });
       }

@@ -6,9 +6,10 @@ use Rattle.std.specs.Option.{option_map_or}
 use Rattle.std.specs.FinMap as map
 use Rattle.room_types.specs.Texts.{Text, text_eq}
 use Rattle.room_types.specs.declared.kinds.ListKind.{ListKind}
-use Rattle.room_types.specs.declared.kinds.ListKind.TheVariants.{Rooms, People, Choices}
+use Rattle.room_types.specs.declared.kinds.ListKind.TheVariants.{Rooms, People, Choices, Grades}
 use Rattle.room_types.specs.declared.phase.Phase.{Phase}
-use Rattle.office_lists.specs.Entries.{choices_list, people_list, room_list}
+use Rattle.room_types.specs.declared.rows.GradeRow.{GradeRow}
+use Rattle.office_lists.specs.Entries.{choices_list, grades_list, people_list, room_list}
 use Rattle.office_lists.specs.Records.{ListForm, data_records, list_fault, records_of}
 use Rattle.office_lists.specs.declared.entries.ChoicesEntry.{ChoicesEntry}
 use Rattle.office_lists.specs.declared.entries.PersonEntry.{PersonEntry}
@@ -19,12 +20,13 @@ use Rattle.office_state.specs.Office.Limits.{byte_limit, label_limit}
 use Rattle.office_state.specs.Office.Phases.{is_open, is_preparing}
 use Rattle.office_state.specs.declared.change.Change.{Change}
 use Rattle.office_state.specs.declared.change.Change.TheVariants.{KeepList, PutRoom, PutPerson}
-use Rattle.office_state.specs.declared.change.Change.TheVariants.{PutChoices}
+use Rattle.office_state.specs.declared.change.Change.TheVariants.{PutChoices, PutGrade}
 use Rattle.office_state.specs.declared.office.Office.{Office}
 use Rattle.office_state.specs.declared.office.kept_list.KeptList.{KeptList}
 use Rattle.office_core.specs.Command.AddPerson as add_person
 use Rattle.office_core.specs.Command.AddRoom as add_room
 use Rattle.office_core.specs.Command.SetChoices as set_choices
+use Rattle.office_core.specs.Command.SetGrade as set_grade
 use Rattle.office_core.specs.Refusal.{number_of}
 use Rattle.office_core.specs.Refusal.Checks.{Check, first_refusal}
 use Rattle.office_core.specs.declared.refusal.Refusal.{Refusal}
@@ -71,6 +73,16 @@ choices_command = record {
   change = λ e. PutChoices e.person e.choices;
 }
 
+-- to give a person a grade
+abbrev pub grade_command : EntryCommand
+grade_command = record {
+  Entry = GradeRow;
+  form = grades_list;
+  checks = λ office e. set_grade.checks office e.person;
+  next = λ office e. set_grade.next office e.person e.grade;
+  change = λ e. PutGrade e.person e.grade;
+}
+
 -- what the records of a list tell, in order
 abbrev pub entries_in : (command : EntryCommand) → List ℕ → List command.Entry
 entries_in command bytes = map_list command.form.entry (data_records (records_of bytes))
@@ -106,12 +118,14 @@ abbrev pub refusal_of : ListKind → Office → List ℕ → Option Refusal
 refusal_of Rooms = list_refusal room_command
 refusal_of People = list_refusal person_command
 refusal_of Choices = list_refusal choices_command
+refusal_of Grades = list_refusal grade_command
 
 -- the office after all records
 abbrev pub office_with : ListKind → Office → List ℕ → Office
 office_with Rooms office bytes = office_after room_command office (entries_in room_command bytes)
 office_with People office bytes = office_after person_command office (entries_in person_command bytes)
 office_with Choices office bytes = office_after choices_command office (entries_in choices_command bytes)
+office_with Grades office bytes = office_after grade_command office (entries_in grade_command bytes)
 
 -- the changes that records make
 abbrev pub changes_by : (command : EntryCommand) → List command.Entry → List Change
@@ -122,6 +136,7 @@ abbrev pub record_changes : ListKind → List ℕ → List Change
 record_changes Rooms bytes = changes_by room_command (entries_in room_command bytes)
 record_changes People bytes = changes_by person_command (entries_in person_command bytes)
 record_changes Choices bytes = changes_by choices_command (entries_in choices_command bytes)
+record_changes Grades bytes = changes_by grade_command (entries_in grade_command bytes)
 
 -- how many records there are
 abbrev pub record_count : List ℕ → ℕ
@@ -132,11 +147,13 @@ abbrev pub may_import : ListKind → Phase → Bool
 may_import Rooms phase = is_preparing phase
 may_import People phase = is_preparing phase
 may_import Choices phase = is_open phase
+may_import Grades phase = is_preparing phase
 
 abbrev pub is_same_kind : ListKind → ListKind → Bool
 is_same_kind Rooms Rooms = true
 is_same_kind People People = true
 is_same_kind Choices Choices = true
+is_same_kind Grades Grades = true
 is_same_kind _ _ = false
 
 -- whether this is the list that is kept

@@ -1,4 +1,4 @@
--- A person without a home goes. Recorded moves stay.
+-- A person without a home goes, and the grade with the person. Recorded moves stay.
 use Rattle.std.specs.Prelude.{not, List, [], ◌∷◌}
 use Rattle.std.specs.Option.{is_some}
 use Rattle.std.specs.FinMap as map
@@ -20,7 +20,10 @@ checks office person =
     ∷ (is_some (home_of office person), HasHome) ∷ []
 
 abbrev pub next : Office → Text → Office
-next office person = record office { people = map.remove office.people person }
+next office person = record office {
+  people = map.remove office.people person;
+  grades = map.remove office.grades person;
+}
 
 abbrev pub reply_to : Office → Text → Reply
 reply_to office person = reply.Done

@@ -1,6 +1,7 @@
--- The participants move, the moves are recorded, and the round is over.
+-- The participants move, those who leave the college move out, the moves are recorded, and the round is over.
 use Rattle.std.specs.Prelude.{not, List, [], ◌∷◌, ◌++◌, length, None, map}
 use Rattle.std.specs.List.{filter}
+use Rattle.std.specs.Option.{is_some}
 use Rattle.room_types.specs.Ascending.{ascending}
 use Rattle.room_types.specs.declared.phase.Phase.TheVariants.{Idle}
 use Rattle.room_types.specs.declared.moves.Move.{Move}
@@ -38,15 +39,24 @@ leaving move = PutHome move.person None
 abbrev pub swaps : List Move → List Move
 swaps = filter (λ move. is_swap move.wave)
 
+-- those who move into no room
+abbrev pub goers : List Move → List Move
+goers = filter (λ move. not (is_some move.to))
+
+-- those who leave before anybody arrives
+abbrev pub first_out : List Move → List Move
+first_out moves = goers moves ++ swaps moves
+
 -- the change by which a mover comes to the new room
 abbrev pub arriving : Move → Change
 arriving move = PutHome move.person move.to
 
--- those who swap leave first, and then everybody arrives, in the order of the list for the day of moving: whoever lives where
--- somebody of a later wave comes to has moved by then, so that no room is ever the home of two people
+-- those who move into no room leave first, then those who swap, and then everybody arrives, in the order of the list for the
+-- day of moving: whoever lives where somebody of a later wave comes to has moved by then, so that no room is ever the home of
+-- two people. Who moves into no room arrives nowhere.
 abbrev pub changes_of : Office → List Change
 changes_of office =
-    map leaving (swaps (settled_moves office))
+    map leaving (first_out (settled_moves office))
     ++ (map arriving (ascending move_cmp (settled_moves office))
     ++ (map (λ move. AddMove move) (settled_moves office)
     ++ ClearRound ∷ PutRound office.number Idle ∷ []))

@@ -10,7 +10,7 @@ use Rattle.office_core.specs.declared.reply.Reply.TheVariants as reply
 -- Whether memory is taken: for the room that a refusal names, and for every reply but the round's
 -- numbers, and rooms, people, an order, results or moves where there are none.
 abbrev pub reply_takes_memory : Result Reply Refusal → Bool
-reply_takes_memory (Ok (reply.Round number phase people withdrawn)) = false
+reply_takes_memory (Ok (reply.Round number phase people withdrawn going)) = false
 reply_takes_memory (Ok (reply.Rooms rows)) = not (is_empty rows)
 reply_takes_memory (Ok (reply.People rows)) = not (is_empty rows)
 reply_takes_memory (Ok (reply.Order rows)) = not (is_empty rows)

@@ -2,7 +2,7 @@
 use Rattle.std.specs.Prelude.{Option, None, Some, Result, Ok, Err, if◌then◌else◌}
 use Rattle.std.specs.FinMap as map
 use Rattle.room_types.specs.Texts.{Text}
-use Rattle.office_state.specs.Office.{owner, choices_of, has_withdrawn, is_shown, recorded_result}
+use Rattle.office_state.specs.Office.{owner, choices_of, has_withdrawn, is_going, is_shown, recorded_result}
 use Rattle.office_state.specs.declared.office.Office.{Office}
 use Rattle.office_state.specs.declared.office.person.Person.{Person}
 use Rattle.office_core.specs.declared.refusal.Refusal.{Refusal}
@@ -25,6 +25,7 @@ standing_of office person kept = record {
   phase = office.phase;
   choices = choices_of office person;
   withdrawn = has_withdrawn office person;
+  going = is_going office person;
   shown = is_shown office person;
   result = shown_result office person;
 }

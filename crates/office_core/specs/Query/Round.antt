@@ -1,4 +1,4 @@
--- The round's number and phase, how many people there are, and how many of them have withdrawn.
+-- The round's number and phase, how many people there are, how many of them have withdrawn, and how many leave the college.
 use Rattle.std.specs.Prelude.{Result, Ok}
 use Rattle.std.specs.FinMap as map
 use Rattle.office_state.specs.declared.office.Office.{Office}
@@ -8,4 +8,6 @@ use Rattle.office_core.specs.declared.reply.Reply.TheVariants as reply
 
 abbrev pub told : Office → Result Reply Refusal
 told office =
-    Ok (reply.Round office.number office.phase (map.len office.people) (map.len office.withdrawn))
+    Ok
+    (reply.Round office.number office.phase (map.len office.people) (map.len office.withdrawn)
+    (map.len office.going))

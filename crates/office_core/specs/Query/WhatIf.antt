@@ -2,9 +2,9 @@
 use Rattle.std.specs.Prelude.{◌≤◌, not, List, ◌∷◌, Option, None, Some, Result, Ok, Err}
 use Rattle.std.specs.List.{flat_map}
 use Rattle.room_types.specs.Texts.{Text}
-use Rattle.office_state.specs.Office.{knows_person, has_withdrawn, recorded_result}
+use Rattle.office_state.specs.Office.{knows_person, recorded_result}
 use Rattle.office_state.specs.Office.Phases.{has_results}
-use Rattle.office_state.specs.Round.{result_by, round_rank}
+use Rattle.office_state.specs.Round.{is_participant, result_by, round_rank}
 use Rattle.office_state.specs.declared.office.Office.{Office}
 use Rattle.office_core.specs.Refusal.Checks.{Check, first_refusal, room_checks}
 use Rattle.office_core.specs.declared.refusal.Refusal.{Refusal}
@@ -17,7 +17,7 @@ abbrev pub checks : Office → Text → List Text → List Check
 checks office person choices =
     (not (has_results office.phase), BadPhase office.phase)
     ∷ (not (knows_person office person), UnknownPerson)
-    ∷ (has_withdrawn office person, NotInRound)
+    ∷ (not (is_participant office person), NotInRound)
     ∷ flat_map (room_checks office) choices
 
 -- by the recorded list, the room that another list would give is never ranked above the result

@@ -14,6 +14,7 @@ use crate::command::cancel::cancel;
 use crate::command::close_round::close_round;
 use crate::command::decision::Decision;
 use crate::command::draw::draw;
+use crate::command::going::going;
 use crate::command::import::import;
 use crate::command::leave::leave;
 use crate::command::open_round::open_round;
@@ -22,6 +23,7 @@ use crate::command::remove::remove;
 use crate::command::reopen::reopen;
 use crate::command::run::run;
 use crate::command::set_choices::set_choices;
+use crate::command::set_grade::set_grade;
 use crate::command::set_home::set_home;
 use crate::command::settle::settle;
 use crate::command::shut::shut;
@@ -38,7 +40,8 @@ use std::alloc::Global;
 /// The first refusal of the command's line that applies: `BadPhase` in another phase, and then those of the command's
 /// own file; only `Import` looks at its label before the phase. `OutOfMemory` only where memory is taken: for the code in
 /// `UnknownRoom` or `RoomShut`, for a list that is read before `BadRecord`, and for the changes of a command that is not
-/// refused. A `Withdraw` that is repeated and an `Import` of a list that is kept change nothing, and are always answered.
+/// refused. A `Withdraw` or a `Going` that is repeated and an `Import` of a list that is kept change nothing, and are always
+/// answered.
 pub fn decide(alloc: Global, office: &Office, command: &Command) -> Result<Decision, Refusal>
     requires { IsLawful office.now }
     ensures decides { IsDecided (checks office.now command.now) (reply_to office.now command.now)
@@ -80,5 +83,7 @@ fn command_decision(alloc: Global, office: &Office, command: &Command) -> Result
         Command::Settle => settle(alloc, office),
         Command::Cancel => cancel(alloc, office),
         Command::Import { label, kind, bytes } => import(alloc, office, label, *kind, bytes),
+        Command::SetGrade { person, grade } => set_grade(alloc, office, person, *grade),
+        Command::Going { person } => going(alloc, office, person),
     }
 }

@@ -10,12 +10,14 @@ ghost use Rattle.office_core.specs.Inner.Tries.{IsOrMemory};
 
 pub mod choices;
 pub mod denial;
+pub mod grades;
 pub mod people;
 pub mod register;
 pub mod rooms;
 
 use crate::command::decision::Decision;
 use crate::command::import::choices::choices_added;
+use crate::command::import::grades::grades_added;
 use crate::command::import::people::people_added;
 use crate::command::import::rooms::rooms_added;
 use crate::refusal::Refusal;
@@ -114,7 +116,7 @@ fn may_import(kind: ListKind, phase: Phase) -> bool
     ensures { result ≡ may_import kind phase }
 {
     match kind {
-        ListKind::Rooms | ListKind::People => is_preparing(phase),
+        ListKind::Rooms | ListKind::People | ListKind::Grades => is_preparing(phase),
         ListKind::Choices => is_open(phase),
     }
 }
@@ -137,5 +139,6 @@ fn import_records_added(
         ListKind::Rooms => rooms_added(alloc, office, bytes),
         ListKind::People => people_added(alloc, office, bytes),
         ListKind::Choices => choices_added(alloc, office, bytes),
+        ListKind::Grades => grades_added(alloc, office, bytes),
     }
 }

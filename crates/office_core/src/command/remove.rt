@@ -10,7 +10,7 @@ use office_state::{Change, Office};
 use room_types::PersonId;
 use std::alloc::Global;
 
-/// Decides to forget a person who has no home; recorded moves stay. Refused in turn: `BadPhase` unless idle;
+/// Decides to forget a person who has no home, and the person's grade; recorded moves stay. Refused in turn: `BadPhase` unless idle;
 /// `UnknownPerson`; `HasHome`.
 pub fn remove(alloc: Global, office: &Office, person: &PersonId) -> Result<Decision, Refusal>
     ensures { IsDecided (checks office.now person.now) (reply_to office.now person.now)

@@ -14,8 +14,8 @@ use office_state::{Change, Office};
 use room_types::{Choices, PersonId};
 use std::alloc::Global;
 
-/// Decides to replace a person's list. Refused in turn: `BadPhase` unless open; `UnknownPerson`; `Withdrawn`; for the
-/// first room that is not known or is shut `UnknownRoom` or `RoomShut`.
+/// Decides to replace a person's list. Refused in turn: `BadPhase` unless open; `UnknownPerson`; `Withdrawn`; `Going`; for
+/// the first room that is not known or is shut `UnknownRoom` or `RoomShut`.
 pub fn set_choices(
     alloc: Global,
     office: &Office,
@@ -52,6 +52,9 @@ pub(crate) fn may_choose(
     }
     if office.has_withdrawn(person) {
         return Err(Refusal::Withdrawn);
+    }
+    if office.is_going(person) {
+        return Err(Refusal::Going);
     }
     may_list_all(office, choices.as_slice())
 }

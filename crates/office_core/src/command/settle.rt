@@ -1,11 +1,11 @@
-//! The participants move, the moves are recorded, and the round is over.
+//! The participants move, those who leave the college move out, the moves are recorded, and the round is over.
 ghost use Rattle.std.specs.Prelude.{◌≡◌, ◌++◌, length, IsTrue, IfOk, OnOk, map as map_list};
 ghost use Rattle.room_types.specs.declared.moves.Move.{Move};
 ghost use Rattle.office_state.specs.Office.Invariants.{IsLawful};
 ghost use Rattle.office_state.specs.Office.Phases.{is_published};
 ghost use Rattle.office_state.specs.Round.Settlement.{moves_with, settled_moves};
 ghost use Rattle.office_core.specs.Command.Decision.{IsDecided};
-ghost use Rattle.office_core.specs.Command.Settle.{checks, reply_to, changes_of, leaving, swaps, arriving};
+ghost use Rattle.office_core.specs.Command.Settle.{checks, reply_to, changes_of, leaving, first_out, goers, swaps, arriving};
 
 use crate::command::decision::Decision;
 use crate::refusal::Refusal;
@@ -18,9 +18,9 @@ use room_types::rows::copy_optional;
 use room_types::{Move, OutOfMemory, Phase, Wave};
 use std::alloc::Global;
 
-/// Decides the day of moving: those who swap leave, then everybody arrives in the new room, wave by wave, the moves are
-/// recorded, and the round is over. Refused with `BadPhase` unless published. Each mover's home is changed once, and twice where
-/// movers pass their rooms round in a circle.
+/// Decides the day of moving: those who leave the college move out, those who swap leave, then everybody arrives in the new
+/// room, wave by wave, the moves are recorded, and the round is over. Refused with `BadPhase` unless published. Each mover's
+/// home is changed once, and twice where the mover leaves the college, or movers pass their rooms round in a circle.
 #[tactic(auto, using(crate::proofs::commands::Changes::commands_has_last))]
 pub fn settle(alloc: Global, office: &Office) -> Result<Decision, Refusal>
     requires { IsLawful office.now }
@@ -32,7 +32,7 @@ pub fn settle(alloc: Global, office: &Office) -> Result<Decision, Refusal>
     let moves = settled_moves(alloc, office)?;
     let moves = moves.as_slice();
     let mut changes = Vec::new(alloc);
-    swaps_leave(&mut changes, moves)?;
+    first_leave(&mut changes, moves)?;
     let in_order = in_moving_order(alloc, moves)?;
     all_arrive(&mut changes, in_order.as_slice())?;
     all_recorded(&mut changes, moves)?;
@@ -80,6 +80,30 @@ fn moves_with(
         })?;
     }
     Ok(moves)
+}
+
+// Those leave who do so before anybody arrives.
+fn first_leave(changes: &mut Vec<Change>, moves: &[Move]) -> Result<(), OutOfMemory>
+    ensures { OnOk result (changes.new.items ≡ changes.old.items
+        ++ map_list leaving (first_out moves.now)) }
+{
+    goers_leave(changes, moves)?;
+    swaps_leave(changes, moves)
+}
+
+// Those who move into no room leave.
+#[tactic(auto, using(crate::proofs::settlements::Recorded::settlements_goers_more))]
+fn goers_leave(changes: &mut Vec<Change>, moves: &[Move]) -> Result<(), OutOfMemory>
+    ensures { OnOk result (changes.new.items ≡ changes.old.items
+        ++ map_list leaving (goers moves.now)) }
+{
+    for moved in moves {
+        if moved.to.is_none() {
+            let person = moved.person.copy()?;
+            changes.push(Change::PutHome { person, home: None })?;
+        }
+    }
+    Ok(())
 }
 
 // Those who swap leave.

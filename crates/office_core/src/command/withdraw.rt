@@ -11,7 +11,7 @@ use room_types::PersonId;
 use std::alloc::Global;
 
 /// Decides that a person, and that person's room, take no part in the round; a repeat changes nothing. Refused in turn:
-/// `BadPhase` unless open; `UnknownPerson`.
+/// `BadPhase` unless open; `UnknownPerson`; `Going`.
 pub fn withdraw(alloc: Global, office: &Office, person: &PersonId) -> Result<Decision, Refusal>
     ensures { IsDecided (checks office.now person.now) (reply_to office.now person.now)
         (changes_of office.now person.now) result }
@@ -21,6 +21,9 @@ pub fn withdraw(alloc: Global, office: &Office, person: &PersonId) -> Result<Dec
     }
     if !office.people.contains_key(person) {
         return Err(Refusal::UnknownPerson);
+    }
+    if office.is_going(person) {
+        return Err(Refusal::Going);
     }
     if office.has_withdrawn(person) {
         return Ok(Decision {

@@ -41,6 +41,7 @@ fn standing_of(
         phase: office.phase,
         choices: recorded_choices(alloc, office, id)?,
         withdrawn: office.has_withdrawn(id),
+        going: office.is_going(id),
         shown: office.is_shown(id),
         result: shown_result(office, id)?,
     })

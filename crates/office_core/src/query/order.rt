@@ -11,7 +11,7 @@ use office_state::round::{round_people, round_word_of};
 use room_types::{Listing, OutOfMemory, PersonId};
 use std::alloc::Global;
 
-/// The participants in the drawn order, with their words. Refused with `BadPhase` where there are no words.
+/// The participants in the drawn order, with their words and grades. Refused with `BadPhase` where there are no words.
 #[tactic(auto, using(crate::proofs::reply_rows::Listings::reply_rows_some_ordered))]
 pub fn order(alloc: Global, office: &Office) -> Result<Reply, Refusal>
     ensures { Tells (told office.now) result }
@@ -24,7 +24,7 @@ pub fn order(alloc: Global, office: &Office) -> Result<Reply, Refusal>
     Ok(Reply::Order(Listing::new(rows)))
 }
 
-// Each of the people with the word.
+// Each of the people with the word and the grade.
 fn order_rows(
     alloc: Global,
     office: &Office,
@@ -38,6 +38,7 @@ fn order_rows(
         rows.push(OrderRow {
             word: round_word_of(office, person),
             person: person.copy()?,
+            grade: office.grade_of(person),
         })?;
     }
     Ok(rows)

@@ -6,7 +6,8 @@ use crate::refusal::Refusal;
 use crate::reply::Reply;
 use office_state::Office;
 
-/// The last round's number, the phase, how many people there are, and how many have withdrawn. It takes no memory.
+/// The last round's number, the phase, how many people there are, how many have withdrawn, and how many leave the college.
+/// It takes no memory.
 pub fn round(office: &Office) -> Result<Reply, Refusal>
     ensures { result ≡ told office.now }
 {
@@ -15,5 +16,6 @@ pub fn round(office: &Office) -> Result<Reply, Refusal>
         phase: office.phase,
         people: office.people.len(),
         withdrawn: office.withdrawn.len(),
+        going: office.going.len(),
     })
 }

@@ -42,7 +42,7 @@ fn may_ask(office: &Office, person: &PersonId, choices: &Choices) -> Result<(), 
     if !office.people.contains_key(person) {
         return Err(Refusal::UnknownPerson);
     }
-    if office.has_withdrawn(person) {
+    if !office.is_participant(person) {
         return Err(Refusal::NotInRound);
     }
     may_list_all(office, choices.as_slice())

@@ -6,6 +6,7 @@ use Rattle.sqlite_trees.specs.declared.store.Store.{Ghosts}
 use Rattle.office_file.specs.Access.{FileAccess, file_access}
 use Rattle.office_file.specs.Adopted.{BeginsFound, IsFileFault}
 use Rattle.office_file.specs.Created.{BeginsBlank, IsCreateFault}
+use Rattle.office_file.specs.Migrated.{BeginsMigrated, IsMigrateFault}
 use Rattle.office_store.specs.Desk.{DeskState}
 use Rattle.office_store.specs.declared.desk.faults.DeskFault.{DeskFault}
 
@@ -42,4 +43,21 @@ module _ {F S : Type 0} (base : Ghosts S) (opens finds : Held S → Type 0) (fai
   system_files-file_fault (Ok desk) h = tt
   system_files-file_fault (Err fault) (inl h) = inl (h.0, tt)
   system_files-file_fault (Err fault) (inr h) =
+      inr (record { connection = h.connection; between = tt; opened = h.opened; refused = h.refused; refuses = h.refuses; closed = tt })
+
+  pub system_files-begins_migrated : (found : Result (DeskState S) DeskFault) → IfOk found (λ desk. BeginsMigrated place files path desk files') → IfOk found (λ desk. BeginsMigrated system tt path desk tt)
+  system_files-begins_migrated (Ok desk) h = record {
+    connection = h.connection;
+    opened = h.opened;
+    laid = h.laid;
+    follows = h.follows;
+    kept = h.kept;
+    shows = h.shows;
+  }
+  system_files-begins_migrated (Err fault) h = tt
+
+  pub system_files-migrate_fault : (found : Result (DeskState S) DeskFault) → IsMigrateFault place files path found files' → IsMigrateFault system tt path found tt
+  system_files-migrate_fault (Ok desk) h = tt
+  system_files-migrate_fault (Err fault) (inl h) = inl (h.0, tt)
+  system_files-migrate_fault (Err fault) (inr h) =
       inr (record { connection = h.connection; between = tt; opened = h.opened; refused = h.refused; refuses = h.refuses; closed = tt })

@@ -5,10 +5,10 @@ use Rattle.csv.specs.Reading.{Reached, default_config, strip_bom}
 use Rattle.csv.specs.Writing.{escaped, fields_text, is_blank, read_back}
 use Rattle.csv.specs.declared.parser.State.TheVariants as st
 use Rattle.csv.proofs.RoundTrip.{read-write}
-use Rattle.office_lists.specs.Exports.{AreReadBack, IsReadBack, export, export_bytes, header_of, move_fields, person_fields, record_bytes, room_fields}
+use Rattle.office_lists.specs.Exports.{AreReadBack, IsReadBack, export, export_bytes, grade_fields, header_of, move_fields, person_fields, record_bytes, room_fields}
 use Rattle.office_lists.specs.Records.{Record, records_of}
 use Rattle.office_lists.specs.declared.exports.ExportKind.{ExportKind}
-use Rattle.office_lists.specs.declared.exports.ExportKind.TheVariants.{Rooms, People, Moves}
+use Rattle.office_lists.specs.declared.exports.ExportKind.TheVariants.{Rooms, People, Moves, Grades}
 use Rattle.office_lists.proofs.csv.Reaching.{csv-all_records}
 
 -- the records are reached one after the other
@@ -32,11 +32,13 @@ unfolding record_bytes fields_text is_blank escaped
 csv-no_mark_in_export Rooms fields rows = csv-no_mark 114 _ refl
 csv-no_mark_in_export People fields rows = csv-no_mark 112 _ refl
 csv-no_mark_in_export Moves fields rows = csv-no_mark 114 _ refl
+csv-no_mark_in_export Grades fields rows = csv-no_mark 112 _ refl
 
 csv-same_header : (kind : ExportKind) → read_back (header_of kind) ≡ header_of kind
 csv-same_header Rooms = refl
 csv-same_header People = refl
 csv-same_header Moves = refl
+csv-same_header Grades = refl
 
 csv-same_rows : {Row : Type 0} (fields : Row → Record) (rows : List Row) → ((row : Row) → read_back (fields row) ≡ fields row)
     → map read_back (map fields rows) ≡ map fields rows
@@ -56,4 +58,5 @@ csv-are_read_back = record {
   rooms = λ rows. csv-is_read_back Rooms room_fields rows (λ row. refl);
   people = λ rows. csv-is_read_back People person_fields rows (λ row. refl);
   moves = λ rows. csv-is_read_back Moves move_fields rows (λ row. refl);
+  grades = λ rows. csv-is_read_back Grades grade_fields rows (λ row. refl);
 }

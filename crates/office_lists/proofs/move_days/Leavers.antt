@@ -1,7 +1,7 @@
 -- The leavers of rooms, and those of entries whose new rooms differ.
 use Rattle.std.proofs.Common.{◌≡◌, ℕ, zero, suc, ◌+◌, ◌≤◌, ◌<◌, Bool, true, false, cond, List, [], ◌∷◌, ◌++◌, length, take, get_or, Option, None, Some, refl, sym, ap, ◌∙◌, subst, inl, inr, arith, ltb, not, ne_eqb, eq-eqb}
 use Rattle.std.specs.Prelude.{option_and_then}
-use Rattle.std.specs.Option.{is_some, option_map_or, option_or}
+use Rattle.std.specs.Option.{is_some, option_map, option_map_or, option_or}
 use Rattle.std.specs.List.{position, position_or_len}
 use Rattle.std.proofs.lemmas.Bool.{cases_lt, false≢true, lt-ltb, le-ltb}
 use Rattle.std.proofs.lemmas.List.{get_or-map, length-map, take_more, length-take-le, length_push}
@@ -10,9 +10,9 @@ use Rattle.std.proofs.lemmas.List.Sums.{fails_before_first, prefix_len-le-length
 use Rattle.std.proofs.lemmas.List.Quantifiers.{position-Some}
 use Rattle.std.proofs.lemmas.Slice.Eq.{bytes_eq-Decides}
 use Rattle.room_types.specs.Texts.{Text, text_eq}
-use Rattle.office_lists.specs.Waves.{Mover, NewRoomsDiffer, leaver, leavers, end_numbers, own_number, next, wave_of, waves_of, IsWave, AreWaves, HaveOneWaveEach}
+use Rattle.office_lists.specs.Waves.{Mover, NewRoomsDiffer, chain_number, leaver, leavers, end_numbers, own_number, next, wave_of, waves_of, IsWave, AreWaves, HaveOneWaveEach}
 use Rattle.room_types.specs.declared.moves.Wave.{Wave}
-use Rattle.room_types.specs.declared.moves.Wave.TheVariants.{Swap}
+use Rattle.room_types.specs.declared.moves.Wave.TheVariants.{Swap, Nth}
 use Rattle.room_types.proofs.options.Options.{options-option_or-none}
 use Rattle.std.proofs.lemmas.List.FromFn.{fill_by_all, length-map-range_with_len}
 use Rattle.office_lists.specs.Followers.{AreApart, AreFollowers}
@@ -136,14 +136,21 @@ move_days-same_room one other entry p q =
       | Some old ↦ λ e f. sym ((bytes_eq-Decides old one).0 e) ∙ (bytes_eq-Decides old other).0 f
     ] p q
 
--- the first number of each chain is 1
-pub move_days-all_one : (entries : List Mover) (i : ℕ) → own_number (end_numbers entries) i ≡ 1
-move_days-all_one [] i = refl
-move_days-all_one (entry ∷ entries) zero = refl
-move_days-all_one (entry ∷ entries) (suc i) = move_days-all_one entries i
+-- the number at the end of a chain is 0 or 1
+pub move_days-end_at_most_one : (to : Option Text) → option_map_or (λ room. 1) to 0 ≤ 1
+move_days-end_at_most_one None = omega arith
+move_days-end_at_most_one (Some room) = omega arith
 
 pub move_days-first_at_most_one : (entries : List Mover) (i : ℕ) → own_number (end_numbers entries) i ≤ 1
-move_days-first_at_most_one entries i = omega (arith, move_days-all_one entries i)
+move_days-first_at_most_one [] i = omega arith
+move_days-first_at_most_one (entry ∷ entries) zero = move_days-end_at_most_one entry.2
+move_days-first_at_most_one (entry ∷ entries) (suc i) = move_days-first_at_most_one entries i
+
+-- the number is that of the entry
+pub move_days-own_number : (entries : List Mover) (i : ℕ) (d : Mover) → i < length entries → own_number (end_numbers entries) i ≡ option_map_or (λ room. 1) (get_or entries i d).2 0
+move_days-own_number [] i d low = absurd (omega (arith, low))
+move_days-own_number (entry ∷ entries) zero d low = refl
+move_days-own_number (entry ∷ entries) (suc i) d low = move_days-own_number entries i d (omega (arith, low))
 
 module _ (entries : List Mover) where
   move_days-has_leaver : (i k : ℕ) → next (leavers entries) i ≡ Some k → HasLeaver entries i k
@@ -203,3 +210,25 @@ module _ (entries : List Mover) where
 
       pub are_computed : waves ≡ waves_of entries
       are_computed = fill_by_all (wave_of (end_numbers entries) (leavers entries)) waves (length entries) Swap (so.as_many ∙ move_days-length-leavers) each_wave
+
+-- ---- those without a new room
+
+move_days-next : (entries : List Mover) (i : ℕ) (d : Mover) → i < length entries
+    → next (leavers entries) i ≡ option_and_then (leaver entries) (get_or entries i d).2
+move_days-next entries i d low = get_or-map (λ (entry : Mover). option_and_then (leaver entries) entry.2) entries i d None low
+
+move_days-first_wave : (ends : List ℕ) (ls : List (Option ℕ)) (i limit : ℕ) → 0 < limit → next ls i ≡ None → own_number ends i ≡ 0
+    → option_map_or (λ number. Nth number) (chain_number ends ls limit i) Swap ≡ Nth 0
+move_days-first_wave ends ls i zero some none first = absurd (omega (arith, some))
+move_days-first_wave ends ls i (suc limit) some none first =
+    let at : Option ℕ → Option ℕ = λ o. option_map_or (λ leaver. option_map (λ number. suc number) (chain_number ends ls limit leaver)) o (Some (own_number ends i)) in
+    ap (λ o. option_map_or (λ number. Nth number) (at o) Swap) none ∙ ap (λ number. Nth number) first
+
+-- an entry without a new room has wave 0
+pub move_days-leaver_wave : (entries : List Mover) (i : ℕ) (d : Mover) → i < length entries → (get_or entries i d).2 ≡ None
+    → wave_of (end_numbers entries) (leavers entries) i ≡ Nth 0
+move_days-leaver_wave entries i d low nowhere =
+    let many = move_days-length-leavers entries in
+    move_days-first_wave (end_numbers entries) (leavers entries) i (length (leavers entries)) (omega (arith, low, many))
+    (move_days-next entries i d low ∙ ap (option_and_then (leaver entries)) nowhere)
+    (move_days-own_number entries i d low ∙ ap (λ to. option_map_or (λ room. 1) to 0) nowhere)

@@ -10,9 +10,9 @@ use Rattle.resident_server.specs.Network.{Network}
 use Rattle.room_types.specs.Streams.{Input, Output}
 use Rattle.room_types.specs.Texts.{Text}
 
-module _ {F S P : Type 0} (access : FileAccess F S) (shelf : Shelf) (network : Network P) where
+module _ {F S L P : Type 0} (access : FileAccess F S) (shelf : Shelf L) (network : Network P) where
   -- words that are a line of `do` are carried out where that line is done
-  pub done_lines-done_in_file : (words : List Text) (path : Text) (line : List Text) (files : F) (ports : P) (status : ℕ) (files' : F) (input : Input) (out out' error : Output) → program_of words ≡ Some (does path line)
-      → DoesInFile access files path line status files' out out' → CarriesOut access shelf network words files ports status files' ports input input out out' error error
-  done_lines-done_in_file words path line files ports status files' input out out' error is done =
-      inl (subst (λ (o : Option Line). DoesLine access shelf network o files ports status files' ports input input out out' error error) (sym is) (done, refl, refl, refl))
+  pub done_lines-done_in_file : (words : List Text) (path : Text) (line : List Text) (files : F) (lists : L) (ports : P) (status : ℕ) (files' : F) (input : Input) (out out' error : Output) → program_of words ≡ Some (does path line)
+      → DoesInFile access files path line status files' out out' → CarriesOut access shelf network words files lists ports status files' lists ports input input out out' error error
+  done_lines-done_in_file words path line files lists ports status files' input out out' error is done =
+      inl (subst (λ (o : Option Line). DoesLine access shelf network o files lists ports status files' lists ports input input out out' error error) (sym is) (done, refl, refl, refl, refl))

@@ -4,11 +4,12 @@ use Rattle.sqlite.specs.Held.{state}
 use Rattle.sqlite.specs.State.{HasCleanDisk}
 use Rattle.office_program.specs.AtDesk.{DoneAt, TellsMade}
 use Rattle.office_program.specs.DeskFaults.{RefusesDesk}
-use Rattle.office_program.specs.InFile.{AtFound, DoneInFile, MakesInFile}
+use Rattle.office_program.specs.InFile.{AtFound, DoneInFile, MakesInFile, MigratesInFile}
 use Rattle.office_state.specs.Office.{empty_office}
 use Rattle.office_file.specs.Adopted.{BeginsFound, IsFileFault}
 use Rattle.office_file.specs.Access.{FileAccess}
 use Rattle.office_file.specs.Created.{BeginsBlank, IsCreateFault}
+use Rattle.office_file.specs.Migrated.{BeginsMigrated, IsMigrateFault}
 use Rattle.office_store.specs.Desk.{DeskState, Shows}
 use Rattle.office_store.specs.declared.desk.faults.DeskFault.{DeskFault}
 use Rattle.room_types.specs.Streams.{Output}
@@ -23,6 +24,14 @@ module _ {F S : Type 0} (access : FileAccess F S) (files : F) (path : List ℕ) 
   done_lines-file_desk_made (Err fault) status out out' shows begins cause tells closed same =
       inr (fault, subst (λ (f : F). IsCreateFault access files path (Err fault) f) (sym same) cause, tells)
 
+  pub done_lines-file_desk_migrated : (migrated : Result (DeskState S) DeskFault) (status : ℕ) (out out' : Output)
+      → IfOk migrated (λ desk. BeginsMigrated access files path desk between) → IsMigrateFault access files path migrated between → TellsMade migrated status out out'
+      → IfOk migrated (λ desk. access.closes between desk.conn files') → OnErr migrated (files' ≡ between) → MigratesInFile access files path status files' out out'
+  done_lines-file_desk_migrated (Ok desk) status out out' begins cause tells closed same =
+      inl (record { desk = desk; between = between; begins = begins; says = tells; closed = closed })
+  done_lines-file_desk_migrated (Err fault) status out out' begins cause tells closed same =
+      inr (fault, subst (λ (f : F). IsMigrateFault access files path (Err fault) f) (sym same) cause, tells)
+
   -- what was done at the desk that an opening found is done in the file
   pub done_lines-done_at_found : (IsDone : DeskState S → DeskState S → Type 0) (found last : Result (DeskState S) DeskFault) (status : ℕ) (out out' : Output)
       → IfOk found (λ desk. BeginsFound access files path desk between) → IsFileFault access files path found between → DoneAt IsDone found last status out out'
@@ -34,14 +43,14 @@ module _ {F S : Type 0} (access : FileAccess F S) (files : F) (path : List ℕ) 
   done_lines-done_at_found IsDone (Ok desk) (Err fault) status out out' begins cause done closed same = absurd done
   done_lines-done_at_found IsDone (Err fault) (Ok last) status out out' begins cause done closed same = absurd done
 
-  -- residents were served at the desk that an opening found, or no port was listened on
-  pub done_lines-served_at_found : {P : Type 0} (ports ports' : P) (IsDone : DeskState S → DeskState S → Type 0) (found last : Result (DeskState S) DeskFault) (status : ℕ) (out out' : Output)
+  -- residents were served, or a list came in, at the desk that an opening found; or no port was listened on, and no list opened
+  pub done_lines-asked_at_found : {P : Type 0} (place place' : P) (IsDone : DeskState S → DeskState S → Type 0) (found last : Result (DeskState S) DeskFault) (status : ℕ) (out out' : Output)
       → IfOk found (λ desk. BeginsFound access files path desk between) → IsFileFault access files path found between → DoneAt IsDone found last status out out'
-      → (IsErr found → ports' ≡ ports) → IfOk last (λ desk. access.closes between desk.conn files') → OnErr last (files' ≡ between)
-      → AtFound access IsDone files path files' ⊎ ((fault : DeskFault) × IsFileFault access files path (Err fault) files' × RefusesDesk fault status out out' × (ports' ≡ ports))
-  done_lines-served_at_found ports ports' IsDone (Ok desk) (Ok last) status out out' begins cause done unasked closed same =
+      → (IsErr found → place' ≡ place) → IfOk last (λ desk. access.closes between desk.conn files') → OnErr last (files' ≡ between)
+      → AtFound access IsDone files path files' ⊎ ((fault : DeskFault) × IsFileFault access files path (Err fault) files' × RefusesDesk fault status out out' × (place' ≡ place))
+  done_lines-asked_at_found place place' IsDone (Ok desk) (Ok last) status out out' begins cause done unasked closed same =
       inl (record { desk = desk; between = between; last = last; begins = begins; done = done; closed = closed })
-  done_lines-served_at_found ports ports' IsDone (Err fault) (Err again) status out out' begins cause done unasked closed same =
+  done_lines-asked_at_found place place' IsDone (Err fault) (Err again) status out out' begins cause done unasked closed same =
       inr (fault, subst (λ (f : F). IsFileFault access files path (Err fault) f) (sym same) cause, done.1, unasked refl)
-  done_lines-served_at_found ports ports' IsDone (Ok desk) (Err fault) status out out' begins cause done unasked closed same = absurd done
-  done_lines-served_at_found ports ports' IsDone (Err fault) (Ok last) status out out' begins cause done unasked closed same = absurd done
+  done_lines-asked_at_found place place' IsDone (Ok desk) (Err fault) status out out' begins cause done unasked closed same = absurd done
+  done_lines-asked_at_found place place' IsDone (Err fault) (Ok last) status out out' begins cause done unasked closed same = absurd done

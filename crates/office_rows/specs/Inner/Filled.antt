@@ -1,4 +1,4 @@
--- Entries put into a map one by one.
+-- Entries and keys put into a map one by one.
 use Rattle.std.specs.Prelude.{List, [], ◌∷◌, Option, Some, None, if◌then◌else◌}
 use Rattle.std.specs.FinMap as map
 use Rattle.room_types.specs.Texts.{Text, TextMap}
@@ -7,3 +7,7 @@ use Rattle.room_types.specs.Texts.{Text, TextMap}
 abbrev pub filled : {X : Type 0} → TextMap X → List (Text × X) → Option (TextMap X)
 filled m [] = Some m
 filled m (e ∷ es) = if map.contains_key m e.0 then None else filled (map.insert m e.0 e.1) es
+
+-- a key of a set, as an entry
+abbrev pub key_entry : Text → Text × Unit {0}
+key_entry key = (key, tt)

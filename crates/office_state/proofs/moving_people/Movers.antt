@@ -15,13 +15,12 @@ use Rattle.room_types.specs.Texts.{Text, TextMap, text_cmp}
 use Rattle.room_types.proofs.maps.TextMaps.{maps-text_cases, maps-tied_text, maps-exact_texts, maps-len-put_known}
 use Rattle.room_types.proofs.options.Options.{options-none_if_not_some, options-option_or-none}
 use Rattle.office_lists.specs.Waves.{Mover}
-use Rattle.office_state.specs.Office.{home_of, participants, recorded_result, is_same_text}
-use Rattle.office_state.specs.Round.{is_participant}
-use Rattle.office_state.specs.Round.Settlement.{moves_out, movers, settled_person}
+use Rattle.office_state.specs.Office.{home_of, people_not_withdrawn, recorded_result, is_same_text}
+use Rattle.office_state.specs.Round.Settlement.{is_settled, moves_out, movers, settled_person}
 use Rattle.office_state.specs.Round.Settlement.{settled_people}
 use Rattle.office_state.specs.declared.office.Office.{Office}
 use Rattle.office_state.specs.declared.office.person.Person.{Person}
-use Rattle.office_state.proofs.round_problems.People.{round_problems-participants_hold}
+use Rattle.office_state.proofs.round_problems.People.{round_problems-not_withdrawn_hold}
 use Rattle.office_state.proofs.offices.People.{offices-same_optional}
 
 -- the people after one person's move, by what is known of the person
@@ -188,26 +187,26 @@ pub moving_people-each_mover : (office : Office) (P : Mover → Type 0)
     → ((p : Text) → P (p, home_of office p, recorded_result office p)) → All P (movers office)
 moving_people-each_mover office P h =
     All-map P (λ p. (p, home_of office p, recorded_result office p))
-    (filter (moves_out office) (participants office)) (λ k d within. h _)
+    (filter (moves_out office) (people_not_withdrawn office)) (λ k d within. h _)
 
 moving_people-any_mapped : (test : Text → Bool) (f : Text → Mover) → ((p : Text) → test (f p).0 ≡ test p)
     → (ps : List Text) → list_any (λ m. test m.0) (map_list f ps) ≡ list_any test ps
 moving_people-any_mapped test f same [] = refl
 moving_people-any_mapped test f same (p ∷ ps) = λ i. same p i || moving_people-any_mapped test f same ps i
 
--- who moves is a participant whose home changes
+-- who moves has not withdrawn, and the home changes
 moving_people-is_mover-movers : (office : Office) (q : Text)
-    → is_mover (movers office) q ≡ (moves_out office q && is_participant office q)
+    → is_mover (movers office) q ≡ (moves_out office q && is_settled office q)
 moving_people-is_mover-movers office q =
     moving_people-any_mapped (eq_by_cmp text_cmp q) (λ p. (p, home_of office p, recorded_result office p))
-    (λ p. refl) (filter (moves_out office) (participants office))
+    (λ p. refl) (filter (moves_out office) (people_not_withdrawn office))
     ∙ any-filter_same (eq_by_cmp text_cmp q) (moves_out office) (moves_out office q)
-    (λ p ties. sym (ap (moves_out office) (maps-tied_text q p ties))) (participants office)
-    ∙ ap (λ b. moves_out office q && b) (round_problems-participants_hold office q)
+    (λ p ties. sym (ap (moves_out office) (maps-tied_text q p ties))) (people_not_withdrawn office)
+    ∙ ap (λ b. moves_out office q && b) (round_problems-not_withdrawn_hold office q)
 
 moving_people-mover_to-movers : (office : Office) (q : Text)
     → mover_to (movers office) q
-    ≡ cond (moves_out office q && is_participant office q) (Some (recorded_result office q)) None
+    ≡ cond (moves_out office q && is_settled office q) (Some (recorded_result office q)) None
 moving_people-mover_to-movers office q =
     moving_people-mover_to-by (recorded_result office) (movers office) q
     (recursion_from_All (λ (m : Mover). m.2 ≡ recorded_result office m.0) (movers office)
@@ -238,7 +237,7 @@ moving_people-find_changed change (e ∷ es) q =
 -- what the settlement makes of a person
 abbrev pub settled : Office → Text → Person → Person
 settled office q kept =
-    cond (is_participant office q) (at_home (recorded_result office q) kept) kept
+    cond (is_settled office q) (at_home (recorded_result office q) kept) kept
 
 pub moving_people-get-settled : (office : Office) (q : Text)
     → map.get (settled_people office) q ≡ option_map (settled office q) (map.get office.people q)
@@ -270,15 +269,15 @@ moving_people-people_settled office gone order come same = same_map nat_list_cmp
     ∙ ap (λ t. arrive_at t (map.get office.people q)) (same q ∙ moving_people-mover_to-movers office q)
     ∙ elim (moves_out office q) as
     (λ out. moves_out office q ≡ out
-    → arrive_at (cond (out && is_participant office q) (Some (recorded_result office q)) None)
+    → arrive_at (cond (out && is_settled office q) (Some (recorded_result office q)) None)
     (map.get office.people q) ≡ option_map (settled office q) (map.get office.people q)) [
-      | true ↦ λ _. elim (is_participant office q) as
+      | true ↦ λ _. elim (is_settled office q) as
           (λ part. arrive_at (cond part (Some (recorded_result office q)) None)
           (map.get office.people q)
           ≡ option_map (λ kept. cond part (at_home (recorded_result office q) kept) kept)
           (map.get office.people q))
           [ true ↦ refl | false ↦ moving_people-same_none (map.get office.people q) ]
-      | false ↦ λ stays. elim (is_participant office q) as
+      | false ↦ λ stays. elim (is_settled office q) as
           (λ part. map.get office.people q
           ≡ option_map (λ kept. cond part (at_home (recorded_result office q) kept) kept)
           (map.get office.people q)) [
@@ -297,8 +296,8 @@ moving_people-arrived_settled office = moving_people-people_settled office [] (m
 -- the settled home of somebody
 pub moving_people-home_settled : (office : Office) (q room : Text)
     → option_and_then (λ (p : Person). p.home) (map.get (settled_people office) q) ≡ Some room
-    → ((is_participant office q ≡ true) × (recorded_result office q ≡ Some room))
-    ⊎ ((is_participant office q ≡ false) × (home_of office q ≡ Some room))
+    → ((is_settled office q ≡ true) × (recorded_result office q ≡ Some room))
+    ⊎ ((is_settled office q ≡ false) × (home_of office q ≡ Some room))
 moving_people-home_settled office q room h =
     let at : option_and_then (λ (p : Person). p.home)
     (option_map (settled office q) (map.get office.people q)) ≡ Some room =
@@ -306,14 +305,14 @@ moving_people-home_settled office q room h =
     elim (map.get office.people q) as
     (λ o. map.get office.people q ≡ o
     → option_and_then (λ (p : Person). p.home) (option_map (settled office q) o) ≡ Some room
-    → ((is_participant office q ≡ true) × (recorded_result office q ≡ Some room))
-    ⊎ ((is_participant office q ≡ false) × (home_of office q ≡ Some room))) [
+    → ((is_settled office q ≡ true) × (recorded_result office q ≡ Some room))
+    ⊎ ((is_settled office q ≡ false) × (home_of office q ≡ Some room))) [
       | None ↦ λ _ none. cc
-      | Some kept ↦ λ known some. elim (is_participant office q) as
-          (λ b. is_participant office q ≡ b
+      | Some kept ↦ λ known some. elim (is_settled office q) as
+          (λ b. is_settled office q ≡ b
           → (cond b (at_home (recorded_result office q) kept) kept).home ≡ Some room
-          → ((is_participant office q ≡ true) × (recorded_result office q ≡ Some room))
-          ⊎ ((is_participant office q ≡ false) × (home_of office q ≡ Some room))) [
+          → ((is_settled office q ≡ true) × (recorded_result office q ≡ Some room))
+          ⊎ ((is_settled office q ≡ false) × (home_of office q ≡ Some room))) [
             | true ↦ λ part there. inl (part, there)
             | false ↦ λ apart there. inr (apart, ap (option_and_then (λ p. p.home)) known ∙ there)
           ] refl some
@@ -329,7 +328,7 @@ moving_people-key_settled office q =
     (λ o. option_and_then (λ (p : Person). Some p.key) (option_map (settled office q) o)
     ≡ option_and_then (λ p. Some p.key) o) [
       | None ↦ refl
-      | Some kept ↦ elim (is_participant office q) as
+      | Some kept ↦ elim (is_settled office q) as
           (λ b. Some (cond b (at_home (recorded_result office q) kept) kept).key ≡ Some kept.key)
           [ true ↦ refl | false ↦ refl ]
     ]

@@ -1,11 +1,11 @@
 -- The office after a settlement: who moves where, and that the register and the moves obey the
 -- laws.
-use Rattle.std.proofs.Common.{◌≡◌, ◌≢◌, ℕ, suc, ◌≤◌, Bool, true, false, not, ◌&&◌, List, [], ◌∷◌}
+use Rattle.std.proofs.Common.{◌≡◌, ◌≢◌, ℕ, suc, ◌+◌, ◌≤◌, ◌<◌, Bool, true, false, not, ◌&&◌, List, [], ◌∷◌, get_or}
 use Rattle.std.proofs.Common.{length, map as map_list, Option, Some, None, cond, refl, ap, ◌∙◌, sym}
 use Rattle.std.proofs.Common.{subst, inl, inr, arith}
 use Rattle.std.specs.Prelude.{unwrap_or}
 use Rattle.std.specs.Option.{is_some, option_map, option_and_then}
-use Rattle.std.specs.List.{All, AllByRecursion, AllPairs, filter}
+use Rattle.std.specs.List.{All, AllByRecursion, AllPairs, filter, range_with_len}
 use Rattle.std.specs.declared.cmp.Ordering.TheVariants.{Less, Equal, Greater}
 use Rattle.std.specs.Ordering.{nat_cmp, is_eq}
 use Rattle.std.specs.Cmp.{nat_cmp_total}
@@ -19,18 +19,21 @@ use Rattle.std.proofs.lemmas.Bool.{and_parts}
 use Rattle.room_types.specs.Texts.{Text, TextMap, text_cmp}
 use Rattle.room_types.proofs.maps.TextMaps.{maps-text_cases, maps-get-put_same, maps-get-put_other}
 use Rattle.room_types.proofs.maps.TextMaps.{maps-contains_key-put_same}
+use Rattle.room_types.proofs.options.Options.{options-none_some}
 use Rattle.room_types.specs.declared.moves.Move.{Move}
 use Rattle.room_types.specs.declared.moves.Wave.{Wave}
+use Rattle.room_types.specs.declared.moves.Wave.TheVariants.{Nth}
 use Rattle.trade_line.specs.Market.{IsMarket}
-use Rattle.office_lists.specs.Waves.{Mover, NewRoomsDiffer}
+use Rattle.office_lists.specs.Waves.{Mover, NewRoomsDiffer, end_numbers, leavers, wave_of, waves_of}
+use Rattle.office_lists.proofs.move_days.Leavers.{move_days-leaver_wave}
 use Rattle.office_state.specs.Office.Invariants.{IsRegister, Unshared}
 use Rattle.office_state.specs.Office.Limits.{people_limit}
 use Rattle.office_state.specs.Office.Moves.{RoundMap, moves_of, with_move}
-use Rattle.office_state.specs.Office.{home_of, has_withdrawn, participants, knows_person, is_same_text}
+use Rattle.office_state.specs.Office.{home_of, has_withdrawn, knows_person, people_not_withdrawn}
 use Rattle.office_state.specs.Office.{recorded_result}
 use Rattle.office_state.specs.Round.{is_participant, round_market, round_results, result_of}
 use Rattle.office_state.specs.Round.{is_kept_back}
-use Rattle.office_state.specs.Round.Settlement.{moves_out, movers, moves_with}
+use Rattle.office_state.specs.Round.Settlement.{is_settled, moves_out, movers, moves_with}
 use Rattle.office_state.specs.Round.Settlement.{settled_people, with_moves}
 use Rattle.office_state.specs.declared.office.moves.Moved.{Moved}
 use Rattle.office_state.specs.declared.office.moves.RoundMoves.{RoundMoves}
@@ -39,10 +42,9 @@ use Rattle.office_state.specs.declared.office.Office.{Office}
 use Rattle.office_state.specs.declared.office.person.Person.{Person}
 use Rattle.office_state.proofs.moving_people.Movers.{moving_people-get-settled, moving_people-home_settled, moving_people-key_settled}
 use Rattle.office_state.proofs.moving_people.Movers.{moving_people-len-settled}
-use Rattle.office_state.proofs.round_problems.People.{round_problems-participants_differ}
+use Rattle.office_state.proofs.round_problems.People.{round_problems-not_withdrawn_differ}
 use Rattle.office_state.proofs.round_outcomes.Results.{round_outcomes-get-round_results}
 use Rattle.office_state.proofs.round_problems.Rooms.{round_problems-found_each, round_problems-given_open, round_problems-given_once, round_problems-not_kept_back}
-use Rattle.office_state.proofs.round_problems.Rooms.{round_problems-tenant_gets}
 use Rattle.office_state.proofs.moving_people.Settling.{AreFresh, home_in, moving_people-moves_of-with_move}
 use Rattle.office_state.proofs.offices.Moves.{kept_moves}
 
@@ -63,10 +65,10 @@ moving_people-AllPairs-map R f (x ∷ xs) h =
     (moving_people-AllPairs-map R f xs (λ i j d before within. h (suc i) (suc j) d (omega (arith, before))
     (omega (arith, within))))
 
--- the participants take part
-moving_people-participants_part : (office : Office)
-    → All (λ p. is_participant office p ≡ true) (participants office)
-moving_people-participants_part office =
+-- the settlement decides where those live who have not withdrawn
+moving_people-not_withdrawn_settled : (office : Office)
+    → All (λ p. is_settled office p ≡ true) (people_not_withdrawn office)
+moving_people-not_withdrawn_settled office =
     let test : Text × Person → Bool = λ e. not (has_withdrawn office e.0) in
     let found : All (λ (e : Text × Person). knows_person office e.0 ≡ true)
     (map.entries office.people) =
@@ -75,7 +77,7 @@ moving_people-participants_part office =
     let kept =
     All-filter test (λ e. knows_person office e.0 ≡ true) (map.entries office.people) found in
     let passed = filter_passes test (map.entries office.people) in
-    All-map (λ p. is_participant office p ≡ true) (λ e. e.0)
+    All-map (λ p. is_settled office p ≡ true) (λ e. e.0)
     (filter test (map.entries office.people)) (λ k d b. (λ i. kept k d b i && passed k d b i))
 
 module _ (office : Office) (l : IsRegister office.rooms office.people)
@@ -88,37 +90,28 @@ module _ (office : Office) (l : IsRegister office.rooms office.people)
       (ap (λ kept. map.get kept p) results ∙ round_outcomes-get-round_results office p
       ∙ ap (λ b. cond b (Some (record { room = result_of office p })) None) part)
 
-  -- who moves gets a room
-  moving_people-goes : (p : Text) → is_participant office p ≡ true → moves_out office p ≡ true
-      → is_some (recorded_result office p) ≡ true
-  moving_people-goes p part out =
-      elim (recorded_result office p) as
-      (λ o. recorded_result office p ≡ o → not (is_same_text (home_of office p) o) ≡ true
-      → is_some o ≡ true) [
-        | Some room ↦ λ _ _. refl
-        | None ↦ λ nothing moves. elim (home_of office p) as
-            (λ o. home_of office p ≡ o → not (is_same_text o None) ≡ true → false ≡ true) [
-              | None ↦ λ _ stays. stays
-              | Some room ↦ λ lives _. absurd
-                  (round_problems-tenant_gets office ok p room l part lives (sym (moving_people-recorded_is p part) ∙ nothing))
-            ] refl moves
-      ] refl out
+  -- who has a room as the recorded result takes part, and top trading cycles give that room
+  moving_people-given_part : (p room : Text) → recorded_result office p ≡ Some room
+      → (is_participant office p ≡ true) × (result_of office p ≡ Some room)
+  moving_people-given_part p room e =
+      elim (is_participant office p) as
+      (λ b. is_participant office p ≡ b
+      → (is_participant office p ≡ true) × (result_of office p ≡ Some room)) [
+        | true ↦ λ part. (part, sym (moving_people-recorded_is p part) ∙ e)
+        | false ↦ λ apart.
+            let none : recorded_result office p ≡ None =
+            ap (option_and_then (λ (given : Assigned). given.room))
+            (ap (λ kept. map.get kept p) results ∙ round_outcomes-get-round_results office p
+            ∙ ap (λ b. cond b (Some (record { room = result_of office p })) None) apart) in
+            absurd (options-none_some (recorded_result office p) room none e)
+      ] refl
 
   -- those who move, with all that is known of them
-  moving_people-moving : All (λ p. (is_participant office p ≡ true) × (moves_out office p ≡ true))
-      (filter (moves_out office) (participants office))
-  moving_people-moving = λ k d b. (
-    All-filter (moves_out office) (λ p. is_participant office p ≡ true) (participants office)
-        (moving_people-participants_part office) k d b,
-    filter_passes (moves_out office) (participants office) k d b,
-  )
-
-  pub moving_people-movers_go : AllByRecursion (λ (m : Mover). is_some m.2 ≡ true) (movers office)
-  moving_people-movers_go = recursion_from_All (λ (m : Mover). is_some m.2 ≡ true) (movers office)
-      (All-map (λ (m : Mover). is_some m.2 ≡ true)
-      (λ p. (p, home_of office p, recorded_result office p))
-      (filter (moves_out office) (participants office))
-      (λ k d b. moving_people-goes _ (moving_people-moving k d b).0 (moving_people-moving k d b).1))
+  pub moving_people-moving : All (λ p. is_settled office p ≡ true)
+      (filter (moves_out office) (people_not_withdrawn office))
+  moving_people-moving =
+      All-filter (moves_out office) (λ p. is_settled office p ≡ true) (people_not_withdrawn office)
+      (moving_people-not_withdrawn_settled office)
 
   -- each mover comes to the settled home
   pub moving_people-movers_lead : All (λ (m : Mover). (room : Text) → m.2 ≡ Some room
@@ -127,20 +120,20 @@ module _ (office : Office) (l : IsRegister office.rooms office.people)
       All-map (λ (m : Mover). (room : Text) → m.2 ≡ Some room
       → home_in (settled_people office) m.0 ≡ Some room)
       (λ p. (p, home_of office p, recorded_result office p))
-      (filter (moves_out office) (participants office))
-      (λ k d b room e. comes _ (moving_people-moving k d b).0 room e)
+      (filter (moves_out office) (people_not_withdrawn office))
+      (λ k d b room e. comes _ (moving_people-moving k d b) room e)
     where
-      known : (p : Text) → is_participant office p ≡ true → knows_person office p ≡ true
+      known : (p : Text) → is_settled office p ≡ true → knows_person office p ≡ true
       known p part = (and_parts (knows_person office p) (not (has_withdrawn office p)) part).0
 
-      comes : (p : Text) → is_participant office p ≡ true → (room : Text)
+      comes : (p : Text) → is_settled office p ≡ true → (room : Text)
           → recorded_result office p ≡ Some room
           → option_and_then (λ (v : Person). v.home) (map.get (settled_people office) p) ≡ Some room
       comes p part room e =
           ap (option_and_then (λ (v : Person). v.home)) (moving_people-get-settled office p)
           ∙ elim (map.get office.people p) as
           (λ o. is_some o ≡ true → option_and_then (λ (v : Person). v.home)
-          (option_map (λ kept. cond (is_participant office p)
+          (option_map (λ kept. cond (is_settled office p)
           (record kept { home = recorded_result office p }) kept) o) ≡ Some room) [
             | None ↦ λ h. cc
             | Some kept ↦ λ _. ap (λ b. Some_home
@@ -148,34 +141,44 @@ module _ (office : Office) (l : IsRegister office.rooms office.people)
           ] (known p part)
 
   -- no two movers are one person, and no two get one room
-  moving_people-names_differ : AllPairs ◌≢◌ (filter (moves_out office) (participants office))
+  moving_people-names_differ : AllPairs ◌≢◌ (filter (moves_out office) (people_not_withdrawn office))
   moving_people-names_differ =
-      AllPairs-filter ◌≢◌ (moves_out office) (participants office) (round_problems-participants_differ office)
+      AllPairs-filter ◌≢◌ (moves_out office) (people_not_withdrawn office) (round_problems-not_withdrawn_differ office)
 
   pub moving_people-movers_differ : AllPairs (λ (a b : Mover). a.0 ≢ b.0) (movers office)
   moving_people-movers_differ = moving_people-AllPairs-map (λ (a b : Mover). a.0 ≢ b.0)
       (λ p. (p, home_of office p, recorded_result office p))
-      (filter (moves_out office) (participants office)) moving_people-names_differ
+      (filter (moves_out office) (people_not_withdrawn office)) moving_people-names_differ
 
   pub moving_people-new_rooms_differ : NewRoomsDiffer (movers office)
   moving_people-new_rooms_differ =
       moving_people-AllPairs-map (λ (a b : Mover). (room : Text) → a.2 ≡ Some room → b.2 ≡ Some room → ⊥)
       (λ p. (p, home_of office p, recorded_result office p))
-      (filter (moves_out office) (participants office))
+      (filter (moves_out office) (people_not_withdrawn office))
       (λ i j d before within room ea eb.
-      let first = moving_people-moving i d (omega (arith, before, within)) in
-      let second = moving_people-moving j d within in
+      let names : List Text = filter (moves_out office) (people_not_withdrawn office) in
+      let first = moving_people-given_part (get_or names i d) room ea in
+      let second = moving_people-given_part (get_or names j d) room eb in
       moving_people-names_differ i j d before within
-      (round_problems-given_once office ok _ _ room first.0 second.0 (sym (moving_people-recorded_is _ first.0) ∙ ea)
-      (sym (moving_people-recorded_is _ second.0) ∙ eb)))
+      (round_problems-given_once office ok (get_or names i d) (get_or names j d) room first.0 second.0
+      first.1 second.1))
+
+  -- a room that is given is open, and nobody who has withdrawn lives there
+  moving_people-given_open : (p room : Text) → recorded_result office p ≡ Some room
+      → (map.get office.rooms room ≡ Some false) × (is_kept_back office room ≡ false)
+  moving_people-given_open p room e =
+      let part = moving_people-given_part p room e in
+      round_problems-given_open office ok p room part.0 part.1
 
   -- homes differ after the settlement
   moving_people-settled_homes : Unshared (λ p. p.home) (settled_people office)
   moving_people-settled_homes p q room hp hq =
       elim (moving_people-home_settled office p room hp) as (λ _. p ≡ q) [
         | inl a ↦ elim (moving_people-home_settled office q room hq) as (λ _. p ≡ q) [
-          | inl b ↦ round_problems-given_once office ok p q room a.0 b.0 (sym (moving_people-recorded_is p a.0) ∙ a.1)
-              (sym (moving_people-recorded_is q b.0) ∙ b.1)
+          | inl b ↦
+              let first = moving_people-given_part p room a.1 in
+              let second = moving_people-given_part q room b.1 in
+              round_problems-given_once office ok p q room first.0 second.0 first.1 second.1
           | inr b ↦ absurd (taken_twice p q room a b)
         ]
         | inr a ↦ elim (moving_people-home_settled office q room hq) as (λ _. p ≡ q) [
@@ -185,11 +188,11 @@ module _ (office : Office) (l : IsRegister office.rooms office.people)
       ]
     where
       taken_twice : (p q room : Text)
-          → (is_participant office p ≡ true) × (recorded_result office p ≡ Some room)
-          → (is_participant office q ≡ false) × (home_of office q ≡ Some room) → ⊥
+          → (is_settled office p ≡ true) × (recorded_result office p ≡ Some room)
+          → (is_settled office q ≡ false) × (home_of office q ≡ Some room) → ⊥
       taken_twice p q room a b =
           let free : is_kept_back office room ≡ false =
-          (round_problems-given_open office ok p room a.0 (sym (moving_people-recorded_is p a.0) ∙ a.1)).1 in
+          (moving_people-given_open p room a.1).1 in
           elim (map.get office.people q) as
           (λ o. map.get office.people q ≡ o
           → option_and_then (λ (v : Person). v.home) o ≡ Some room → ⊥) [
@@ -206,7 +209,7 @@ module _ (office : Office) (l : IsRegister office.rooms office.people)
     homes = moving_people-settled_homes;
     homes_open = λ p room h. elim (moving_people-home_settled office p room h) as
         (λ _. map.get office.rooms room ≡ Some false) [
-          | inl a ↦ (round_problems-given_open office ok p room a.0 (sym (moving_people-recorded_is p a.0) ∙ a.1)).0
+          | inl a ↦ (moving_people-given_open p room a.1).0
           | inr a ↦ l.homes_open p room a.1
         ];
     few_rooms = l.few_rooms;
@@ -254,7 +257,7 @@ pub record KeepsMoves (ok : ℕ → Bool) (moves : RoundMap RoundMoves) : Type 0
   pub none_empty : (round : ℕ) (kept : RoundMoves) → map.get moves round ≡ Some kept
       → kept.by_person ≡ map.empty → ⊥
   pub arrived : (round : ℕ) (p : Text) (moved : Moved)
-      → map.get (moves_of moves round) p ≡ Some moved → is_some moved.to ≡ true
+      → map.get (moves_of moves round) p ≡ Some moved → moved.to ≡ None → moved.wave ≡ Nth 0
 
 moving_people-not_empty : (m : TextMap Moved) (p : Text) (v : Moved) → map.insert m p v ≡ map.empty → ⊥
 moving_people-not_empty m p v e =
@@ -264,7 +267,7 @@ moving_people-not_empty m p v e =
     cc
 
 moving_people-with_move-keeps : (ok : ℕ → Bool) (moves : RoundMap RoundMoves) (move : Move) → KeepsMoves ok moves
-    → ok move.round ≡ true → is_some move.to ≡ true → KeepsMoves ok (with_move moves move)
+    → ok move.round ≡ true → (move.to ≡ None → move.wave ≡ Nth 0) → KeepsMoves ok (with_move moves move)
 moving_people-with_move-keeps ok moves move l fine goes =
     let value : Moved = record { from = move.from; to = move.to; wave = move.wave } in
     let kept_now : RoundMoves =
@@ -290,16 +293,17 @@ moving_people-with_move-keeps ok moves move l fine goes =
       arrived =
           λ round p moved h. elim (nat_cmp round move.round) as (λ o. nat_cmp round move.round ≡ o
           → map.get (kept_moves (cond (is_eq o) (Some kept_now) (map.get moves round))) p ≡ Some moved
-          → is_some moved.to ≡ true) [
+          → moved.to ≡ None → moved.wave ≡ Nth 0) [
             | Less ↦ λ _ there. l.arrived round p moved there
             | Equal ↦ λ ties here. elim (maps-text_cases p move.person) as
-                (λ _. is_some moved.to ≡ true) [
+                (λ _. moved.to ≡ None → moved.wave ≡ Nth 0) [
                   | inl same ↦
                       let is : value ≡ moved =
                       ap (λ o. unwrap_or o value) (sym
                       (ap (map.get (map.insert (moves_of moves move.round) move.person value)) same
                       ∙ maps-get-put_same (moves_of moves move.round) move.person value) ∙ here) in
-                      ap (λ (m : Moved). is_some m.to) (sym is) ∙ goes
+                      λ nowhere. ap (λ (m : Moved). m.wave) (sym is)
+                      ∙ goes (ap (λ (m : Moved). m.to) is ∙ nowhere)
                   | inr other ↦ l.arrived move.round p moved
                       (sym (maps-get-put_other (moves_of moves move.round) move.person value p other)
                       ∙ here)
@@ -309,9 +313,35 @@ moving_people-with_move-keeps ok moves move l fine goes =
           (sym (get-insert nat_cmp_total moves move.round kept_now round)) ∙ h);
     }
 
+-- each mover without a new room has wave 0
+abbrev pub LeaveFirst : List Mover → List Wave → Type 0
+LeaveFirst [] waves = Unit {0}
+LeaveFirst (m ∷ ms) [] = Unit {0}
+LeaveFirst (m ∷ ms) (wave ∷ waves) = (m.2 ≡ None → wave ≡ Nth 0) × LeaveFirst ms waves
+
+moving_people-leave_first_from : (wave : ℕ → Wave) (k : ℕ) (ms : List Mover)
+    → ((i : ℕ) (d : Mover) → i < length ms → (get_or ms i d).2 ≡ None → wave (k + i) ≡ Nth 0)
+    → LeaveFirst ms (map_list wave (range_with_len k (length ms)))
+moving_people-leave_first_from wave k [] h = tt
+moving_people-leave_first_from wave k (m ∷ ms) h =
+    let here : k + 0 ≡ k = omega arith in (
+      λ nowhere. ap wave (sym here) ∙ h 0 m (omega arith) nowhere,
+      moving_people-leave_first_from wave (k + 1) ms (λ i d low nowhere.
+          let there : (k + 1) + i ≡ k + suc i = omega arith in
+          ap wave there ∙ h (suc i) d (omega (arith, low)) nowhere),
+    )
+
+-- whoever goes into no room has wave 0
+pub moving_people-leave_first : (ms : List Mover) → LeaveFirst ms (waves_of ms)
+moving_people-leave_first ms =
+    moving_people-leave_first_from (wave_of (end_numbers ms) (leavers ms)) 0 ms
+    (λ i d low nowhere.
+    let same : 0 + i ≡ i = omega arith in
+    ap (wave_of (end_numbers ms) (leavers ms)) same ∙ move_days-leaver_wave ms i d low nowhere)
+
 pub moving_people-with_moves-keeps : (ok : ℕ → Bool) (moves : RoundMap RoundMoves) (round : ℕ) (ms : List Mover)
     (waves : List Wave) → KeepsMoves ok moves → ok round ≡ true
-    → AllByRecursion (λ (m : Mover). is_some m.2 ≡ true) ms
+    → LeaveFirst ms waves
     → KeepsMoves ok (with_moves moves (moves_with round ms waves))
 moving_people-with_moves-keeps ok moves round [] waves l fine goes = l
 moving_people-with_moves-keeps ok moves round (m ∷ ms) [] l fine goes = l
@@ -336,14 +366,14 @@ moving_people-few_movers office l =
     let few = l.few_people in
     let entries : length (map.entries office.people) ≡ map.len office.people =
     sym (len-entries office.people) in
-    let part : length (participants office)
+    let part : length (people_not_withdrawn office)
     ≡ length (filter (λ e. not (has_withdrawn office e.0)) (map.entries office.people)) =
     length-map (filter (λ e. not (has_withdrawn office e.0)) (map.entries office.people))
     (λ e. e.0) in
-    let out : length (movers office) ≡ length (filter (moves_out office) (participants office)) =
-    length-map (filter (moves_out office) (participants office))
+    let out : length (movers office) ≡ length (filter (moves_out office) (people_not_withdrawn office)) =
+    length-map (filter (moves_out office) (people_not_withdrawn office))
     (λ p. (p, home_of office p, recorded_result office p)) in
     let a = moving_people-fewer (λ (e : Text × Person). not (has_withdrawn office e.0))
     (map.entries office.people) in
-    let b = moving_people-fewer (moves_out office) (participants office) in
+    let b = moving_people-fewer (moves_out office) (people_not_withdrawn office) in
     omega (arith, few, entries, part, out, a, b)

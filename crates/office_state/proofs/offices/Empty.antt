@@ -7,8 +7,10 @@ use Rattle.std.specs.Ordering.{nat_cmp}
 use Rattle.std.specs.FinMap as map
 use Rattle.std.specs.FinMap.{get-empty, len-empty}
 use Rattle.room_types.specs.Texts.{Text, TextMap, text_cmp}
+use Rattle.room_types.specs.declared.phase.Phase.{Phase}
+use Rattle.room_types.specs.declared.phase.Phase.TheVariants.{Idle}
 use Rattle.room_types.proofs.options.Options.{options-none_some}
-use Rattle.office_state.specs.Office.Invariants.{IsLawful, AreLists}
+use Rattle.office_state.specs.Office.Invariants.{IsLawful, AreGrades, AreLeavers, AreLists}
 use Rattle.office_state.specs.Office.{empty_office, had_by}
 use Rattle.office_state.specs.declared.office.moves.RoundMoves.{RoundMoves}
 use Rattle.office_state.specs.declared.office.person.Person.{Person}
@@ -29,6 +31,22 @@ offices-no_lists rooms people = record {
   none_empty = λ p e. options-none_some _ [] (get-empty text_cmp p) e;
   chosen = λ p codes e. absurd (options-none_some _ codes (get-empty text_cmp p) e);
   withdrawers = λ p h. absurd (offices-none_known _ (get-empty text_cmp p) h);
+}
+
+-- no grades
+pub offices-no_grades : (people : TextMap Person) → AreGrades people map.empty
+offices-no_grades people = record {
+  graded = λ p h. absurd (offices-none_known _ (get-empty text_cmp p) h);
+  none_zero = λ p e. options-none_some _ 0 (get-empty text_cmp p) e;
+}
+
+-- nobody leaves the college
+pub offices-no_leavers : (phase : Phase) (people : TextMap Person) (withdrawn : TextMap (Unit {0}))
+    → AreLeavers phase people withdrawn map.empty
+offices-no_leavers phase people withdrawn = record {
+  leavers = λ p h. absurd (offices-none_known _ (get-empty text_cmp p) h);
+  apart = λ p h. absurd (offices-none_known _ (get-empty text_cmp p) h);
+  idle_going = λ _. refl;
 }
 
 pub offices-empty_lawful : IsLawful empty_office
@@ -52,6 +70,8 @@ offices-empty_lawful = record {
     short = λ label kept e. absurd (options-none_some _ kept (get-empty text_cmp label) e);
     counted = λ label kept e. absurd (options-none_some _ kept (get-empty text_cmp label) e);
   };
+  grades = offices-no_grades map.empty;
+  leavers = offices-no_leavers Idle map.empty map.empty;
   words = record { none = λ _. refl; each = λ e. absurd (cc) };
   results = record { none = λ _. refl; given = λ e. absurd (cc) };
   moves = record {

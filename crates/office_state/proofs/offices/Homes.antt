@@ -14,7 +14,9 @@ use Rattle.office_state.proofs.offices.People.{offices-had_by-put_same, offices-
 use Rattle.office_state.proofs.offices.Register.{offices-person_moved}
 use Rattle.office_state.proofs.round_phases.Untouched.{round_phases-undrawn, round_phases-words_undrawn, round_phases-results_undrawn}
 use Rattle.office_state.proofs.round_phases.Untouched.{round_phases-moves_stay}
+use Rattle.office_state.proofs.offices.Grades.{offices-graded_person}
 use Rattle.office_state.proofs.offices.KeptLists.{offices-person_known}
+use Rattle.office_state.proofs.offices.Leavers.{offices-leaver_person}
 
 -- the office after one person's move, by what is known of the person
 abbrev pub moved : Office → Text → Option Text → Option Person → Office
@@ -58,8 +60,12 @@ offices-moved-lawful office person home l before own unshut =
             lists = offices-person_known office.rooms office.people office.choices office.withdrawn l.lists
                 person (record kept { home = home });
             round = l.round;
-            words = round_phases-words_undrawn office.phase new.people office.withdrawn office.words
-                u.has_no_words u.no_words;
+            grades = offices-graded_person office.people office.grades l.grades person
+                (record kept { home = home });
+            leavers = offices-leaver_person office.phase office.people office.withdrawn office.going
+                l.leavers person (record kept { home = home });
+            words = round_phases-words_undrawn office.phase new.people office.withdrawn office.going
+                office.words u.has_no_words u.no_words;
             results = round_phases-results_undrawn new u.has_no_results u.no_results;
             moves = round_phases-moves_stay office new refl (λ round h. h) l.moves;
           }

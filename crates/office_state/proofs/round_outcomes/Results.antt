@@ -139,6 +139,8 @@ round_outcomes-blend : (one other : Office) → HaveSameEntries one other
       choices = other.choices;
       withdrawn = other.withdrawn;
       words = other.words;
+      grades = other.grades;
+      going = other.going;
     }
 round_outcomes-blend one other same =
     λ i. record one {
@@ -147,6 +149,8 @@ round_outcomes-blend one other same =
       choices = same.choices i;
       withdrawn = same.withdrawn i;
       words = same.words i;
+      grades = same.grades i;
+      going = same.going i;
     }
 
 pub round_outcomes-same_round : (one other : Office) → HaveSameEntries one other → HaveSameRound one other

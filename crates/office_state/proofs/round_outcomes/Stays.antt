@@ -17,4 +17,6 @@ round_outcomes-round_results-along office results phase =
       choices = refl;
       withdrawn = refl;
       words = refl;
+      grades = refl;
+      going = refl;
     })).results

@@ -149,10 +149,10 @@ round_phases-undrawn office l h = record {
   no_results = l.results.none (round_phases-undrawn_unran office.phase h);
 }
 
-pub round_phases-words_undrawn : (phase : Phase) (people : TextMap Person) (withdrawn : TextMap (Unit {0}))
-    (words : TextMap ℕ) → has_words phase ≡ false → words ≡ map.empty
-    → AreWords phase people withdrawn words
-round_phases-words_undrawn phase people withdrawn words before none =
+pub round_phases-words_undrawn : (phase : Phase) (people : TextMap Person)
+    (withdrawn going : TextMap (Unit {0})) (words : TextMap ℕ) → has_words phase ≡ false
+    → words ≡ map.empty → AreWords phase people withdrawn going words
+round_phases-words_undrawn phase people withdrawn going words before none =
     record { none = λ _. none; each = λ h. absurd (cc) }
 
 pub round_phases-results_undrawn : (office : Office) → has_results office.phase ≡ false

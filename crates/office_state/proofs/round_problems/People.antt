@@ -8,9 +8,9 @@ use Rattle.std.specs.Cmp.{tied_itself}
 use Rattle.std.specs.Cmp.Lexicographic.{nat_list_cmp_total, nat_list_eq_equiv, bytes_decides}
 use Rattle.std.specs.List.{AllPairs, AllByRecursion, filter, list_any}
 use Rattle.std.specs.List.Sorted.{IsPermutation, IsStrictlySortedBy}
-use Rattle.std.specs.Option.{is_some, option_map}
+use Rattle.std.specs.Option.{is_some, option_map, unwrap_or}
 use Rattle.std.specs.FinMap as maps
-use Rattle.std.specs.FinMap.{entries_sorted, get-entries, find, is_sorted}
+use Rattle.std.specs.FinMap.{entries_sorted, get-empty, get-entries, find, is_sorted}
 use Rattle.std.specs.FinMap.Entries.{below_all, where_key, find-where_key, is_some-find}
 use Rattle.std.proofs.lemmas.List.{length-map}
 use Rattle.std.proofs.lemmas.List.Sorted.{IsPermutation-map, length_permutation}
@@ -20,11 +20,13 @@ use Rattle.std.proofs.lemmas.Map.Made.{AllPairs-from_IsDistinct, IsDistinct-from
 use Rattle.room_types.specs.Texts.{Text, text_cmp, text_eq}
 use Rattle.room_types.proofs.maps.TextMaps.{maps-exact_texts, maps-first_holds, maps-second_holds, maps-less_from_test}
 use Rattle.room_types.proofs.options.Options.{options-some_of}
-use Rattle.draw_order.specs.Draw.{Lot, IsDrawnOrder}
-use Rattle.draw_order.proofs.draws.Orders.{draws-one_drawn_order}
-use Rattle.office_state.specs.Office.{has_withdrawn, participants}
+use Rattle.draw_order.specs.Draw.{Lot, IsDrawnOrder, drawn_order, ungraded}
+use Rattle.draw_order.proofs.draws.Orders.{draws-goes_by_word_alone, draws-one_drawn_order}
+use Rattle.office_state.specs.Round.Settlement.{is_settled}
+use Rattle.office_state.specs.Office.{knows_person, grade_of, has_withdrawn, participants, people_not_withdrawn, sits_out}
 use Rattle.office_state.specs.Round.{is_participant, word_of, lots_of, round_people, round_rooms}
 use Rattle.office_state.specs.Round.{is_kept_back, number_in}
+use Rattle.office_state.specs.Round.Laws.{GoesByWordAlone, plain_lots_of}
 use Rattle.office_state.specs.declared.office.Office.{Office}
 use Rattle.office_state.proofs.round_problems.Names.{round_problems-text_eq-tied, round_problems-position-cons}
 
@@ -61,6 +63,12 @@ module _ {X : Type 0} (test : Text × X → Bool) where
 
 pub round_problems-participants_ascend : (office : Office) → IsStrictlySortedBy text_cmp (participants office)
 round_problems-participants_ascend office =
+    round_problems-keys_ascend (λ e. not (sits_out office e.0)) (maps.entries office.people)
+    (entries_sorted office.people)
+
+-- those who have not withdrawn ascend
+round_problems-not_withdrawn_ascend : (office : Office) → IsStrictlySortedBy text_cmp (people_not_withdrawn office)
+round_problems-not_withdrawn_ascend office =
     round_problems-keys_ascend (λ e. not (has_withdrawn office e.0)) (maps.entries office.people)
     (entries_sorted office.people)
 
@@ -83,13 +91,16 @@ round_problems-ascending_differ names up =
 pub round_problems-participants_differ : (office : Office) → AllPairs ◌≢◌ (participants office)
 round_problems-participants_differ office = round_problems-ascending_differ (participants office) (round_problems-participants_ascend office)
 
+pub round_problems-not_withdrawn_differ : (office : Office) → AllPairs ◌≢◌ (people_not_withdrawn office)
+round_problems-not_withdrawn_differ office = round_problems-ascending_differ (people_not_withdrawn office) (round_problems-not_withdrawn_ascend office)
+
 pub round_problems-rooms_differ : (office : Office) → AllPairs ◌≢◌ (round_rooms office)
 round_problems-rooms_differ office = round_problems-ascending_differ (round_rooms office) (round_problems-rooms_ascend office)
 
-round_problems-identifiers : (word : Text → ℕ) (people : List Text)
-    → map (λ (lot : Lot). lot.0) (map (λ p. (p, word p)) people) ≡ people
-round_problems-identifiers word [] = refl
-round_problems-identifiers word (p ∷ people) = ap (λ (others : List Text). p ∷ others) (round_problems-identifiers word people)
+round_problems-identifiers : (grade word : Text → ℕ) (people : List Text)
+    → map (λ (lot : Lot). lot.0) (map (λ p. (p, grade p, word p)) people) ≡ people
+round_problems-identifiers grade word [] = refl
+round_problems-identifiers grade word (p ∷ people) = ap (λ (others : List Text). p ∷ others) (round_problems-identifiers grade word people)
 
 -- the drawn order has the participants, in another order
 pub round_problems-people_are_participants : (office : Office)
@@ -103,7 +114,7 @@ round_problems-people_are_participants office =
     IsPermutation-map (λ (lot : Lot). lot.0)
     (lots_of office) drawn.ascending drawn.arranged.same_items in
     subst (λ names. IsPermutation names (round_people office))
-    (round_problems-identifiers (word_of office) (participants office))
+    (round_problems-identifiers (grade_of office) (word_of office) (participants office))
     (subst (λ names. IsPermutation (map (λ (lot : Lot). lot.0) (lots_of office)) names)
     (sym drawn.identifiers) moved)
 
@@ -111,7 +122,7 @@ round_problems-people_are_participants office =
 pub round_problems_as_many_as_lots : (office : Office) → length (round_people office) ≡ length (lots_of office)
 round_problems_as_many_as_lots office =
     length_permutation (participants office) (round_people office) (round_problems-people_are_participants office)
-    ∙ sym (length-map (participants office) (λ person. (person, word_of office person)))
+    ∙ sym (length-map (participants office) (λ person. (person, grade_of office person, word_of office person)))
 
 pub round_problems-people_differ : (office : Office) → AllPairs ◌≢◌ (round_people office)
 round_problems-people_differ office =
@@ -127,15 +138,26 @@ round_problems-both_known true (Some x) = refl
 round_problems-both_known false None = refl
 round_problems-both_known false (Some x) = refl
 
-pub round_problems-participants_hold : (office : Office) (person : Text)
-    → list_any (eq_by_cmp text_cmp person) (participants office) ≡ is_participant office person
-round_problems-participants_hold office person =
-    let stays : Text → Bool = λ p. not (has_withdrawn office p) in
+-- who is among the known people that pass a test
+round_problems-passing_hold : (office : Office) (stays : Text → Bool) (person : Text)
+    → list_any (eq_by_cmp text_cmp person) (map (λ e. e.0) (filter (λ e. stays e.0) (maps.entries office.people)))
+    ≡ (knows_person office person && stays person)
+round_problems-passing_hold office stays person =
     sym (is_some-find text_cmp person (where_key text_cmp stays (maps.entries office.people)))
     ∙ ap is_some (find-where_key text_cmp stays person
     (λ x tied. ap stays (sym (maps-exact_texts person x tied))) (maps.entries office.people))
     ∙ round_problems-both_known (stays person) (find text_cmp person (maps.entries office.people))
     ∙ ap (λ o. is_some o && stays person) (sym (get-entries office.people person))
+
+pub round_problems-participants_hold : (office : Office) (person : Text)
+    → list_any (eq_by_cmp text_cmp person) (participants office) ≡ is_participant office person
+round_problems-participants_hold office person =
+    round_problems-passing_hold office (λ p. not (sits_out office p)) person
+
+pub round_problems-not_withdrawn_hold : (office : Office) (person : Text)
+    → list_any (eq_by_cmp text_cmp person) (people_not_withdrawn office) ≡ is_settled office person
+round_problems-not_withdrawn_hold office person =
+    round_problems-passing_hold office (λ p. not (has_withdrawn office p)) person
 
 pub round_problems-people_hold : (office : Office) (person : Text)
     → list_any (eq_by_cmp text_cmp person) (round_people office) ≡ is_participant office person
@@ -170,3 +192,22 @@ pub round_problems-number_of_participant : (office : Office) (person : Text) →
     → (n : ℕ) × (number_in (round_people office) person ≡ Some n)
 round_problems-number_of_participant office person part =
     options-some_of (number_in (round_people office) person) (round_problems-participant_number office person ∙ part)
+
+-- ---- people without grades
+
+round_problems-no_grade : (office : Office) → office.grades ≡ maps.empty → (person : Text) → grade_of office person ≡ 0
+round_problems-no_grade office none person =
+    ap (λ grades. unwrap_or (maps.get grades person) 0) none ∙ ap (λ o. unwrap_or o 0) (get-empty text_cmp person)
+
+round_problems-ungraded_lots : (grade word : Text → ℕ) → ((p : Text) → grade p ≡ 0) → (people : List Text)
+    → map (λ p. (p, grade p, word p)) people ≡ map ungraded (map (λ p. (p, word p)) people)
+round_problems-ungraded_lots grade word none [] = refl
+round_problems-ungraded_lots grade word none (p ∷ people) =
+    λ i. (p, none p i, word p) ∷ round_problems-ungraded_lots grade word none people i
+
+-- the participants of a round without grades stand by word and identifier alone
+pub round_problems-goes_by_word_alone : GoesByWordAlone
+unfolding round_people
+round_problems-goes_by_word_alone office none =
+    ap drawn_order (round_problems-ungraded_lots (grade_of office) (word_of office) (round_problems-no_grade office none) (participants office))
+    ∙ draws-goes_by_word_alone (plain_lots_of office)

@@ -171,7 +171,7 @@ pub round_problems-home_numbered : (office : Office) (person room : Text) → Is
     → is_some (number_in (round_rooms office) room) ≡ true
 unfolding round_rooms
 round_problems-home_numbered office person room l part lives =
-    let free = round_problems-home_free office person room l (round_problems-both_true _ _ part).1 lives in
+    let free = round_problems-home_free office person room l (or_parts _ _ (round_problems-both_true _ _ part).1).0 lives in
     round_problems-is_some-number_in (round_rooms office) room
     ∙ round_problems-found_passes (λ e. not e.1 && not (is_kept_back office e.0))
     (map.entries office.rooms) room false

@@ -14,6 +14,8 @@ use Rattle.std.proofs.lemmas.Bool.Decides.{eqb_tells}
 use Rattle.std.proofs.lemmas.List.Elements.{recursion_from_All, All-from_recursion}
 use Rattle.room_types.specs.Choices.{IsChoices}
 use Rattle.room_types.specs.declared.choices.TheConstants.{CHOICE_LIMIT}
+use Rattle.room_types.specs.declared.moves.Wave.{Wave}
+use Rattle.room_types.specs.declared.moves.Wave.TheVariants.{Swap, Nth}
 use Rattle.room_types.specs.Repeats.{first_repeated}
 use Rattle.room_types.specs.Texts.{Text, TextMap, text_cmp}
 use Rattle.room_types.proofs.maps.TextMaps.{maps-exact_texts}
@@ -21,7 +23,7 @@ use Rattle.office_state.specs.Office.Invariants.{HomesOpen}
 use Rattle.office_state.specs.Office.Moves.{moves_of}
 use Rattle.office_state.specs.Office.{is_over, is_same_text}
 use Rattle.office_state.specs.Empty.{is_empty}
-use Rattle.office_state.specs.Inner.Soundness.{is_home_open, is_unshut, is_choices, is_recorded_list, is_given, is_kept_round, is_short}
+use Rattle.office_state.specs.Inner.Soundness.{is_home_open, is_unshut, is_choices, is_recorded_list, is_given, is_kept_move, is_kept_round, is_short, is_wave_0}
 use Rattle.office_state.specs.Office.Limits.{byte_limit, people_limit, room_limit}
 use Rattle.office_state.specs.Soundness.{AreNoted}
 use Rattle.office_lists.specs.Records.{record_limit}
@@ -141,21 +143,24 @@ module _ (rooms : TextMap Bool) (choices : TextMap (List Text)) where
   )
 
 -- words
-module _ (people : TextMap Person) (withdrawn : TextMap (Unit {0})) (words : TextMap ℕ) where
+module _ (people : TextMap Person) (withdrawn going : TextMap (Unit {0})) (words : TextMap ℕ) where
+  abbrev is_out : Text → Bool
+  is_out p = map.contains_key withdrawn p || map.contains_key going p
+
   abbrev takes_part : Text → Bool
-  takes_part p = map.contains_key people p && not (map.contains_key withdrawn p)
+  takes_part p = map.contains_key people p && not (is_out p)
 
   abbrev pub WordsEach : Type 0
   WordsEach = (p : Text) → map.contains_key words p ≡ takes_part p
 
   pub sound_offices-words-tell : list_all (λ (e : Text × ℕ). takes_part e.0) (map.entries words) ≡ true
-      → list_all (λ (e : Text × Person). map.contains_key withdrawn e.0 || map.contains_key words e.0) (map.entries people) ≡ true → WordsEach
+      → list_all (λ (e : Text × Person). is_out e.0 || map.contains_key words e.0) (map.entries people) ≡ true → WordsEach
   sound_offices-words-tell h k p =
       let has : map.contains_key words p ≡ true → takes_part p ≡ true =
       λ e. let found = options-some_of (map.get words p) e in maps-all_keys nat_list_cmp_total maps-exact_texts (λ q v. takes_part q) words h p found.0 found.1 in
-      let given : map.contains_key people p ≡ true → (map.contains_key withdrawn p || map.contains_key words p) ≡ true =
-      λ e. let found = options-some_of (map.get people p) e in maps-all_keys nat_list_cmp_total maps-exact_texts (λ q v. map.contains_key withdrawn q || map.contains_key words q) people k p found.0 found.1 in
-      same (map.contains_key words p) (map.contains_key people p) (map.contains_key withdrawn p) has given
+      let given : map.contains_key people p ≡ true → (is_out p || map.contains_key words p) ≡ true =
+      λ e. let found = options-some_of (map.get people p) e in maps-all_keys nat_list_cmp_total maps-exact_texts (λ q v. is_out q || map.contains_key words q) people k p found.0 found.1 in
+      same (map.contains_key words p) (map.contains_key people p) (is_out p) has given
     where
       same : (w k d : Bool) → (w ≡ true → (k && not d) ≡ true) → (k ≡ true → (d || w) ≡ true) → w ≡ (k && not d)
       same true k d has given = sym (has refl)
@@ -166,9 +171,9 @@ module _ (people : TextMap Person) (withdrawn : TextMap (Unit {0})) (words : Tex
   pub sound_offices-words-first : WordsEach → list_all (λ (e : Text × ℕ). takes_part e.0) (map.entries words) ≡ true
   sound_offices-words-first h = maps-keys_all nat_list_cmp_total maps-exact_texts (λ q v. takes_part q) words (λ k v f. sym (h k) ∙ ap is_some f)
 
-  pub sound_offices-words-second : WordsEach → list_all (λ (e : Text × Person). map.contains_key withdrawn e.0 || map.contains_key words e.0) (map.entries people) ≡ true
-  sound_offices-words-second h = maps-keys_all nat_list_cmp_total maps-exact_texts (λ q v. map.contains_key withdrawn q || map.contains_key words q) people (λ k v f.
-      or_else (map.contains_key words k) (map.contains_key people k) (map.contains_key withdrawn k) (h k) (ap is_some f))
+  pub sound_offices-words-second : WordsEach → list_all (λ (e : Text × Person). is_out e.0 || map.contains_key words e.0) (map.entries people) ≡ true
+  sound_offices-words-second h = maps-keys_all nat_list_cmp_total maps-exact_texts (λ q v. is_out q || map.contains_key words q) people (λ k v f.
+      or_else (map.contains_key words k) (map.contains_key people k) (is_out k) (h k) (ap is_some f))
     where
       or_else : (w k d : Bool) → w ≡ (k && not d) → k ≡ true → (d || w) ≡ true
       or_else w k true e f = refl
@@ -208,6 +213,24 @@ module _ (found given : TextMap Assigned) where
   sound_offices-results-second same = maps-keys_all nat_list_cmp_total maps-exact_texts (λ p v. map.contains_key found p) given (λ k v f. ap is_some (ap (λ m. map.get m k) same ∙ f))
 
 -- moves
+sound_offices-wave_of_0 : (wave : Wave) → is_wave_0 wave ≡ true → wave ≡ Nth 0
+sound_offices-wave_of_0 Swap e = cc
+sound_offices-wave_of_0 (Nth number) e = elim (eqb_tells number 0) as (λ _. Nth number ≡ Nth 0) [
+  | inl same ↦ ap (λ n. Nth n) same.1
+  | inr differs ↦ absurd (both_ways _ differs.0 e)
+]
+
+-- a move goes into a room or has wave 0
+sound_offices-move_kept : (moved : Moved) → is_kept_move moved ≡ true → moved.to ≡ None → moved.wave ≡ Nth 0
+sound_offices-move_kept moved kept nowhere =
+    sound_offices-wave_of_0 moved.wave (ap (λ o. is_some o || is_wave_0 moved.wave) (sym nowhere) ∙ kept)
+
+sound_offices-kept_move : (moved : Moved) → (moved.to ≡ None → moved.wave ≡ Nth 0) → is_kept_move moved ≡ true
+sound_offices-kept_move moved first = elim moved.to as (λ o. moved.to ≡ o → (is_some o || is_wave_0 moved.wave) ≡ true) [
+  | None ↦ λ nowhere. ap is_wave_0 (first nowhere)
+  | Some room ↦ λ _. refl
+] refl
+
 module _ (office : Office) where
   pub sound_offices-rounds_over-decides : Decides (list_all (λ (e : ℕ × RoundMoves). is_over office e.0) (map.entries office.moves)) ((round : ℕ) → map.contains_key office.moves round ≡ true → is_over office round ≡ true)
   sound_offices-rounds_over-decides = (
@@ -217,7 +240,7 @@ module _ (office : Office) where
 
   pub record AreRoundsKept : Type 0 where
     pub none_empty : (round : ℕ) (kept : RoundMoves) → map.get office.moves round ≡ Some kept → kept.by_person ≡ map.empty → ⊥
-    pub arrived : (round : ℕ) (p : Text) (moved : Moved) → map.get (moves_of office.moves round) p ≡ Some moved → is_some moved.to ≡ true
+    pub arrived : (round : ℕ) (p : Text) (moved : Moved) → map.get (moves_of office.moves round) p ≡ Some moved → moved.to ≡ None → moved.wave ≡ Nth 0
 
   sound_offices-not_true : (b : Bool) → not b ≡ true → b ≡ true → ⊥
   sound_offices-not_true true e f = cc
@@ -237,15 +260,15 @@ module _ (office : Office) where
         record {
           none_empty = λ round kept f none. sound_offices-not_true _ (and_parts (not (eqb (map.len kept.by_person) 0)) _ (test round kept f)).0 ((sound_offices-empty-decides kept.by_person).1 none);
           arrived = λ round p moved.
-              elim (map.get office.moves round) as (λ o. map.get office.moves round ≡ o → map.get (kept_moves o) p ≡ Some moved → is_some moved.to ≡ true) [
+              elim (map.get office.moves round) as (λ o. map.get office.moves round ≡ o → map.get (kept_moves o) p ≡ Some moved → moved.to ≡ None → moved.wave ≡ Nth 0) [
                 | None ↦ λ none f. absurd (sound_offices-nowhere p moved f)
                 | Some kept ↦ λ some f.
-                    maps-all_keys nat_list_cmp_total maps-exact_texts (λ k v. is_some v.to) kept.by_person (and_parts (not (eqb (map.len kept.by_person) 0)) _ (test round kept some)).1 p moved f
+                    sound_offices-move_kept moved (maps-all_keys nat_list_cmp_total maps-exact_texts (λ k v. is_kept_move v) kept.by_person (and_parts (not (eqb (map.len kept.by_person) 0)) _ (test round kept some)).1 p moved f)
               ] refl;
         },
     λ h. maps-keys_all nat_cmp_total nat_cmp-IsAntisymmetric (λ k v. is_kept_round v) office.moves (λ round kept f.
         both_true (sound_offices-not_at _ (λ none. h.none_empty round kept f ((sound_offices-empty-decides kept.by_person).0 none)))
-        (maps-keys_all nat_list_cmp_total maps-exact_texts (λ k v. is_some v.to) kept.by_person (λ p moved m. h.arrived round p moved (ap (λ o. map.get (kept_moves o) p) f ∙ m)))),
+        (maps-keys_all nat_list_cmp_total maps-exact_texts (λ k v. is_kept_move v) kept.by_person (λ p moved m. sound_offices-kept_move moved (h.arrived round p moved (ap (λ o. map.get (kept_moves o) p) f ∙ m))))),
   )
 
 -- kept lists

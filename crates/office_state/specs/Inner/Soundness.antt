@@ -1,10 +1,12 @@
 -- The tests that show whether an office is lawful.
-use Rattle.std.specs.Prelude.{Bool, true, false, not, ◌&&◌, eqb, List, [], ◌∷◌, length, nat_le}
+use Rattle.std.specs.Prelude.{ℕ, Bool, true, false, not, ◌&&◌, ◌||◌, eqb, List, [], ◌∷◌, length, nat_le}
 use Rattle.std.specs.Prelude.{Option, None, Some, if◌then◌else◌}
 use Rattle.std.specs.List.{list_all}
 use Rattle.std.specs.Option.{is_some}
 use Rattle.std.specs.FinMap as map
 use Rattle.room_types.specs.declared.choices.TheConstants.{CHOICE_LIMIT}
+use Rattle.room_types.specs.declared.moves.Wave.{Wave}
+use Rattle.room_types.specs.declared.moves.Wave.TheVariants.{Swap, Nth}
 use Rattle.room_types.specs.Repeats.{first_repeated}
 use Rattle.room_types.specs.Texts.{Text, TextMap}
 use Rattle.office_lists.specs.Records.{record_limit}
@@ -57,11 +59,29 @@ is_given results person found = elim (map.get results person) [
   | Some given ↦ is_same_text given.room found.room
 ]
 
--- whether a round has a move, and each of its moves goes into a room
+-- whether it is the wave of those who leave the college
+abbrev pub is_wave_0 : Wave → Bool
+is_wave_0 Swap = false
+is_wave_0 (Nth number) = eqb number 0
+
+-- whether a move goes into a room, or has wave 0
+abbrev pub is_kept_move : Moved → Bool
+is_kept_move moved = is_some moved.to || is_wave_0 moved.wave
+
+-- whether a round has a move, and each of its moves goes into a room or has wave 0
 abbrev pub is_kept_round : RoundMoves → Bool
 is_kept_round kept =
     not (eqb (map.len kept.by_person) 0)
-    && list_all (λ (e : Text × Moved). is_some e.1.to) (map.entries kept.by_person)
+    && list_all (λ (e : Text × Moved). is_kept_move e.1) (map.entries kept.by_person)
+
+-- whether a grade of this person may be recorded: the person is known, and it is not 0
+abbrev pub is_recorded_grade : TextMap Person → Text → ℕ → Bool
+is_recorded_grade people person grade = map.contains_key people person && not (eqb grade 0)
+
+-- whether this person may leave the college: is known, and has not withdrawn
+abbrev pub is_leaver : TextMap Person → TextMap (Unit {0}) → Text → Bool
+is_leaver people withdrawn person =
+    map.contains_key people person && not (map.contains_key withdrawn person)
 
 -- whether a kept list is no longer than a list may be
 abbrev pub is_short : KeptList → Bool

@@ -1,10 +1,10 @@
 -- The laws of the office: what holds of it between commands.
-use Rattle.std.specs.Prelude.{◌≡◌, ℕ, ◌≤◌, Bool, true, false, ◌&&◌, not, List, [], Option, Some, length}
-use Rattle.std.specs.Option.{is_some}
+use Rattle.std.specs.Prelude.{◌≡◌, ℕ, ◌≤◌, Bool, true, false, ◌&&◌, ◌||◌, not, List, [], Option, None, Some, length}
 use Rattle.std.specs.List.{All}
 use Rattle.std.specs.FinMap as map
 use Rattle.room_types.specs.Choices.{IsChoices}
 use Rattle.room_types.specs.Texts.{Text, TextMap}
+use Rattle.room_types.specs.declared.moves.Wave.TheVariants.{Nth}
 use Rattle.room_types.specs.declared.phase.Phase.{Phase}
 use Rattle.office_state.specs.Office.Limits.{room_limit, people_limit, round_limit}
 use Rattle.office_state.specs.Office.Limits.{label_limit, byte_limit}
@@ -62,12 +62,25 @@ pub record IsRound (number : ℕ) (phase : Phase) (choices : TextMap (List Text)
   pub idle_choices : is_idle phase ≡ true → choices ≡ map.empty
   pub idle_withdrawn : is_idle phase ≡ true → withdrawn ≡ map.empty
 
+-- grades: of known people alone, and grade 0 is not recorded
+pub record AreGrades (people : TextMap Person) (grades : TextMap ℕ) : Type 0 where
+  pub graded : (p : Text) → map.contains_key grades p ≡ true → map.contains_key people p ≡ true
+  pub none_zero : (p : Text) → map.get grades p ≡ Some 0 → ⊥
+
+-- who leaves the college: known people, none of whom has withdrawn, and nobody between rounds
+pub record AreLeavers (phase : Phase) (people : TextMap Person) (withdrawn : TextMap (Unit {0}))
+    (going : TextMap (Unit {0})) : Type 0 where
+  pub leavers : (p : Text) → map.contains_key going p ≡ true → map.contains_key people p ≡ true
+  pub apart : (p : Text) → map.contains_key going p ≡ true → map.contains_key withdrawn p ≡ false
+  pub idle_going : is_idle phase ≡ true → going ≡ map.empty
+
 -- words: from the draw on one for each participant, and none before
 pub record AreWords (phase : Phase) (people : TextMap Person) (withdrawn : TextMap (Unit {0}))
-    (words : TextMap ℕ) : Type 0 where
+    (going : TextMap (Unit {0})) (words : TextMap ℕ) : Type 0 where
   pub none : has_words phase ≡ false → words ≡ map.empty
   pub each : has_words phase ≡ true → (p : Text)
-      → map.contains_key words p ≡ (map.contains_key people p && not (map.contains_key withdrawn p))
+      → map.contains_key words p
+      ≡ (map.contains_key people p && not (map.contains_key withdrawn p || map.contains_key going p))
 
 -- results: none before the run, and from the run on those of top trading cycles for the round's
 -- problem
@@ -75,14 +88,15 @@ pub record AreResults (office : Office) : Type 0 where
   pub none : has_results office.phase ≡ false → office.results ≡ map.empty
   pub given : has_results office.phase ≡ true → office.results ≡ round_results office
 
--- moves: of rounds that are over, and each into a room. A round without moves is not recorded.
+-- moves: of rounds that are over, and those without a new room in wave 0. A round without moves is
+-- not recorded.
 pub record AreMoves (office : Office) : Type 0 where
   pub over : (round : ℕ) → map.contains_key office.moves round ≡ true → is_over office round ≡ true
   pub none_empty : (round : ℕ) (kept : RoundMoves) → map.get office.moves round ≡ Some kept
       → kept.by_person ≡ map.empty → ⊥
   pub arrived : (round : ℕ) (p : Text) (moved : Moved)
       → map.get (moves_of office.moves round) p ≡ Some moved
-      → is_some moved.to ≡ true
+      → moved.to ≡ None → moved.wave ≡ Nth 0
 
 -- kept lists: not too many, and none longer, or counted as more records, than a list may have
 pub record AreKept (lists : TextMap KeptList) : Type 0 where
@@ -97,7 +111,9 @@ pub record IsLawful (office : Office) : Type 0 where
   pub register : IsRegister office.rooms office.people
   pub lists : AreLists office.rooms office.people office.choices office.withdrawn
   pub round : IsRound office.number office.phase office.choices office.withdrawn
-  pub words : AreWords office.phase office.people office.withdrawn office.words
+  pub grades : AreGrades office.people office.grades
+  pub leavers : AreLeavers office.phase office.people office.withdrawn office.going
+  pub words : AreWords office.phase office.people office.withdrawn office.going office.words
   pub results : AreResults office
   pub moves : AreMoves office
   pub kept : AreKept office.lists

@@ -1,8 +1,10 @@
 -- What holds of the round's problem and of its results.
-use Rattle.std.specs.Prelude.{◌≡◌, ◌≤◌, Bool, true, Option, Some, is_some}
+use Rattle.std.specs.Prelude.{◌≡◌, ◌≤◌, Bool, true, List, Option, Some, is_some, map as map_list}
+use Rattle.std.specs.FinMap as map
+use Rattle.draw_order.specs.Draw.{PlainLot, plain_order}
 use Rattle.room_types.specs.Texts.{Text}
-use Rattle.office_state.specs.Office.{home_of}
-use Rattle.office_state.specs.Round.{is_participant, round_people, round_rooms}
+use Rattle.office_state.specs.Office.{home_of, participants}
+use Rattle.office_state.specs.Round.{is_participant, word_of, round_people, round_rooms}
 use Rattle.office_state.specs.Round.{round_market, round_results, round_rank, number_in}
 use Rattle.office_state.specs.declared.office.Office.{Office}
 
@@ -61,13 +63,28 @@ pub record IsWellTraded (office : Office) (gets : Text → Option Text) : Type 0
   pub efficient : IsEfficientFor office gets
   pub apart : HasNoBetterTradeFor office gets
 
--- two offices have the same rooms, people, lists, withdrawals and words
+-- two offices have the same rooms, people, grades, lists, withdrawals and words, and the same people
+-- leave the college
 pub record HaveSameEntries (one other : Office) : Type 0 where
   pub rooms : one.rooms ≡ other.rooms
   pub people : one.people ≡ other.people
   pub choices : one.choices ≡ other.choices
   pub withdrawn : one.withdrawn ≡ other.withdrawn
   pub words : one.words ≡ other.words
+  pub grades : one.grades ≡ other.grades
+  pub going : one.going ≡ other.going
+
+-- the participants, by identifier, with their words alone
+abbrev pub plain_lots_of : Office → List PlainLot
+plain_lots_of office =
+    map_list (λ person. (person, word_of office person)) (participants office)
+
+-- where nobody has a grade, the participants stand in the order of their words, and of their
+-- identifiers where the words are equal, as if there were no grades
+abbrev pub GoesByWordAlone : Type 0
+GoesByWordAlone =
+    (office : Office) → office.grades ≡ map.empty
+    → round_people office ≡ plain_order (plain_lots_of office)
 
 -- two offices have the same round
 pub record HaveSameRound (one other : Office) : Type 0 where

@@ -1,28 +1,39 @@
 -- What the settlement of a round comes to: who moves, in which wave, and who lives where then.
-use Rattle.std.specs.Prelude.{ℕ, Bool, not, List, [], ◌∷◌}
+use Rattle.std.specs.Prelude.{◌≡◌, ℕ, Bool, true, ◌&&◌, not, List, [], ◌∷◌, None}
 use Rattle.std.specs.Prelude.{if◌then◌else◌, map as map_list}
-use Rattle.std.specs.List.{filter, fold}
+use Rattle.std.specs.List.{All, filter, fold}
 use Rattle.std.specs.FinMap as map
 use Rattle.room_types.specs.Texts.{Text, TextMap}
 use Rattle.room_types.specs.declared.moves.Move.{Move}
 use Rattle.room_types.specs.declared.moves.Wave.{Wave}
 use Rattle.office_lists.specs.Waves.{Mover, waves_of}
 use Rattle.office_state.specs.Office.Moves.{RoundMap, with_move}
-use Rattle.office_state.specs.Office.{is_same_text, home_of, participants, recorded_result}
-use Rattle.office_state.specs.Round.{is_participant}
+use Rattle.office_state.specs.Office.{is_same_text, home_of, knows_person, has_withdrawn, is_going}
+use Rattle.office_state.specs.Office.{people_not_withdrawn, recorded_result}
 use Rattle.office_state.specs.declared.office.moves.RoundMoves.{RoundMoves}
 use Rattle.office_state.specs.declared.office.Office.{Office}
 use Rattle.office_state.specs.declared.office.person.Person.{Person}
 
--- whether a participant's home changes
+-- whether the settlement decides where a person lives: that of a participant by the result, and that
+-- of somebody who leaves the college, who has no result, as nowhere
+abbrev pub is_settled : Office → Text → Bool
+is_settled office person = knows_person office person && not (has_withdrawn office person)
+
+-- whether the home changes by the recorded result
 abbrev pub moves_out : Office → Text → Bool
 moves_out office person = not (is_same_text (home_of office person) (recorded_result office person))
 
--- the participants whose home changes, by identifier, each with the old room and the new one
+-- the people whose home the settlement changes, by identifier, each with the old room and the new
+-- one, which somebody who leaves the college does not have
 abbrev pub movers : Office → List Mover
 movers office =
     map_list (λ person. (person, home_of office person, recorded_result office person))
-    (filter (moves_out office) (participants office))
+    (filter (moves_out office) (people_not_withdrawn office))
+
+-- nobody is left without a room by the settlement but those who leave the college
+abbrev pub OnlyLeaversMoveOut : Office → Type 0
+OnlyLeaversMoveOut office =
+    All (λ (mover : Mover). mover.2 ≡ None → is_going office mover.0 ≡ true) (movers office)
 
 -- the moves that are recorded, each with its wave
 abbrev pub moves_with : ℕ → List Mover → List Wave → List Move
@@ -40,11 +51,12 @@ settled_moves office = moves_with office.number (movers office) (waves_of (mover
 abbrev pub with_moves : RoundMap RoundMoves → List Move → RoundMap RoundMoves
 with_moves = fold with_move
 
--- a participant lives in the room of the result, and anybody else where they lived
+-- a participant lives in the room of the result, who leaves the college nowhere, and who has withdrawn
+-- where they lived
 abbrev pub settled_person : Office → Text × Person → Text × Person
 settled_person office entry = (
   entry.0,
-  if is_participant office entry.0 then record entry.1 { home = recorded_result office entry.0 }
+  if is_settled office entry.0 then record entry.1 { home = recorded_result office entry.0 }
       else entry.1,
 )
 

@@ -1,7 +1,7 @@
 //! Changes, applied to an office.
-ghost use Rattle.std.specs.Prelude.{◌≡◌, OnOk, OnErr, true, false};
+ghost use Rattle.std.specs.Prelude.{◌≡◌, ◌≢◌, OnOk, OnErr, true, false};
 ghost use Rattle.office_state.specs.Change.{applied, change_takes_memory};
-ghost use Rattle.office_state.specs.Change.{with_home, with_list, without_round};
+ghost use Rattle.office_state.specs.Change.{with_grade, with_home, with_list, without_round};
 ghost use Rattle.office_state.specs.Empty.{is_empty};
 ghost use Rattle.office_state.specs.Office.{knows_person};
 
@@ -10,10 +10,13 @@ use crate::office::kept_list::KeptList;
 use crate::office::person::Person;
 use crate::office::{Assigned, Office};
 use room_types::rows::copy_optional;
-use room_types::{Choices, Key, Label, ListKind, Listing, Name, OutOfMemory, PersonId, RoomCode};
+use room_types::{
+    Choices, Grade, Key, Label, ListKind, Listing, Name, OutOfMemory, PersonId, RoomCode,
+};
 
 /// Applies a change. Where memory is refused the office is as before. `DropPerson`, `PutRound` and `ClearRound`, an
-/// empty list in `PutChoices`, and `PutHome` of somebody unknown take no memory, and are never refused.
+/// empty list in `PutChoices`, grade 0 in `PutGrade`, and `PutHome` of somebody unknown take no memory, and are never
+/// refused.
 pub fn apply(office: &mut Office, change: &Change) -> Result<(), OutOfMemory>
     ensures ok { OnOk result (office.new ≡ applied office.old change.now) }
     ensures err { OnErr result (office.new ≡ office.old) }
@@ -28,7 +31,7 @@ pub fn apply(office: &mut Office, change: &Change) -> Result<(), OutOfMemory>
             home,
         } => put_person(office, person, name, key, home),
         Change::DropPerson { person } => {
-            office.people.remove(person);
+            drop_person(office, person);
             Ok(())
         }
         Change::PutHome { person, home } => put_home(office, person, home),
@@ -52,6 +55,8 @@ pub fn apply(office: &mut Office, change: &Change) -> Result<(), OutOfMemory>
             bytes,
             count,
         } => keep_list(office, label, *kind, bytes, *count),
+        Change::PutGrade { person, grade } => put_grade(office, person, *grade),
+        Change::PutGoing { person } => office.going.insert(person.copy()?, ()),
     }
 }
 
@@ -72,6 +77,13 @@ fn put_person(
         home: copy_optional(home)?,
     };
     office.people.insert(person.copy()?, kept)
+}
+
+fn drop_person(office: &mut Office, person: &PersonId)
+    ensures { office.new ≡ applied office.old (Change.DropPerson person.now) }
+{
+    office.people.remove(person);
+    office.grades.remove(person);
 }
 
 fn put_home(
@@ -101,6 +113,19 @@ fn put_choices(office: &mut Office, person: &PersonId, choices: &Choices) -> Res
         return Ok(());
     }
     office.choices.insert(person.copy()?, choices.copy()?)
+}
+
+fn put_grade(office: &mut Office, person: &PersonId, grade: Grade) -> Result<(), OutOfMemory>
+    ensures ok { OnOk result (office.new ≡
+        record office.old { grades = with_grade office.old.grades person.now grade }) }
+    ensures err { OnErr result (office.new ≡ office.old) }
+    ensures memory { OnErr result (grade ≢ 0) }
+{
+    if grade.is_first() {
+        office.grades.remove(person);
+        return Ok(());
+    }
+    office.grades.insert(person.copy()?, grade)
 }
 
 fn put_result(
@@ -144,4 +169,5 @@ fn clear_round(office: &mut Office)
     office.withdrawn.clear();
     office.words.clear();
     office.results.clear();
+    office.going.clear();
 }

@@ -4,13 +4,14 @@ ghost use Rattle.std.specs.FinMap as map;
 ghost use Rattle.std.specs.Option.{option_copied};
 ghost use Rattle.office_state.specs.Office.{tenant, owner, home_of, recorded_result, is_shut, lives_in};
 ghost use Rattle.office_state.specs.Office.{is_same_text, is_text};
-ghost use Rattle.office_state.specs.Office.{has_withdrawn, participants, is_over, is_under_way, is_shown};
+ghost use Rattle.office_state.specs.Office.{has_withdrawn, is_going, sits_out, grade_of, participants, is_over, is_under_way, is_shown};
+ghost use Rattle.office_state.specs.Round.{is_participant};
 
 use crate::office::Office;
 use crate::office::person::Person;
 use crate::office::phases::{is_idle, is_published};
 use room_types::grammars::RoomCodes;
-use room_types::{Grammar, Key, OutOfMemory, PersonId, RoomCode, Table, Text};
+use room_types::{Grade, Grammar, Key, OutOfMemory, PersonId, RoomCode, Table, Text};
 use std::alloc::Global;
 
 impl Office {
@@ -84,11 +85,39 @@ impl Office {
         self.withdrawn.contains_key(person)
     }
 
-    /// Whether a person sees the result. Somebody unknown has not withdrawn, so it is true of them while it is published.
+    /// Whether a person leaves the college after the round.
+    pub fn is_going(&self, person: &PersonId) -> bool
+        ensures { result ≡ is_going self.now person.now }
+    {
+        self.going.contains_key(person)
+    }
+
+    /// Whether a person takes no part in the round: has withdrawn, or leaves the college.
+    pub(crate) fn sits_out(&self, person: &PersonId) -> bool
+        ensures { result ≡ sits_out self.now person.now }
+    {
+        self.has_withdrawn(person) || self.is_going(person)
+    }
+
+    /// Whether a person takes part in the round: is known, and has neither withdrawn nor leaves the college.
+    pub fn is_participant(&self, person: &PersonId) -> bool
+        ensures { result ≡ is_participant self.now person.now }
+    {
+        self.people.contains_key(person) && !self.sits_out(person)
+    }
+
+    /// A person's grade: 0 where none is recorded.
+    pub fn grade_of(&self, person: &PersonId) -> Grade
+        ensures { result ≡ grade_of self.now person.now }
+    {
+        self.grades.get(person).copied().unwrap_or(Grade::first())
+    }
+
+    /// Whether a person sees the result. Somebody unknown does not sit out, so it is true of them while it is published.
     pub fn is_shown(&self, person: &PersonId) -> bool
         ensures { result ≡ is_shown self.now person.now }
     {
-        is_published(self.phase) && !self.has_withdrawn(person)
+        is_published(self.phase) && !self.sits_out(person)
     }
 
     /// Whether a round is settled or cancelled.
@@ -105,27 +134,27 @@ impl Office {
         !is_idle(self.phase) && round == self.number
     }
 
-    /// How many people have not withdrawn. It takes no memory.
+    /// How many people take part in the round. It takes no memory.
     pub fn participant_count(&self) -> usize
         ensures { result ≡ length (participants self.now) }
     {
         let mut count = 0;
         for (id, _) in self.people.iter() {
-            if !self.has_withdrawn(id) {
+            if !self.sits_out(id) {
                 count += 1;
             }
         }
         count
     }
 
-    /// Who has not withdrawn, by identifier. Where nobody takes part it takes no memory.
+    /// Who has neither withdrawn nor leaves the college, by identifier. Where nobody takes part it takes no memory.
     pub fn participants(&self, alloc: Global) -> Result<Vec<PersonId>, OutOfMemory>
         ensures people { IfOk result (λ people. people.items ≡ participants self.now) }
         ensures memory { OnErr result (0 < length (participants self.now)) }
     {
         let mut people = Vec::new(alloc);
         for (id, _) in self.people.iter() {
-            if !self.has_withdrawn(id) {
+            if !self.sits_out(id) {
                 people.push(id.copy()?)?;
             }
         }

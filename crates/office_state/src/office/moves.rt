@@ -18,7 +18,7 @@ use std::marker::Model;
 pub struct Moved {
     /// The old room, or none for a newcomer.
     pub from: Option<RoomCode>,
-    /// The new room.
+    /// The new room, or none for somebody who leaves the college.
     pub to: Option<RoomCode>,
     pub wave: Wave,
 }

@@ -1,16 +1,17 @@
 //! Laws of the definitions, for every office. The contract of each function is the law; the function
 //! does nothing.
-ghost use Rattle.std.specs.Prelude.{◌≡◌, true, List, map as map_list};
+ghost use Rattle.std.specs.Prelude.{◌≡◌, None, true, List, map as map_list};
 ghost use Rattle.std.specs.FinMap as map;
 ghost use Rattle.room_types.specs.Choices.{IsChoices};
 ghost use Rattle.room_types.specs.Texts.{Text};
 ghost use Rattle.trade_line.specs.Market.{IsMarket};
 ghost use Rattle.office_state.specs.declared.office.Office.{Office};
 ghost use Rattle.office_state.specs.Office.Invariants.{IsLawful};
-ghost use Rattle.office_state.specs.Office.{participants, recorded_result};
+ghost use Rattle.office_state.specs.Office.{is_going, participants, recorded_result};
 ghost use Rattle.office_state.specs.Office.Phases.{has_results};
 ghost use Rattle.office_state.specs.Round.{is_participant, result_by, result_of, round_market, round_results};
-ghost use Rattle.office_state.specs.Round.Laws.{HaveSameEntries, HaveSameRound, IsWellTraded};
+ghost use Rattle.office_state.specs.Round.Laws.{GoesByWordAlone, HaveSameEntries, HaveSameRound, IsWellTraded};
+ghost use Rattle.office_state.specs.Round.Settlement.{OnlyLeaversMoveOut};
 ghost use Rattle.office_state.specs.Puts.{with_all};
 ghost use Rattle.office_state.specs.Round.Lists.{IsOwnListBest, NoGroupGains, NobodyIsBossy, with_choices_of};
 
@@ -71,4 +72,19 @@ pub fn results_are_for_participants()
 /// Phase, number, results and moves are no part of a round's problem.
 pub fn rounds_stand()
     ensures { (one other : Office) → HaveSameEntries one other → HaveSameRound one other }
+{}
+
+/// Where nobody has a grade, the participants stand in the order of their words alone, as if there were no grades: the
+/// same people in the same order, and so the same problem and the same results.
+pub fn rounds_without_grades_go_by_word()
+    ensures { GoesByWordAlone }
+{}
+
+/// In a lawful office those who leave the college get no room, and once the rooms are traded nobody else moves out
+/// without getting another room.
+pub fn only_leavers_move_out()
+    ensures no_room { (office : Office) (person : Text) → IsLawful office
+        → is_going office person ≡ true → recorded_result office person ≡ None }
+    ensures nobody_else { (office : Office) → IsLawful office → has_results office.phase ≡ true
+        → OnlyLeaversMoveOut office }
 {}

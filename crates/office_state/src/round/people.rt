@@ -4,11 +4,11 @@ ghost use Rattle.office_state.specs.Round.{lots_of, round_people, word_of};
 
 use crate::office::Office;
 use draw_order::order;
-use room_types::{OutOfMemory, PersonId, Word};
+use room_types::{Grade, OutOfMemory, PersonId, Word};
 use std::alloc::Global;
 
-/// The participants in the drawn order, in n log n steps for n people; before the draw by identifier, since each word is then 0.
-/// It is refused only for memory. Where nobody takes part it takes none.
+/// The participants in the drawn order, in n log n steps for n people; before the draw by grade and then by identifier,
+/// since each word is then 0. It is refused only for memory. Where nobody takes part it takes none.
 #[tactic(auto, using(crate::proofs::round_problems::People::round_problems_as_many_as_lots))]
 pub fn round_people(alloc: Global, office: &Office) -> Result<Vec<PersonId>, OutOfMemory>
     ensures people { IfOk result (λ people. people.items ≡ round_people office.now) }
@@ -18,15 +18,15 @@ pub fn round_people(alloc: Global, office: &Office) -> Result<Vec<PersonId>, Out
     order(alloc, &lots)
 }
 
-// The participants by identifier, with their words.
-fn lots(alloc: Global, office: &Office) -> Result<Vec<(PersonId, Word)>, OutOfMemory>
+// The participants by identifier, with their grades and words.
+fn lots(alloc: Global, office: &Office) -> Result<Vec<(PersonId, Grade, Word)>, OutOfMemory>
     ensures lots { IfOk result (λ lots. lots.items ≡ lots_of office.now) }
     ensures memory { OnErr result (0 < length (lots_of office.now)) }
 {
     let mut lots = Vec::new(alloc);
     for (id, _) in office.people.iter() {
-        if !office.withdrawn.contains_key(id) {
-            lots.push((id.copy()?, round_word_of(office, id)))?;
+        if !office.sits_out(id) {
+            lots.push((id.copy()?, office.grade_of(id), round_word_of(office, id)))?;
         }
     }
     Ok(lots)

@@ -1,6 +1,6 @@
 //! Who moves when a round is settled.
 ghost use Rattle.std.specs.Prelude.{◌≡◌, ◌<◌, IfOk, OnErr, length};
-ghost use Rattle.office_state.specs.Office.{participants};
+ghost use Rattle.office_state.specs.Office.{people_not_withdrawn};
 ghost use Rattle.office_state.specs.Round.Settlement.{movers};
 
 use crate::office::Office;
@@ -9,12 +9,13 @@ use office_lists::Mover;
 use room_types::OutOfMemory;
 use std::alloc::Global;
 
-/// The participants whose home changes by the recorded results, by identifier, each with the old room and the new one (where
-/// none are recorded, each who has a home, and no new one). It goes through the people once, and is refused only for memory.
-/// Where nobody takes part it takes none.
+/// The people whose home the settlement of the round changes, by identifier, each with the old room and the new one: the
+/// participants by their recorded results, and those who leave the college, who have no result and so no new room. Where
+/// no results are recorded it is each who has a home and has not withdrawn, with no new room. It goes through the people
+/// once, and is refused only for memory. Where all have withdrawn it takes none.
 pub fn movers(alloc: Global, office: &Office) -> Result<Vec<Mover>, OutOfMemory>
     ensures movers { IfOk result (λ found. found.items ≡ movers office.now) }
-    ensures memory { OnErr result (0 < length (participants office.now)) }
+    ensures memory { OnErr result (0 < length (people_not_withdrawn office.now)) }
 {
     let mut movers = Vec::new(alloc);
     for (id, _) in office.people.iter() {

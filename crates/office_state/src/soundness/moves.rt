@@ -3,13 +3,13 @@ ghost use Rattle.std.specs.Prelude.{◌≡◌};
 ghost use Rattle.std.specs.Bool.{Decides};
 ghost use Rattle.std.specs.List.{list_all};
 ghost use Rattle.std.specs.FinMap as map;
-ghost use Rattle.std.specs.Option.{is_some};
 ghost use Rattle.office_state.specs.Office.Invariants.{AreMoves};
 ghost use Rattle.office_state.specs.Office.{is_over};
-ghost use Rattle.office_state.specs.Inner.Soundness.{is_kept_round};
+ghost use Rattle.office_state.specs.Inner.Soundness.{is_kept_move, is_kept_round, is_wave_0};
 
 use crate::office::Office;
-use crate::office::moves::RoundMoves;
+use crate::office::moves::{Moved, RoundMoves};
+use room_types::Wave;
 
 /// Whether moves obey their laws.
 pub(crate) fn are_moves(office: &Office) -> bool
@@ -28,7 +28,7 @@ fn are_rounds_over(office: &Office) -> bool
     office.moves.iter().all(|(round, _)| office.is_over(*round))
 }
 
-// Whether each round with moves has some, all into rooms.
+// Whether each round with moves has some, and those that go into no room have wave 0.
 fn are_rounds_kept(office: &Office) -> bool
     ensures { result ≡ list_all (λ e. is_kept_round e.1) (map.entries office.now.moves) }
 {
@@ -45,7 +45,22 @@ fn is_kept_round(moves: &RoundMoves) -> bool
 }
 
 fn have_moves_rooms(moves: &RoundMoves) -> bool
-    ensures { result ≡ list_all (λ e. is_some e.1.to) (map.entries moves.now.by_person) }
+    ensures { result ≡ list_all (λ e. is_kept_move e.1) (map.entries moves.now.by_person) }
 {
-    moves.by_person.iter().all(|(_, moved)| moved.to.is_some())
+    moves.by_person.iter().all(|(_, moved)| is_kept_move(moved))
+}
+
+fn is_kept_move(moved: &Moved) -> bool
+    ensures { result ≡ is_kept_move moved.now }
+{
+    moved.to.is_some() || is_wave_0(moved.wave)
+}
+
+fn is_wave_0(wave: Wave) -> bool
+    ensures { result ≡ is_wave_0 wave }
+{
+    match wave {
+        Wave::Swap => false,
+        Wave::Nth(number) => number == 0,
+    }
 }

@@ -4,7 +4,7 @@ ghost use Rattle.std.specs.Bool.{Decides};
 ghost use Rattle.std.specs.List.{list_all};
 ghost use Rattle.std.specs.FinMap as map;
 ghost use Rattle.office_state.specs.Office.Invariants.{AreWords};
-ghost use Rattle.office_state.specs.Office.{has_withdrawn};
+ghost use Rattle.office_state.specs.Office.{sits_out};
 ghost use Rattle.office_state.specs.Round.{is_participant};
 
 use crate::office::Office;
@@ -13,7 +13,8 @@ use crate::office::phases::round_phase_has_words;
 /// Whether words obey their laws.
 pub(crate) fn are_words(office: &Office) -> bool
     ensures { Decides result
-        (AreWords office.now.phase office.now.people office.now.withdrawn office.now.words) }
+        (AreWords office.now.phase office.now.people office.now.withdrawn office.now.going
+        office.now.words) }
 {
     if !round_phase_has_words(office.phase) {
         return office.words.len() == 0;
@@ -29,16 +30,18 @@ fn are_words_of_participants(office: &Office) -> bool
     ensures { result ≡
         list_all (λ e. is_participant office.now e.0) (map.entries office.now.words) }
 {
-    office.words.iter().all(|(person, _)| office.people.contains_key(person)
-        && !office.has_withdrawn(person))
+    office
+        .words
+        .iter()
+        .all(|(person, _)| office.is_participant(person))
 }
 
 // Whether each participant has a word.
 fn have_participants_words(office: &Office) -> bool
     ensures { result ≡
-        list_all (λ e. has_withdrawn office.now e.0 || map.contains_key office.now.words e.0)
+        list_all (λ e. sits_out office.now e.0 || map.contains_key office.now.words e.0)
         (map.entries office.now.people) }
 {
-    office.people.iter().all(|(person, _)| office.has_withdrawn(person)
+    office.people.iter().all(|(person, _)| office.sits_out(person)
         || office.words.contains_key(person))
 }

@@ -9,7 +9,7 @@ use std::alloc::Global;
 use std::process::Abort;
 
 // Statements that leave no office's rows after the round below has run, each with one that mends it.
-const BREAKS: [(&str, &str); 10] = [
+const BREAKS: [(&str, &str); 12] = [
     (
         "UPDATE result SET room = NULL WHERE person = 'N'",
         "UPDATE result SET room = 'V' WHERE person = 'N'",
@@ -40,6 +40,14 @@ const BREAKS: [(&str, &str); 10] = [
     ),
     ("UPDATE round SET number = 0", "UPDATE round SET number = 1"),
     (
+        "INSERT INTO going VALUES ('N')",
+        "DELETE FROM going WHERE person = 'N'",
+    ),
+    (
+        "UPDATE round SET number = 2; INSERT INTO move VALUES (1, 'X', 'H1', NULL, 1)",
+        "DELETE FROM move; UPDATE round SET number = 1",
+    ),
+    (
         "UPDATE round SET phase = 'drawn'",
         "UPDATE round SET phase = 'ran'",
     ),
@@ -50,12 +58,20 @@ const BREAKS: [(&str, &str); 10] = [
 ];
 
 // Statements over the tables of a desk in turn, each with the fault of the database that it leaves.
-const DECLARED: [(&str, Option<DeskFault>); 6] = [
+const DECLARED: [(&str, Option<DeskFault>); 8] = [
     (
         "UPDATE round SET version = 9",
         Some(DeskFault::OtherVersion(9)),
     ),
-    ("UPDATE round SET version = 1", None),
+    (
+        "UPDATE round SET version = 1",
+        Some(DeskFault::OtherVersion(1)),
+    ),
+    (
+        "UPDATE round SET version = 2",
+        Some(DeskFault::OtherVersion(2)),
+    ),
+    ("UPDATE round SET version = 3", None),
     ("DELETE FROM round", Some(DeskFault::NotAnOffice)),
     ("CREATE TABLE note(text TEXT)", Some(DeskFault::Unavailable)),
     (
@@ -112,7 +128,7 @@ pub(super) fn adopted(rt: &impl Abort, alloc: Global, desk: Desk<MemStore>) -> D
 }
 
 // The connection, on which the statements have run, after which it was tried with this end.
-fn tried_after(
+pub(super) fn tried_after(
     rt: &impl Abort,
     alloc: Global,
     mut conn: Connection<MemStore>,

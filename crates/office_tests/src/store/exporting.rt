@@ -83,18 +83,24 @@ fn exports_rooms_and_people(rt: HostRuntime) {
             b"person,name,home\nE1,Ann Ash,H1\nE2,\"Bo, B.\",\nE3,Cy Coy,\n".as_slice(),
         ),
         (ExportKind::Moves, b"round,wave,person,from,to\n".as_slice()),
+        (
+            ExportKind::Grades,
+            b"person,grade\nE1,0\nE2,0\nE3,0\n".as_slice(),
+        ),
     ] {
         exports(&rt, alloc, &mut desk, kind, bytes);
     }
 }
 
-// The moves of an empty office are the header alone.
+// The moves and the grades of an empty office are the header alone.
 #[test]
 fn exports_an_empty_office(rt: HostRuntime) {
     let alloc = rt.alloc();
     let mut desk = new_desk(&rt, alloc);
     let header = b"round,wave,person,from,to\n";
     exports(&rt, alloc, &mut desk, ExportKind::Moves, header);
+    let header = b"person,grade\n";
+    exports(&rt, alloc, &mut desk, ExportKind::Grades, header);
 }
 
 // The rooms are exported to a writer that takes 20 bytes.

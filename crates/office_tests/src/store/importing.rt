@@ -2,7 +2,7 @@
 use super::adopting::adopted;
 use super::exporting::exports;
 use crate::asserting::assert_same;
-use crate::building::{new_desk, text};
+use crate::building::{lines_asked, new_desk, text};
 use office_core::{Command, Query};
 use office_lists::ExportKind;
 use office_store::{Desk, Handler, Request};
@@ -19,6 +19,9 @@ const PEOPLE: &[u8] = b"\xEF\xBB\xBFperson,name,key,home\r\n\
     E1,Ann Ash,key00000000000e1,H1\r\n\
     E2,\"Bo, B.\",key00000000000e2,\r\n\
     E3,Cy Coy,key00000000000e3,\r\n";
+
+// E3 stands there twice.
+const GRADES: &[u8] = b"person,grade\nE3,1\nE1,4\nE3,2\n";
 
 const HEADER: &[u8] = b"person,name,key,home\n";
 
@@ -62,7 +65,7 @@ fn said(rt: &impl Abort, alloc: Global, desk: &mut Desk<MemStore>, requests: &[R
 }
 
 // That this is what the desk answers to the requests.
-fn says(
+pub(super) fn says(
     rt: &impl Abort,
     alloc: Global,
     desk: &mut Desk<MemStore>,
@@ -73,7 +76,7 @@ fn says(
 }
 
 // The same of lists that come in, each under its label.
-fn says_of_lists(
+pub(super) fn says_of_lists(
     rt: &impl Abort,
     alloc: Global,
     desk: &mut Desk<MemStore>,
@@ -220,6 +223,61 @@ fn refuses_lists_of_choices(rt: HostRuntime) {
     let told = "refused 15 BadRecord 1 refusal 3\nrefused 13 LimitReached\n";
     says_of_lists(&rt, alloc, &mut desk, ListKind::Choices, &lists, told);
 }
+
+// Lists of grades, of which the second comes again, and those after it are refused.
+const LISTS_OF_GRADES: [(&str, &[u8]); 5] = [
+    ("g-1", GRADES),
+    ("g-1", GRADES),
+    ("g-2", b"person,grade\nE1,1\nE9,1\n"),
+    ("g-2", b"person,grade\nE1,10\n"),
+    ("p-1", GRADES),
+];
+
+// The later record of a person counts. Whoever is taken out and added again has grade 0.
+#[test]
+fn keeps_grades_of_lists(rt: HostRuntime) {
+    let alloc = rt.alloc();
+    let mut desk = furnished(&rt, alloc);
+    let told = "added 3\nadded 3\nrefused 15 BadRecord 2 refusal 2\n\
+        refused 15 BadRecord 1 field 2\nrefused 14 ListDiffers\n";
+    says_of_lists(
+        &rt,
+        alloc,
+        &mut desk,
+        ListKind::Grades,
+        &LISTS_OF_GRADES,
+        told,
+    );
+    let grades = b"person,grade\nE1,4\nE2,0\nE3,2\n".as_slice();
+    exports(&rt, alloc, &mut desk, ExportKind::Grades, grades);
+    let lines = "grade E2 5\ngrade E1 0\nremove E2\nperson E2 key00000000000e2 Bo Bay\n";
+    let requests = lines_asked(&rt, alloc, lines);
+    says(&rt, alloc, &mut desk, &requests, "ok\nok\nok\nok\n");
+    let grades = b"person,grade\nE1,0\nE2,0\nE3,2\n".as_slice();
+    exports(&rt, alloc, &mut desk, ExportKind::Grades, grades);
+}
+
+// In an open round grades still count, and then no more.
+#[test]
+fn takes_grades_until_lists_are_final(rt: HostRuntime) {
+    let alloc = rt.alloc();
+    let mut desk = furnished(&rt, alloc);
+    let list = b"person,grade\nE1,4\n".as_slice();
+    for (line, label, told) in [
+        ("open", "g-1", "round 1 open\nadded 1\n"),
+        ("close", "g-2", "closed 3\nrefused 1 BadPhase closed\n"),
+        ("rooms", "g-1", ROOMS_TOLD),
+    ] {
+        let mut requests = lines_asked(&rt, alloc, line);
+        let list = import(&rt, alloc, label, ListKind::Grades, list);
+        requests.push(list).expect(&rt, "memory");
+        says(&rt, alloc, &mut desk, &requests, told);
+    }
+}
+
+// The rooms, and what is told of a list that is known.
+const ROOMS_TOLD: &str = "room      state     tenant\nH1        occupied  E1\n\
+    H2        free      none\nadded 1\n";
 
 // A list of rooms that is one longer than there may be, beside the two.
 fn too_many_rooms(alloc: Global) -> Result<Vec<u8>, AllocError> {

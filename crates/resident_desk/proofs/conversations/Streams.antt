@@ -1,5 +1,5 @@
 -- What was read of a stream, and what went out on it.
-use Rattle.std.proofs.Common.{◌≡◌, ℕ, zero, suc, ◌+◌, ◌<◌, ◌≤◌, Bool, true, false, List, [], ◌++◌, length, take, drop, refl, sym, ap, ◌∙◌, subst, arith, append-nil, length-append, rules, tests, Option, None, Some, inl, inr}
+use Rattle.std.proofs.Common.{◌≡◌, ℕ, zero, suc, ◌+◌, ◌<◌, ◌≤◌, Bool, true, false, List, [], ◌++◌, length, take, drop, refl, sym, ap, ◌∙◌, subst, arith, append-nil, length-append, rules, tests, Option, None, Some, Ok, inl, inr}
 use Rattle.std.specs.Prelude.{◌||◌, ◌&&◌, ◌==◌, nat_lt, if◌then◌else◌, OnSome}
 use Rattle.std.proofs.Math.Bool.{or-true}
 use Rattle.std.specs.Io.KnownBytes.{Appends, Consumes, Keeps, IsAtEnd}
@@ -16,7 +16,7 @@ use Rattle.office_store.specs.declared.requests.Request.{Request}
 use Rattle.resident_http.specs.Asks.{Asked, Asks, ask, fault, is_more, more, seen}
 use Rattle.resident_http.specs.declared.ask.AskState.{AskState}
 use Rattle.resident_http.specs.declared.ask.AskState.TheVariants as state
-use Rattle.resident_desk.specs.Calls.{Reads, ReadsAll}
+use Rattle.resident_desk.specs.Calls.{FindsEnd, Reads, ReadsAll}
 use Rattle.resident_desk.specs.Conversations.{Connection, Converses, Delivers, IsUntouched, Replies, Responds}
 use Rattle.resident_desk.specs.declared.served.Served.{Served}
 use Rattle.resident_desk.specs.declared.served.Served.TheVariants.{Answered, ReadFault, Silent, WriteFault}
@@ -88,6 +88,16 @@ module _ {T : Type 0} (calls : Calls T) where
   conversations-reads_none bytes old new (suc times, h) none =
       let read = h.3 in
       absurd (omega (arith, read.some, read.within, ap length (sym read.joined ∙ none), length-append h.0 (take read.count read.buffer), length-take-le read.count read.buffer read.within))
+
+  -- a read that gave nothing, with room, has found the end of the stream as it was
+  pub conversations-finds_end : (buffer_before buffer : List ℕ) (n : ℕ) (old between new : T) → n ≡ 0 → 0 < length buffer → between ≡ old
+      → calls.reads between buffer_before buffer (Ok n) new → FindsEnd calls old new
+  conversations-finds_end buffer_before buffer n old between new none room same called = (
+    buffer_before,
+    buffer,
+    room,
+    subst (λ k. calls.reads old buffer_before buffer (Ok k) new) none (subst (λ t. calls.reads t buffer_before buffer (Ok n) new) same called),
+  )
 
   -- all that is asked was read
   pub conversations-reads_all : (bytes : List ℕ) (asked : Asked) (old new : T) → (asked ≡ more → ⊥) → Reads calls bytes old new → ReadsAll calls bytes asked old new

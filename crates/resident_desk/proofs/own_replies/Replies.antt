@@ -1,6 +1,6 @@
 -- What a resident is served depends on little.
 use Rattle.std.proofs.Common.{◌≡◌, ℕ, List, [], ◌∷◌, Bool, true, false, Option, Some, None, Result, Ok, Err, inl, inr, refl, sym, ap, ◌∙◌, subst, arith, map}
-use Rattle.std.specs.Prelude.{◌&&◌, not, if◌then◌else◌}
+use Rattle.std.specs.Prelude.{◌&&◌, ◌||◌, not, if◌then◌else◌}
 use Rattle.std.specs.Option.{is_some}
 use Rattle.std.specs.List.{flat_map}
 use Rattle.std.specs.FinMap as maps
@@ -10,21 +10,22 @@ use Rattle.serde_json.specs.Written.{compact_text}
 use Rattle.std.specs.Prelude.{codes}
 use Rattle.room_types.specs.Rows.{state_text}
 use Rattle.room_types.specs.Texts.{Text}
+use Rattle.room_types.specs.declared.phase.Phase.{Phase}
 use Rattle.room_types.specs.declared.fault.TypeFault.{TypeFault}
 use Rattle.room_types.specs.declared.rows.RoomRow.{RoomRow}
 use Rattle.room_types.specs.declared.rows.State.TheVariants.{Free, Occupied, Shut}
-use Rattle.office_state.specs.Office.{has_withdrawn, is_shown, is_taken, knows_person, owner, recorded_result}
+use Rattle.office_state.specs.Office.{has_withdrawn, is_going, is_shown, is_taken, knows_person, owner, recorded_result, sits_out}
 use Rattle.office_state.specs.Office.Phases.{is_open, is_published}
 use Rattle.office_state.specs.declared.office.Office.{Office}
 use Rattle.office_state.specs.declared.office.person.Person.{Person}
 use Rattle.office_core.specs.Command.{accepts, next, reply_to}
 use Rattle.office_core.specs.Query.Me as me
 use Rattle.office_core.specs.Query.Rooms as rooms
-use Rattle.office_core.specs.Refusal.Checks.{Check, first_refusal, room_checks}
+use Rattle.office_core.specs.Refusal.Checks.{first_refusal, room_checks}
 use Rattle.office_core.specs.declared.command.Command.{Command}
 use Rattle.office_core.specs.declared.command.Command.TheVariants.{SetChoices, Withdraw}
 use Rattle.office_core.specs.declared.refusal.Refusal.{Refusal}
-use Rattle.office_core.specs.declared.refusal.Refusal.TheVariants.{BadPhase, UnknownPerson, Withdrawn}
+use Rattle.office_core.specs.declared.refusal.Refusal.TheVariants.{BadPhase, Going, UnknownPerson, Withdrawn}
 use Rattle.office_core.specs.declared.reply.Reply.{Reply}
 use Rattle.office_core.specs.declared.reply.Reply.TheVariants as reply
 use Rattle.office_core.specs.declared.reply.Standing.{Standing}
@@ -46,9 +47,9 @@ use Rattle.resident_desk.specs.Serving.{Admits, AnswersWanted, Commands, Does, G
 
 -- ---- what the owner of a key sees
 
-own_replies-published_if_shown : (p w : Bool) → (p && not w) ≡ true → p ≡ true
-own_replies-published_if_shown true w e = refl
-own_replies-published_if_shown false w e = e
+own_replies-published_if_shown : (p s : Bool) → (p && not s) ≡ true → p ≡ true
+own_replies-published_if_shown true s e = refl
+own_replies-published_if_shown false s e = e
 
 own_replies-same_if_shown : (s : Bool) (x y : Option Text) → (s ≡ true → x ≡ y) → (if s then x else None) ≡ (if s then y else None)
 own_replies-same_if_shown true x y h = h refl
@@ -56,12 +57,14 @@ own_replies-same_if_shown false x y h = refl
 
 own_replies-shown_same : (a b : Office) (person : Text) → a.phase ≡ b.phase → AgreeOnPerson a b person → is_shown a person ≡ is_shown b person
 own_replies-shown_same a b person phase agree =
-    ap (λ p. is_published p && not (has_withdrawn a person)) phase ∙ ap (λ w. is_published b.phase && not w) agree.withdrawn
+    ap (λ p. is_published p && not (sits_out a person)) phase
+    ∙ ap (λ w. is_published b.phase && not (w || is_going a person)) agree.withdrawn
+    ∙ ap (λ g. is_published b.phase && not (has_withdrawn b person || g)) agree.going
 
 own_replies-result_same : (a b : Office) (person : Text) → a.phase ≡ b.phase → AgreeOnPerson a b person → me.shown_result a person ≡ me.shown_result b person
 own_replies-result_same a b person phase agree =
     own_replies-same_if_shown (is_shown a person) (recorded_result a person) (recorded_result b person)
-    (λ e. agree.result (own_replies-published_if_shown (is_published a.phase) (has_withdrawn a person) e))
+    (λ e. agree.result (own_replies-published_if_shown (is_published a.phase) (sits_out a person) e))
     ∙ ap (λ s. if s then recorded_result b person else None) (own_replies-shown_same a b person phase agree)
 
 own_replies-standing_same : (a b : Office) (person : Text) (kept : Person) → a.number ≡ b.number → a.phase ≡ b.phase → AgreeOnPerson a b person
@@ -69,6 +72,7 @@ own_replies-standing_same : (a b : Office) (person : Text) (kept : Person) → a
 own_replies-standing_same a b person kept number phase agree =
     let choices = agree.choices in
     let withdrawn = agree.withdrawn in
+    let going = agree.going in
     let shown = own_replies-shown_same a b person phase agree in
     let result = own_replies-result_same a b person phase agree in
     cc
@@ -131,16 +135,24 @@ own_replies-choosing_same : (a b : Office) (person : Text) (choices : List Text)
 own_replies-choosing_same a b person choices same phase agree =
     ap (λ p. accepts (record a { phase = p }) (SetChoices person choices)) phase
     ∙ ap (λ r. accepts (record a { phase = b.phase; rooms = r }) (SetChoices person choices)) same
-    ∙ ap (λ k. first_but (not (is_open b.phase), BadPhase b.phase) (not (is_some k), UnknownPerson) (has_withdrawn a person, Withdrawn) (flat_map (room_checks b) choices)) agree.record_of
-    ∙ ap (λ w. first_but (not (is_open b.phase), BadPhase b.phase) (not (knows_person b person), UnknownPerson) (w, Withdrawn) (flat_map (room_checks b) choices)) agree.withdrawn
+    ∙ ap (λ k. refused_by (not (is_some k)) (has_withdrawn a person) (is_going a person)) agree.record_of
+    ∙ ap (λ w. refused_by (not (knows_person b person)) w (is_going a person)) agree.withdrawn
+    ∙ ap (λ g. refused_by (not (knows_person b person)) (has_withdrawn b person) g) agree.going
   where
-    first_but : Check → Check → Check → List Check → Option Refusal
-    first_but p q r others = first_refusal (p ∷ q ∷ r ∷ others)
+    refused_by : (stranger withdrawn going : Bool) → Option Refusal
+    refused_by stranger withdrawn going =
+        first_refusal ((not (is_open b.phase), BadPhase b.phase) ∷ (stranger, UnknownPerson) ∷ (withdrawn, Withdrawn)
+        ∷ (going, Going) ∷ flat_map (room_checks b) choices)
 
 own_replies-withdrawing_same : (a b : Office) (person : Text) → a.phase ≡ b.phase → AgreeOnPerson a b person → accepts a (Withdraw person) ≡ accepts b (Withdraw person)
 own_replies-withdrawing_same a b person phase agree =
-    ap (λ p. first_refusal ((not (is_open p), BadPhase p) ∷ (not (knows_person a person), UnknownPerson) ∷ [])) phase
-    ∙ ap (λ k. first_refusal ((not (is_open b.phase), BadPhase b.phase) ∷ (not (is_some k), UnknownPerson) ∷ [])) agree.record_of
+    ap (λ p. refused_by p (not (knows_person a person)) (is_going a person)) phase
+    ∙ ap (λ k. refused_by b.phase (not (is_some k)) (is_going a person)) agree.record_of
+    ∙ ap (λ g. refused_by b.phase (not (knows_person b person)) g) agree.going
+  where
+    refused_by : Phase → (stranger going : Bool) → Option Refusal
+    refused_by phase stranger going =
+        first_refusal ((not (is_open phase), BadPhase phase) ∷ (stranger, UnknownPerson) ∷ (going, Going) ∷ [])
 
 -- ---- what is served
 

@@ -152,13 +152,13 @@ const STORY: [Step; 38] = [
     Step::Talk(
         "GET /me HTTP/1.1\r\nHost: a\r\nRoom-Key: key00000000000t1\r\n\r\n",
         200,
-        "{\"choices\":[\"H2\"],\"home\":\"H1\",\"name\":\"Tim Tan\",\"person\":\"T1\",\"phase\":\"ran\",\"result\":null,\"round\":1,\"shown\":false,\"withdrawn\":false}",
+        "{\"choices\":[\"H2\"],\"going\":false,\"home\":\"H1\",\"name\":\"Tim Tan\",\"person\":\"T1\",\"phase\":\"ran\",\"result\":null,\"round\":1,\"shown\":false,\"withdrawn\":false}",
     ),
     Step::Office("publish\n"),
     Step::Talk(
         "GET /me HTTP/1.1\r\nHost: a\r\nRoom-Key: key00000000000t1\r\n\r\n",
         200,
-        "{\"choices\":[\"H2\"],\"home\":\"H1\",\"name\":\"Tim Tan\",\"person\":\"T1\",\"phase\":\"published\",\"result\":\"H2\",\"round\":1,\"shown\":true,\"withdrawn\":false}",
+        "{\"choices\":[\"H2\"],\"going\":false,\"home\":\"H1\",\"name\":\"Tim Tan\",\"person\":\"T1\",\"phase\":\"published\",\"result\":\"H2\",\"round\":1,\"shown\":true,\"withdrawn\":false}",
     ),
     Step::Office("settle\nopen\n"),
     Step::Talk(
@@ -197,6 +197,44 @@ const WITHDRAWALS: [Step; 3] = [
     ),
 ];
 
+// Before the results T2, who has a home, leaves the college. Then T2 hands in no list and does not withdraw, and goes on seeing
+// the recorded list, but no result.
+const LEAVING: [Step; 9] = [
+    Step::Office("going T2\n"),
+    Step::Talk(
+        "PUT /me/choices HTTP/1.1\r\nHost: a\r\nRoom-Key: key00000000000t2\r\nContent-Length: 5\r\n\r\n[\"V\"]",
+        409,
+        "{\"error\":\"Going\"}",
+    ),
+    Step::Talk(
+        "POST /me/withdraw HTTP/1.1\r\nHost: a\r\nRoom-Key: key00000000000t2\r\n\r\n",
+        409,
+        "{\"error\":\"Going\"}",
+    ),
+    Step::Talk(
+        "GET /me HTTP/1.1\r\nHost: a\r\nRoom-Key: key00000000000t2\r\n\r\n",
+        200,
+        "{\"choices\":[\"H1\"],\"going\":true,\"home\":\"H2\",\"name\":\"Tom Tao\",\"person\":\"T2\",\"phase\":\"open\",\"result\":null,\"round\":1,\"shown\":false,\"withdrawn\":false}",
+    ),
+    Step::Talk(REQUEST, 200, "{\"choices\":[\"H2\"]}"),
+    Step::Office("close\ndraw 0000000000000001\nrun\npublish\n"),
+    Step::Talk(
+        "GET /me HTTP/1.1\r\nHost: a\r\nRoom-Key: key00000000000t1\r\n\r\n",
+        200,
+        "{\"choices\":[\"H2\"],\"going\":false,\"home\":\"H1\",\"name\":\"Tim Tan\",\"person\":\"T1\",\"phase\":\"published\",\"result\":\"H2\",\"round\":1,\"shown\":true,\"withdrawn\":false}",
+    ),
+    Step::Talk(
+        "GET /me HTTP/1.1\r\nHost: a\r\nRoom-Key: key00000000000t2\r\n\r\n",
+        200,
+        "{\"choices\":[\"H1\"],\"going\":true,\"home\":\"H2\",\"name\":\"Tom Tao\",\"person\":\"T2\",\"phase\":\"published\",\"result\":null,\"round\":1,\"shown\":false,\"withdrawn\":false}",
+    ),
+    Step::Talk(
+        "POST /me/withdraw HTTP/1.1\r\nHost: a\r\nRoom-Key: key00000000000t2\r\n\r\n",
+        409,
+        BAD_PHASE,
+    ),
+];
+
 // The answer to a wrong method.
 const WRONG_METHOD: &str = "HTTP/1.1 405 Method Not Allowed\r\n\
     Content-Type: application/json\r\n\
@@ -217,7 +255,7 @@ fn status_told(how: &Served) -> Option<u16> {
 // Each story begins at a desk of its own.
 #[test]
 fn tells_stories(rt: HostRuntime) {
-    for story in [STORY.as_slice(), WITHDRAWALS.as_slice()] {
+    for story in [STORY.as_slice(), WITHDRAWALS.as_slice(), LEAVING.as_slice()] {
         tell(&rt, rt.alloc(), story);
     }
 }

@@ -34,6 +34,7 @@ round 1 open\n";
 // What they tell after it.
 const REST: &str = "\
 withdrawn no\n\
+going no\n\
 result hidden\n\
 person T2\n\
 name Tom Tao\n\
@@ -41,6 +42,7 @@ home H2\n\
 round 1 open\n\
 choices H1\n\
 withdrawn no\n\
+going no\n\
 result hidden\n";
 
 /// That the office tells just this of its open round, with this line for T1's list.

@@ -17,9 +17,10 @@ use std::alloc::Global;
 use std::process::Abort;
 
 // The reason and each name of the statuses whose faults have several names.
-const NAMED_FAULTS: [(StatusCode, &str, &str); 6] = [
+const NAMED_FAULTS: [(StatusCode, &str, &str); 7] = [
     (StatusCode::CONFLICT, "409 Conflict", "BadPhase"),
     (StatusCode::CONFLICT, "409 Conflict", "Withdrawn"),
+    (StatusCode::CONFLICT, "409 Conflict", "Going"),
     (
         StatusCode::UNPROCESSABLE_ENTITY,
         "422 Unprocessable Entity",
@@ -98,6 +99,7 @@ fn standing(
         phase,
         choices: Choices::read(rooms(rt, alloc, &["H2"])).expect(rt, "a list of rooms"),
         withdrawn: false,
+        going: false,
         shown,
         result: got,
     }
@@ -177,12 +179,13 @@ fn faults_with_several_names(rt: HostRuntime) {
 }
 
 // The body of what Tim Tan sees after the run.
-const RAN: &[u8] = b"{\"choices\":[\"H2\"],\"home\":\"H1\",\"name\":\"Tim Tan\",\
+const RAN: &[u8] = b"{\"choices\":[\"H2\"],\"going\":false,\"home\":\"H1\",\"name\":\"Tim Tan\",\
     \"person\":\"T1\",\"phase\":\"ran\",\"result\":null,\"round\":1,\"shown\":false,\
     \"withdrawn\":false}";
 
 // The same once the results are published.
-const PUBLISHED: &[u8] = b"{\"choices\":[\"H2\"],\"home\":\"H1\",\"name\":\"Tim Tan\",\
+const PUBLISHED: &[u8] =
+    b"{\"choices\":[\"H2\"],\"going\":false,\"home\":\"H1\",\"name\":\"Tim Tan\",\
     \"person\":\"T1\",\"phase\":\"published\",\"result\":\"H2\",\"round\":1,\"shown\":true,\
     \"withdrawn\":false}";
 

@@ -27,7 +27,8 @@ impl<T: Stream> Watched<T> {
         ensures wasted { watched_wasted self.new
             ≡ watched_wasted self.old || watched_failed self.old || watched_ended self.old
             || has_no_room buf.new }
-        ensures called { T.reads (watched_inner self.old) buf.new result (watched_inner self.new) }
+        ensures called { T.reads (watched_inner self.old) buf.old buf.new result
+            (watched_inner self.new) }
     {
         self.wasted = self.wasted || self.failed || self.ended || buf.is_empty();
         self.reads = self.reads.saturating_add(1);

@@ -1,15 +1,15 @@
 //! Exports, as they are written to memory and to a device that fails.
-ghost use Rattle.std.specs.Prelude.{IfOk};
+ghost use Rattle.std.specs.Prelude.{◌≡◌, IfOk};
 ghost use Rattle.office_lists.specs.Exports.{AscendByRound};
 ghost use Rattle.room_types.specs.Ascending.{AscendsBy};
 
-use super::{moved, person_row, room_row};
+use super::{gone, moved, person_row, room_row, text};
 use crate::asserting::assert_same;
 use office_lists::{
-    ExportKind, WriteEnd, head_bytes, move_row_bytes, person_row_bytes, room_row_bytes,
-    write_moves, write_people, write_rooms,
+    ExportKind, WriteEnd, grade_row_bytes, head_bytes, move_row_bytes, person_row_bytes,
+    read_grades, room_row_bytes, write_grades, write_moves, write_people, write_rooms,
 };
-use room_types::{Move, PersonRow, RoomRow, State, Watched, Wave};
+use room_types::{Grade, GradeRow, Move, PersonRow, RoomRow, State, Watched, Wave};
 use std::alloc::Global;
 use std::io;
 use std::io::{Error, ErrorKind, Write};
@@ -24,6 +24,8 @@ const PEOPLE: &[u8] = b"person,name,home\nE1,Ann Ash,H1\nE2,\"Bo, B.\",\nE3,\"Cy
 
 const MOVES: &[u8] =
     b"round,wave,person,from,to\n1,1,N,,V\n1,swap,T1,H1,H2\n1,swap,T2,H2,H1\n12,3,N,V,H3\n";
+
+const GRADES: &[u8] = b"person,grade\nE1,0\nE2,0\nE3,1\n";
 
 #[test]
 fn rooms_with_and_without_a_tenant(rt: HostRuntime) -> Result<(), Fail> {
@@ -71,6 +73,41 @@ fn moves_of_two_rounds(rt: HostRuntime) -> Result<(), Fail> {
     Ok(())
 }
 
+// Read again as a list, the export tells the same grades.
+#[test]
+fn grades_of_people(rt: HostRuntime) -> Result<(), Fail> {
+    let alloc = rt.alloc();
+    let rows = grades(&rt, alloc)?;
+    let mut output = Watched::new(Vec::new(alloc));
+    assert_same!(rt; write_grades(alloc, &rows, &mut output), Ok(()));
+    assert_same!(rt; output.into_inner().as_slice(), GRADES);
+    let mut text = head_bytes(alloc, ExportKind::Grades)?;
+    for row in &rows {
+        text.extend_from_slice(&grade_row_bytes(alloc, row)?)?;
+    }
+    assert_same!(rt; text.as_slice(), GRADES);
+    let Ok(again) = read_grades(alloc, &text) else {
+        panic!(rt; "the list is good");
+    };
+    assert!(rt;
+        matches!(again.as_slice(), [_, second, third]
+            if second.person.as_str() == "E2" && second.grade.value() == 0
+            && third.person.as_str() == "E3" && third.grade.value() == 1)
+    );
+    Ok(())
+}
+
+#[test]
+fn a_move_out_of_the_college(rt: HostRuntime) -> Result<(), Fail> {
+    let alloc = rt.alloc();
+    let row = gone(&rt, alloc, 1, "T2", "H2");
+    assert_same!(rt;
+        move_row_bytes(alloc, &row)?.as_slice(),
+        b"1,0,T2,H2,\n".as_slice()
+    );
+    Ok(())
+}
+
 #[test]
 fn exports_without_rows(rt: HostRuntime) -> Result<(), Fail> {
     let alloc = rt.alloc();
@@ -78,6 +115,7 @@ fn exports_without_rows(rt: HostRuntime) -> Result<(), Fail> {
         (ExportKind::Rooms, b"room,state,tenant\n".as_slice()),
         (ExportKind::People, b"person,name,home\n".as_slice()),
         (ExportKind::Moves, b"round,wave,person,from,to\n".as_slice()),
+        (ExportKind::Grades, b"person,grade\n".as_slice()),
     ] {
         assert_same!(rt; head_bytes(alloc, kind)?.as_slice(), header);
     }
@@ -243,4 +281,27 @@ fn moves(rt: &impl Abort, alloc: Global) -> Result<Vec<Move>, Fail>
         moved(rt, alloc, 12, "N", Some("V"), "H3", Wave::Nth(3)),
     ]?;
     Ok(rows)
+}
+
+fn grades(rt: &impl Abort, alloc: Global) -> Result<Vec<GradeRow>, Fail>
+    ensures { IfOk result (λ rows. AscendsBy (λ row. row.person) rows.items) }
+{
+    let rows = vec![in alloc;
+        grade_row(rt, alloc, "E1", 0),
+        grade_row(rt, alloc, "E2", 0),
+        grade_row(rt, alloc, "E3", 1),
+    ]?;
+    Ok(rows)
+}
+
+fn grade_row(rt: &impl Abort, alloc: Global, person: &str, grade: u8) -> GradeRow
+    ensures { result.person ≡ person.now }
+{
+    let Some(grade) = Grade::new(grade) else {
+        panic!(rt; "{grade} is no grade");
+    };
+    GradeRow {
+        person: text(rt, alloc, person),
+        grade,
+    }
 }

@@ -1,7 +1,9 @@
 //! Lists as other programs write them, good and bad.
 use crate::asserting::assert_same;
-use office_lists::{Cause, ListFault, PersonEntry, read_choices, read_people, read_rooms};
-use room_types::RoomCode;
+use office_lists::{
+    Cause, ListFault, PersonEntry, read_choices, read_grades, read_people, read_rooms,
+};
+use room_types::{GradeRow, RoomCode};
 use std::alloc::{AllocError, Global};
 use std::process::Abort;
 use std::test::Fail;
@@ -75,6 +77,47 @@ fn a_list_of_choices(rt: HostRuntime) -> Result<(), Fail> {
         matches!(choices.as_slice(), [_, second, third]
             if second.choices.as_slice().is_empty() && third.person.as_str() == "T1")
     );
+    Ok(())
+}
+
+#[test]
+fn a_list_of_grades(rt: HostRuntime) -> Result<(), Fail> {
+    let alloc = rt.alloc();
+    let grades = read(&rt, read_grades(alloc, b"person,grade\nE3,1"));
+    assert!(rt; matches!(grades.as_slice(), [only] if has_grade(only, "E3", 1)));
+    let list = b"person,grade\r\nE1,0\r\n\"E2\",\"9\"\r\nE1,4\r\n";
+    let grades = read(&rt, read_grades(alloc, list));
+    assert!(rt;
+        matches!(grades.as_slice(), [first, second, third]
+            if has_grade(first, "E1", 0) && has_grade(second, "E2", 9) && has_grade(third, "E1", 4))
+    );
+    let none = read(&rt, read_grades(alloc, b"person,grade\n"));
+    assert!(rt; none.is_empty());
+    Ok(())
+}
+
+fn has_grade(row: &GradeRow, person: &str, grade: u8) -> bool {
+    row.person.as_str() == person && row.grade.value() == grade
+}
+
+#[test]
+fn bad_grades(rt: HostRuntime) -> Result<(), Fail> {
+    let alloc = rt.alloc();
+    for list in [
+        b"person,grade\nE1,10".as_slice(),
+        b"person,grade\nE1,".as_slice(),
+        b"person,grade\nE1, 1".as_slice(),
+        b"person,grade\nE1,-1".as_slice(),
+        b"person,grade\nE1,a".as_slice(),
+    ] {
+        expect(&rt, read_grades(alloc, list), 1, Cause::BadField(2));
+    }
+    let nobody = b"person,grade\nE1,1\ne2,10\n";
+    expect(&rt, read_grades(alloc, nobody), 2, Cause::BadField(1));
+    let short = b"person,grade\nE1\n";
+    expect(&rt, read_grades(alloc, short), 1, Cause::FieldCount);
+    let other = b"person,choices\nE1,1\n";
+    expect(&rt, read_grades(alloc, other), 0, Cause::Header);
     Ok(())
 }
 
@@ -211,7 +254,7 @@ fn long_lists(rt: HostRuntime) -> Result<(), Fail> {
 
 // Also the longest of these lists has less than 262,144 bytes.
 #[test]
-fn long_lists_of_people_and_choices(rt: HostRuntime) -> Result<(), Fail> {
+fn long_lists_of_people_choices_and_grades(rt: HostRuntime) -> Result<(), Fail> {
     let alloc = rt.alloc();
     let person = b"E1,Ann,key00000000000e1,\n";
     let mut list = longest(alloc, b"person,name,key,home\n", person)?;
@@ -223,6 +266,10 @@ fn long_lists_of_people_and_choices(rt: HostRuntime) -> Result<(), Fail> {
     assert_same!(rt; read(&rt, read_choices(alloc, &list)).len(), 10_000);
     list.extend_from_slice(b"T1,V")?;
     expect(&rt, read_choices(alloc, &list), 10_001, Cause::TooMany);
+    let mut list = longest(alloc, b"person,grade\n", b"T1,7\n")?;
+    assert_same!(rt; read(&rt, read_grades(alloc, &list)).len(), 10_000);
+    list.extend_from_slice(b"T1,7")?;
+    expect(&rt, read_grades(alloc, &list), 10_001, Cause::TooMany);
     Ok(())
 }
 

@@ -2,7 +2,7 @@
 use crate::asserting::assert_same;
 use room_types::grammars::{Keys, Labels, Names, PersonIds, RoomCodes};
 use room_types::{
-    Choices, Grammar, ListKind, OutOfMemory, Phase, RoomCode, State, Text, TypeFault, Word,
+    Choices, Grade, Grammar, ListKind, OutOfMemory, Phase, RoomCode, State, Text, TypeFault, Word,
 };
 use std::alloc::{AllocError, Global};
 use std::process::Abort;
@@ -106,6 +106,16 @@ word|00000000000000F@|!BadValue\n\
 word|00000000000000F/|!BadValue\n\
 word|00000000000000F:|!BadValue\n\
 word|+0000000000000FF|!BadValue\n\
+grade|0|0\n\
+grade|9|9\n\
+grade||!BadValue\n\
+grade|10|!BadValue\n\
+grade|00|!BadValue\n\
+grade|/|!BadValue\n\
+grade|:|!BadValue\n\
+grade| 1|!BadValue\n\
+grade|+1|!BadValue\n\
+grade|\u{661}|!BadValue\n\
 list||\n\
 list|V H1|V H1\n\
 list|R1 R2 R3 R4 R5 R6 R7 R8 R9 R10 R11 R12 R13 R14 R15 R16 R17 R18 R19 R20 R21 R22 R23 R24 R25 R26 R27 R28 R29 R30 R31 R32 R33 R34 R35 R36 R37 R38 R39 R40|R1 R2 R3 R4 R5 R6 R7 R8 R9 R10 R11 R12 R13 R14 R15 R16 R17 R18 R19 R20 R21 R22 R23 R24 R25 R26 R27 R28 R29 R30 R31 R32 R33 R34 R35 R36 R37 R38 R39 R40\n\
@@ -119,7 +129,7 @@ const OTHER_COPY: &str = "!OtherCopy";
 
 #[test]
 fn worked_values(rt: HostRuntime) -> Result<(), AllocError> {
-    assert_same!(rt; WORKED.lines().count(), 103);
+    assert_same!(rt; WORKED.lines().count(), 113);
     for row in WORKED.lines() {
         let mut cells = row.split('|');
         let (Some(kind), Some(text), Some(wanted)) = (cells.next(), cells.next(), cells.next())
@@ -136,12 +146,13 @@ fn worked_values(rt: HostRuntime) -> Result<(), AllocError> {
 fn words_for_values(rt: HostRuntime) -> Result<(), AllocError> {
     let alloc = rt.alloc();
     let kinds = format!(in alloc;
-        "{} {} {}",
+        "{} {} {} {}",
         ListKind::Rooms,
         ListKind::People,
-        ListKind::Choices
+        ListKind::Choices,
+        ListKind::Grades
     )?;
-    assert_same!(rt; kinds.as_str(), "rooms people choices");
+    assert_same!(rt; kinds.as_str(), "rooms people choices grades");
     let states = format!(in alloc; "{} {} {}", State::Free, State::Occupied, State::Shut)?;
     assert_same!(rt; states.as_str(), "free occupied shut");
     let first = format!(in alloc; "{} {} {}", Phase::Idle, Phase::Opened, Phase::Closed)?;
@@ -175,6 +186,7 @@ fn printed(alloc: Global, kind: &str, text: &str) -> Result<String, TypeFault> {
         "label" => printed_text::<Labels>(alloc, text),
         "name" => printed_text::<Names>(alloc, text),
         "word" => printed_word(alloc, text),
+        "grade" => printed_grade(alloc, text),
         _ => printed_list(alloc, text),
     }
 }
@@ -190,6 +202,11 @@ fn printed_text<G: Grammar>(alloc: Global, text: &str) -> Result<String, TypeFau
 fn printed_word(alloc: Global, text: &str) -> Result<String, TypeFault> {
     let word = Word::read(text)?;
     Ok(format!(in alloc; "{word}")?)
+}
+
+fn printed_grade(alloc: Global, text: &str) -> Result<String, TypeFault> {
+    let grade = Grade::read(text)?;
+    Ok(format!(in alloc; "{grade}")?)
 }
 
 fn printed_list(alloc: Global, text: &str) -> Result<String, TypeFault> {

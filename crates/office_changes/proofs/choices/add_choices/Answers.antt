@@ -36,7 +36,8 @@ loop-room-preserved g c =
           let shown = c.in_ok-add_choice.ensures.made.shown m.0 clean m.1 in (
             with_choice person i room m.0,
             rw c.loop-room.invariant.counted at shown,
-            alike_tables-choice_spelled m.0 m.2 person i room c.know_changed_row_text.ensures c.know_changed_row_text-in-loop-room.ensures,
+            alike_tables-choice_spelled m.0 m.2 person i room c.know_changed_row_text.ensures
+                c.know_changed_row_text-in-loop-room.ensures,
             ap (λ l. with_choices person i l m.0) (sym here) ∙ m.3,
           );
       mode = λ clean. c.in_ok-add_choice.ensures.made.mode clean

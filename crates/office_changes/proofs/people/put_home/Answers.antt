@@ -7,5 +7,6 @@ pub returns-clause-made : goal.returns-clause-made
 returns-clause-made g c =
     let old = state g.S.Store c.args.tx.now.conn.now in
     let new = state g.S.Store c.set_home.new.tx.conn.now in
-    on_ok_weaker c.set_home.result (changed_rows-carries_home old new c.args.person.now c.args.home.now c.know_changed_row_optional.ensures)
+    on_ok_weaker c.set_home.result
+    (changed_rows-carries_home old new c.args.person.now c.args.home.now c.know_changed_row_optional.ensures)
     c.set_home.ensures.made

@@ -9,5 +9,6 @@ returns-clause-made g c =
     let new = state g.S.Store c.add_person.new.tx.conn.now in
     on_ok_weaker c.add_person.result
     (changed_rows-carries_person old new c.args.person.now c.args.name.now c.args.key.now c.args.home.now
-    c.know_changed_row_text.ensures c.know_changed_row_text-2.ensures c.know_changed_row_text-3.ensures c.know_changed_row_optional.ensures)
+    c.know_changed_row_text.ensures c.know_changed_row_text-2.ensures c.know_changed_row_text-3.ensures
+    c.know_changed_row_optional.ensures)
     c.add_person.ensures.made

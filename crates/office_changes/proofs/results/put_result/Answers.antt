@@ -8,5 +8,6 @@ returns-clause-made g c =
     let old = state g.S.Store c.args.tx.now.conn.now in
     let new = state g.S.Store c.add_result.new.tx.conn.now in
     on_ok_weaker c.add_result.result
-    (changed_rows-carries_result old new c.args.person.now c.args.room.now c.know_changed_row_text.ensures c.know_changed_row_optional.ensures)
+    (changed_rows-carries_result old new c.args.person.now c.args.room.now c.know_changed_row_text.ensures
+    c.know_changed_row_optional.ensures)
     c.add_result.ensures.made

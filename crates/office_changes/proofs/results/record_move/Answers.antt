@@ -7,4 +7,5 @@ pub returns-clause-made : goal.returns-clause-made
 returns-clause-made g c =
     let old = state g.S.Store c.args.tx.now.conn.now in
     let new = state g.S.Store c.add_move.new.tx.conn.now in
-    on_ok_weaker c.add_move.result (changed_rows-carries_move old new c.args.moved.now c.know_changed_row_move.ensures) c.add_move.ensures.made
+    on_ok_weaker c.add_move.result
+    (changed_rows-carries_move old new c.args.moved.now c.know_changed_row_move.ensures) c.add_move.ensures.made

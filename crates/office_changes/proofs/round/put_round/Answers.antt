@@ -8,5 +8,6 @@ pub returns-clause-made : goal.returns-clause-made
 returns-clause-made g c =
     let old = state g.S.Store c.args.tx.now.conn.now in
     let new = state g.S.Store c.set_round.new.tx.conn.now in
-    on_ok_weaker c.set_round.result (changed_rows-carries_round old new c.args.number c.args.phase (omega (arith, c.ranges.number)))
+    on_ok_weaker c.set_round.result
+    (changed_rows-carries_round old new c.args.number c.args.phase (omega (arith, c.ranges.number)))
     c.set_round.ensures.made

@@ -8,5 +8,6 @@ returns-clause-made g c =
     let old = state g.S.Store c.args.tx.now.conn.now in
     let new = state g.S.Store c.add_word.new.tx.conn.now in
     on_ok_weaker c.add_word.result
-    (changed_rows-carries_word old new c.args.person.now c.args.word c.know_changed_row_text.ensures c.know_changed_row_word.ensures)
+    (changed_rows-carries_word old new c.args.person.now c.args.word c.know_changed_row_text.ensures
+    c.know_changed_row_word.ensures)
     c.add_word.ensures.made

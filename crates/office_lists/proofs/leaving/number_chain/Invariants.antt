@@ -1,4 +1,4 @@
-use Rattle.std.proofs.Common.{◌≡◌, ◌-◌}
+use Rattle.std.proofs.Common.{◌≡◌, ◌+◌, ◌-◌}
 use Rattle.office_lists.specs.Waves.{followed, move_limit}
 use Rattle.office_lists.proofs.move_days.Chains.{IsNumberedTo}
 use Rattle.office_lists.proofs.leaving.number_chain.Given as goal
@@ -11,4 +11,4 @@ invariant-loop-at l =
     }
 
 abbrev pub decreases-loop-at : goal.decreases-loop-at
-decreases-loop-at l = move_limit - l.count
+decreases-loop-at l = move_limit + 1 - l.count

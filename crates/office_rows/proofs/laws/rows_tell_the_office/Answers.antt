@@ -1,21 +1,22 @@
 use Rattle.std.specs.Cmp.Lexicographic.{nat_list_cmp_total}
 use Rattle.room_types.proofs.maps.TextMaps.{maps-exact_texts}
 use Rattle.room_types.proofs.maps.Entries.{maps-one_map}
-use Rattle.office_rows.specs.Tables.{rows_of}
+use Rattle.office_rows.specs.Tables.{rows_at}
 use Rattle.office_rows.proofs.rows_read.Gathering.{rows_read-one_lists}
+use Rattle.office_rows.proofs.rows_read.Keys.{rows_read-one_set}
 use Rattle.office_rows.proofs.rows_read.Moving.{rows_read-one_moves}
 use Rattle.office_rows.proofs.rows_read.Peopling.{rows_read-one_people}
 use Rattle.office_rows.proofs.rows_read.Rounds.{rows_read-one_round}
 use Rattle.office_rows.proofs.laws.rows_tell_the_office.Goals as goal
 
 pub returns : goal.returns
-unfolding rows_of
+unfolding rows_at
 returns c = λ one other lawful also same.
     let rooms = maps-one_map nat_list_cmp_total maps-exact_texts one.rooms other.rooms same.rooms in
     let people =
     rows_read-one_people (record { people = one.people; withdrawn = one.withdrawn }) (record { people = other.people; withdrawn = other.withdrawn })
     (record { withdrawers = lawful.lists.withdrawers }) (record { withdrawers = also.lists.withdrawers }) same.people in
-    let round = rows_read-one_round (record { number = one.number; phase = one.phase }) (record { number = other.number; phase = other.phase }) same.rounds in
+    let round = rows_read-one_round (record { version = 3; number = one.number; phase = one.phase }) (record { version = 3; number = other.number; phase = other.phase }) same.rounds in
     let choices =
     rows_read-one_lists one.choices other.choices (record { none_empty = lawful.lists.none_empty; chosen = lawful.lists.chosen })
     (record { none_empty = also.lists.none_empty; chosen = also.lists.chosen }) same.choices in
@@ -23,6 +24,8 @@ returns c = λ one other lawful also same.
     let results = maps-one_map nat_list_cmp_total maps-exact_texts one.results other.results same.results in
     let moves = rows_read-one_moves one.moves other.moves (record { none_empty = lawful.moves.none_empty }) (record { none_empty = also.moves.none_empty }) same.moves in
     let lists = maps-one_map nat_list_cmp_total maps-exact_texts one.lists other.lists same.lists in
+    let grades = maps-one_map nat_list_cmp_total maps-exact_texts one.grades other.grades same.grades in
+    let going = rows_read-one_set one.going other.going same.going in
     λ i. record {
       rooms = rooms i;
       people = (people i).people;
@@ -32,6 +35,8 @@ returns c = λ one other lawful also same.
       results = results i;
       moves = moves i;
       lists = lists i;
+      grades = grades i;
+      going = going i;
       number = (round i).number;
       phase = (round i).phase;
     }

@@ -1,4 +1,4 @@
-use Rattle.std.proofs.Common.{◌≡◌, ◌<◌, ◌-◌, zero, suc, false, [], Ok, ap, subst, length, take, drop, rules, tests, arith, ◌∙◌, refl, true≢false}
+use Rattle.std.proofs.Common.{◌≡◌, ◌<◌, ◌-◌, zero, suc, false, [], ap, length, take, drop, rules, tests, arith, ◌∙◌, refl, true≢false}
 use Rattle.std.proofs.KnownBytes.{Consumes-kept, Consumes-nil}
 use Rattle.std.proofs.Math.Bool.{or-false}
 use Rattle.std.proofs.lemmas.List.{length-take-le, length-take, length-drop}
@@ -6,7 +6,7 @@ use Rattle.room_types.specs.Watched.{has_no_room, watched_inner}
 use Rattle.room_types.proofs.watched_bytes.Streams.{watched_bytes-kept_by_write, watched_bytes-some_room}
 use Rattle.resident_http.specs.Asks.{more, seen}
 use Rattle.resident_desk.specs.Conversations.{connection_of}
-use Rattle.resident_desk.proofs.conversations.Streams.{conversations-converses-responded, conversations-counted_last, conversations-counted_within, conversations-ended_told, conversations-length-put_into, conversations-not_more, conversations-not_wasted, conversations-put_into, conversations-read_into, conversations-reads_all, conversations-reads_none, conversations-read_none, conversations-untouched-more, conversations-untouched-refl}
+use Rattle.resident_desk.proofs.conversations.Streams.{conversations-converses-responded, conversations-counted_last, conversations-counted_within, conversations-ended_told, conversations-finds_end, conversations-length-put_into, conversations-not_more, conversations-not_wasted, conversations-put_into, conversations-read_into, conversations-reads_all, conversations-reads_none, conversations-read_none, conversations-untouched-more, conversations-untouched-refl}
 use Rattle.resident_desk.proofs.conversation.converse.Goals as goal
 
 pub returns-then-filled-eq0-clause-few : goal.returns-then-filled-eq0-clause-few
@@ -26,12 +26,8 @@ returns-then-filled-eq0-clause-converses g c =
     let none : take c.reads.filled c.reads.buffer ≡ [] = ap (λ n. take n c.reads.buffer) c.if-filled-eq0.true in
     let same = conversations-reads_none g.T.Stream _ _ _ i.called none in
     record {
-      called = (
-        c.read_some.new.buf,
-        room,
-        subst (λ n. g.T.Stream.reads (watched_inner c.args.stream.now) c.read_some.new.buf (Ok n) (watched_inner c.read_some.new.self)) c.in-Ok-eq0.field-0-test
-            (subst (λ t. g.T.Stream.reads t c.read_some.new.buf (Ok c.in-Ok-eq0.field-0) (watched_inner c.read_some.new.self)) same h.called),
-      );
+      called = conversations-finds_end g.T.Stream _ c.read_some.new.buf c.in-Ok-eq0.field-0 (watched_inner c.args.stream.now)
+          (watched_inner c.reads.stream) (watched_inner c.read_some.new.self) c.in-Ok-eq0.field-0-test room same h.called;
       read = conversations-read_none _ _ _ _ _ _ c.in-Ok-eq0.field-0-test (rw c.if-filled-eq0.true at i.read) h.bytes.0;
       each = rw h.reads (omega (arith, i.reads, c.if-filled-eq0.true));
       at_end = h.bytes.1 c.in-Ok-eq0.field-0-test room;
@@ -67,11 +63,12 @@ returns-in-Ok-eq0-clause-converses g c =
     let once = h.reads in
     let then_none = c.respond.ensures.reads in
     let told = conversations-ended_told _ _ c.read_some.new.buf c.in-Ok-eq0.field-0 (c.respond.ensures.ended ∙ h.ended) c.in-Ok-eq0.field-0-test room in
-    let found = subst (λ n. g.T.Stream.reads (watched_inner c.reads.stream) c.read_some.new.buf (Ok n) (watched_inner c.read_some.new.self)) c.in-Ok-eq0.field-0-test h.called in
+    let found = conversations-finds_end g.T.Stream _ c.read_some.new.buf c.in-Ok-eq0.field-0 (watched_inner c.reads.stream)
+    (watched_inner c.reads.stream) (watched_inner c.read_some.new.self) c.in-Ok-eq0.field-0-test room refl h.called in
     conversations-converses-responded g.T.Stream g.H.Handler.handles c.respond.result _ _
     (connection_of remaining contents c.args.stream.now) (connection_of remaining contents c.read_some.new.self) (connection_of remaining contents c.respond.new.stream)
     bytes more
-    (watched_inner c.reads.stream, i.called, (c.read_some.new.buf, room, found))
+    (watched_inner c.reads.stream, i.called, found)
     (conversations-read_none _ _ _ bytes _ _ c.in-Ok-eq0.field-0-test i.read h.bytes.0)
     c.respond.ensures.kept
     (conversations-untouched-more _ _ _ i.untouched h.kept h.taken h.flushes h.pending)
@@ -119,6 +116,7 @@ reads-preserved g c =
           watched_inner c.reads.stream,
           i.called.1,
           record {
+            buffer_before = _;
             buffer = c.read_some.new.buf;
             count = c.in-Ok.n;
             asks = c.in-More.ensures.asks;
@@ -191,7 +189,7 @@ returns-in-Err-clause-converses g c =
       bytes = bytes;
       between = watched_inner c.reads.stream;
       called = i.called;
-      fails = (c.read_some.new.buf, _, room, h.called);
+      fails = (_, c.read_some.new.buf, _, room, h.called);
       read = Consumes-kept _ _ _ bytes i.read h.bytes;
       limit = omega (arith, within, count);
       each = omega (arith, once, read_before, count);

@@ -1,4 +1,4 @@
-use Rattle.std.proofs.Common.{◌≡◌, ◌≤◌, true, not, ◌&&◌, refl, subst, sym}
+use Rattle.std.proofs.Common.{◌≡◌, ◌≤◌, true, refl, subst, sym}
 use Rattle.std.proofs.lemmas.Bool.{not-false}
 use Rattle.office_state.specs.Round.{is_participant, round_rank}
 use Rattle.office_state.proofs.round_outcomes.WellTraded.{round_outcomes-recorded}
@@ -15,8 +15,7 @@ returns-clause-no_gain c =
     let office = c.args.office.now in
     let person = c.args.person.now in
     let n = refusals-none_applies (checks office person c.args.choices.now) c.in_ok-may_ask.ensures in
-    let part : is_participant office person ≡ true =
-    (λ i. not-false _ n.1.0 i && not (n.1.1.0 i)) in
+    let part : is_participant office person ≡ true = not-false _ n.1.1.0 in
     subst (λ room. round_rank office person room ≤ round_rank office person c.in_ok-room.room)
     (sym (round_outcomes-recorded office c.requires (not-false _ n.0) person part))
     c.in_ok-room.ensures.no_gain

@@ -18,6 +18,8 @@ returns-clause-lawful c =
           c.new-6.result;
       moves = c.new-7.result;
       lists = c.new-8.result;
+      grades = c.new-9.result;
+      going = c.new-10.result;
       number = 0;
       phase = Idle;
     } in
@@ -31,6 +33,8 @@ returns-clause-lawful c =
       results = c.new-6.ensures i;
       moves = c.new-7.ensures i;
       lists = c.new-8.ensures i;
+      grades = c.new-9.ensures i;
+      going = c.new-10.ensures i;
       number = 0;
       phase = Idle;
     } in

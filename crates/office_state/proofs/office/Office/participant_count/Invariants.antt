@@ -1,6 +1,6 @@
 use Rattle.std.proofs.Common.{◌≡◌, ◌+◌, ◌<◌, ◌^◌, not, map, length}
 use Rattle.std.specs.List.{filter}
-use Rattle.office_state.specs.Office.{participants, has_withdrawn}
+use Rattle.office_state.specs.Office.{participants, sits_out}
 use Rattle.office_state.proofs.office.Office.participant_count.Given as goal
 
 -- those counted so far and those among who is left are all
@@ -9,6 +9,6 @@ invariant-loop-id l = record {
   can : (goal.iterator-loop-id).can_next l.id-iterator;
   ends : (goal.iterator-loop-id).is_finite l.id-iterator;
   counted : l.count + length (map (λ e. e.0)
-      (filter (λ e. not (has_withdrawn l.self e.0)) l.id-iterator)) ≡ length (participants l.self);
+      (filter (λ e. not (sits_out l.self e.0)) l.id-iterator)) ≡ length (participants l.self);
   fits : l.count + length l.id-iterator < 2 ^ 63;
 }

@@ -1,6 +1,6 @@
 use Rattle.std.proofs.Common.{◌≡◌, ◌++◌, not, map}
 use Rattle.std.specs.List.{filter}
-use Rattle.office_state.specs.Office.{has_withdrawn}
+use Rattle.office_state.specs.Office.{grade_of, sits_out}
 use Rattle.office_state.specs.Round.{lots_of, word_of}
 use Rattle.office_state.proofs.round.people.lots.Given as goal
 
@@ -9,7 +9,7 @@ abbrev pub invariant-loop-id : goal.invariant-loop-id
 invariant-loop-id l = record {
   can : (goal.iterator-loop-id).can_next l.id-iterator;
   ends : (goal.iterator-loop-id).is_finite l.id-iterator;
-  found : l.lots.items ++ map (λ p. (p, word_of l.office p))
-      (map (λ e. e.0) (filter (λ e. not (has_withdrawn l.office e.0)) l.id-iterator))
+  found : l.lots.items ++ map (λ p. (p, grade_of l.office p, word_of l.office p))
+      (map (λ e. e.0) (filter (λ e. not (sits_out l.office e.0)) l.id-iterator))
       ≡ lots_of l.office;
 }

@@ -1,6 +1,6 @@
 use Rattle.std.proofs.Common.{◌≡◌, ◌≤◌, ◌++◌, not, map, length}
 use Rattle.std.specs.List.{filter}
-use Rattle.office_state.specs.Office.{home_of, has_withdrawn, participants, recorded_result}
+use Rattle.office_state.specs.Office.{home_of, has_withdrawn, people_not_withdrawn, recorded_result}
 use Rattle.office_state.specs.Round.Settlement.{movers, moves_out}
 use Rattle.office_state.proofs.round.settlement.movers.Given as goal
 
@@ -14,5 +14,5 @@ invariant-loop-id l = record {
       (filter (λ e. not (has_withdrawn l.office e.0)) l.id-iterator)))
       ≡ movers l.office;
   left : length (filter (λ e. not (has_withdrawn l.office e.0)) l.id-iterator)
-      ≤ length (participants l.office);
+      ≤ length (people_not_withdrawn l.office);
 }

@@ -17,7 +17,7 @@ pub returns-then-not-are_words_of_participants : goal.returns-then-not-are_words
 returns-then-not-are_words_of_participants c =
     let office = c.args.office.now in
     let drawn = sym c.round_phase_has_words.ensures ∙ c.if-not-round_phase_has_words.false in
-    sound_offices-never (λ l. both_ways _ (sym c.are_words_of_participants.ensures ∙ c.if-not-are_words_of_participants.true) (sound_offices-words-first office.people office.withdrawn office.words (l.each drawn)))
+    sound_offices-never (λ l. both_ways _ (sym c.are_words_of_participants.ensures ∙ c.if-not-are_words_of_participants.true) (sound_offices-words-first office.people office.withdrawn office.going office.words (l.each drawn)))
 
 pub returns : goal.returns
 returns c =
@@ -25,7 +25,7 @@ returns c =
     let drawn = sym c.round_phase_has_words.ensures ∙ c.if-not-round_phase_has_words.false in (
       λ e. record {
         none = λ undrawn. absurd (both_ways _ undrawn drawn);
-        each = λ _. sound_offices-words-tell office.people office.withdrawn office.words (sym c.are_words_of_participants.ensures ∙ c.if-not-are_words_of_participants.false) (sym c.have_participants_words.ensures ∙ e);
+        each = λ _. sound_offices-words-tell office.people office.withdrawn office.going office.words (sym c.are_words_of_participants.ensures ∙ c.if-not-are_words_of_participants.false) (sym c.have_participants_words.ensures ∙ e);
       },
-      λ l. c.have_participants_words.ensures ∙ sound_offices-words-second office.people office.withdrawn office.words (l.each drawn),
+      λ l. c.have_participants_words.ensures ∙ sound_offices-words-second office.people office.withdrawn office.going office.words (l.each drawn),
     )

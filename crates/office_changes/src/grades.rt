@@ -1,0 +1,64 @@
+//! Changes of the grades, and of who leaves the college.
+ghost use Rattle.std.specs.Prelude.{◌≡◌, OnOk};
+ghost use Rattle.sqlite.specs.Held.{state};
+ghost use Rattle.office_state.specs.declared.change.Change.TheVariants.{PutGoing, PutGrade};
+ghost use Rattle.office_tables.specs.Steps.{StaysInside};
+ghost use Rattle.office_changes.specs.Carries.{CarriesAlways, Turns};
+ghost use Rattle.office_changes.specs.Grading.{with_grade_recorded};
+
+use crate::cells::{know_changed_row_grade, know_changed_row_text};
+use office_tables::going::add_going;
+use office_tables::grades::{add_grade, drop_grade};
+use room_types::{Grade, PersonId};
+use sqlite::{Alter, Error, Transaction};
+
+/// A person's grade is this one. Of grade 0 no row is left.
+pub(crate) fn put_grade<S: Alter>(
+    tx: &mut Transaction<'_, S>,
+    person: &PersonId,
+    grade: Grade,
+) -> Result<(), Error>
+    ensures same_reference { tx.new.conn.ghost_name ≡ tx.old.conn.ghost_name }
+    ensures made { OnOk result
+        (CarriesAlways (state S.Store tx.old.conn.now) (state S.Store tx.new.conn.now)
+        (PutGrade person.now grade)) }
+    ensures inside { StaysInside (state S.Store tx.old.conn.now) (state S.Store tx.new.conn.now) }
+{
+    drop_grade(tx, person)?;
+    record_grade(tx, person, grade)
+}
+
+// A row for a grade that is not 0.
+fn record_grade<S: Alter>(
+    tx: &mut Transaction<'_, S>,
+    person: &PersonId,
+    grade: Grade,
+) -> Result<(), Error>
+    ensures same_reference { tx.new.conn.ghost_name ≡ tx.old.conn.ghost_name }
+    ensures made { OnOk result
+        (Turns (state S.Store tx.old.conn.now) (state S.Store tx.new.conn.now)
+        (with_grade_recorded person.now grade)) }
+    ensures inside { StaysInside (state S.Store tx.old.conn.now) (state S.Store tx.new.conn.now) }
+{
+    if grade.is_first() {
+        return Ok(());
+    }
+    know_changed_row_text(person);
+    know_changed_row_grade(grade);
+    add_grade(tx, person, grade)
+}
+
+/// A person leaves the college after the round.
+pub(crate) fn put_going<S: Alter>(
+    tx: &mut Transaction<'_, S>,
+    person: &PersonId,
+) -> Result<(), Error>
+    ensures same_reference { tx.new.conn.ghost_name ≡ tx.old.conn.ghost_name }
+    ensures made { OnOk result
+        (CarriesAlways (state S.Store tx.old.conn.now) (state S.Store tx.new.conn.now)
+        (PutGoing person.now)) }
+    ensures inside { StaysInside (state S.Store tx.old.conn.now) (state S.Store tx.new.conn.now) }
+{
+    know_changed_row_text(person);
+    add_going(tx, person)
+}

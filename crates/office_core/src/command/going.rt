@@ -1,0 +1,39 @@
+//! Somebody leaves the college after the round.
+ghost use Rattle.office_core.specs.Command.Decision.{IsDecided};
+ghost use Rattle.office_core.specs.Command.Going.{checks, reply_to, changes_of};
+
+use crate::command::decision::{Decision, command_decision_with_change};
+use crate::refusal::Refusal;
+use crate::reply::Reply;
+use office_state::phases::is_open;
+use office_state::{Change, Office};
+use room_types::PersonId;
+use std::alloc::Global;
+
+/// Decides that a person leaves the college after the round, and gives the room to it; a repeat changes nothing. Refused
+/// in turn: `BadPhase` unless open; `UnknownPerson`; `Withdrawn`; and, of somebody who does not leave already, `NoHome`.
+pub fn going(alloc: Global, office: &Office, person: &PersonId) -> Result<Decision, Refusal>
+    ensures { IsDecided (checks office.now person.now) (reply_to office.now person.now)
+        (changes_of office.now person.now) result }
+{
+    if !is_open(office.phase) {
+        return Err(Refusal::BadPhase(office.phase));
+    }
+    let Some(kept) = office.people.get(person) else {
+        return Err(Refusal::UnknownPerson);
+    };
+    if office.has_withdrawn(person) {
+        return Err(Refusal::Withdrawn);
+    }
+    if office.is_going(person) {
+        return Ok(Decision {
+            reply: Reply::Going,
+            changes: Vec::new(alloc),
+        });
+    }
+    if kept.home.is_none() {
+        return Err(Refusal::NoHome);
+    }
+    let person = person.copy()?;
+    command_decision_with_change(alloc, Reply::Going, Change::PutGoing { person })
+}

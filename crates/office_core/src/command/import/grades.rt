@@ -1,0 +1,58 @@
+//! A list of grades is added.
+ghost use Rattle.std.specs.Prelude.{◌≡◌, ◌≤◌, IfOk, IfErr, length};
+ghost use Rattle.office_lists.specs.Records.{record_limit};
+ghost use Rattle.office_core.specs.Command.Import.{grade_command, first_denied, list_refusal};
+ghost use Rattle.office_core.specs.Inner.Tries.{AreAdded, AreAllowed, IsOrMemory};
+
+use crate::command::import::denial::import_denial;
+use crate::command::set_grade::may_grade;
+use crate::refusal::Refusal;
+use office_lists::read_grades;
+use office_state::{Change, Office};
+use room_types::{GradeRow, OutOfMemory};
+use std::alloc::Global;
+
+/// A change for each person's grade; or the first bad record, and where there is none the first that is denied.
+#[tactic(auto, using(crate::proofs::imports::ListChecks::imports_few_told, crate::proofs::imports::ListChecks::imports_few_changes))]
+pub fn grades_added(alloc: Global, office: &Office, bytes: &[u8]) -> Result<Vec<Change>, Refusal>
+    ensures added { IfOk result
+        (λ changes. AreAdded grade_command office.now bytes.now changes.items) }
+    ensures few { IfOk result (λ changes. length changes.items ≤ record_limit) }
+    ensures refused { IfErr result
+        (IsOrMemory (list_refusal grade_command office.now bytes.now)) }
+{
+    let entries = read_grades(alloc, bytes)?;
+    each_grade_added(alloc, office, entries.as_slice())
+}
+
+// A change for each of the grades. No grade changes what another is refused for, so the office stays as it is.
+fn each_grade_added(
+    alloc: Global,
+    office: &Office,
+    list: &[GradeRow],
+) -> Result<Vec<Change>, Refusal>
+    requires { length list.now ≤ record_limit }
+    ensures allowed { IfOk result
+        (λ changes. AreAllowed grade_command office.now list.now changes.items) }
+    ensures refused { IfErr result
+        (IsOrMemory (first_denied grade_command office.now 1 list.now)) }
+{
+    let mut changes = Vec::new(alloc);
+    for (i, entry) in list.iter().enumerate() {
+        if let Err(refusal) = may_grade(office, &entry.person) {
+            return Err(import_denial(i, &refusal));
+        }
+        let change = imported_grade_change(entry)?;
+        changes.push(change)?;
+    }
+    Ok(changes)
+}
+
+fn imported_grade_change(entry: &GradeRow) -> Result<Change, OutOfMemory>
+    ensures { IfOk result (λ change. change ≡ grade_command.change entry.now) }
+{
+    Ok(Change::PutGrade {
+        person: entry.person.copy()?,
+        grade: entry.grade,
+    })
+}

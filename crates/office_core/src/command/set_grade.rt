@@ -1,0 +1,40 @@
+//! A person has a grade from then on.
+ghost use Rattle.office_core.specs.Command.Decision.{IsDecided};
+ghost use Rattle.office_core.specs.Command.SetGrade.{checks, reply_to, changes_of};
+ghost use Rattle.office_core.specs.Inner.Passes.{Passes};
+
+use crate::command::decision::{Decision, command_decision_with_change};
+use crate::refusal::Refusal;
+use crate::reply::Reply;
+use office_state::phases::is_preparing;
+use office_state::{Change, Office};
+use room_types::{Grade, PersonId};
+use std::alloc::Global;
+
+/// Decides that a person has this grade from then on. Refused in turn: `BadPhase` unless idle or open; `UnknownPerson`.
+pub fn set_grade(
+    alloc: Global,
+    office: &Office,
+    person: &PersonId,
+    grade: Grade,
+) -> Result<Decision, Refusal>
+    ensures { IsDecided (checks office.now person.now) (reply_to office.now person.now)
+        (changes_of office.now person.now grade) result }
+{
+    may_grade(office, person)?;
+    let person = person.copy()?;
+    command_decision_with_change(alloc, Reply::Done, Change::PutGrade { person, grade })
+}
+
+/// Passes a person to whom a grade may be given.
+pub(crate) fn may_grade(office: &Office, person: &PersonId) -> Result<(), Refusal>
+    ensures { Passes (checks office.now person.now) result }
+{
+    if !is_preparing(office.phase) {
+        return Err(Refusal::BadPhase(office.phase));
+    }
+    if !office.people.contains_key(person) {
+        return Err(Refusal::UnknownPerson);
+    }
+    Ok(())
+}

@@ -1,0 +1,19 @@
+use Rattle.std.proofs.Common.{inr}
+use Rattle.office_file.proofs.migrating.migrate_in.Goals as goal
+
+pub returns-in-Err-migrate-clause-cause : goal.returns-in-Err-migrate-clause-cause
+returns-in-Err-migrate-clause-cause g c = inr (record {
+  connection = c.in-Ok.connection;
+  between = c.open_present.new.self;
+  opened = c.in-Ok.ensures.found;
+  refused = c.in-Err-migrate.back.connection;
+  refuses = record {
+    follows = c.in-Err-migrate.ensures.followed;
+    undone = c.in-Err-migrate.ensures.undone;
+    unread = c.in-Err-migrate.ensures.unread;
+    absent = λ none. (c.in-Err-migrate.ensures.absent none).0;
+    allowed = c.in-Err-migrate.ensures.allowed;
+    cause = c.in-Err-migrate.ensures.cause;
+  };
+  closed = c.close.ensures;
+})

@@ -1,0 +1,66 @@
+-- An office of an earlier version in a file, and why it is not brought over.
+use Rattle.std.specs.Prelude.{◌≡◌, ◌⊎◌, ℕ, List, false, IfErr, IsSome, Result, Some}
+use Rattle.sqlite.specs.Held.{Held, state}
+use Rattle.sqlite.specs.State.{HasCleanDisk}
+use Rattle.sqlite_trees.specs.declared.store.Store.{Ghosts}
+use Rattle.office_state.specs.declared.office.Office.{Office}
+use Rattle.office_file.specs.Access.{FileAccess}
+use Rattle.office_load.specs.Finding.{AreDeclared, AreWhole, names_round}
+use Rattle.office_load.specs.Layout.{layout_in}
+use Rattle.office_load.specs.Front.{has_front}
+use Rattle.office_migrate.specs.Versions.{IsEarlierLayout, IsOfVersion}
+use Rattle.office_store.specs.Desk.{DeskState, Shows}
+use Rattle.office_store.specs.Migrating.{IsFaultOfMigration, MayNotMigrate}
+use Rattle.office_store.specs.declared.desk.faults.DeskFault.{DeskFault}
+use Rattle.office_store.specs.declared.desk.faults.DeskFault.TheVariants.{NotAnOffice, Unavailable}
+use Rattle.office_tables.specs.Layouts.{version_of}
+use Rattle.office_tables.specs.Steps.{Follows, IsHonest}
+use Rattle.office_tables.specs.Tables.{HoldsOfficeIn}
+use Rattle.office_tables.specs.declared.layouts.Layout.{Layout}
+
+module _ {S : Type 0} (g : Ghosts S) where
+  -- The database of the connection held the rows of an office of an earlier version, and the desk shows that office, where the
+  -- disk returned what was written and the tables were declared as those of an office.
+  abbrev pub ShowsMigrated : Held S → DeskState S → Type 0
+  ShowsMigrated connection desk =
+      HasCleanDisk (state g desk.conn) → AreDeclared (state g connection).now.schema → (layout : Layout)
+      → layout_in (state g connection).now.schema ≡ Some layout → AreWhole layout (state g connection).now.trees
+      → (office : Office) × IsOfVersion (version_of layout) office × HoldsOfficeIn layout (state g connection).now office
+      × Shows g desk office
+
+  -- The database of a connection is refused for this, and the connection is then the other one: only as what is declared
+  -- allows, whatever the disk does (`allowed`); and only as what the tables hold allows, where they are declared as those of an
+  -- office and the disk returned what was written (`cause`). Its tables are as they were.
+  pub record RefusesMigration (connection refused : Held S) (fault : DeskFault) : Type 0 where
+    pub follows : Follows (state g connection) (state g refused)
+    pub undone : IsHonest (state g refused) → (state g refused).now ≡ (state g connection).now
+    pub unread : has_front (state g connection).now.schema ≡ false → refused ≡ connection
+    pub absent : names_round (state g connection).now.schema ≡ false → fault ≡ NotAnOffice
+    pub allowed : IsFaultOfMigration (state g connection).now.schema fault
+    pub cause : HasCleanDisk (state g refused) → AreDeclared (state g connection).now.schema
+        → MayNotMigrate (state g connection).now fault
+
+module _ {F S : Type 0} (access : FileAccess F S) where
+  -- The desk goes on from the database that was opened, which had the tables of an earlier version, and nothing beside them. It
+  -- keeps an office, and shows the one that the tables held.
+  pub record BeginsMigrated (files : F) (path : List ℕ) (desk : DeskState S) (files' : F) : Type 0 where
+    pub connection : Held S
+    pub opened : access.finds files path connection files'
+    pub laid : IsEarlierLayout (layout_in (state access.base connection).now.schema)
+    pub follows : Follows (state access.base connection) (state access.base desk.conn)
+    pub kept : IsSome desk.kept
+    pub shows : ShowsMigrated access.base connection desk
+
+  -- the database that was opened is refused, and its connection is closed
+  pub record ClosesUnmigrated (files : F) (path : List ℕ) (fault : DeskFault) (files' : F) : Type 0 where
+    pub connection : Held S
+    pub between : F
+    pub opened : access.finds files path connection between
+    pub refused : Held S
+    pub refuses : RefusesMigration access.base connection refused fault
+    pub closed : access.closes between refused files'
+
+  -- the file was not opened, or what was opened is refused
+  abbrev pub IsMigrateFault : F → List ℕ → Result (DeskState S) DeskFault → F → Type 0
+  IsMigrateFault files path result files' =
+      IfErr result (λ fault. ((fault ≡ Unavailable) × access.fails files path files') ⊎ ClosesUnmigrated files path fault files')

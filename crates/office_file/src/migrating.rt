@@ -1,0 +1,41 @@
+//! An office of an earlier version in a file.
+ghost use Rattle.std.specs.Prelude.{IfOk};
+ghost use Rattle.office_file.specs.Access.{file_access};
+ghost use Rattle.office_file.specs.Migrated.{BeginsMigrated, IsMigrateFault};
+
+use crate::files::{Closes, Files};
+use office_store::{Desk, DeskFault, Unavailable};
+use sqlite::{Alter, Connection};
+use std::alloc::Global;
+
+/// A desk over the office of an earlier version that the file at this path holds, whose tables are made those of the
+/// version of this program. The file is opened once; a missing one is not made.
+///
+/// # Errors
+///
+/// `NotAnOffice`, `OtherVersion` and `AlreadyThere` only of the database that was opened, as `Desk::migrate` tells them. Else
+/// `Unavailable`: the file was not opened, it declares something else than the tables of an office, the disk failed or memory was
+/// refused. The connection that was opened is then closed, its tables as they were.
+pub fn migrate_in<B: Alter, F: Files<B> + Closes<Connection<B>>>(
+    alloc: Global,
+    files: &mut F,
+    path: &str,
+) -> Result<Desk<B>, DeskFault>
+    ensures shows { let access = file_access B.Store F.opens F.finds F.fails F.closes in
+        IfOk result (λ desk. BeginsMigrated access files.old path.now desk files.new) }
+    ensures cause { let access = file_access B.Store F.opens F.finds F.fails F.closes in
+        IsMigrateFault access files.old path.now result files.new }
+{
+    let connection = match files.open_present(path) {
+        Ok(connection) => connection,
+        Err(Unavailable) => return Err(DeskFault::Unavailable),
+    };
+    match Desk::migrate(alloc, connection) {
+        Ok(desk) => Ok(desk),
+        Err(back) => {
+            let fault = back.fault;
+            files.close(back.connection);
+            Err(fault)
+        }
+    }
+}

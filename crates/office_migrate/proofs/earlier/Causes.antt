@@ -1,0 +1,99 @@
+-- Databases that hold no office of an earlier version.
+use Rattle.std.proofs.Common.{◌≡◌, ◌⊎◌, ℕ, ℤ, pos, Bool, true, false, Some, codes, refl, sym, ap, subst, inl, inr, arith}
+use Rattle.sqlite_schema.specs.declared.schema.Schema.{Schema}
+use Rattle.sqlite_schema.specs.Names.{same_name}
+use Rattle.sqlite_catalog.specs.Change.{is_used}
+use Rattle.sqlite.specs.Effect.{Database}
+use Rattle.office_state.specs.declared.office.Office.{Office}
+use Rattle.office_tables.specs.Layouts.{schema_of, version_of}
+use Rattle.office_tables.specs.declared.layouts.Layout.{Layout}
+use Rattle.office_tables.specs.declared.layouts.Layout.TheVariants.{Own, Documented, DocumentedSecond}
+use Rattle.office_tables.specs.declared.layouts.Layout.TheVariants.{DocumentedFirst, EarlierFirst}
+use Rattle.office_load.specs.Finding.{HoldsVersion}
+use Rattle.office_load.specs.Layout.{layout_in}
+use Rattle.office_load.proofs.found_offices.Finding.{found_offices-same_layout}
+use Rattle.office_load.proofs.found_offices.Versions.{found_offices-one_version, found_offices-own_version}
+use Rattle.office_load.specs.Front.{IsFront}
+use Rattle.office_migrate.specs.Causes.{HoldsEarlier, HoldsNoEarlier, IsOfNumber, StandsFirst}
+use Rattle.office_migrate.specs.Names.{is_lacking_name_used, takes_name}
+use Rattle.office_migrate.specs.Versions.{IsEarlier, IsNoEarlier}
+use Rattle.office_migrate.specs.declared.migrating.MigrateFault.{MigrateFault}
+use Rattle.office_migrate.specs.declared.migrating.MigrateFault.TheVariants.{Unavailable, OtherVersion}
+
+-- the names of the tables that a layout of an earlier version lacks are free in it
+pub earlier-own_names_free : (layout : Layout) → IsEarlier (version_of layout)
+    → is_lacking_name_used (version_of layout) (schema_of layout) ≡ false
+unfolding same_name
+earlier-own_names_free Own (inl e) = absurd (omega (arith, e))
+earlier-own_names_free Own (inr e) = absurd (omega (arith, e))
+earlier-own_names_free Documented (inl e) = absurd (omega (arith, e))
+earlier-own_names_free Documented (inr e) = absurd (omega (arith, e))
+earlier-own_names_free DocumentedSecond e = refl
+earlier-own_names_free DocumentedFirst e = refl
+earlier-own_names_free EarlierFirst e = refl
+
+pub earlier-pos : (v w : ℕ) → pos v ≡ pos w → v ≡ w
+earlier-pos v w e = cc
+
+-- an earlier version is an earlier one as a number, too
+pub earlier-not_no : (version : ℕ) → IsEarlier version → IsNoEarlier (pos version) → ⊥
+earlier-not_no version (inl e) none = none.0 (ap (λ n. pos n) e)
+earlier-not_no version (inr e) none = none.1 (ap (λ n. pos n) e)
+
+-- an office of an earlier version is refused for no other version
+pub earlier-only_unavailable : (version : ℕ) (fault : MigrateFault) → IsEarlier version → IsOfNumber fault
+    → (fault ≡ Unavailable) ⊎ (fault ≡ OtherVersion (pos version)) → fault ≡ Unavailable
+earlier-only_unavailable version fault is number (inl e) = e
+earlier-only_unavailable version fault is number (inr e) = absurd (earlier-not_no version is (subst IsOfNumber e number))
+
+-- nor for a name
+pub earlier-takes_none : (layout : Layout) (schema : Schema) (grade going : Bool) (version : ℕ)
+    → IsEarlier (version_of layout) → schema ≡ schema_of layout
+    → grade ≡ is_used schema (codes "grade") → going ≡ is_used schema (codes "going") → version_of layout ≡ version
+    → takes_name grade going version ≡ false
+earlier-takes_none layout schema grade going version is has a b same =
+    subst (λ n. takes_name grade going n ≡ false) same
+    (rw (a, b) (subst (λ (s : Schema). is_lacking_name_used (version_of layout) s ≡ false) (sym has)
+    (earlier-own_names_free layout is)))
+
+-- but where one that its version lacks is used
+pub earlier-takes_used : (schema : Schema) (grade going : Bool) (version own : ℕ) → grade ≡ is_used schema (codes "grade")
+    → going ≡ is_used schema (codes "going") → own ≡ version → is_lacking_name_used own schema ≡ true
+    → takes_name grade going version ≡ true
+earlier-takes_used schema grade going version own a b same used =
+    subst (λ n. takes_name grade going n ≡ true) same (rw (a, b) used)
+
+-- whatever stands behind the tables, the row of the round is of their version
+pub earlier-first_says : (layout : Layout) (db : Database) (office : Office) → StandsFirst layout db office
+    → HoldsVersion db (pos (version_of layout))
+earlier-first_says layout db office h =
+    found_offices-own_version layout (record { schema = schema_of layout; trees = db.trees }) office
+    (record { schema = refl; rows = h.rows })
+
+module _ (db : Database) (front : IsFront db.schema) where
+  -- where there is not one row of the round
+  pub earlier-none_without_version : ((version : ℤ) → HoldsVersion db version → ⊥) → HoldsNoEarlier db
+  earlier-none_without_version none_held = record {
+    front = front;
+    version = λ version other h. none_held version h;
+    none = λ layout office h. none_held (pos (version_of layout)) (found_offices-own_version layout db office h.rows);
+  }
+
+  module _ (version : ℕ) (is_earlier : IsEarlier version) (holds : HoldsVersion db (pos version)) (layout : Layout)
+      (laid : layout_in db.schema ≡ Some layout) where
+    -- where the tables of the layout hold none
+    pub earlier-none_in_layout : ((office : Office) → HoldsEarlier layout db office → ⊥) → HoldsNoEarlier db
+    earlier-none_in_layout none = record {
+      front = front;
+      version = λ other none_earlier h. earlier-not_no version is_earlier
+          (subst IsNoEarlier (found_offices-one_version db other (pos version) h holds) none_earlier);
+      none = λ other office h. none office
+          (subst (λ l. HoldsEarlier l db office) (sym (found_offices-same_layout other layout db h.rows.schema laid)) h);
+    }
+
+    -- where the tables are of another version than their row says
+    pub earlier-none_of_other : (version_of layout ≡ version → ⊥) → HoldsNoEarlier db
+    earlier-none_of_other differs = earlier-none_in_layout (λ office h.
+        differs (earlier-pos (version_of layout) version
+        (found_offices-one_version db (pos (version_of layout)) (pos version)
+        (found_offices-own_version layout db office h.rows) holds)))

@@ -1,0 +1,226 @@
+use Rattle.std.proofs.Common.{◌≡◌, true, true≢false, pos, sym, ap, ◌∙◌, subst, inl, inr}
+use Rattle.std.proofs.lemmas.Result.{err_from_is_err_and}
+use Rattle.sqlite.specs.Effect.{Database}
+use Rattle.sqlite.specs.Held.{state}
+use Rattle.office_cells.specs.Spelled.{IsSpelled}
+use Rattle.office_rows.specs.Tables.{rows_at}
+use Rattle.office_tables.specs.Layouts.{schema_of, version_of}
+use Rattle.office_tables.specs.Tables.{HoldsOfficeIn}
+use Rattle.office_tables.proofs.statements.Steps.{statements-honest_before}
+use Rattle.office_load.specs.Finding.{AreDeclared, AreWhole, names_round}
+use Rattle.office_load.specs.Front.{IsFront}
+use Rattle.office_load.specs.Layout.{layout_in}
+use Rattle.office_load.specs.Numbers.{IsLaidOut}
+use Rattle.office_load.proofs.found_offices.Finding.{found_offices-same_layout}
+use Rattle.office_load.proofs.found_offices.Versions.{found_offices-none_some, found_offices-own_round}
+use Rattle.office_load.proofs.found_offices.Versions.{found_offices-own_version, found_offices-same_some}
+use Rattle.office_load.proofs.loaded.VersionMeanings.{loaded-front_if_laid}
+use Rattle.office_load.proofs.loaded.WholeRows.{loaded-laid_if_sound}
+use Rattle.office_migrate.specs.Causes.{HoldsEarlier}
+use Rattle.office_migrate.specs.Names.{is_lacking_name_used}
+use Rattle.office_migrate.specs.Versions.{IsOfVersion}
+use Rattle.office_migrate.proofs.earlier.Causes.{earlier-none_in_layout, earlier-none_of_other, earlier-only_unavailable}
+use Rattle.office_migrate.proofs.earlier.Causes.{earlier-pos, earlier-takes_none}
+use Rattle.office_migrate.proofs.earlier.Causes.{earlier-first_says, earlier-takes_used}
+use Rattle.office_migrate.proofs.earlier.Front.{earlier-front_named}
+use Rattle.office_migrate.proofs.migrating.migrate.Goals as goal
+
+pub returns-then-not-layout_names_round-clause-accepts :
+    goal.returns-then-not-layout_names_round-clause-accepts
+returns-then-not-layout_names_round-clause-accepts g c clean layout office h =
+    absurd (true≢false (sym (found_offices-own_round layout) ∙ ap names_round (sym h.rows.schema)
+    ∙ ap names_round (sym c.schema.ensures.value) ∙ sym c.layout_names_round.ensures ∙ c.if-not-layout_names_round.true))
+
+pub returns-then-not-layout_names_round-clause-other :
+    goal.returns-then-not-layout_names_round-clause-other
+returns-then-not-layout_names_round-clause-other g c clean version says later =
+    let start = state g.S.Store c.args.conn.now in
+    absurd (true≢false (sym (earlier-front_named start.now.schema says.0) ∙ ap names_round (sym c.schema.ensures.value)
+    ∙ sym c.layout_names_round.ensures ∙ c.if-not-layout_names_round.true))
+
+pub returns-in_err-version-clause-cause : goal.returns-in_err-version-clause-cause
+returns-in_err-version-clause-cause g c =
+    let p = err_from_is_err_and c.from_residual.result c.from_residual.ensures.1 in
+    let front = subst (λ s. AreDeclared s → IsFront s) c.schema-2.ensures.value
+    (c.has_front.ensures.whole c.if-not-has_front.false) in
+    rw (p.1, p.2) (λ clean declared. c.in_err-version.ensures.cause clean (front declared))
+
+pub returns-in_err-version-clause-accepts : goal.returns-in_err-version-clause-accepts
+returns-in_err-version-clause-accepts g c clean layout office h =
+    let start = state g.S.Store c.args.conn.now in
+    let p = err_from_is_err_and c.from_residual.result c.from_residual.ensures.1 in
+    let front = loaded-front_if_laid layout start.now.schema h.rows.schema in
+    let told = c.in_err-version.ensures.told clean front (pos (version_of layout))
+    (found_offices-own_version layout start.now office h.rows) in
+    rw (p.1, p.2) (earlier-only_unavailable
+    (version_of layout) c.in_err-version.field-0.0 h.earlier c.in_err-version.ensures.number told)
+
+pub returns-in_err-version-clause-other : goal.returns-in_err-version-clause-other
+returns-in_err-version-clause-other g c clean version says later =
+    let p = err_from_is_err_and c.from_residual.result c.from_residual.ensures.1 in
+    rw (p.1, p.2) (c.in_err-version.ensures.told clean says.0 version says.1)
+
+pub returns-then-takes_name-clause-accepts : goal.returns-then-takes_name-clause-accepts
+returns-then-takes_name-clause-accepts g c clean layout office h =
+    let start = state g.S.Store c.args.conn.now in
+    let front = loaded-front_if_laid layout start.now.schema h.rows.schema in
+    let version = earlier-pos _ _
+    (c.in_ok-version.ensures.told clean front (pos (version_of layout))
+    (found_offices-own_version layout start.now office h.rows)) in
+    let free = earlier-takes_none layout c.schema-3.result.now _ _ c.in_ok-version.version h.earlier
+    (c.schema-3.ensures.value ∙ h.rows.schema) c.of-declared.ensures.grade c.of-declared.ensures.going version in
+    absurd (true≢false (sym c.if-takes_name.true ∙ c.takes_name.ensures ∙ free))
+
+pub returns-then-version-clause-cause : goal.returns-then-version-clause-cause
+returns-then-version-clause-cause g c clean declared =
+    let start = state g.S.Store c.args.conn.now in
+    let front = subst (λ s. AreDeclared s → IsFront s) c.schema-2.ensures.value
+    (c.has_front.ensures.whole c.if-not-has_front.false) declared in
+    let laid = ap layout_in (sym c.schema-3.ensures.value) ∙ sym c.of-declared.ensures.layout ∙ c.in-Some.is in
+    inr (earlier-none_of_other start.now front c.in_ok-version.version c.in_ok-version.ensures.earlier
+    (c.in_ok-version.ensures.held clean front) c.in-Some.layout laid
+    (λ same. c.if-version.true (c.version.ensures ∙ same)))
+
+pub returns-then-version-clause-accepts : goal.returns-then-version-clause-accepts
+returns-then-version-clause-accepts g c clean layout office h =
+    let start = state g.S.Store c.args.conn.now in
+    let front = loaded-front_if_laid layout start.now.schema h.rows.schema in
+    let version = earlier-pos _ _
+    (c.in_ok-version.ensures.told clean front (pos (version_of layout))
+    (found_offices-own_version layout start.now office h.rows)) in
+    let laid = ap layout_in (sym c.schema-3.ensures.value) ∙ sym c.of-declared.ensures.layout ∙ c.in-Some.is in
+    let same = found_offices-same_layout layout c.in-Some.layout start.now h.rows.schema laid in
+    absurd (c.if-version.true (c.version.ensures ∙ ap version_of same ∙ version))
+
+pub returns-in-Ok-Some-clause-migrated : goal.returns-in-Ok-Some-clause-migrated
+returns-in-Ok-Some-clause-migrated g c clean declared layout is wide =
+    let start = state g.S.Store c.args.conn.now in
+    let one = state g.S.Store c.earlier_version.new.conn in
+    let two = state g.S.Store c.renewed_office.new.conn in
+    let at_one = statements-honest_before one two c.renewed_office.ensures.follows
+    (clean, c.in-Ok-Some.ensures.is_open clean) in
+    let same = c.earlier_version.ensures.reads.same at_one in
+    let found = c.in-Some.layout in
+    let office = c.in-Ok-Some.office in
+    let laid = ap layout_in (sym c.schema-3.ensures.value) ∙ sym c.of-declared.ensures.layout ∙ c.in-Some.is in
+    let layouts = found_offices-same_some found layout (sym laid ∙ is) in
+    let has = subst (λ s. AreDeclared s → s ≡ schema_of found) c.schema-3.ensures.value
+    (rw c.in-Some.is at c.of-declared.ensures.whole) declared in
+    let sound = (c.schema-3.ensures.live (c.earlier_version.ensures.reads.follows.was_open at_one.0 at_one.1)).0 in
+    let whole = loaded-laid_if_sound found start.now sound has (subst (λ l. AreWhole l start.now.trees) (sym layouts) wide) in
+    let here = subst (λ (d : Database). IsLaidOut found d) (sym same) whole in
+    let done = (rw c.in-Ok-Some.field-0-is at c.in-Ok-Some.ensures.renewed) clean here in
+    let kind = rw c.in-Ok-Some.field-0-is at c.in-Ok-Some.ensures.kind in
+    let held = subst (λ (d : Database). HoldsOfficeIn found d office) same done.0 in (
+      subst (λ l. IsOfVersion (version_of l) office) layouts kind,
+      subst (λ l. HoldsOfficeIn l start.now office) layouts held,
+      subst (λ l. IsSpelled (rows_at (version_of l) office)) layouts done.1,
+      done.2,
+    )
+
+pub returns-in-Ok-Some-clause-accepts : goal.returns-in-Ok-Some-clause-accepts
+returns-in-Ok-Some-clause-accepts g c clean layout office h =
+    let start = state g.S.Store c.args.conn.now in
+    let one = state g.S.Store c.earlier_version.new.conn in
+    let two = state g.S.Store c.renewed_office.new.conn in
+    let at_one = statements-honest_before one two c.renewed_office.ensures.follows
+    (clean, c.in-Ok-Some.ensures.is_open clean) in
+    let same = c.earlier_version.ensures.reads.same at_one in
+    let laid = ap layout_in (sym c.schema-3.ensures.value) ∙ sym c.of-declared.ensures.layout ∙ c.in-Some.is in
+    let layouts = found_offices-same_layout layout c.in-Some.layout start.now h.rows.schema laid in
+    let here = subst (λ l. HoldsEarlier l one.now office) (sym layouts)
+    (subst (λ (d : Database). HoldsEarlier layout d office) (sym same) h) in
+    let done = (rw c.in-Ok-Some.field-0-is at c.in-Ok-Some.ensures.found) clean office here.lawful here.spelled here.kind
+    here.rows in
+    (found_offices-same_some c.in-Ok-Some.office office done.0, done.1)
+
+pub returns-in-Ok-None-clause-cause : goal.returns-in-Ok-None-clause-cause
+returns-in-Ok-None-clause-cause g c clean declared =
+    let start = state g.S.Store c.args.conn.now in
+    let one = state g.S.Store c.earlier_version.new.conn in
+    let two = state g.S.Store c.renewed_office.new.conn in
+    let at_one = statements-honest_before one two c.renewed_office.ensures.follows
+    (clean, c.in-Ok-None.ensures.is_open clean) in
+    let same = c.earlier_version.ensures.reads.same at_one in
+    let front = subst (λ s. AreDeclared s → IsFront s) c.schema-2.ensures.value
+    (c.has_front.ensures.whole c.if-not-has_front.false) declared in
+    let laid = ap layout_in (sym c.schema-3.ensures.value) ∙ sym c.of-declared.ensures.layout ∙ c.in-Some.is in
+    inr (earlier-none_in_layout start.now front c.in_ok-version.version c.in_ok-version.ensures.earlier
+    (c.in_ok-version.ensures.held at_one.0 front) c.in-Some.layout laid (λ office h.
+    let here = subst (λ (d : Database). HoldsEarlier c.in-Some.layout d office) (sym same) h in
+    found_offices-none_some office
+    ((rw c.in-Ok-None.field-0-is at c.in-Ok-None.ensures.found) clean office here.lawful here.spelled here.kind
+    here.rows).0))
+
+pub returns-in-Ok-None-clause-accepts : goal.returns-in-Ok-None-clause-accepts
+returns-in-Ok-None-clause-accepts g c clean layout office h =
+    let start = state g.S.Store c.args.conn.now in
+    let one = state g.S.Store c.earlier_version.new.conn in
+    let two = state g.S.Store c.renewed_office.new.conn in
+    let at_one = statements-honest_before one two c.renewed_office.ensures.follows
+    (clean, c.in-Ok-None.ensures.is_open clean) in
+    let same = c.earlier_version.ensures.reads.same at_one in
+    let laid = ap layout_in (sym c.schema-3.ensures.value) ∙ sym c.of-declared.ensures.layout ∙ c.in-Some.is in
+    let layouts = found_offices-same_layout layout c.in-Some.layout start.now h.rows.schema laid in
+    let here = subst (λ l. HoldsEarlier l one.now office) (sym layouts)
+    (subst (λ (d : Database). HoldsEarlier layout d office) (sym same) h) in
+    absurd (found_offices-none_some office
+    ((rw c.in-Ok-None.field-0-is at c.in-Ok-None.ensures.found) clean office here.lawful here.spelled here.kind
+    here.rows).0)
+
+pub returns-then-not-layout_names_round-clause-taken :
+    goal.returns-then-not-layout_names_round-clause-taken
+returns-then-not-layout_names_round-clause-taken g c clean layout office h used =
+    let start = state g.S.Store c.args.conn.now in
+    absurd (true≢false (sym (earlier-front_named start.now.schema h.front) ∙ ap names_round (sym c.schema.ensures.value)
+    ∙ sym c.layout_names_round.ensures ∙ c.if-not-layout_names_round.true))
+
+pub returns-in_err-version-clause-taken : goal.returns-in_err-version-clause-taken
+returns-in_err-version-clause-taken g c clean layout office h used =
+    let start = state g.S.Store c.args.conn.now in
+    let p = err_from_is_err_and c.from_residual.result c.from_residual.ensures.1 in
+    let told = c.in_err-version.ensures.told clean h.front (pos (version_of layout))
+    (earlier-first_says layout start.now office h) in
+    rw (p.1, p.2) (inl (earlier-only_unavailable
+    (version_of layout) c.in_err-version.field-0.0 h.earlier c.in_err-version.ensures.number told))
+
+pub returns-then-version-clause-taken : goal.returns-then-version-clause-taken
+returns-then-version-clause-taken g c clean layout office h used =
+    let start = state g.S.Store c.args.conn.now in
+    let version = earlier-pos _ _
+    (c.in_ok-version.ensures.told clean h.front (pos (version_of layout))
+    (earlier-first_says layout start.now office h)) in
+    let here = subst (λ s. is_lacking_name_used (version_of layout) s ≡ true) (sym c.schema-3.ensures.value) used in
+    let takes = earlier-takes_used c.schema-3.result.now _ _ c.in_ok-version.version
+    (version_of layout) c.of-declared.ensures.grade c.of-declared.ensures.going version here in
+    absurd (true≢false (sym takes ∙ sym c.takes_name.ensures ∙ c.if-takes_name.false))
+
+pub returns-in-Ok-Some-clause-taken : goal.returns-in-Ok-Some-clause-taken
+returns-in-Ok-Some-clause-taken g c clean layout office h used =
+    let start = state g.S.Store c.args.conn.now in
+    let one = state g.S.Store c.earlier_version.new.conn in
+    let two = state g.S.Store c.renewed_office.new.conn in
+    let at_one = statements-honest_before one two c.renewed_office.ensures.follows
+    (clean, c.in-Ok-Some.ensures.is_open clean) in
+    let version = earlier-pos _ _
+    (c.in_ok-version.ensures.told at_one.0 h.front (pos (version_of layout))
+    (earlier-first_says layout start.now office h)) in
+    let here = subst (λ s. is_lacking_name_used (version_of layout) s ≡ true) (sym c.schema-3.ensures.value) used in
+    let takes = earlier-takes_used c.schema-3.result.now _ _ c.in_ok-version.version
+    (version_of layout) c.of-declared.ensures.grade c.of-declared.ensures.going version here in
+    absurd (true≢false (sym takes ∙ sym c.takes_name.ensures ∙ c.if-takes_name.false))
+
+pub returns-in-Ok-None-clause-taken : goal.returns-in-Ok-None-clause-taken
+returns-in-Ok-None-clause-taken g c clean layout office h used =
+    let start = state g.S.Store c.args.conn.now in
+    let one = state g.S.Store c.earlier_version.new.conn in
+    let two = state g.S.Store c.renewed_office.new.conn in
+    let at_one = statements-honest_before one two c.renewed_office.ensures.follows
+    (clean, c.in-Ok-None.ensures.is_open clean) in
+    let version = earlier-pos _ _
+    (c.in_ok-version.ensures.told at_one.0 h.front (pos (version_of layout))
+    (earlier-first_says layout start.now office h)) in
+    let here = subst (λ s. is_lacking_name_used (version_of layout) s ≡ true) (sym c.schema-3.ensures.value) used in
+    let takes = earlier-takes_used c.schema-3.result.now _ _ c.in_ok-version.version
+    (version_of layout) c.of-declared.ensures.grade c.of-declared.ensures.going version here in
+    absurd (true≢false (sym takes ∙ sym c.takes_name.ensures ∙ c.if-takes_name.false))

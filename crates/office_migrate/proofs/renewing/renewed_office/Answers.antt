@@ -1,0 +1,42 @@
+use Rattle.std.proofs.Common.{sym, ◌∙◌}
+use Rattle.sqlite.specs.Held.{state}
+use Rattle.office_rows.specs.Tables.{rows_at}
+use Rattle.office_tables.specs.Edits.{with_version}
+use Rattle.office_tables.specs.Layouts.{version_of}
+use Rattle.office_tables.proofs.statements.Steps.{statements-honest_before}
+use Rattle.office_load.proofs.found_offices.Following.{found_offices-still_has}
+use Rattle.office_migrate.proofs.renewing.renewed_office.Goals as goal
+
+pub returns-clause-renewed : goal.returns-clause-renewed
+unfolding rows_at with_version
+returns-clause-renewed g c clean laid =
+    let layout = c.args.layout in
+    let start = state g.S.Store c.args.conn.now in
+    let one = state g.S.Store c.held.new.conn in
+    let two = state g.S.Store c.renew_read.new.conn in
+    let at_one = statements-honest_before one two c.renew_read.ensures.follows
+    (clean, c.in_ok-renew_read.ensures.is_open clean) in
+    let rows = rows_at (version_of layout) c.in-Some.office in
+    let has = rw c.in-Some.is at c.in_ok-office.ensures.held at_one.0 laid in
+    let spelled = rw c.in-Some.is at c.in_ok-office.ensures.spelled at_one.0 laid in (
+      has,
+      spelled,
+      c.in_ok-renew_read.ensures.renewed clean rows
+          (found_offices-still_has layout start one rows c.held.ensures.reads at_one has) spelled,
+    )
+
+pub returns-clause-found : goal.returns-clause-found
+unfolding rows_at with_version
+returns-clause-found g c clean office lawful spelled kind holds =
+    let layout = c.args.layout in
+    let start = state g.S.Store c.args.conn.now in
+    let one = state g.S.Store c.held.new.conn in
+    let two = state g.S.Store c.renew_read.new.conn in
+    let at_one = statements-honest_before one two c.renew_read.ensures.follows
+    (clean, c.in_ok-renew_read.ensures.is_open clean) in
+    let rows = rows_at (version_of layout) office in
+    let is = c.in_ok-office.ensures.found at_one.0 office lawful spelled holds in (
+      sym c.in-Some.is ∙ is,
+      c.in_ok-renew_read.ensures.renewed clean rows
+          (found_offices-still_has layout start one rows c.held.ensures.reads at_one holds) spelled,
+    )

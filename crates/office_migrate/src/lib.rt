@@ -1,0 +1,9 @@
+//! Tables of another layout, made those that this program makes, with the same office in them.
+#![tactic(auto)]
+
+pub mod migrating;
+pub mod renewing;
+pub mod versions;
+
+pub use crate::migrating::{MigrateFault, migrate};
+pub use crate::renewing::renewed_office;

@@ -1,0 +1,181 @@
+//! Tables of an earlier version are made those of this one.
+ghost use Rattle.std.specs.Prelude.{◌≡◌, ◌⊎◌, false, pos, codes, Some, Err, IfErr, IfOk, IfSome, IsErrAnd, IsTrue, MatchResult, OnErr, OnOk};
+ghost use Rattle.sqlite.specs.Held.{state};
+ghost use Rattle.sqlite.specs.State.{HasCleanDisk};
+ghost use Rattle.office_state.specs.Office.Invariants.{IsLawful};
+ghost use Rattle.office_state.specs.declared.office.Office.{Office as Books};
+ghost use Rattle.office_rows.specs.Tables.{rows_at};
+ghost use Rattle.office_cells.specs.Spelled.{IsSpelled};
+ghost use Rattle.office_tables.specs.Layouts.{schema_of, version_of};
+ghost use Rattle.office_tables.specs.Steps.{Follows, IsHonest};
+ghost use Rattle.office_tables.specs.Tables.{HoldsOffice, HoldsOfficeIn};
+ghost use Rattle.office_tables.specs.declared.layouts.Layout.{Layout as AnyLayout};
+ghost use Rattle.office_load.specs.Finding.{AreDeclared, AreWhole, HoldsVersion, names_round};
+ghost use Rattle.office_load.specs.Layout.{layout_in};
+ghost use Rattle.office_load.specs.Reading.{OnlyReads};
+ghost use Rattle.office_migrate.specs.Causes.{HasCause, HoldsEarlier, IsAllowed, IsOfNumber};
+ghost use Rattle.office_migrate.specs.Causes.{SaysVersion, StandsFirst};
+ghost use Rattle.office_load.specs.Front.{IsFront, has_front};
+ghost use Rattle.office_migrate.specs.Names.{is_lacking_name_used, takes_name};
+ghost use Rattle.office_migrate.specs.Versions.{IsEarlier, IsEarlierLayout, IsNoEarlier, IsOfVersion};
+ghost use Rattle.sqlite_catalog.specs.Change.{is_used};
+
+use crate::renewing::renewed_office;
+use office_load::front::has_front;
+use office_load::layout::{layout_in, layout_names_round};
+use office_load::versions::version_held;
+use office_state::Office;
+use office_tables::layouts::Layout;
+use sqlite::{Alter, Connection};
+use sqlite_catalog::layout::is_used;
+use sqlite_schema::schema::Schema;
+use std::alloc::Global;
+
+/// Why no tables were made anew.
+#[derive(Clone, Copy, Debug, PartialEq, Eq, Drop)]
+pub enum MigrateFault {
+    /// The database or memory did not serve, or the tables of an office do not stand in a layout that is known.
+    Unavailable,
+    /// The row of the round holds this version, which is no earlier one.
+    OtherVersion(i64),
+    /// Nothing has the name of the table of the round, or the tables are the rows of no office of an earlier version.
+    NotAnOffice,
+    /// Something has the name of a table that the earlier version lacks.
+    AlreadyThere,
+}
+
+/// The office that tables of an earlier version hold, in tables of the version of this program from then on, with no leavers, and
+/// with no grades but those that it had. All in one transaction.
+///
+/// # Errors
+///
+/// `NotAnOffice` where nothing has the name of the table of the round. Then `OtherVersion`, where its row holds another version
+/// than 1 and 2; `AlreadyThere`, where something has the name of a table that its version lacks; `NotAnOffice`, where the
+/// tables are the rows of no office of that version. Else `Unavailable`, which may come in place of each of these from the database or
+/// from memory, and where the tables stand in no layout that is known. The tables are then as they were, unless a fault shut
+/// the connection or the disk did not return what was written.
+pub fn migrate<S: Alter>(alloc: Global, conn: &mut Connection<S>) -> Result<Office, MigrateFault>
+    requires { conn.old.in_transaction ≡ false }
+    ensures outside { conn.new.in_transaction ≡ false }
+    ensures follows { Follows (state S.Store conn.old) (state S.Store conn.new) }
+    ensures is_open { OnOk result (HasCleanDisk (state S.Store conn.new)
+        → IsTrue (state S.Store conn.new).is_open) }
+    ensures lawful { IfOk result IsLawful }
+    ensures laid { OnOk result (IsEarlierLayout (layout_in (state S.Store conn.old).now.schema)) }
+    ensures migrated { IfOk result (λ office. HasCleanDisk (state S.Store conn.new)
+        → AreDeclared (state S.Store conn.old).now.schema → (layout : AnyLayout)
+        → layout_in (state S.Store conn.old).now.schema ≡ Some layout
+        → AreWhole layout (state S.Store conn.old).now.trees
+        → IsOfVersion (version_of layout) office
+        × HoldsOfficeIn layout (state S.Store conn.old).now office
+        × IsSpelled (rows_at (version_of layout) office)
+        × HoldsOffice (state S.Store conn.new).now office) }
+    ensures undone { OnErr result (IsHonest (state S.Store conn.new)
+        → (state S.Store conn.new).now ≡ (state S.Store conn.old).now) }
+    ensures cause { IfErr result (λ fault. HasCleanDisk (state S.Store conn.new)
+        → AreDeclared (state S.Store conn.old).now.schema
+        → HasCause (state S.Store conn.old).now fault) }
+    ensures allowed { IfErr result (IsAllowed (state S.Store conn.old).now.schema) }
+    ensures absent { names_round (state S.Store conn.old).now.schema ≡ false
+        → (result ≡ Err MigrateFault.NotAnOffice) × (conn.new ≡ conn.old) }
+    ensures unread { has_front (state S.Store conn.old).now.schema ≡ false → conn.new ≡ conn.old }
+    ensures accepts { HasCleanDisk (state S.Store conn.new) → (layout : AnyLayout) → (office : Books)
+        → HoldsEarlier layout (state S.Store conn.old).now office
+        → MatchResult result
+        (λ found. (found ≡ office) × HoldsOffice (state S.Store conn.new).now office)
+        (λ fault. fault ≡ MigrateFault.Unavailable) }
+    ensures taken { HasCleanDisk (state S.Store conn.new) → (layout : AnyLayout) → (office : Books)
+        → StandsFirst layout (state S.Store conn.old).now office
+        → IsTrue (is_lacking_name_used (version_of layout) (state S.Store conn.old).now.schema)
+        → IsErrAnd result (λ fault.
+        (fault ≡ MigrateFault.Unavailable) ⊎ (fault ≡ MigrateFault.AlreadyThere)) }
+    ensures other { HasCleanDisk (state S.Store conn.new) → (version : _)
+        → SaysVersion (state S.Store conn.old).now version → IsNoEarlier version
+        → IsErrAnd result (λ fault.
+        (fault ≡ MigrateFault.Unavailable) ⊎ (fault ≡ MigrateFault.OtherVersion version)) }
+{
+    if !layout_names_round(conn.schema()) {
+        return Err(MigrateFault::NotAnOffice);
+    }
+    if !has_front(conn.schema()) {
+        return Err(MigrateFault::Unavailable);
+    }
+    let declared = Declared::of(conn.schema());
+    let version = earlier_version(conn)?;
+    if declared.takes_name(version) {
+        return Err(MigrateFault::AlreadyThere);
+    }
+    let Some(layout) = declared.layout else {
+        return Err(MigrateFault::Unavailable);
+    };
+    if layout.version() != version {
+        return Err(MigrateFault::NotAnOffice);
+    }
+    match renewed_office(alloc, conn, layout) {
+        Ok(Some(office)) => Ok(office),
+        Ok(None) => Err(MigrateFault::NotAnOffice),
+        Err(_) => Err(MigrateFault::Unavailable),
+    }
+}
+
+// What has to be known of what is declared, before anything is read.
+#[derive(Clone, Copy, Drop)]
+struct Declared {
+    // Whether something has the name of the table of grades, and of that of leavers.
+    grade: bool,
+    going: bool,
+    layout: Option<Layout>,
+}
+
+impl Declared {
+    fn of(schema: &Schema) -> Declared
+        ensures grade { result.grade ≡ is_used schema.now (codes "grade") }
+        ensures going { result.going ≡ is_used schema.now (codes "going") }
+        ensures layout { result.layout ≡ layout_in schema.now }
+        ensures whole { IfSome result.layout (λ layout. AreDeclared schema.now
+            → schema.now ≡ schema_of layout) }
+    {
+        Declared {
+            grade: is_used(schema, b"grade"),
+            going: is_used(schema, b"going"),
+            layout: layout_in(schema),
+        }
+    }
+
+    // Whether something has the name of a table that tables of this version lack.
+    fn takes_name(&self, version: u16) -> bool
+        ensures { result ≡ takes_name self.now.grade self.now.going version }
+    {
+        version < 2 && self.grade || self.going
+    }
+}
+
+// The version that the row of the round holds, which is an earlier one.
+fn earlier_version<S: Alter>(conn: &mut Connection<S>) -> Result<u16, MigrateFault>
+    requires { conn.old.in_transaction ≡ false }
+    ensures outside { conn.new.in_transaction ≡ false }
+    ensures reads { OnlyReads (state S.Store conn.old) (state S.Store conn.new) }
+    ensures is_open { OnOk result (HasCleanDisk (state S.Store conn.new)
+        → IsTrue (state S.Store conn.new).is_open) }
+    ensures earlier { IfOk result IsEarlier }
+    ensures held { IfOk result (λ version. HasCleanDisk (state S.Store conn.new)
+        → IsFront (state S.Store conn.old).now.schema
+        → HoldsVersion (state S.Store conn.old).now (pos version)) }
+    ensures cause { IfErr result (λ fault. HasCleanDisk (state S.Store conn.new)
+        → IsFront (state S.Store conn.old).now.schema
+        → HasCause (state S.Store conn.old).now fault) }
+    ensures number { IfErr result IsOfNumber }
+    ensures told { HasCleanDisk (state S.Store conn.new)
+        → IsFront (state S.Store conn.old).now.schema → (version : _)
+        → HoldsVersion (state S.Store conn.old).now version → MatchResult result
+        (λ found. version ≡ pos found)
+        (λ fault. (fault ≡ MigrateFault.Unavailable) ⊎ (fault ≡ MigrateFault.OtherVersion version)) }
+{
+    match version_held(conn) {
+        Ok(Some(1)) => Ok(1),
+        Ok(Some(2)) => Ok(2),
+        Ok(Some(version)) => Err(MigrateFault::OtherVersion(version)),
+        Ok(None) => Err(MigrateFault::NotAnOffice),
+        Err(_) => Err(MigrateFault::Unavailable),
+    }
+}

@@ -1,0 +1,71 @@
+//! What an office of an earlier version may hold.
+ghost use Rattle.std.specs.Prelude.{◌≡◌};
+ghost use Rattle.std.specs.Bool.{Decides};
+ghost use Rattle.std.specs.FinMap as map;
+ghost use Rattle.std.specs.List.{list_all};
+ghost use Rattle.office_migrate.specs.Versions.{IsOfVersion, LacksGrades, LacksLeavers};
+ghost use Rattle.office_migrate.specs.Versions.{do_all_arrive, is_no_grades};
+
+use office_state::{KeptList, Office, RoundMoves};
+use room_types::ListKind;
+
+/// Whether the office may be one of this version: grades, and lists of them, came with version 2, and leavers with version 3. It
+/// takes no memory.
+pub fn is_of_version(office: &Office, version: u16) -> bool
+    ensures { Decides result (IsOfVersion version office.now) }
+{
+    if version < 2 && !lacks_grades(office) {
+        return false;
+    }
+    version >= 3 || lacks_leavers(office)
+}
+
+// Whether nobody has a grade, and no kept list is one of grades.
+fn lacks_grades(office: &Office) -> bool
+    ensures { Decides result (LacksGrades office.now) }
+{
+    if office.grades.len() != 0 {
+        return false;
+    }
+    are_no_lists_grades(office)
+}
+
+fn are_no_lists_grades(office: &Office) -> bool
+    ensures { result ≡ list_all (λ e. is_no_grades e.1) (map.entries office.now.lists) }
+{
+    office.lists.iter().all(|(_, kept)| is_no_grades(kept))
+}
+
+fn is_no_grades(kept: &KeptList) -> bool
+    ensures { result ≡ is_no_grades kept.now }
+{
+    match kept.kind {
+        ListKind::Grades => false,
+        _ => true,
+    }
+}
+
+// Whether nobody leaves, and each move goes into a room.
+fn lacks_leavers(office: &Office) -> bool
+    ensures { Decides result (LacksLeavers office.now) }
+{
+    if office.going.len() != 0 {
+        return false;
+    }
+    do_all_arrive(office)
+}
+
+fn do_all_arrive(office: &Office) -> bool
+    ensures { result ≡ list_all (λ e. do_all_arrive e.1) (map.entries office.now.moves) }
+{
+    office
+        .moves
+        .iter()
+        .all(|(_, moves)| do_movers_arrive(moves))
+}
+
+fn do_movers_arrive(moves: &RoundMoves) -> bool
+    ensures { result ≡ do_all_arrive moves.now }
+{
+    moves.by_person.iter().all(|(_, moved)| moved.to.is_some())
+}

@@ -1,0 +1,47 @@
+-- A set is told by its keys.
+use Rattle.std.proofs.Common.{◌≡◌, List, [], ◌∷◌, map, Option, Some, None, refl, sym, ap, ◌∙◌, subst, IsPermutation}
+use Rattle.std.specs.Prelude.{reverse}
+use Rattle.std.specs.Cmp.Lexicographic.{nat_list_cmp_total}
+use Rattle.std.specs.FinMap as maps
+use Rattle.std.proofs.lemmas.List.Sorted.{IsPermutation-map}
+use Rattle.room_types.specs.Texts.{Text, TextMap}
+use Rattle.room_types.proofs.maps.TextMaps.{maps-exact_texts}
+use Rattle.room_types.proofs.maps.Entries.{maps-one_map}
+use Rattle.office_rows.specs.Inner.Filled.{filled, key_entry}
+use Rattle.office_rows.specs.Reads.{Reads, IsAny}
+use Rattle.office_rows.specs.Rows.{key_rows}
+use Rattle.office_rows.proofs.rows_read.Filling.{rows_read-filled-reads}
+
+-- the entries are told by their keys
+rows_read-entries_of_keys : (es : List (Text × Unit {0})) → map key_entry (map (λ e. e.0) es) ≡ es
+rows_read-entries_of_keys [] = refl
+rows_read-entries_of_keys (e ∷ es) = ap (λ l. e ∷ l) (rows_read-entries_of_keys es)
+
+rows_read-keys_of_entries : (keys : List Text) → map (λ e. e.0) (map key_entry keys) ≡ keys
+rows_read-keys_of_entries [] = refl
+rows_read-keys_of_entries (k ∷ keys) = ap (λ l. k ∷ l) (rows_read-keys_of_entries keys)
+
+rows_read-entries_moved : (m : TextMap (Unit {0})) (rows : List Text) → IsPermutation (key_rows m) rows → IsPermutation (maps.entries m) (map key_entry rows)
+rows_read-entries_moved m rows same = subst (λ l. IsPermutation l (map key_entry rows)) (rows_read-entries_of_keys (maps.entries m)) (IsPermutation-map key_entry _ _ same)
+
+rows_read-keys_moved : (m : TextMap (Unit {0})) (rows : List Text) → IsPermutation (maps.entries m) (map key_entry rows) → IsPermutation (key_rows m) rows
+rows_read-keys_moved m rows same = subst (IsPermutation (key_rows m)) (rows_read-keys_of_entries rows) (IsPermutation-map (λ e. e.0) _ _ same)
+
+rows_read-keys_if_entries : (rows : List Text) (found : Option (TextMap (Unit {0}))) → Reads IsAny maps.entries (map key_entry rows) found → Reads IsAny key_rows rows found
+rows_read-keys_if_entries rows None reads = record {
+  told = tt;
+  only = λ m any same. reads.only m tt (rows_read-entries_moved m rows same);
+}
+rows_read-keys_if_entries rows (Some set) reads = record {
+  told = (tt, rows_read-keys_moved set rows reads.told.1);
+  only = λ m any same. reads.only m tt (rows_read-entries_moved m rows same);
+}
+
+-- filling a set undoes what lists its keys
+pub rows_read-keys_filled : (rows : List Text) → Reads IsAny key_rows rows (filled maps.empty (reverse (map key_entry rows)))
+rows_read-keys_filled rows = rows_read-keys_if_entries rows _ (rows_read-filled-reads (map key_entry rows))
+
+-- sets with the same keys are one
+pub rows_read-one_set : (m n : TextMap (Unit {0})) → IsPermutation (key_rows m) (key_rows n) → m ≡ n
+rows_read-one_set m n same =
+    maps-one_map nat_list_cmp_total maps-exact_texts m n (subst (IsPermutation (maps.entries m)) (rows_read-entries_of_keys (maps.entries n)) (rows_read-entries_moved m (key_rows n) same))

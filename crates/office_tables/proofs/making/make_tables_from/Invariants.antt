@@ -1,0 +1,13 @@
+use Rattle.std.proofs.Common.{◌≡◌}
+use Rattle.sqlite.specs.Held.{state}
+use Rattle.office_tables.specs.Declaring.{FirstStand}
+use Rattle.office_tables.specs.Steps.{StaysInside}
+use Rattle.office_tables.proofs.making.make_tables_from.Given as goal
+
+-- those before this place stand
+abbrev pub invariant-loop-place : goal.invariant-loop-place
+invariant-loop-place g l = record {
+  same_reference : l.tx.conn.ghost_name ≡ l.fn.tx.conn.ghost_name;
+  stands : FirstStand l.first l.place l.first (state g.S.Store l.fn.tx.conn.now) (state g.S.Store l.tx.conn.now);
+  inside : StaysInside (state g.S.Store l.fn.tx.conn.now) (state g.S.Store l.tx.conn.now);
+}

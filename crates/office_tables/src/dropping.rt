@@ -1,0 +1,97 @@
+//! The tables of an office are dropped, the last one first.
+ghost use Rattle.std.specs.Prelude.{◌≡◌, ◌<◌, ◌≤◌, OnOk, OnErr};
+ghost use Rattle.sqlite.specs.Held.{state};
+ghost use Rattle.office_tables.specs.Declaring.{DropsTooFew, LeftStand};
+ghost use Rattle.office_tables.specs.Layouts.{drop_text_of, table_count};
+ghost use Rattle.office_tables.specs.Steps.{StaysInside};
+ghost use Rattle.office_tables.specs.declared.layouts.Layout.TheVariants.{Documented, EarlierFirst, Own};
+
+use crate::layouts::Layout;
+use crate::running::run;
+use sqlite::{Alter, Error, Transaction};
+
+/// Drops the last tables of the layout, with their rows, until so many are left.
+pub(crate) fn drop_tables_to<S: Alter>(
+    tx: &mut Transaction<'_, S>,
+    layout: Layout,
+    left: usize,
+) -> Result<(), Error>
+    requires low { 3 ≤ left }
+    requires high { left ≤ table_count layout }
+    ensures same_reference { tx.new.conn.ghost_name ≡ tx.old.conn.ghost_name }
+    ensures made { OnOk result
+        (LeftStand layout left (state S.Store tx.old.conn.now) (state S.Store tx.new.conn.now)) }
+    ensures undone { OnErr result
+        (DropsTooFew layout left (state S.Store tx.old.conn.now) (state S.Store tx.new.conn.now)) }
+    ensures inside { StaysInside (state S.Store tx.old.conn.now) (state S.Store tx.new.conn.now) }
+{
+    let count = layout.tables();
+    for step in 0..count - left {
+        run(tx, table_drop(layout, count - 1 - step), &[])?;
+    }
+    Ok(())
+}
+
+// What drops the table at this place, behind the first three.
+fn table_drop(layout: Layout, place: usize) -> &'static str
+    requires low { 3 ≤ place }
+    requires high { place < table_count layout }
+    ensures { result.now ≡ drop_text_of layout place }
+{
+    match layout {
+        Layout::Own => own_table_drop(place),
+        Layout::Documented => documented_table_drop(place),
+        Layout::DocumentedSecond => documented_table_drop(place),
+        Layout::DocumentedFirst => documented_table_drop(place),
+        Layout::EarlierFirst => earlier_table_drop(place),
+    }
+}
+
+// The same in the order in which this program makes the tables.
+fn own_table_drop(place: usize) -> &'static str
+    requires low { 3 ≤ place }
+    requires high { place < 10 }
+    ensures { result.now ≡ drop_text_of Own place }
+{
+    match place {
+        3 => "DROP TABLE move",
+        4 => "DROP TABLE list",
+        5 => "DROP TABLE grade",
+        6 => "DROP TABLE word",
+        7 => "DROP TABLE result",
+        8 => "DROP TABLE choice",
+        _ => "DROP TABLE going",
+    }
+}
+
+// The same in the documented order.
+fn documented_table_drop(place: usize) -> &'static str
+    requires low { 3 ≤ place }
+    requires high { place < 10 }
+    ensures { result.now ≡ drop_text_of Documented place }
+{
+    match place {
+        3 => "DROP TABLE choice",
+        4 => "DROP TABLE word",
+        5 => "DROP TABLE result",
+        6 => "DROP TABLE move",
+        7 => "DROP TABLE list",
+        8 => "DROP TABLE grade",
+        _ => "DROP TABLE going",
+    }
+}
+
+// The same in the order in which this program made version 1.
+fn earlier_table_drop(place: usize) -> &'static str
+    requires low { 3 ≤ place }
+    requires high { place < 8 }
+    ensures { result.now ≡ drop_text_of EarlierFirst place }
+{
+    match place {
+        3 => "DROP TABLE move",
+        4 => "DROP TABLE list",
+        5 => "DROP TABLE word",
+        6 => "DROP TABLE result",
+        _ => "DROP TABLE choice",
+    }
+}

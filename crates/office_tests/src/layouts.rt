@@ -1,0 +1,64 @@
+//! The documented statements that make the tables of an office, and the orders in which such tables are made.
+use office_tables::layouts::Layout;
+use sqlite::{Connection, MemStore};
+use std::alloc::Global;
+use std::process::Abort;
+
+const ROOM: &str = "CREATE TABLE room(code TEXT PRIMARY KEY NOT NULL,
+  shut INTEGER NOT NULL CHECK(shut IN (0, 1))) STRICT;";
+
+const PERSON: &str = "CREATE TABLE person(id TEXT PRIMARY KEY NOT NULL, name TEXT NOT NULL,
+  passkey TEXT NOT NULL UNIQUE, home TEXT UNIQUE REFERENCES room(code),
+  withdrawn INTEGER NOT NULL CHECK(withdrawn IN (0, 1))) STRICT;";
+
+const ROUND: &str = "CREATE TABLE round(one INTEGER PRIMARY KEY CHECK(one = 1),
+  version INTEGER NOT NULL, number INTEGER NOT NULL, phase TEXT NOT NULL) STRICT;";
+
+const CHOICE: &str = "CREATE TABLE choice(person TEXT NOT NULL REFERENCES person(id),
+  place INTEGER NOT NULL, room TEXT NOT NULL REFERENCES room(code),
+  PRIMARY KEY(person, place), UNIQUE(person, room)) STRICT;";
+
+const WORD: &str = "CREATE TABLE word(person TEXT PRIMARY KEY NOT NULL REFERENCES person(id),
+  hex TEXT NOT NULL) STRICT;";
+
+const RESULT: &str = "CREATE TABLE result(person TEXT PRIMARY KEY NOT NULL REFERENCES person(id),
+  room TEXT UNIQUE REFERENCES room(code)) STRICT;";
+
+const MOVE: &str = "CREATE TABLE move(round INTEGER NOT NULL, person TEXT NOT NULL,
+  from_room TEXT, to_room TEXT, wave INTEGER, PRIMARY KEY(round, person)) STRICT;";
+
+const LIST: &str = "CREATE TABLE list(label TEXT PRIMARY KEY NOT NULL, kind TEXT NOT NULL,
+  body BLOB NOT NULL, added INTEGER NOT NULL) STRICT;";
+
+const GRADE: &str = "CREATE TABLE grade(person TEXT PRIMARY KEY NOT NULL REFERENCES person(id),
+  value INTEGER NOT NULL CHECK(value IN (1,2,3,4,5,6,7,8,9))) STRICT;";
+
+const GOING: &str =
+    "CREATE TABLE going(person TEXT PRIMARY KEY NOT NULL REFERENCES person(id)) STRICT;";
+
+// The order in which a new office has its tables.
+const OWN: [&str; 10] = [
+    ROOM, PERSON, ROUND, MOVE, LIST, GRADE, WORD, RESULT, CHOICE, GOING,
+];
+
+// The documented order. The first nine of these are version 2, and the first eight version 1.
+const DOCUMENTED: [&str; 10] = [
+    ROOM, PERSON, ROUND, CHOICE, WORD, RESULT, MOVE, LIST, GRADE, GOING,
+];
+
+// The other order in which version 1 was made.
+const EARLIER: [&str; 8] = [ROOM, PERSON, ROUND, MOVE, LIST, WORD, RESULT, CHOICE];
+
+/// A database in memory with the tables of this layout, without rows.
+pub fn tables_made(rt: &impl Abort, alloc: Global, layout: Layout) -> Connection<MemStore> {
+    let tables = match layout {
+        Layout::Own => OWN.as_slice(),
+        Layout::EarlierFirst => EARLIER.as_slice(),
+        _ => DOCUMENTED.as_slice(),
+    };
+    let mut conn = Connection::open_in_memory(alloc).expect(rt, "memory");
+    for table in tables.iter().take(layout.tables()) {
+        conn.execute_batch(table).expect(rt, table);
+    }
+    conn
+}

@@ -1,0 +1,366 @@
+//! Desks over the tables of earlier versions, and over tables in the documented order, with ample memory.
+use super::adopting::{adopted, tried_after};
+use super::importing::{says, says_of_lists};
+use crate::asserting::assert_same;
+use crate::building::lines_asked;
+use crate::layouts::tables_made;
+use office_store::{Back, Desk, DeskFault};
+use office_tables::layouts::Layout;
+use room_types::ListKind;
+use sqlite::{Connection, MemStore};
+use std::alloc::Global;
+use std::process::Abort;
+
+// T1 and T2 live in H1 and H2, and ask for each other's room; N comes last and asks for H1 and V.
+const ROWS: &str = "INSERT INTO room VALUES ('H1', 0), ('H2', 0), ('V', 0);
+INSERT INTO person VALUES ('T2', 'Tom Tao', 'key00000000000t2', 'H2', 0);
+INSERT INTO person VALUES ('T1', 'Tim Tan', 'key00000000000t1', 'H1', 0);
+INSERT INTO person VALUES ('N', 'Ned Nye', 'key000000000000n', NULL, 0);
+INSERT INTO round VALUES (1, 1, 1, 'drawn');
+INSERT INTO choice VALUES ('T1', 0, 'H2'), ('N', 1, 'V'), ('N', 0, 'H1'), ('T2', 0, 'H1');
+INSERT INTO word VALUES ('T1', '0000000000000001'), ('T2', '0000000000000002');
+INSERT INTO word VALUES ('N', '0000000000000003');
+INSERT INTO list VALUES ('r-1', 'rooms', x'726f6f6d0a56', 1);";
+
+// The same with a grade, and with a list of grades that added nobody's.
+const GRADES: &str = "UPDATE round SET version = 2; INSERT INTO grade VALUES ('N', 4);
+INSERT INTO list VALUES ('g-1', 'grades', x'706572736f6e2c67726164650a', 0);";
+
+const HEADER: &[u8] = b"person,grade\n";
+
+// Statements that bring the round into a phase, lines that are told there, and the answers.
+const PHASES: [(&str, &str, &str); 7] = [
+    (
+        "DELETE FROM word; DELETE FROM choice; UPDATE round SET number = 0, phase = 'idle'",
+        "round\nopen\nround\n",
+        "round 0 idle people 3 withdrawn 0\nround 1 open\nround 1 open people 3 withdrawn 0\n",
+    ),
+    (
+        "DELETE FROM word; UPDATE round SET phase = 'open';
+        UPDATE person SET withdrawn = 1 WHERE id = 'N'",
+        "round\ngoing T2\nchoose T2 H1\nround\nclose\ndraw 0000000000000009\nrun\nresults\n",
+        "round 1 open people 3 withdrawn 1\ngoing\nrefused 24 Going\n\
+        round 1 open people 3 withdrawn 1 going 1\nclosed 1\ndrawn 1\nran 1\n\
+        person        room\nT1            H2\n",
+    ),
+    (
+        "DELETE FROM word; UPDATE round SET phase = 'closed'",
+        "draw 0000000000000003 0000000000000001 0000000000000002\nrun\nresults\n",
+        "drawn 3\nran 3\nperson        room\nN             V\nT1            H2\nT2            H1\n",
+    ),
+    (
+        "UPDATE round SET phase = 'drawn'",
+        "run\nresults\npublish\nsettle\nmoves 1\n",
+        "ran 3\nperson        room\nN             V\nT1            H2\nT2            H1\n\
+        published 3\nsettled 3\nwave  person        from      to\n\
+        1     N             none      V\nswap  T1            H1        H2\nswap  T2            H2        H1\n",
+    ),
+    (
+        "INSERT INTO result VALUES ('T2', 'H1'), ('T1', 'H2'), ('N', 'V');
+        UPDATE round SET phase = 'ran'",
+        "results\nwhatif N V\ncancel\n",
+        "person        room\nN             V\nT1            H2\nT2            H1\nwould get V\ncancelled\n",
+    ),
+    (
+        "INSERT INTO result VALUES ('T2', 'H1'), ('T1', 'H2'), ('N', 'V');
+        UPDATE round SET phase = 'published'",
+        "me key00000000000t1\nsettle\npeople\n",
+        "person T1\nname Tim Tan\nhome H1\nround 1 published\nchoices H2\nwithdrawn no\ngoing no\n\
+        result H2\nsettled 3\nperson        home      name\nN             V         Ned Nye\n\
+        T1            H2        Tim Tan\nT2            H1        Tom Tao\n",
+    ),
+    (
+        "DELETE FROM word; DELETE FROM choice; UPDATE round SET phase = 'idle';
+        UPDATE person SET home = NULL; UPDATE person SET home = 'H2' WHERE id = 'T1';
+        UPDATE person SET home = 'H1' WHERE id = 'T2'; UPDATE person SET home = 'V' WHERE id = 'N';
+        INSERT INTO move VALUES (1, 'T2', 'H2', 'H1', NULL), (1, 'N', NULL, 'V', 1);
+        INSERT INTO move VALUES (1, 'T1', 'H1', 'H2', NULL)",
+        "moves 1\nrooms\nopen\n",
+        "wave  person        from      to\n1     N             none      V\n\
+        swap  T1            H1        H2\nswap  T2            H2        H1\n\
+        room      state     tenant\nH1        occupied  T2\nH2        occupied  T1\n\
+        V         occupied  N\nround 2 open\n",
+    ),
+];
+
+// Statements, each with one that takes it back, and the fault in between: those in tables of either version, and of one.
+const FAULTS: [(&str, &str, DeskFault); 7] = [
+    (
+        "UPDATE round SET phase = 'open'",
+        "UPDATE round SET phase = 'drawn'",
+        DeskFault::NotAnOffice,
+    ),
+    (
+        "DELETE FROM word WHERE person = 'N'",
+        "INSERT INTO word VALUES ('N', '0000000000000003')",
+        DeskFault::NotAnOffice,
+    ),
+    (
+        "UPDATE word SET hex = '000000000000000A' WHERE person = 'N'",
+        "UPDATE word SET hex = '0000000000000003' WHERE person = 'N'",
+        DeskFault::NotAnOffice,
+    ),
+    (
+        "UPDATE round SET number = 2; INSERT INTO move VALUES (1, 'X', 'H1', NULL, 0)",
+        "DELETE FROM move; UPDATE round SET number = 1",
+        DeskFault::NotAnOffice,
+    ),
+    (
+        "CREATE TABLE note(text TEXT)",
+        "DROP TABLE note",
+        DeskFault::Unavailable,
+    ),
+    (
+        "CREATE VIEW note AS SELECT 1 AS one",
+        "DROP VIEW note",
+        DeskFault::Unavailable,
+    ),
+    (
+        "CREATE TABLE Going(text TEXT)",
+        "DROP TABLE Going",
+        DeskFault::AlreadyThere,
+    ),
+];
+
+const FIRST_FAULTS: [(&str, &str, DeskFault); 5] = [
+    (
+        "UPDATE round SET version = 9",
+        "UPDATE round SET version = 1",
+        DeskFault::OtherVersion(9),
+    ),
+    (
+        "UPDATE round SET version = 3",
+        "UPDATE round SET version = 1",
+        DeskFault::OtherVersion(3),
+    ),
+    (
+        "UPDATE round SET version = 2",
+        "UPDATE round SET version = 1",
+        DeskFault::NotAnOffice,
+    ),
+    (
+        "INSERT INTO list VALUES ('g-1', 'grades', x'706572736f6e2c67726164650a', 0)",
+        "DELETE FROM list WHERE label = 'g-1'",
+        DeskFault::NotAnOffice,
+    ),
+    (
+        "CREATE TABLE grade(text TEXT)",
+        "DROP TABLE grade",
+        DeskFault::AlreadyThere,
+    ),
+];
+
+const SECOND_FAULTS: [(&str, &str, DeskFault); 3] = [
+    (
+        "UPDATE round SET version = 0",
+        "UPDATE round SET version = 2",
+        DeskFault::OtherVersion(0),
+    ),
+    (
+        "UPDATE round SET version = 3",
+        "UPDATE round SET version = 2",
+        DeskFault::OtherVersion(3),
+    ),
+    (
+        "UPDATE grade SET value = 5; UPDATE round SET number = 0",
+        "UPDATE grade SET value = 4; UPDATE round SET number = 1",
+        DeskFault::NotAnOffice,
+    ),
+];
+
+const EARLIER: [Layout; 3] = [
+    Layout::DocumentedFirst,
+    Layout::EarlierFirst,
+    Layout::DocumentedSecond,
+];
+
+// The tables in this layout, of an earlier version, with the rows above, after these statements.
+fn earlier_made(
+    rt: &impl Abort,
+    alloc: Global,
+    layout: Layout,
+    statements: &str,
+) -> Connection<MemStore> {
+    let mut conn = tables_made(rt, alloc, layout);
+    conn.execute_batch(ROWS).expect(rt, ROWS);
+    if layout.has_grades() {
+        conn.execute_batch(GRADES).expect(rt, GRADES);
+    }
+    conn.execute_batch(statements).expect(rt, statements);
+    conn
+}
+
+// Why no desk migrates the database, or none if one does, and the connection.
+fn tried(alloc: Global, conn: Connection<MemStore>) -> (Option<DeskFault>, Connection<MemStore>) {
+    let outside = conn.is_autocommit();
+    if !outside {
+        return (Some(DeskFault::Unavailable), conn);
+    }
+    match Desk::migrate(alloc, conn) {
+        Ok(desk) => (None, desk.release()),
+        Err(Back { fault, connection }) => (Some(fault), connection),
+    }
+}
+
+// The connection, on which the statements have run, after which no desk migrated it for this fault.
+fn refused_after(
+    rt: &impl Abort,
+    alloc: Global,
+    mut conn: Connection<MemStore>,
+    statements: &str,
+    wanted: DeskFault,
+) -> Connection<MemStore> {
+    conn.execute_batch(statements).expect(rt, statements);
+    let (fault, conn) = tried(alloc, conn);
+    assert_same!(rt; fault, Some(wanted), statements);
+    conn
+}
+
+// The desk that migrates the database.
+fn migrated(rt: &impl Abort, alloc: Global, conn: Connection<MemStore>) -> Desk<MemStore> {
+    let outside = conn.is_autocommit();
+    assert!(rt; outside);
+    match Desk::migrate(alloc, conn) {
+        Ok(desk) => desk,
+        Err(_) => panic!(rt; "no desk migrates the database"),
+    }
+}
+
+// That the desk has these answers to the lines.
+fn tells(rt: &impl Abort, alloc: Global, desk: &mut Desk<MemStore>, lines: &str, told: &str) {
+    let requests = lines_asked(rt, alloc, lines);
+    says(rt, alloc, desk, &requests, told);
+}
+
+// Before, no desk adopts the tables. A desk migrates them and goes on, another one adopts them then, and none migrates them
+// again.
+fn is_migrated(
+    rt: &impl Abort,
+    alloc: Global,
+    layout: Layout,
+    (statements, lines, told): (&str, &str, &str),
+) {
+    let version = i64::from(layout.version());
+    let conn = earlier_made(rt, alloc, layout, statements);
+    let conn = tried_after(
+        rt,
+        alloc,
+        conn,
+        statements_of_nothing(),
+        Some(DeskFault::OtherVersion(version)),
+    );
+    let mut desk = migrated(rt, alloc, conn);
+    tells(rt, alloc, &mut desk, lines, told);
+    let desk = adopted(rt, alloc, desk);
+    let (fault, _) = tried(alloc, desk.release());
+    assert_same!(rt; fault, Some(DeskFault::OtherVersion(3)));
+}
+
+// A statement that changes nothing.
+fn statements_of_nothing() -> &'static str {
+    "DELETE FROM word WHERE person = 'X'"
+}
+
+#[test]
+fn migrates_each_phase(rt: HostRuntime) {
+    for layout in EARLIER {
+        for phase in PHASES {
+            is_migrated(&rt, rt.alloc(), layout, phase);
+        }
+    }
+}
+
+// The faults leave the tables as they are: they are migrated afterwards.
+#[test]
+fn migrates_the_rows_of_an_office_alone(rt: HostRuntime) {
+    let alloc = rt.alloc();
+    for layout in EARLIER {
+        let mut conn = earlier_made(&rt, alloc, layout, statements_of_nothing());
+        let of_version = if layout.has_grades() {
+            SECOND_FAULTS.as_slice()
+        } else {
+            FIRST_FAULTS.as_slice()
+        };
+        for faults in [FAULTS.as_slice(), of_version] {
+            for (breaks, mends, fault) in faults {
+                conn = refused_after(&rt, alloc, conn, breaks, *fault);
+                conn.execute_batch(mends).expect(&rt, mends);
+            }
+        }
+        let mut desk = migrated(&rt, alloc, conn);
+        let (_, lines, told) = PHASES[3];
+        tells(&rt, alloc, &mut desk, lines, told);
+    }
+}
+
+#[test]
+fn migrates_no_other_database(rt: HostRuntime) {
+    let alloc = rt.alloc();
+    let conn = Connection::open_in_memory(alloc).expect(&rt, "memory");
+    let conn = refused_after(
+        &rt,
+        alloc,
+        conn,
+        "CREATE TABLE note(text TEXT)",
+        DeskFault::NotAnOffice,
+    );
+    let view = "CREATE VIEW round AS SELECT 1 AS one";
+    let _conn = refused_after(&rt, alloc, conn, view, DeskFault::Unavailable);
+}
+
+// Grades, and lists of them, came with version 2.
+#[test]
+fn keeps_grades_of_the_second_version(rt: HostRuntime) {
+    let alloc = rt.alloc();
+    let statements = statements_of_nothing();
+    let conn = earlier_made(&rt, alloc, Layout::DocumentedSecond, statements);
+    let mut desk = migrated(&rt, alloc, conn);
+    let order =
+        "   1 0000000000000001 T1\n   2 0000000000000002 T2\n   3 0000000000000003 N grade 4\n";
+    tells(&rt, alloc, &mut desk, "order\n", order);
+    let known = [("g-1", HEADER)];
+    says_of_lists(&rt, alloc, &mut desk, ListKind::Grades, &known, "added 0\n");
+}
+
+// Statements that make the drawn round one of this version that is open, and T2 a leaver.
+const LEAVER: &str =
+    "UPDATE round SET version = 3; DELETE FROM word; UPDATE round SET phase = 'open';
+INSERT INTO going VALUES ('T2'); INSERT INTO grade VALUES ('N', 1)";
+
+// N has the first word and goes behind T1, who comes to the leaver's room.
+const LEAVERS_ROUND: &str =
+    "round\nclose\ndraw 0000000000000001 0000000000000002\norder\nrun\nresults\npublish\nsettle\nmoves 1\n";
+
+const LEAVERS_ROUND_TOLD: &str = "round 1 open people 3 withdrawn 0 going 1\nclosed 2\n\
+    drawn 2\n   1 0000000000000002 T1\n   2 0000000000000001 N grade 1\nran 2\n\
+    person        room\nN             H1\nT1            H2\npublished 2\nsettled 3\n\
+    wave  person        from      to\n0     T2            H2        none\n\
+    1     T1            H1        H2\n2     N             none      H1\n";
+
+// Tables of this version are adopted in the documented order too.
+#[test]
+fn adopts_tables_in_the_documented_order(rt: HostRuntime) {
+    let alloc = rt.alloc();
+    for layout in [Layout::Documented, Layout::Own] {
+        let mut conn = tables_made(&rt, alloc, layout);
+        conn.execute_batch(ROWS).expect(&rt, ROWS);
+        conn.execute_batch(LEAVER).expect(&rt, LEAVER);
+        let withdrawn = "UPDATE person SET withdrawn = 1 WHERE id = 'T2'";
+        conn = tried_after(&rt, alloc, conn, withdrawn, Some(DeskFault::NotAnOffice));
+        let stays = "UPDATE person SET withdrawn = 0 WHERE id = 'T2'";
+        conn = tried_after(&rt, alloc, conn, stays, None);
+        let mut desk = taken(&rt, alloc, conn);
+        tells(&rt, alloc, &mut desk, LEAVERS_ROUND, LEAVERS_ROUND_TOLD);
+        let _desk = adopted(&rt, alloc, desk);
+    }
+}
+
+// The desk that takes the database over.
+fn taken(rt: &impl Abort, alloc: Global, conn: Connection<MemStore>) -> Desk<MemStore> {
+    let outside = conn.is_autocommit();
+    assert!(rt; outside);
+    match Desk::adopt(alloc, conn) {
+        Ok(desk) => desk,
+        Err(_) => panic!(rt; "no desk takes the database"),
+    }
+}

@@ -1,0 +1,93 @@
+//! Grades, by which the office lets some people stand before others in the drawn order.
+ghost use Rattle.std.specs.Prelude.{◌≡◌, ◌≤◌, None, Some, IfSome, MatchOption, MatchResult};
+ghost use Rattle.std.specs.Bool.{Decides};
+ghost use Rattle.room_types.specs.Grades.{grade_limit, grade_of, grade_text};
+
+use crate::fault::TypeFault;
+use crate::table::Copied;
+use std::fmt;
+use std::marker::Model;
+
+/// The greatest grade.
+pub const GRADE_LIMIT: u8 = 9;
+
+/// A grade from 0 to `GRADE_LIMIT`. A smaller one stands earlier in the drawn order. It is compared by value.
+#[derive(Clone, Copy, Debug, PartialEq, Eq, PartialOrd, Ord)]
+pub struct Grade {
+    value: u8,
+}
+
+impl Model for Grade {
+    ghost use Rattle.std.specs.Prelude.{ℕ, ◌≤◌};
+    ghost use Rattle.room_types.specs.Grades.{grade_limit};
+
+    ghost Value = { ℕ };
+
+    ghost view = { λ a. a.value };
+
+    ghost invariant = { λ a. a.value ≤ grade_limit };
+
+    ghost inverse = { λ n. record { value = n } };
+}
+
+impl Grade {
+    /// Grade 0, which everybody has to whom the office gives no other.
+    pub fn first() -> Grade
+        ensures { result ≡ 0 }
+    {
+        Grade { value: 0 }
+    }
+
+    /// The grade of this value, or none above `GRADE_LIMIT`.
+    pub fn new(value: u8) -> Option<Grade>
+        ensures { MatchOption result (¬ (value ≤ grade_limit)) (λ grade. grade ≡ value) }
+    {
+        if value <= GRADE_LIMIT {
+            Some(Grade { value })
+        } else {
+            None
+        }
+    }
+
+    /// The grade of exactly one decimal digit, and `BadValue` for any other text. It takes no memory.
+    pub fn read(text: &str) -> Result<Grade, TypeFault>
+        ensures { MatchResult result (λ grade. grade_of text.now ≡ Some grade)
+            (λ fault. (fault ≡ TypeFault.BadValue) × (grade_of text.now ≡ None)) }
+    {
+        match text.as_bytes() {
+            [byte @ b'0'..=b'9'] => Ok(Grade {
+                value: *byte - b'0',
+            }),
+            _ => Err(TypeFault::BadValue),
+        }
+    }
+
+    /// The number itself.
+    pub fn value(self) -> u8
+        ensures value { result ≡ self }
+        ensures within { result ≤ grade_limit }
+    {
+        self.value
+    }
+
+    /// Whether it is grade 0.
+    pub fn is_first(self) -> bool
+        ensures { Decides result (self ≡ 0) }
+    {
+        self.value == 0
+    }
+}
+
+impl Copied for Grade {
+    ghost same = { λ x y h. h };
+}
+
+/// One decimal digit.
+impl fmt::Display for Grade {
+    ghost output = { λ grade. Some (grade_text grade) };
+
+    fn fmt<W: fmt::Write>(&self, f: &mut fmt::Formatter<W>) -> fmt::Result {
+        let value = self.value;
+        write!(f, "{value}")
+    }
+}
