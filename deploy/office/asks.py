@@ -30,7 +30,7 @@ from backups import ASKED_FOR, blank, without_names
 from hand import CarryOut, Change, Hand
 from journal import masked, masked_line, masked_note
 from office import Office
-from program import NOT_UNDERSTOOD, Answer, is_refused
+from program import NOT_UNDERSTOOD, Answer, is_of_earlier_version, is_refused
 from rows import Rows
 from settings import Fault
 
@@ -69,7 +69,8 @@ def body_of(job: Job) -> bytes:
 
 def participants(rows: Rows) -> int:
     """How many take part in the round."""
-    return sum(not withdrawn for _, _, _, withdrawn in rows["people"])
+    going = {person for person, in rows["going"]}
+    return sum(not withdrawn and person not in going for person, _, _, withdrawn in rows["people"])
 
 
 def only(answer: Answer) -> Job:
@@ -193,12 +194,16 @@ class Asks:
         return {"backups": self.backups.listed()}
 
     def put_back(self, job: Job) -> Job:
-        """Puts a kept copy in the office's place. The present office is copied before, also where it is damaged."""
+        """Puts a kept copy in the office's place. The present office is copied before, also where it is damaged.
+
+        A copy from before an upgrade of the program is brought to the program's version.
+        """
         name = text(job, "name")
 
         def carry_out(copy: Path) -> list[Answer]:
             self.backups.take(name, copy)
-            return [self.program.look(copy)]
+            answer = self.program.look(copy)
+            return [self.program.migrate(copy) if is_of_earlier_version(answer) else answer]
         change = self.hand.change(Change(job["who"], f"back {name}", carry_out, whole=True, kind="back",
                                          why=f"before back {name}, by {job['who']}", damaged=True, seen=seen_in(job)))
         if is_refused(change.answers):

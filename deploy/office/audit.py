@@ -9,6 +9,9 @@ Sonmez, House Allocation with Existing Tenants, Journal of Economic Theory 88, 1
     the first person in the drawn order who remains. So each person points to one person, and some stand in
     circles. Everybody in a circle gets the room that they ask for, and leaves with it, until nobody remains.
 
+The drawn order goes by the grade, a smaller one first, and then by the drawn word. Somebody who leaves the college has
+no part in the round, and their room has no tenant.
+
 It compares these results with the recorded ones, and looks for what may never be: a room given twice, somebody with
 less than their own room, a better room that nobody got, people who would all gain by passing on their rooms. With the
 seed it works out the words of the draw. It explains how the result of each PERSON came about.
@@ -49,12 +52,17 @@ class Audit:  # pylint: disable=too-many-instance-attributes  # others read what
     """The results of a round by the definition (`got`), beside those that were recorded (`result`).
 
     The rows are `rooms` (code, shut, ..), `people` (identifier, name, home, withdrawn, ..), `choices` (the list of each
-    identifier), `words` (identifier, word) and `results` (identifier, room). None is no home, or no room.
+    identifier), `words` (identifier, word) and `results` (identifier, room). None is no home, or no room. There may be
+    `grades` (identifier, grade; who is not there has 0) and `going` (the identifier of who leaves the college).
     """
 
     def __init__(self, rows: Mapping[str, Any]) -> None:
         self.word, self.result = dict(rows["words"]), dict(rows["results"])
-        self.home = {person: home for person, _, home, withdrawn, *_ in rows["people"] if not withdrawn}
+        self.grade = dict(rows.get("grades", []))
+        going = {row[0] for row in rows.get("going", [])}
+        self.going = {person: home for person, _, home, *_ in rows["people"] if person in going}
+        self.home = {person: home for person, _, home, withdrawn, *_ in rows["people"]
+                     if not withdrawn and person not in self.going}
         self.kept = {home: person for person, _, home, withdrawn, *_ in rows["people"] if withdrawn and home}
         self.rooms = {code for code, shut, *_ in rows["rooms"] if not shut} - set(self.kept)
         self.order = sorted(self.home, key=self.turn)
@@ -68,9 +76,9 @@ class Audit:  # pylint: disable=too-many-instance-attributes  # others read what
         self.asked: dict[str, list[tuple[int, str | None]]] = {person: [] for person in self.home}  # from which step on
         self.exchange()
 
-    def turn(self, person: str) -> tuple[str, str]:
-        """By what the order goes: the word, then the identifier. (Where there are grades, they go first: just here.)"""
-        return self.word.get(person, "").lower(), person
+    def turn(self, person: str) -> tuple[int, str, str]:
+        """By what the order goes: the grade, the word, then the identifier."""
+        return self.grade.get(person, 0), self.word.get(person, "").lower(), person
 
     def cause(self, person: str, room: str) -> str:
         """Why a room on the list does not count, or nothing where it counts."""
@@ -182,13 +190,21 @@ class Audit:  # pylint: disable=too-many-instance-attributes  # others read what
                  for one, room in found.circle if room]
         return f"in step {found.step} " + "; ".join(links)
 
+    def absence(self, person: str) -> str:
+        """Why somebody has no result."""
+        if person not in self.going:
+            return f"{person} takes no part in the round."
+        room = self.going[person]
+        return f"{person} leaves the college" + (f", and gives the room {room} to the round." if room else ".")
+
     def explain(self, person: str) -> list[str]:
         """How a person's result came about, as sentences."""
         found = self.facts(person)
         if found is None:
-            return [f"{person} takes no part in the round."]
+            return [self.absence(person)]
         home, got, listed = self.home[person], self.got[person], self.handed_in[person]
-        said = [f"{person} was number {found.place} of {len(self.order)} in the drawn order, and had "
+        grade = f", with grade {self.grade.get(person, 0)}" if self.grade else ""
+        said = [f"{person} was number {found.place} of {len(self.order)} in the drawn order{grade}, and had "
                 + (f"the room {home}, which nobody could take away." if home else "no room."),
                 f"{person} handed in the list {' '.join(listed)}." if listed else f"{person} handed in no list."]
         said += [f"{room} did not count: {cause}." for room, cause in found.struck]
@@ -271,9 +287,10 @@ def new(rows: dict[str, Any], name: str) -> dict[str, Any]:
     return rows
 
 
+GRADES = set("0123456789")
 # The order in which the lines of a record stand. Rounds that were opened and cancelled may stand before them.
-LINES = ["room", "person", "home", "open", "cancel", "choose", "withdraw", "shut", "close", "draw", "run", "publish",
-         "round", "order", "results"]
+LINES = ["room", "person", "home", "grade", "open", "cancel", "choose", "withdraw", "going", "shut", "close", "draw",
+         "run", "publish", "round", "order", "results"]
 
 
 class Record:  # pylint: disable=too-many-instance-attributes  # a list for each kind of line
@@ -284,6 +301,8 @@ class Record:  # pylint: disable=too-many-instance-attributes  # a list for each
         self.rooms: dict[str, bool] = {}
         self.homes: dict[str, str | None] = {}
         self.withdrawn: set[str] = set()
+        self.going: set[str] = set()
+        self.grades: dict[str, int] = {}
         self.choices: dict[str, list[str]] = {}
         self.words: dict[str, str] = {}
         self.results: dict[str, str | None] = {}
@@ -318,10 +337,15 @@ class Record:  # pylint: disable=too-many-instance-attributes  # a list for each
                 new(self.choices, person)[person] = rooms
             case ["withdraw", person] if person in self.homes:
                 self.withdrawn.add(person)
+            case ["going", person] if self.homes[person] and person not in self.withdrawn:
+                self.going.add(person)
+            case ["grade", person, grade] if person in self.homes and grade in GRADES:
+                new(self.grades, person)[person] = int(grade)
             case ["shut", room] if not self.rooms[room] and room not in self.homes.values():
                 self.rooms[room] = True
             case ["draw", *drawn]:
-                self.words = dict(zip(sorted(self.homes.keys() - self.withdrawn), drawn, strict=True))
+                part = self.homes.keys() - self.withdrawn - self.going
+                self.words = dict(zip(sorted(part), drawn, strict=True))
             case [] | ["open" | "cancel" | "close" | "run" | "publish" | "round" | "order" | "results"]:
                 pass
             case [first, *_] if not first.startswith("#"):
@@ -331,7 +355,8 @@ class Record:  # pylint: disable=too-many-instance-attributes  # a list for each
         """The plain rows of the round."""
         return {"rooms": list(self.rooms.items()), "choices": self.choices, "words": list(self.words.items()),
                 "people": [(person, person, home, person in self.withdrawn) for person, home in self.homes.items()],
-                "results": list(self.results.items())}
+                "results": list(self.results.items()), "grades": list(self.grades.items()),
+                "going": [(person,) for person in self.going]}
 
     def is_drawn_by(self, seed: str) -> bool:
         """Whether the words of the draw are those of this seed."""

@@ -15,6 +15,7 @@ LASTING = {
     "settle": "homes change, and words, order, lists and results are deleted",
     "shut": "whoever lives in the room loses it, and `reopen` does not give it back",
     "withdraw": "a withdrawal cannot be undone within the round",
+    "going": "that somebody leaves the college cannot be undone within the round",
     "leave": "where the person lived is forgotten",
     "remove": "the person's key stands nowhere else",
 }

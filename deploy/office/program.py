@@ -39,6 +39,11 @@ def is_refused(answers: list[Answer]) -> bool:
     return not answers or answers[-1].status != 0
 
 
+def is_of_earlier_version(answer: Answer) -> bool:
+    """Whether the program says that a file is an office's of an earlier version, which it can migrate."""
+    return answer.text.startswith(("refused 22 OtherVersion 1\n", "refused 22 OtherVersion 2\n"))
+
+
 def bound(*words: str) -> list[str]:
     """A command line that ends with the thread that starts it. Where the keeper was killed before the system knew that,
     the shell has another parent, and does nothing."""
@@ -139,6 +144,10 @@ class Program:
         if status != 0:
             raise Fault(f"the program gave no words: {text.strip()}")
         return text.split()
+
+    def migrate(self, file: Path) -> Answer:
+        """Brings an office of an earlier version to that of the program."""
+        return self.run("migrate", "--db", str(file))
 
     def look(self, file: Path) -> Answer:
         """Whether the program takes a file as an office: it reads all of it, and tells how far the round has come."""

@@ -24,7 +24,7 @@ from typing import NamedTuple
 
 from audit import seed_words
 
-VERSION = 1       # of the file: the tables that are read here
+VERSION = 3       # of the file: the tables that are read here
 ROUNDS = 40       # rounds before this one are opened and cancelled up to so many; beyond them the number is only told
 FORMS = {"room": "[A-Z0-9][A-Z0-9-]{0,7}", "person": "[A-Z0-9]{1,12}", "word": "[0-9a-f]{16}"}
 SEED = "[0-9a-fA-F]{64}"
@@ -48,6 +48,13 @@ class Person(NamedTuple):
     identifier: str
     home: str | None
     withdrawn: bool
+    going: bool = False   # whether the person leaves the college, and the room goes into the round
+    grade: int = 0        # a smaller grade stands earlier in the order
+
+    @property
+    def takes_part(self) -> bool:
+        """Whether the person gets a result."""
+        return not self.withdrawn and not self.going
 
 
 class Office(NamedTuple):
@@ -86,17 +93,21 @@ def read_office(file: Path) -> Office:
         try:
             found = database.execute("SELECT version, number, phase FROM round").fetchall()
             if len(found) != 1 or found[0][0] != VERSION:
-                raise Refused(f"{file} is no office's file of version {VERSION}, the one that this program knows")
+                raise Refused(f"{file} is no office's file of version {VERSION}, the one that this program knows. "
+                              "An office of an earlier version becomes one by: rooms migrate --db FILE")
             _, number, phase = found[0]
             if phase not in ("ran", "published"):
                 raise NoResults(f"round {number} is {phase}: a round has results from `run` until `settle`")
+            grades = dict(database.execute("SELECT person, value FROM grade"))
+            going = {person for person, in database.execute("SELECT person FROM going")}
             choices: dict[str, list[str]] = {}
             for person, room in database.execute("SELECT person, room FROM choice ORDER BY person, place"):
                 choices.setdefault(person, []).append(room)
             return Office(
                 number, phase,
                 [(code, bool(shut)) for code, shut in database.execute("SELECT code, shut FROM room ORDER BY code")],
-                [Person(identifier, home, bool(withdrawn)) for identifier, home, withdrawn in
+                [Person(identifier, home, bool(withdrawn), identifier in going, grades.get(identifier, 0))
+                 for identifier, home, withdrawn in
                  database.execute("SELECT id, home, withdrawn FROM person ORDER BY id")],
                 choices,
                 dict(database.execute("SELECT person, hex FROM word ORDER BY person")),
@@ -116,7 +127,9 @@ def check(office: Office) -> None:
         for text in texts[kind]:
             if not isinstance(text, str) or not re.fullmatch(form, text):
                 raise Refused(f"the file is no office's: it has {text!r} for a {kind}")
-    participants = {person.identifier for person in office.people if not person.withdrawn}
+    participants = {person.identifier for person in office.people if person.takes_part}
+    if any(person.grade not in range(10) or (person.withdrawn and person.going) for person in office.people):
+        raise Refused("the file is no office's: a grade is not from 0 to 9, or somebody has withdrawn and leaves")
     if set(office.words) != participants or set(office.results) != participants:
         raise Refused("the file is no office's: its words and results are not those of the people who take part")
     homes = [person.home for person in office.people if person.home]
@@ -137,25 +150,32 @@ def round_number(office: Office) -> list[str]:
 
 
 def register(office: Office) -> list[str]:
-    """The rooms, the people and who lives where, as they were when the round closed."""
+    """The rooms, the people, who lives where, and the grades, as they were when the round closed."""
     return [
         *(f"room {room}" for room, _ in office.rooms),
         *(f"person {person.identifier} nokey{number:011} {person.identifier}"
           for number, person in enumerate(office.people, 1)),
         *(f"home {person.identifier} {person.home}" for person in office.people if person.home),
+        *(f"grade {person.identifier} {person.grade}" for person in office.people if person.grade),
     ]
 
 
 def wishes(office: Office) -> list[str]:
-    """What counted when the round was closed. Lists of people who have withdrawn are left out: they did not count.
+    """What counted when the round was closed. Lists of people who take no part are left out: they did not count.
 
     Lists come first, since nobody can list a room that is shut. Nobody lives in such a room: whoever did has no home in
-    the register.
+    the register. Of somebody who leaves the college and has lost the room so, the program takes no `going`; for the
+    results that is the same as to withdraw.
     """
+    leaving = [person for person in office.people if person.going]
+    without = [person for person in leaving if not person.home]
     return [
         *(f"choose {person.identifier} {' '.join(office.choices[person.identifier])}" for person in office.people
-          if not person.withdrawn and office.choices.get(person.identifier)),
+          if person.takes_part and office.choices.get(person.identifier)),
         *(f"withdraw {person.identifier}" for person in office.people if person.withdrawn),
+        *(f"# {person.identifier} leaves the college, and has no room." for person in without),
+        *(f"withdraw {person.identifier}" for person in without),
+        *(f"going {person.identifier}" for person in leaving if person.home),
         *(f"shut {room}" for room, shut in office.rooms if shut),
     ]
 
@@ -190,7 +210,7 @@ def record(file: Path, seeds: Iterable[str] = ()) -> str:
     return "\n".join([
         f"# round {office.number} {office.phase}",
         "# The record of a round of room exchange: rooms rehearse < RECORD. Names and keys are made up.",
-        "# Homes and lists are those of the end of the round. Lists of people who have withdrawn are left out.",
+        "# Homes and lists are those of the end of the round. Lists of people who take no part are left out.",
         f"# seed {seed}" if seed else "# No seed of the draw is recorded.",
         *round_number(office), *register(office), "open", *wishes(office), *outcome(office), ""])
 

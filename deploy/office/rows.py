@@ -10,13 +10,19 @@ from copies import Copies, State
 
 Rows = dict[str, Any]
 
-# Each table that is shown as it stands. What a later version of the file adds is one line more here.
+# Each table that is shown as it stands.
 TABLES = {
     "rooms": "SELECT code, shut, id FROM room LEFT JOIN person ON home = code ORDER BY code",
     "people": "SELECT id, name, home, withdrawn FROM person ORDER BY id",
     "results": "SELECT person, room FROM result ORDER BY person",
     "lists": "SELECT label, kind, added FROM list ORDER BY label",
     "words": "SELECT person, hex FROM word ORDER BY person",
+}
+# Tables that a file has from a version on. In a file of an earlier version, which the program has yet to migrate,
+# nobody has a grade and nobody leaves.
+LATER = {
+    "grades": (2, "SELECT person, value FROM grade ORDER BY person"),
+    "going": (3, "SELECT person FROM going ORDER BY person"),
 }
 
 
@@ -25,6 +31,8 @@ def rows_of(file: Path) -> Rows:
     with contextlib.closing(sqlite3.connect(file)) as database:
         rows: Rows = {name: database.execute(query).fetchall() for name, query in TABLES.items()}
         version, number, phase = database.execute("SELECT version, number, phase FROM round").fetchone()
+        for name, (since, query) in LATER.items():
+            rows[name] = database.execute(query).fetchall() if version >= since else []
         choices: dict[str, list[str]] = {}
         for person, room in database.execute("SELECT person, room FROM choice ORDER BY person, place"):
             choices.setdefault(person, []).append(room)

@@ -14,7 +14,9 @@ export const desk = {
 };
 
 export const isSameList = (one, other) => one.length === other.length && one.every((code, at) => code === other[at]);
-export const mayEdit = person => person.phase === "open" && !person.withdrawn;
+// Whether the person takes part: who has withdrawn does not, nor does who leaves the college at the end of the round.
+export const takesPart = person => !person.withdrawn && !person.going;
+export const mayEdit = person => person.phase === "open" && takesPart(person);
 export const isChanged = () => desk.me !== null && mayEdit(desk.me) && !isSameList(desk.list, desk.me.choices);
 export const stateOf = code => desk.rooms.find(row => row.room === code)?.state ?? "unknown";
 

@@ -108,6 +108,9 @@ async function signOut() {
 
 // --- Handing in a list
 
+// The name of the fault that the server would answer to a list of somebody who may hand in none.
+const whyClosed = person => person.phase !== "open" ? "BadPhase" : person.withdrawn ? "Withdrawn" : "Going";
+
 // Before a list goes out, the record is looked at: a list that another device has handed in meanwhile is not replaced
 // unasked.
 async function handIn() {
@@ -118,7 +121,7 @@ async function handIn() {
   }
   const isThere = await during(async () => {
     await load({ doubt: ["unchanged"] });
-    if (!mayEdit(desk.me)) sayFault(desk.me.withdrawn ? "faults.Withdrawn" : "faults.BadPhase");
+    if (!mayEdit(desk.me)) sayFault(`faults.${whyClosed(desk.me)}`);
     else say(isChanged() ? "" : "nothingNew");
     return isChanged();
   });

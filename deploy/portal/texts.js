@@ -43,7 +43,7 @@ export const TEXTS = {
       ran: "Closed: the rooms are being worked out.",
       published: "The results are out.",
     },
-    part: { yes: "yes", withdrawn: "no, you have withdrawn", idle: "no round now" },
+    part: { yes: "yes", withdrawn: "no, you have withdrawn", going: "no, you leave the college", idle: "no round now" },
 
     // What becomes of somebody without any other room.
     keeps: "you keep room {home}",
@@ -54,8 +54,13 @@ export const TEXTS = {
       keeps: "Result: you keep room {room}.",
       none: "Result: you get no room.",
       withdrawn: "You have withdrawn: {outcome}.",
+      going: {
+        homed: "You leave the college: room {home} is given out in this round, and you move out at its end.",
+        homeless: "You leave the college, and you have no room.",
+      },
     },
     next: {
+      going: "If you do not leave the college after all, tell the accommodation office at once.",
       gets: "The accommodation office will tell you when you move.",
       keeps: "There is nothing that you have to do.",
       none: "Please speak to the accommodation office. It knows which rooms are still free, and when the next round "
@@ -73,6 +78,7 @@ export const TEXTS = {
       empty: "You handed in an empty list: {outcome}.",
       closed: "None: {outcome}.",
       withdrawn: "You have withdrawn, so no list counts.",
+      going: "You leave the college, so no list counts.",
     },
     askAgain: "Ask the server again",
     waiting: "Asking the server ...",
@@ -178,7 +184,8 @@ export const TEXTS = {
     about: [
       ["You make a list.", "While the round is open, you put rooms in the order in which you want them, and hand the "
         + "list in. You can change it until the round is closed. The last list that you handed in counts."],
-      ["The order is drawn.", "When the round is closed, all who take part are put in an order by lot."],
+      ["The order is drawn.", "When the round is closed, all who take part are put in an order by lot. If the office has "
+        + "announced groups, all of an earlier group come before all of a later one."],
       ["The rooms are given.", "One after the other gets the best room on their list that is still there. If somebody "
         + "lives in that room, this person chooses first, and keeps it unless they get a room that they want more. Two "
         + "people who want each other's room exchange them, and so do more people in a circle."],
@@ -193,6 +200,7 @@ export const TEXTS = {
     faults: {
       BadPhase: "The round is not open now, so nothing can be changed. What is on record is shown here.",
       Withdrawn: "You have withdrawn from this round, so the list can't be changed.",
+      Going: "The office has noted that you leave the college, so the list can't be changed.",
       TooManyChoices: "The list has more than 40 rooms. Nothing was changed. Remove some and hand it in again.",
       RoomRepeated: "A room stands on the list twice. Nothing was changed. Remove one and hand it in again.",
       UnknownRoom: "A room on your list is no longer known. Remove the marked rooms and hand it in again.",
@@ -243,7 +251,12 @@ export const TEXTS = {
       ran: "Geschlossen: Die Zimmer werden gerade zugeteilt.",
       published: "Die Ergebnisse liegen vor.",
     },
-    part: { yes: "ja", withdrawn: "nein, Sie sind ausgestiegen", idle: "zurzeit keine Runde" },
+    part: {
+      yes: "ja",
+      withdrawn: "nein, Sie sind ausgestiegen",
+      going: "nein, Sie ziehen aus",
+      idle: "zurzeit keine Runde",
+    },
 
     keeps: "Sie behalten Zimmer {home}",
     getsNone: "Sie bekommen kein Zimmer",
@@ -253,8 +266,14 @@ export const TEXTS = {
       keeps: "Ergebnis: Sie behalten Zimmer {room}.",
       none: "Ergebnis: Sie bekommen kein Zimmer.",
       withdrawn: "Sie sind ausgestiegen: {outcome}.",
+      going: {
+        homed: "Sie ziehen aus dem Wohnheim aus: Zimmer {home} wird in dieser Runde vergeben, und an ihrem Ende ziehen "
+          + "Sie aus.",
+        homeless: "Sie ziehen aus dem Wohnheim aus und haben kein Zimmer.",
+      },
     },
     next: {
+      going: "Wenn Sie doch bleiben, sagen Sie es der Wohnheimverwaltung sofort.",
       gets: "Die Wohnheimverwaltung teilt Ihnen mit, wann Sie umziehen.",
       keeps: "Sie brauchen nichts weiter zu tun.",
       none: "Bitte wenden Sie sich an die Wohnheimverwaltung. Sie weiß, welche Zimmer noch frei sind und wann die "
@@ -272,6 +291,7 @@ export const TEXTS = {
       empty: "Sie haben eine leere Liste abgegeben: {outcome}.",
       closed: "Keine: {outcome}.",
       withdrawn: "Sie sind ausgestiegen, deshalb zählt keine Liste.",
+      going: "Sie ziehen aus, deshalb zählt keine Liste.",
     },
     askAgain: "Server erneut fragen",
     waiting: "Der Server wird gefragt ...",
@@ -383,7 +403,8 @@ export const TEXTS = {
         + "geben die Liste ab. Sie können sie ändern, bis die Runde geschlossen wird. Es zählt die Liste, die Sie "
         + "zuletzt abgegeben haben."],
       ["Die Reihenfolge wird ausgelost.", "Wenn die Runde geschlossen ist, entscheidet das Los, in welcher Reihenfolge "
-        + "alle drankommen."],
+        + "alle drankommen. Hat die Wohnheimverwaltung Gruppen angekündigt, so kommen alle aus einer früheren Gruppe "
+        + "vor allen aus einer späteren dran."],
       ["Die Zimmer werden zugeteilt.", "Wer an der Reihe ist, bekommt von seiner Liste das beste Zimmer, das noch da "
         + "ist. Wohnt dort jemand, so wählt diese Person zuerst und behält ihr Zimmer, wenn sie keines bekommt, das "
         + "ihr lieber ist. Zwei Personen, die jeweils das Zimmer der anderen möchten, tauschen; ebenso mehrere im "
@@ -400,6 +421,7 @@ export const TEXTS = {
     faults: {
       BadPhase: "Die Runde ist jetzt nicht offen, deshalb lässt sich nichts ändern. Hier steht, was gespeichert ist.",
       Withdrawn: "Sie sind aus dieser Runde ausgestiegen, deshalb lässt sich die Liste nicht ändern.",
+      Going: "Bei der Wohnheimverwaltung ist vermerkt, dass Sie ausziehen, deshalb lässt sich die Liste nicht ändern.",
       TooManyChoices: "Die Liste hat mehr als 40 Zimmer. Es wurde nichts geändert. Entfernen Sie einige, und geben Sie "
         + "die Liste erneut ab.",
       RoomRepeated: "Ein Zimmer steht zweimal auf der Liste. Es wurde nichts geändert. Entfernen Sie eines, und geben "

@@ -1,6 +1,8 @@
 // Shows what the page knows. What the server tells is set as text, never as HTML.
 
-import { desk, isChanged, isChangedElsewhere, LONGEST_LIST, mayEdit, ROOMS_AT_ONCE, stateOf } from "./desk.js";
+import {
+  desk, isChanged, isChangedElsewhere, LONGEST_LIST, mayEdit, ROOMS_AT_ONCE, stateOf, takesPart,
+} from "./desk.js";
 import { hasText, text, texts } from "./language.js";
 import { findRooms, stateText } from "./rooms.js";
 
@@ -96,12 +98,11 @@ function drawAbout() {
   }));
 }
 
-// What is on record of the person. What else the server comes to tell of a person's part in the round has its place in
-// "part".
+// What is on record of the person.
 function facts() {
   const { me } = desk;
-  const part = me.withdrawn ? "withdrawn" : me.phase === "idle" ? "idle" : "yes";
-  const phase = me.phase === "open" && me.withdrawn ? "openToOthers" : me.phase;
+  const part = me.withdrawn ? "withdrawn" : me.going ? "going" : me.phase === "idle" ? "idle" : "yes";
+  const phase = me.phase === "open" && !takesPart(me) ? "openToOthers" : me.phase;
   return [
     [text("facts.name"), me.name],
     [text("facts.person"), me.person],
@@ -120,13 +121,14 @@ function resultTexts() {
     return [text(`result.${kind}`, { room: me.result }), text(`next.${kind}`)];
   }
   if (me.withdrawn) return [text("result.withdrawn", { outcome: outcome() }), next];
+  if (me.going) return [byHome("result.going"), text("next.going")];
   if (me.phase === "idle") return ["", text(me.home === null ? "next.idleNone" : "next.idle")];
   return ["", ""];
 }
 
 function recordNodes() {
   const { me, sent } = desk;
-  if (me.withdrawn) return [text("record.withdrawn")];
+  if (!takesPart(me)) return [text(me.withdrawn ? "record.withdrawn" : "record.going")];
   if (me.choices.length > 0) return codeNodes(me.choices);
   const kind = sent?.length === 0 ? "empty" : me.phase === "open" ? "nothing" : "closed";
   return [text(`record.${kind}`, { outcome: outcome() })];

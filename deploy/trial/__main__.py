@@ -14,6 +14,7 @@ sys.dont_write_bytecode = True
 # pylint: disable=wrong-import-position  # not before the line above
 from burst import try_burst
 from copying import try_copying
+from earlier import try_earlier
 from full import try_full
 from keeping import try_keeping
 from kills import try_kills
@@ -33,6 +34,7 @@ if __name__ == "__main__":
     folder.mkdir(parents=True, exist_ok=True)
     try_parts()
     try_keeping(sys.argv[1])
+    try_earlier(sys.argv[1])
     try_kills(sys.argv[1])
     try_copying(sys.argv[1])
     try_full(sys.argv[1])

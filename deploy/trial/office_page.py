@@ -45,6 +45,7 @@ class College:
             for person in self.people[:270]
         }
         self.keys = {}
+        self.leavers = [person for person in self.people[265:289] if person in self.homes][:3]
 
     def write(self, name, header, rows):
         """Writes a list as a spreadsheet does."""
@@ -93,6 +94,12 @@ def bring_lists_in(clerk, college):
     clerk.tick()
     clerk.press("Bring in the list")
     clerk.reads("The list is in, with 300 lines.")
+    grades = [[person, number % 3] for number, person in enumerate(college.people[:60])]
+    clerk.try_list("grades", college.write("grades.csv", ["person", "grade"], [*grades, ["R061", 10]]))
+    clerk.reads("Write a grade: one digit from 0 to 9.")
+    clerk.try_list("grades", college.write("grades.csv", ["person", "grade"], grades))
+    clerk.press("Bring in the list")
+    clerk.reads("The list is in, with 60 lines.")
 
 
 def keep_the_register(clerk, college):
@@ -117,6 +124,9 @@ def keep_the_register(clerk, college):
     clerk.put("text", college.homes[tenant].lower())
     clerk.press("Move in")
     clerk.reads(college.homes[tenant])
+    clerk.put("grade", "7")
+    clerk.press("Set the grade")
+    clerk.reads("Done.")
     clerk.visit("/office/rooms")
     clerk.shot("08-rooms")
     clerk.press("Out of use ...")
@@ -170,9 +180,33 @@ def open_round(clerk, stand, college):
     clerk.shot("15-person")
     clerk.visit("/office/many")
     clerk.put("text", "R290 R291")
+    clerk.tick("withdraw")
     clerk.press("Show who they are")
     clerk.press("Yes: withdraw them")
     clerk.reads("Done for 2 people")
+    note_leavers(clerk, college)
+
+
+def note_leavers(clerk, college):
+    """One person is noted to leave the college on their own page, and two by a list of identifiers."""
+    one, *others = college.leavers
+    clerk.visit(f"/office/person/{one}")
+    clerk.press("Leaves the college")
+    clerk.shot("15-leaves")
+    clerk.press("Yes: leaves the college")
+    clerk.reads("The person leaves the college at the end of the round.", "no, leaves the college")
+    clerk.visit("/office/many")
+    clerk.put("text", " ".join([one, *others]))
+    clerk.tick("going")
+    clerk.press("Show who they are")
+    clerk.reads(f"{one} leaves the college already.")
+    clerk.put("text", " ".join(others))
+    clerk.tick("going")
+    clerk.press("Show who they are")
+    clerk.press("Yes: note that they leave")
+    clerk.reads("Done for 2 people")
+    clerk.visit("/office/")
+    clerk.reads("Leave the college: 3")
 
 
 def look_at_large_text(stand, shots, phase):
@@ -204,7 +238,7 @@ def draw_and_run(clerk, stand):
     clerk.visit("/office/step/close")
     clerk.reads("have handed in no list")
     clerk.press("Yes: close the round")
-    clerk.reads("The round is closed, with 295 participants.")
+    clerk.reads("The round is closed, with 292 participants.")
     clerk.press("Draw the order")
     clerk.shot("16-draw")
     clerk.put("text", THROWS.replace(" ", ""))
@@ -222,12 +256,12 @@ def draw_and_run(clerk, stand):
     )
     clerk.shot("17-seed")
     clerk.press("Yes: draw with this seed")
-    clerk.reads("The order of 295 participants is drawn.", "The seed of this draw")
+    clerk.reads("The order of 292 participants is drawn.", "The seed of this draw")
     clerk.shot("18-order")
     clerk.visit("/office/")
     clerk.press("Give the rooms")
     clerk.press("Yes: give the rooms")
-    clerk.reads("The rooms are given to 295 participants.")
+    clerk.reads("The rooms are given to 292 participants.")
     return sums
 
 
@@ -286,18 +320,18 @@ def check_record(clerk, stand, page, college, seed):
     )
 
 
-def publish_and_print(clerk, stand, page, results):
+def publish_and_print(clerk, stand, page, college, results):
     """Publishing, letters, and the plan of moves before the round is settled."""
     clerk.visit("/office/step/publish")
     clerk.press("Yes: publish the results")
-    clerk.reads("The results of 295 participants are published.")
+    clerk.reads("The results of 292 participants are published.")
     clerk.visit("/office/letters")
     clerk.put("closing", CLOSING)
     clerk.press("Put this text into the letters")
     letters = page.form("/office/letters", {"closing": CLOSING}, page="/office/copies")[2].split(
         '<section class="sheet">'
     )[1:]
-    check("295 letters with the clerk's text", len(letters) == 295 and all(CLOSING in letter for letter in letters))
+    check("292 letters with the clerk's text", len(letters) == 292 and all(CLOSING in letter for letter in letters))
     check(
         "each letter names one person alone, and says how the result came about",
         all(
@@ -307,9 +341,9 @@ def publish_and_print(clerk, stand, page, results):
     )
     for width in WIDTHS:  # too many letters for more than photographs
         clerk.photograph(f"22-letters-{width}", width)
-    check("each letter is a sheet", clerk.pdf("22-letters") == 295, "sheets")
+    check("each letter is a sheet", clerk.pdf("22-letters") == 292, "sheets")
     clerk.visit("/office/moves/1")
-    clerk.reads("The round is not settled yet")
+    clerk.reads("The round is not settled yet", "Leave the college: 3 people")
     clerk.shot("23-moves")
     print(f"      the plan of moves is {clerk.pdf('23-moves')} sheets")
     before = clerk.text().split("Wave 1", 1)[1]
@@ -324,6 +358,7 @@ def publish_and_print(clerk, stand, page, results):
     check("settling records the plan", clerk.text().split("Wave 1", 1)[1] == before)
     homes = {row[0]: row[2] for row in stand.ask(ask="view")["people"]}
     check("homes are the results", all(homes[person] == room for person, room in results.items()))
+    check("who leaves has no room", all(homes[person] is None for person in college.leavers))
 
 
 def go_back(clerk, stand):
@@ -355,7 +390,7 @@ def try_office_page(program, shots):
             look_at_large_text(stand, shots, "open")
             seed = draw_and_run(clerk, stand)
             results = look_at_results(clerk, stand, page, college, seed)
-            publish_and_print(clerk, stand, page, results)
+            publish_and_print(clerk, stand, page, college, results)
             go_back(clerk, stand)
             look_at_large_text(stand, shots, "published")
             check("the browser found nothing wrong", not clerk.complaints(), clerk.complaints())

@@ -12,9 +12,9 @@ from selenium.webdriver.common.action_chains import ActionChains
 from selenium.webdriver.common.keys import Keys
 
 from page_browser import DESK, Page
-from page_lists import try_lists
+from page_lists import Device, try_lists
 from page_looks import try_looks
-from stand import DEPLOY, Stand, check
+from stand import DEPLOY, Stand, check, key_of
 
 LINES = [
     "room H1", "room H2", "room H3", "room OLD-1", "room V", "room W", *(f"room A-{n}" for n in range(1, 46)),
@@ -34,6 +34,7 @@ FAULTS = [
     (422, "TooManyChoices", "more than 40"),
     (422, "RoomRepeated", "twice"),
     (422, "UnknownRoom", "no longer known"),
+    (409, "Going", "that you leave the college"),
     (429, "TooManyRequests", "wait a minute"),
     (503, "Unavailable", "try again in a few minutes"),
     (502, "", "not known whether"),
@@ -221,6 +222,54 @@ def withdrawal(page: Page, stand: Stand) -> None:
     page.sign_out()
 
 
+def is_closed_to_leaver(page: Page) -> bool:
+    """Whether the page shows no editing, and no way to withdraw."""
+    return not page.element("edit").is_displayed() and not page.element("withdraw").is_displayed()
+
+
+def leaving(page: Page, stand: Stand) -> None:
+    """The office notes that a resident leaves the college, while a list that was begun stands on another device."""
+    page.sign_in(key_of("T3"), "Tea Tal")
+    page.add("A-9")
+    check("who takes part hands in", page.hand_in(), page.text("fault"))
+    with Page(stand, page.shots, "de") as other:
+        other.width(*DESK)
+        other.open()
+        other.sign_in(key_of("T3"), "Tea Tal")
+        other.add("A-10")
+        stand.office("going T3")
+        page.click("ask-again")
+        told = page.waits(lambda: "no, you leave the college" in page.text("facts"))
+        check("who leaves the college is told that they take no part", told, page.text("facts"))
+        text = page.text("result")
+        check("and what becomes of their room", text == "You leave the college: room H3 is given out in this round, "
+              "and you move out at its end.", text)
+        check("and whom to tell if it is not so", "do not leave the college after all" in page.text("next"))
+        check("no list of theirs counts", page.text("record") == "You leave the college, so no list counts.")
+        check("and nothing can be changed", is_closed_to_leaver(page) and "can change" not in page.text("facts"))
+        page.shot("14-leaves")
+        other.click("hand-in")
+        told = other.is_told("vermerkt, dass Sie ausziehen, deshalb lässt sich die Liste nicht ändern.")
+        check("a list that was begun is answered by that", told, other.text("fault"))
+        is_shown = is_closed_to_leaver(other) and "ziehen aus dem Wohnheim aus" in other.text("result")
+        check("and the page is as it holds now", is_shown, other.text("result"))
+        other.shot("15-german-leaves")
+    try:
+        Device(stand, "T3").hand_in("A-11")
+        check("the server takes no list of theirs", False)
+    except ValueError as answer:
+        check("the server takes no list of theirs", "409 {'error': 'Going'}" in str(answer), answer)
+    page.sign_out()
+
+
+def left(page: Page) -> None:
+    """After the round, who has left the college has no room."""
+    page.sign_out()
+    page.sign_in(key_of("T3"), "Tea Tal")
+    check("who has left has no room", "H3" not in page.text("facts") and page.text("result") == "", page.text("facts"))
+    check("and is told so", "no room at present" in page.text("next"), page.text("next"))
+
+
 def closing_and_result(page: Page, stand: Stand) -> None:
     """From the end of the round to its result."""
     page.sign_in("key000000000000n", "Nia Ng")
@@ -233,7 +282,7 @@ def closing_and_result(page: Page, stand: Stand) -> None:
     check("a round that was closed is explained", told, page.text("fault"))
     check("lists are fixed now", not page.element("edit").is_displayed() and "Closed" in page.text("facts"))
     check("what is on record is shown", page.text("record") == "A-7", page.text("record"))
-    for line in ("draw 0000000000000001 0000000000000002 0000000000000003", "run"):
+    for line in ("draw 0000000000000001 0000000000000002", "run"):
         stand.office(line)
     page.click("ask-again")
     check("no result before it is published",
@@ -291,5 +340,7 @@ def try_page(program: str, shots: Path) -> None:
             real_faults(page, stand)
             server_away(page, stand)
             withdrawal(page, stand)
+            leaving(page, stand)
             closing_and_result(page, stand)
+            left(page)
             nothing_odd(page, stand)

@@ -26,7 +26,7 @@ MORE_MEMBERS = """
     window.fetch = async (path, options) => {
         const answer = await real(path, options);
         if (path !== "/me" || answer.status !== 200) return answer;
-        const value = { ...await answer.json(), going: true, more: { deep: [1] } };
+        const value = { ...await answer.json(), floor: 3, more: { deep: [1] } };
         return new Response(JSON.stringify(value), { status: 200 });
     };"""
 

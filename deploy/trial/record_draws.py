@@ -1,4 +1,7 @@
-"""Rounds drawn by chance, as lines of the office: tenants, newcomers, shut rooms, withdrawals, lists of all kinds."""
+"""Rounds drawn by chance, as lines of the office.
+
+They have tenants, newcomers, shut rooms, withdrawals, leavers, grades, and lists of all kinds.
+"""
 
 import random
 from collections.abc import Sequence
@@ -36,6 +39,7 @@ class Drawing:  # pylint: disable=too-many-instance-attributes  # what a round i
         self.home: dict[str, str] = {}
         self.shut: set[str] = set()
         self.withdrawn: set[str] = set()
+        self.going: set[str] = set()
         self.displaced: set[str] = set()
         self.waiting: list[str] = []
         self.hot = rng.sample(self.rooms, min(len(self.rooms), max(2, rooms // 3))) if self.rooms else []
@@ -68,6 +72,8 @@ class Drawing:  # pylint: disable=too-many-instance-attributes  # what a round i
         tenants = rng.randint(0, min(len(self.people), len(self.rooms)))
         self.home = dict(zip(rng.sample(self.people, tenants), rng.sample(self.rooms, tenants)))
         self.lines += [f"home {person} {room}" for person, room in self.home.items()]
+        if rng.random() < 0.5:
+            self.lines += [f"grade {person} {rng.choice('0112239')}" for person in self.people if rng.random() < 0.6]
         for room in [room for room in self.rooms if room not in self.home.values() and rng.random() < 0.1]:
             self.put_out_of_use(room)
 
@@ -78,9 +84,10 @@ class Drawing:  # pylint: disable=too-many-instance-attributes  # what a round i
         self.displaced.clear()
 
     def end(self, *lines: str) -> None:
-        """Ends a round, and with it all withdrawals."""
+        """Ends a round, and with it all withdrawals; nobody is about to leave any more."""
         self.lines += lines
         self.withdrawn.clear()
+        self.going.clear()
 
     def put_out_of_use(self, room: str) -> None:
         """Shuts a room; whoever lives there has no home any more."""
@@ -94,6 +101,7 @@ class Drawing:  # pylint: disable=too-many-instance-attributes  # what a round i
         rng = self.rng
         happens = [self.choose for person in self.people if rng.random() < 0.9]
         happens += [self.withdraw for person in self.people if rng.random() < 0.08]
+        happens += [self.leave_college for person in self.people if rng.random() < 0.08]
         happens += [self.shut_one for room in self.rooms if rng.random() < 0.06]
         happens += [self.reopen] * rng.choice([0, 0, 1])
         happens += [self.newcomer] * rng.choice([0, 0, 0, 1])
@@ -104,7 +112,7 @@ class Drawing:  # pylint: disable=too-many-instance-attributes  # what a round i
 
     def choose(self) -> None:
         """Somebody hands in a list; mostly somebody who has handed in none."""
-        takers = [person for person in self.people if person not in self.withdrawn]
+        takers = [person for person in self.people if person not in self.withdrawn | self.going]
         if takers:
             person = self.waiting.pop() if self.waiting and self.rng.random() < 0.9 else self.rng.choice(takers)
             if person in takers:
@@ -125,10 +133,20 @@ class Drawing:  # pylint: disable=too-many-instance-attributes  # what a round i
         return listed
 
     def withdraw(self) -> None:
-        """Somebody withdraws; now and then for the second time."""
+        """Somebody withdraws; now and then for the second time. Of somebody who leaves it is refused."""
         person = self.rng.choice(self.people)
-        self.withdrawn.add(person)
+        if person not in self.going:
+            self.withdrawn.add(person)
         self.lines.append(f"withdraw {person}")
+
+    def leave_college(self) -> None:
+        """Somebody who has a room leaves the college; now and then for the second time, or after having withdrawn."""
+        tenants = sorted({*self.home, *self.going})
+        if tenants:
+            person = self.rng.choice(tenants)
+            if person not in self.withdrawn:
+                self.going.add(person)
+            self.lines.append(f"going {person}")
 
     def shut_one(self) -> None:
         """A room goes out of use, lived in or not, wished for or not."""
@@ -156,7 +174,7 @@ class Drawing:  # pylint: disable=too-many-instance-attributes  # what a round i
     def draw(self) -> str | None:
         """Closes the round and draws: by a seed, or by words of which many are the same."""
         self.lines.append("close")
-        count = len(set(self.people) - self.withdrawn)
+        count = len(set(self.people) - self.withdrawn - self.going)
         seed = None
         if self.rng.random() < 0.8:
             seed = f"{self.rng.getrandbits(256):064x}"

@@ -33,13 +33,14 @@ def run(*words: str | Path) -> tuple[int, str]:
 
 
 def bring_in(trial: Trial, file: Path, register: list[str]) -> None:
-    """Brings the rooms and the people of these lines into the file, as lists."""
+    """Brings the rooms, the people and the grades of these lines into the file, as lists."""
     words = [line.split(" ") for line in register]
     home = {line[1]: line[2] for line in words if line[0] == "home"}
     rooms = ["room", *(line[1] for line in words if line[0] == "room")]
     people = ["person,name,key,home", *(f"{line[1]},{' '.join(line[3:])},{line[2]},{home.get(line[1], '')}"
                                         for line in words if line[0] == "person")]
-    for kind, lines in (("rooms", rooms), ("people", people)):
+    grades = ["person,grade", *(f"{line[1]},{line[2]}" for line in words if line[0] == "grade")]
+    for kind, lines in (("rooms", rooms), ("people", people), ("grades", grades)):
         path = trial.folder / f"{kind}.csv"
         path.write_text("".join(f"{line}\n" for line in lines), encoding="utf-8")
         status, said = run(trial.program, "import", "--db", file, kind, f"{kind}-1", path)
@@ -107,14 +108,21 @@ def replace(file: Path) -> None:
     file.write_text("room\nH1\n", encoding="ascii")
 
 
+def leaves_withdrawn(file: Path) -> None:
+    """Somebody has withdrawn and leaves the college as well."""
+    changed("INSERT INTO going(person) VALUES('P1')")(file)
+    changed("UPDATE person SET withdrawn = 1 WHERE id = 'P1'")(file)
+
+
 REFUSED: dict[str, tuple[Callable[[Path], None], str]] = {
-    "another version": (changed("UPDATE round SET version = 2"), "no office's file of version 1"),
-    "no round": (changed("DELETE FROM round"), "no office's file of version 1"),
+    "another version": (changed("UPDATE round SET version = 2"), "no office's file of version 3"),
+    "no round": (changed("DELETE FROM round"), "no office's file of version 3"),
     "a table that is not there": (changed("DROP TABLE word"), "no such table: word"),
     "a column that is not there": (changed("ALTER TABLE person RENAME COLUMN withdrawn TO away"), "no such column"),
     "a line feed in an identifier": (changed("UPDATE person SET id = 'P' || char(10) WHERE id = 'P1'"), "for a person"),
     "a person without a word": (changed("DELETE FROM word WHERE person = 'P1'"), "its words and results"),
     "a person without a result": (changed("DELETE FROM result WHERE person = 'P1'"), "its words and results"),
+    "a leaver who has withdrawn": (leaves_withdrawn, "has withdrawn and leaves"),
     "a home that is no room": (changed("UPDATE person SET home = 'NONE' WHERE id = 'P1'"), "a home or a list"),
     "a word that is none": (changed("UPDATE word SET hex = 'close' WHERE person = 'P1'"), "for a word"),
     "a file cut off": (cut, "damaged"),

@@ -17,7 +17,6 @@ import collections
 import contextlib
 import io
 import os
-import re
 import subprocess
 import tempfile
 import time
@@ -28,7 +27,7 @@ import record
 from record_draws import Drawing, Round
 from record_files import try_file, try_refusals
 from record_plants import KINDS, may_be, plant, planted
-from record_told import NotSo, Told, Trial, answers, file_of, to_moves, told_of
+from record_told import NotSo, Person, Told, Trial, answers, file_of, graded, to_moves, told_of
 
 PEOPLE, PARTS = 14, 50
 ROUNDS, FILES = 1000 // PARTS, 50 // PARTS  # of each part
@@ -60,16 +59,20 @@ class Rounds(Trial):
     def record(self, drawn: Round, told: Told, text: str) -> None:
         """A record says what the program knows, its rehearsal gives the same answers, and the audit finds nothing."""
         rows = audit.Record(text).rows()
-        gone = {person for person, _, withdrawn in told.people if withdrawn}
+        gone = {person for person, _, withdrawn, leaves in told.people if withdrawn or leaves}
         self.check(rows["rooms"] == told.rooms, "rooms", text, told)
-        people = [(person, home, withdrawn) for person, _, home, withdrawn in rows["people"]]
-        self.check(people == told.people, "people", text, told)
+        leavers = {row[0] for row in rows["going"]}
+        people = [(person, home, withdrawn, person in leavers) for person, _, home, withdrawn in rows["people"]]
+        self.check(people == [as_recorded(person) for person in told.people], "people", text, told)
         self.check(rows["choices"] == {person: listed for person, listed in told.choices.items() if person not in gone},
                    "lists", text, told)
+        self.check(dict(rows["grades"]) == told.grades, "grades", text, told)
+        part = {person: grade for person, grade in told.grades.items() if person not in gone}
+        self.check(graded(told.order) == part, "grades in the order", text, told)
         self.check(dict(rows["words"]) == told.words and dict(rows["results"]) == told.result, "results", text, told)
         number = 1 if "# A rehearsal begins at round 1" in text else drawn.number
         first, further = answers(self.program, text.splitlines(), to_moves("publish" == drawn.lines[-1], number))
-        expected = re.sub("^round [0-9]+", f"round {number}", told.round) + told.order + told.results
+        expected = asked_again(told, number) + told.order + told.results
         self.check(first.endswith("\n" + expected), "round, order and results", text, first, expected)
         self.check("refused" not in first, "no line is refused", text, first)
         self.check(further[-1] == told.moves, "moves", further, told.moves)
@@ -108,13 +111,20 @@ class Rounds(Trial):
     def count(self, drawn: Round, told: Told) -> None:
         """Counts what the drawn rounds had."""
         lists = told.choices
-        part = {person: home for person, home, withdrawn in told.people if not withdrawn}
-        kept = {home for _, home, withdrawn in told.people if withdrawn and home}
+        part = {person: home for person, home, withdrawn, leaves in told.people if not withdrawn and not leaves}
+        kept = {home for _, home, withdrawn, _ in told.people if withdrawn and home}
+        left = {home for _, home, _, leaves in told.people if leaves}
+        grades = {told.grades.get(person, 0) for person in part}
         shut = {room for room, out in told.rooms if out}
         had = {
             "in all": True,
             "with tenants and newcomers": len({home is None for home in part.values()}) == 2,
-            "with people withdrawn": len(part) < len(told.people),
+            "with people withdrawn": any(withdrawn for _, _, withdrawn, _ in told.people),
+            "with leavers": bool(left),
+            "with a leaver whose room was shut": None in left,
+            "with a leaver's room on a list": any(left.intersection(listed) for listed in lists.values()),
+            "with a leaver's room given away": any(room in left for room in told.result.values() if room),
+            "with several grades": len(grades) > 1,
             "with a tenant withdrawn": bool(kept),
             "with shut rooms": bool(shut),
             "with a tenant displaced": bool(drawn.displaced),
@@ -191,6 +201,21 @@ class Rounds(Trial):
         with contextlib.redirect_stdout(said), contextlib.redirect_stderr(why):
             status = audit.main([str(file), *words])
         return status, said.getvalue(), why.getvalue()
+
+
+def as_recorded(person: Person) -> Person:
+    """A person as the record has them: who leaves and has no room is one who has withdrawn."""
+    identifier, home, withdrawn, leaves = person
+    return identifier, home, withdrawn or (leaves and home is None), leaves and home is not None
+
+
+def asked_again(told: Told, number: int) -> str:
+    """The answer to `round` in a rehearsal of the record."""
+    recorded = [as_recorded(person) for person in told.people]
+    withdrawn, going = sum(person[2] for person in recorded), sum(person[3] for person in recorded)
+    phase = told.round.split()[2]
+    leaving = f" going {going}" if going else ""
+    return f"round {number} {phase} people {len(recorded)} withdrawn {withdrawn}{leaving}\n"
 
 
 def seeds_of(drawn: Round) -> list[str]:

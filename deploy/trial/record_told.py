@@ -16,7 +16,7 @@ MARK = "mark"  # no line of the program: its answer stands between two others
 MARKED = "not understood\n"
 ASKED = 50  # up to so many people the program is asked what each of them sees
 
-Person = tuple[str, str | None, bool]  # the identifier, the home, and whether they have withdrawn
+Person = tuple[str, str | None, bool, bool]  # the identifier, the home, whether they have withdrawn, whether they leave
 
 
 class NotSo(Exception):
@@ -48,6 +48,7 @@ class Told(NamedTuple):
     choices: dict[str, list[str]]
     words: dict[str, str]
     result: dict[str, str | None]
+    grades: dict[str, int]
 
 
 def answers(program: str, lines: list[str], questions: list[str]) -> tuple[str, list[str]]:
@@ -81,10 +82,21 @@ def told_of(drawn: Round, ask: Callable[[list[str]], tuple[str, list[str]]]) -> 
                         *to_moves(drawn.lines[-1] == "publish", drawn.number)])
     rooms, homes, asked, order, results = found[:5]
     people, choices = seen_by(found[5:5 + len(keys)]) if keys else followed(drawn.lines, first.splitlines(), homes)
-    words = {person: word for _, word, person in (line.split() for line in order.splitlines())}
+    words = {person: word for _, word, person, *_ in (line.split() for line in order.splitlines())}
     result = {person: or_none(room) for person, room in table(results)}
     return Told(asked, order, results, found[-1], [(code, state == "shut") for code, state, _ in table(rooms)],
-                sorted(people), choices, words, result)
+                sorted(people), choices, words, result, grades_in(drawn.lines))
+
+
+def grades_in(lines: list[str]) -> dict[str, int]:
+    """The grades that these lines give, but 0."""
+    given = {line.split()[1]: int(line.split()[2]) for line in lines if line.startswith("grade ")}
+    return {person: grade for person, grade in given.items() if grade}
+
+
+def graded(order: str) -> dict[str, int]:
+    """The grades in a drawn order."""
+    return {words[2]: int(words[4]) for words in map(str.split, order.splitlines()) if len(words) > 3}
 
 
 def seen_by(answers_to_me: list[str]) -> tuple[list[Person], dict[str, list[str]]]:
@@ -93,7 +105,7 @@ def seen_by(answers_to_me: list[str]) -> tuple[list[Person], dict[str, list[str]
     for answer in answers_to_me:
         said = {line.split(" ")[0]: line.split(" ")[1:] for line in answer.splitlines()}
         person = said["person"][0]
-        people.append((person, or_none(said["home"][0]), said["withdrawn"] == ["yes"]))
+        people.append((person, or_none(said["home"][0]), said["withdrawn"] == ["yes"], said["going"] == ["yes"]))
         if said["choices"]:
             choices[person] = said["choices"]
     return people, choices
@@ -103,14 +115,17 @@ def followed(lines: list[str], said: list[str], homes: str) -> tuple[list[Person
     """The same of many people, by the table of people and the answers to the lines of the round, one for each line."""
     choices: dict[str, list[str]] = {}
     withdrawn: set[str] = set()
+    going: set[str] = set()
     for line, answer in zip(lines, said, strict=True):
         if line in ("cancel", "settle"):
-            choices, withdrawn = {}, set()
+            choices, withdrawn, going = {}, set(), set()
         elif answer.startswith("chosen"):
             choices[line.split()[1]] = answer.split()[1:]
         elif answer == "withdrawn":
             withdrawn.add(line.split()[1])
-    people = [(person, or_none(home), person in withdrawn) for person, home, *_ in table(homes)]
+        elif answer == "going":
+            going.add(line.split()[1])
+    people = [(person, or_none(home), person in withdrawn, person in going) for person, home, *_ in table(homes)]
     return people, {person: listed for person, listed in choices.items() if listed}
 
 
@@ -121,13 +136,17 @@ def file_of(empty: Path, told: Told, target: Path) -> Path:
         with contextlib.suppress(FileNotFoundError):
             shutil.copyfile(empty.with_name(empty.name + end), target.with_name(target.name + end))
     _, number, phase, *_ = told.round.split()
-    people = [(person, f"Name of {person}", key_of(person), home, withdrawn) for person, home, withdrawn in told.people]
+    people = [(person, f"Name of {person}", key_of(person), home, withdrawn)
+              for person, home, withdrawn, _ in told.people]
+    going = [(person,) for person, _, _, leaves in told.people if leaves]
     choices = [(person, place, room) for person, rooms in told.choices.items() for place, room in enumerate(rooms)]
     with contextlib.closing(sqlite3.connect(target)) as database:
         database.execute("PRAGMA synchronous = OFF")
         database.executemany("INSERT INTO room(code, shut) VALUES(?, ?)", told.rooms)
         database.executemany("INSERT INTO person(id, name, passkey, home, withdrawn) VALUES(?, ?, ?, ?, ?)", people)
         database.executemany("INSERT INTO choice(person, place, room) VALUES(?, ?, ?)", choices)
+        database.executemany("INSERT INTO grade(person, value) VALUES(?, ?)", told.grades.items())
+        database.executemany("INSERT INTO going(person) VALUES(?)", going)
         database.executemany("INSERT INTO word(person, hex) VALUES(?, ?)", told.words.items())
         database.executemany("INSERT INTO result(person, room) VALUES(?, ?)", told.result.items())
         database.execute("UPDATE round SET number = ?, phase = ?", (int(number), phase))

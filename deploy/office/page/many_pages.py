@@ -23,6 +23,7 @@ class Many(NamedTuple):
 
 ACTS = {
     "withdraw": (("open",), "Withdraw them from the round"),
+    "going": (("open",), "Note that they leave the college at the end of the round"),
     "leave": (("idle",), "Let them leave their rooms"),
     "remove": (("idle",), "Remove them from the register"),
 }
@@ -30,8 +31,8 @@ ACTS = {
 
 def lines_for(office: Office, act: str, ident: str) -> list[str]:
     """The lines that do something to one person of many."""
-    if act == "withdraw":
-        return [f"withdraw {ident}"]
+    if act in ("withdraw", "going"):
+        return [f"{act} {ident}"]
     leave = [f"leave {ident}"] if office.people[ident].home else []
     return leave if act == "leave" else [*leave, f"remove {ident}"]
 
@@ -62,9 +63,12 @@ def look_at_many() -> str:
         faults = ["This cannot be done now."]
     elif len(idents) > MOST_AT_ONCE:
         faults = [f"These are {len(idents)} identifiers: send at most {MOST_AT_ONCE} at once."]
-    if act == "withdraw":
-        gone = {person.ident for person in office.withdrawn}
-        faults += [f"{ident} has withdrawn already." for ident in idents if ident in gone]
+    known = [office.people[ident] for ident in idents if ident in office.people]
+    if act in ("withdraw", "going"):
+        faults += [f"{person.ident} has withdrawn already." for person in known if person.withdrawn]
+        faults += [f"{person.ident} leaves the college already." for person in known if person.going]
+    if act == "going":
+        faults += [f"{person.ident} has no room." for person in known if not person.home]
     job = None
     if not faults:
         job = Many(act, idents, groups_of(office, act, idents))

@@ -12,6 +12,13 @@ class Person(NamedTuple):
     name: str
     home: str | None
     withdrawn: bool
+    going: bool = False
+    grade: int = 0
+
+    @property
+    def takes_part(self) -> bool:
+        """Whether the person takes part in the round."""
+        return not self.withdrawn and not self.going
 
 
 class Room(NamedTuple):
@@ -31,14 +38,16 @@ class KeptList(NamedTuple):
 
 
 class Office:  # pylint: disable=too-many-instance-attributes  # each is a part of the office
-    """The rows of the keeper's `view`, under names. Columns that a later version adds are passed over."""
+    """The rows of the keeper's `view`, under names."""
 
     def __init__(self, view: dict[str, Any]) -> None:
         self.view = view
         self.version: int = view["version"]
         self.number: int = view["number"]
         self.phase: str = view["phase"]
-        self.people = {row[0]: Person(row[0], row[1], row[2], bool(row[3])) for row in view["people"]}
+        grades, going = dict(view["grades"]), {row[0] for row in view["going"]}
+        self.people = {row[0]: Person(row[0], row[1], row[2], bool(row[3]), row[0] in going, grades.get(row[0], 0))
+                       for row in view["people"]}
         self.rooms = {row[0]: Room(row[0], bool(row[1]), row[2]) for row in view["rooms"]}
         self.choices: dict[str, list[str]] = view["choices"]
         self.results: dict[str, str | None] = {row[0]: row[1] for row in view["results"]}
@@ -64,9 +73,19 @@ class Office:  # pylint: disable=too-many-instance-attributes  # each is a part 
         return [person for person in self.people.values() if person.withdrawn]
 
     @property
+    def going(self) -> list[Person]:
+        """Who leaves the college at the end of the round."""
+        return [person for person in self.people.values() if person.going]
+
+    @property
+    def has_grades(self) -> bool:
+        """Whether anybody has another grade than 0."""
+        return any(person.grade for person in self.people.values())
+
+    @property
     def participants(self) -> list[Person]:
         """Who takes part in the round."""
-        return [person for person in self.people.values() if not person.withdrawn]
+        return [person for person in self.people.values() if person.takes_part]
 
     @property
     def without_list(self) -> list[Person]:

@@ -71,6 +71,13 @@ def choose(ident: str) -> None:
     go_to(person_of(office_now(), ident))
 
 
+@app.post("/office/person/<ident>/grade")
+def set_grade(ident: str) -> None:
+    """Records a person's grade."""
+    change("do", lines=[f"grade {ident} {text_of('grade')}"])
+    go_to(person_of(office_now(), ident))
+
+
 def question_of(office: Office, ident: str, act: str) -> Question | None:
     """The question before something is done to a person."""
     person = office.people[ident]
@@ -88,6 +95,11 @@ def question_of(office: Office, ident: str, act: str) -> Question | None:
         says = [f"The person takes no part in this round and {keeps}.", "You cannot take it back within this round.",
                 plain.COPY_FIRST]
         return Question(f"Does {who} withdraw from the round?", says, "Yes: withdraw from the round", place)
+    if act == "going" and person.home:
+        says = [f"The person takes no part in this round. {person.home} is given out in it, and the person moves out "
+                "when the round is settled.", "A list that this person handed in counts no more.",
+                "You cannot take it back within this round.", plain.COPY_FIRST]
+        return Question(f"Does {who} leave the college?", says, "Yes: leaves the college", place)
     if act == "key":
         says = ["The old key stops working. The next page shows the new key, once.",
                 "Identifier, name and room stay as they are."]
@@ -108,11 +120,11 @@ def ask_person(ident: str, act: str) -> str:
 
 @app.post("/office/person/<ident>/<act>")
 def change_person(ident: str, act: str) -> str:
-    """Lets a person leave, withdraw, be removed, or get a new key."""
+    """Lets a person leave the room, withdraw, leave the college, be removed, or get a new key."""
     office = office_now()
     place = person_of(office, ident)
     leave = [f"leave {ident}"] if office.people[ident].home else []
-    if act in ("leave", "withdraw"):
+    if act in ("leave", "withdraw", "going"):
         change("do", lines=[f"{act} {ident}"])
     elif act == "remove" and change("do", lines=[*leave, f"remove {ident}"]):
         go_to("/office/register")

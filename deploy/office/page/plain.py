@@ -73,12 +73,13 @@ STEPS = {
     "publish": Step(("ran",), "Publish the results", "Each resident sees their own result from then on.",
                     "You cannot take it back, and you cannot give the round up any more.", True),
     "settle": Step(("published",), "Settle the round",
-                   "The new rooms become the homes, the moves are recorded, and the round is over.",
+                   "The new rooms become the homes, who leaves the college has no room any more, the moves are "
+                   "recorded, and the round is over.",
                    "You cannot take it back. The lists, the order and the results of this round are deleted; the moves "
                    "stay. First download the public record, and print the letters.", True),
     "cancel": Step((), "Give the round up",
-                   "All lists, withdrawals, the order and the results of this round are deleted. The number of the "
-                   "round stays used.",
+                   "All lists, withdrawals, the order and the results of this round are deleted, and so is who leaves "
+                   "the college. The number of the round stays used.",
                    "You cannot take it back. To bring lists of choices in again, send them under a new label: under "
                    "the old label nothing comes in.", True),
 }
@@ -91,10 +92,13 @@ KINDS = {
     "rooms": Kind("room", "One room code a line.", REGISTER, 1),
     "people": Kind("person,name,key,home", "Identifier, name, key, and the room where the person lives, or nothing.",
                    REGISTER, 1),
+    "grades": Kind("person,grade", "Identifier, and a grade from 0 to 9. A smaller grade stands earlier in the order.",
+                   REGISTER, 2),
     "choices": Kind("person,choices", "Identifier, and the room codes, the best first, with one space between two.",
                     ("open",), 1),
 }
-EXPORTS = {"rooms": "Rooms", "people": "People, without keys", "moves": "Moves of all settled rounds"}
+EXPORTS = {"rooms": "Rooms", "people": "People, without keys", "grades": "Grades",
+           "moves": "Moves of all settled rounds"}
 
 # By the number of a refusal.
 REFUSALS = {
@@ -120,6 +124,7 @@ REFUSALS = {
     18: Meaning("This room is in use.", "There is nothing to bring back."),
     21: Meaning("The file is not an office's file.", "Stop, and call the administrator."),
     22: Meaning("The office's file has another version than the program.", "Call the administrator."),
+    24: Meaning("This person leaves the college at the end of the round.", "Take the line out of the list."),
 }
 
 CODE = "Write a room code: up to eight capital letters, digits and hyphens, the first no hyphen."
@@ -130,6 +135,7 @@ FIELDS = {
                "Write a name of up to 60 bytes, without a space at an end, two spaces in a row, or a line break.",
                "Write a key of 16 to 64 small letters and digits, or leave the field empty to get a new key.",
                CODE + " Leave the field empty for a person without a room."),
+    "grades": (IDENTIFIER, "Write a grade: one digit from 0 to 9."),
     "choices": (IDENTIFIER, "Write up to 40 room codes, each once, with one space between two."),
 }
 # What a list as a whole can be refused for, by the word after the record's number.
@@ -174,6 +180,7 @@ def done(text: str) -> str:
         "round": f"Round {number} is open.",
         "chosen": f"The list is on record: {' '.join(words[1:]) or 'an empty list'}.",
         "withdrawn": "The person has withdrawn from the round.",
+        "going": "The person leaves the college at the end of the round.",
         "cancelled": "The round is given up.",
         "closed": f"The round is closed, with {number} participants.",
         "drawn": f"The order of {number} participants is drawn.",

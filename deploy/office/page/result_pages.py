@@ -9,6 +9,7 @@ from app import app, attempt, field, go_to, office_now, show, tell
 from office_view import Office
 
 LONGEST_CLOSING = 1000
+LEAVING = "They move out first, and into no other room."
 
 
 @app.get("/office/results")
@@ -107,8 +108,10 @@ def groups_of(office: Office, table: str) -> list[Group]:
         name = office.people[ident].name if ident in office.people else ""
         waves.setdefault(wave, []).append(Move(ident, name, old, new))
     circles = circles_of(waves.pop("swap", []))
-    groups = [Group(f"Wave {wave}", "They move into rooms that nobody leaves." if wave == "1"
-                    else f"They move once wave {int(wave) - 1} has left.", moves) for wave, moves in waves.items()]
+    groups = [Group("Leave the college", LEAVING, waves.pop("0"))] if "0" in waves else []
+    first = "They move into rooms that nobody leaves" + (", or whose tenants leave the college." if groups else ".")
+    groups += [Group(f"Wave {wave}", first if wave == "1" else f"They move once wave {int(wave) - 1} has left.", moves)
+               for wave, moves in waves.items()]
     note = ("They move at the same time: each one goes where the next one in the list comes from, and the last one "
             "goes where the first one comes from.")
     return groups + [Group(f"Circle {number}", note, circle) for number, circle in enumerate(circles, 1)]
