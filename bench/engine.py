@@ -17,6 +17,7 @@ TURNS = 5
 WORD = "CREATE TABLE word(person TEXT PRIMARY KEY NOT NULL REFERENCES person(id), hex TEXT NOT NULL) STRICT"
 RESULT = """CREATE TABLE result(person TEXT PRIMARY KEY NOT NULL REFERENCES person(id),
   room TEXT UNIQUE REFERENCES room(code)) STRICT"""
+GOING = "CREATE TABLE going(person TEXT PRIMARY KEY NOT NULL REFERENCES person(id)) STRICT"
 CHOICE = """CREATE TABLE choice(person TEXT NOT NULL REFERENCES person(id), place INTEGER NOT NULL,
   room TEXT NOT NULL REFERENCES room(code), PRIMARY KEY(person, place), UNIQUE(person, room)) STRICT"""
 
@@ -74,7 +75,7 @@ def settlement(file):
     by_wave = sorted(moves, key=lambda move: (move[4] is None, move[4] or 0, move[1]))
     arrive = [f"UPDATE person SET home = '{move[3]}' WHERE id = '{move[1]}'" for move in by_wave]
     record = [f"INSERT INTO move VALUES({', '.join(map(text_of, move))})" for move in moves]
-    clear = ["DROP TABLE choice", "DROP TABLE result", "DROP TABLE word", WORD, RESULT, CHOICE]
+    clear = [*(f"DROP TABLE {table}" for table in ("going", "choice", "result", "word")), WORD, RESULT, CHOICE, GOING]
     return leave + arrive + record + clear + ["UPDATE person SET withdrawn = 0 WHERE withdrawn = 1",
                                               "UPDATE round SET phase = 'idle'"]
 

@@ -2,14 +2,14 @@
 
 import sys
 
-from foreign import changed, files, taken
+from foreign import changed, earlier, files, taken
 from foreign.program import Program
 
 
 def main(program: str) -> None:
     """Tries all groups, and ends well where none of them held a surprise."""
     words = Program((program,))
-    surprises = taken.try_all(words) + changed.try_all(words) + files.try_all(words)
+    surprises = taken.try_all(words) + earlier.try_all(words) + changed.try_all(words) + files.try_all(words)
     if surprises:
         sys.exit(f"{surprises} surprises")
     print("all is as it should be")

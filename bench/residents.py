@@ -44,7 +44,7 @@ def make_office(program, file):
 
 def record_of(number, choices):
     """What GET /me has to answer."""
-    return {"choices": choices, "home": home_of(number), "name": f"Person {number}", "person": person_of(number),
+    return {"choices": choices, "going": False, "home": home_of(number), "name": f"Person {number}", "person": person_of(number),
             "phase": "open", "result": None, "round": 1, "shown": False, "withdrawn": False}
 
 

@@ -1,5 +1,5 @@
 #!/usr/bin/env bash
-# A year that goes by lists: rooms, people and choices come in as CSV, and what came of it goes out. Prints
+# A year that goes by lists: rooms, people, grades and choices come in as CSV, and what came of it goes out. Prints
 # all of it, and ends with a status that is not 0 where it is another than examples/lists.out. With the word
 # `print` nothing is compared.
 #
@@ -39,6 +39,7 @@ year() {
     rooms import --db office.db people late-1 late.csv
     late "Flo Fay" >late.csv
     rooms import --db office.db people late-1 late.csv
+    rooms import --db office.db grades grades-1 grades.csv
     rooms import --db office.db choices choices-1 choices.csv
     tell open
     rooms import --db office.db choices choices-1 choices.csv
@@ -46,6 +47,7 @@ year() {
     rooms import --db office.db keys choices-2 choices.csv 2>&1
     tell close
     tell "draw 0000000000000003 0000000000000004 0000000000000005 0000000000000001 0000000000000002 0000000000000006 0000000000000007"
+    tell order
     tell run
     tell results
     tell publish
@@ -55,9 +57,10 @@ year() {
     rooms export --db office.db rooms
     rooms export --db office.db people
     rooms export --db office.db moves
+    rooms export --db office.db grades
 }
 
-cp "$here"/rooms.csv "$here"/people.csv "$here"/choices.csv "$folder"
+cp "$here"/rooms.csv "$here"/people.csv "$here"/grades.csv "$here"/choices.csv "$folder"
 cd "$folder"
 year | tee printed
 [ "${1:-}" = print ] || diff "$here/lists.out" printed >&2

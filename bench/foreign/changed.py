@@ -18,7 +18,7 @@ JOURNALS = ("journal_mode delete", "journal_mode wal")
 
 # No offices, whose rows stand in a log alone.
 IN_A_LOG: dict[str, tuple[Rows, str]] = {
-    "a round too many": ({**OFFICES["idle"].rows, "round": [(1, 1, 10000, "idle")]}, NOT_AN_OFFICE),
+    "a round too many": ({**OFFICES["idle"].rows, "round": [(1, 3, 10000, "idle")]}, NOT_AN_OFFICE),
     "no row of the round": ({**OFFICES["empty"].rows, "round": []}, NOT_AN_OFFICE),
     "a result is missing": ({**OFFICES["ran"].rows, "result": OFFICES["ran"].rows["result"][1:]}, NOT_AN_OFFICE),
     "another version": ({**OFFICES["ran"].rows, "round": [(1, 9, 3, "ran")]}, "refused 22 OtherVersion 9"),

@@ -14,8 +14,11 @@ BROKEN: Changes = {
     **plain("ran", "a result with a room that is not there", "UPDATE result SET room = 'X1' WHERE person = 'N2'", answer=UNAVAILABLE),
     **each("idle", "a room is shut by", "UPDATE room SET shut = ? WHERE code = 'V'", [2, -1], answer=UNAVAILABLE),
     **each("open", "somebody has withdrawn by", "UPDATE person SET withdrawn = ? WHERE id = 'C'", [2, -1], answer=UNAVAILABLE),
+    **each("idle", "somebody has grade", "UPDATE grade SET value = ?", [0, 10, -1], answer=UNAVAILABLE),
+    **plain("idle", "a grade of somebody who is not there", "INSERT INTO grade VALUES ('X1', 1)", answer=UNAVAILABLE),
+    **plain("open", "somebody leaves who is not there", "INSERT INTO going VALUES ('X1')", answer=UNAVAILABLE),
     **plain("idle", "the row of the round is the second", "UPDATE round SET one = 2", answer=UNAVAILABLE),
-    **plain("idle", "two rows of the round", "INSERT INTO round VALUES (2, 1, 2, 'idle')", answer=UNAVAILABLE),
+    **plain("idle", "two rows of the round", "INSERT INTO round VALUES (2, 3, 2, 'idle')", answer=UNAVAILABLE),
 }
 
 
@@ -30,7 +33,9 @@ VERSIONS: Changes = {
     **version("published", 9),
     **version("idle", 9, "UPDATE round SET phase = 'settled'"),
     **version("idle", 0),
+    **version("idle", 1),
     **version("idle", 2),
+    **version("idle", 4),
     **version("idle", -1),
     **version("idle", 65536 + 1),
     **version("idle", GREATEST),

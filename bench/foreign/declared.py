@@ -7,7 +7,7 @@ Declared = dict[str, tuple[tuple[str, ...], str]]
 
 TABLES = documented_tables()
 NAMES = [name_of(table) for table in TABLES]
-ROUND = "INSERT INTO round VALUES (1, 1, 0, 'idle')"
+ROUND = "INSERT INTO round VALUES (1, 3, 0, 'idle')"
 
 
 def all_tables(*more: str) -> tuple[str, ...]:
@@ -27,8 +27,9 @@ def without(name: str) -> tuple[str, ...]:
 
 
 def answer_without(name: str) -> str:
-    """Where nothing has the name of the round, it is no office; else its row may hold another version."""
-    return NOT_AN_OFFICE if name == "round" else UNAVAILABLE
+    """Where nothing has the name of the round, it is no office. Without the last table the tables are those of version 2, which
+    the row does not say. Else the order is none that is known."""
+    return NOT_AN_OFFICE if name in ("round", NAMES[-1]) else UNAVAILABLE
 
 
 DECLARED: Declared = {
@@ -38,13 +39,17 @@ DECLARED: Declared = {
     "tables of another program, one of them of an office's name": (("CREATE TABLE round(id INTEGER PRIMARY KEY, players INTEGER)",
                                                                     "INSERT INTO round VALUES (1, 4)"), UNAVAILABLE),
     "the tables in turned order": (in_order(*reversed(NAMES)), UNAVAILABLE),
-    "the lists before the words": (in_order("room", "person", "round", "move", "list", "choice", "word", "result"), UNAVAILABLE),
-    "the words before the moves": (in_order("room", "person", "round", "word", "result", "move", "list", "choice"), UNAVAILABLE),
-    "the round first": (in_order("round", "room", "person", "move", "list", "word", "result", "choice"), UNAVAILABLE),
+    "the lists before the moves": (in_order("room", "person", "round", "choice", "word", "result", "list", "move", "grade", "going"),
+                                   UNAVAILABLE),
+    "the leavers before the grades": (in_order("room", "person", "round", "choice", "word", "result", "move", "list", "going",
+                                               "grade"), UNAVAILABLE),
+    "grades and leavers behind version 1 of the program": (in_order("room", "person", "round", "move", "list", "word", "result",
+                                                                    "choice", "grade", "going"), UNAVAILABLE),
+    "the round first": (in_order("round", "room", "person", *NAMES[3:]), UNAVAILABLE),
     **{f"no table {name}": (without(name), answer_without(name)) for name in NAMES},
     "the table of the round alone": ((TABLES[NAMES.index("round")], ROUND), UNAVAILABLE),
     "a view in place of the round": (("CREATE VIEW round AS SELECT 1 AS version",), UNAVAILABLE),
-    "a ninth table": (all_tables("CREATE TABLE note(text TEXT)"), UNAVAILABLE),
+    "an eleventh table": (all_tables("CREATE TABLE note(text TEXT)"), UNAVAILABLE),
     "an index": (all_tables("CREATE INDEX names ON person(name)"), UNAVAILABLE),
     "a view": (all_tables("CREATE VIEW homes AS SELECT id, home FROM person"), UNAVAILABLE),
     "a trigger": (all_tables("CREATE TRIGGER gone AFTER DELETE ON room BEGIN DELETE FROM move; END"), UNAVAILABLE),

@@ -98,6 +98,11 @@ LISTS: Changes = {
     **many("open", 41),
     **plain("idle", "a list between rounds", "INSERT INTO choice VALUES ('N2', 0, 'V')"),
     **plain("idle", "somebody has withdrawn between rounds", "UPDATE person SET withdrawn = 1 WHERE id = 'C'"),
+    **plain("idle", "somebody leaves between rounds", "INSERT INTO going VALUES ('A')"),
+    **in_each(IN_ROUND, "somebody leaves who has withdrawn", "INSERT INTO going VALUES ('C')"),
+    **plain("drawn", "a participant leaves, whose word stays", "INSERT INTO going VALUES ('A')"),
+    **plain("published", "a participant leaves, whose result stays", "INSERT INTO going VALUES ('A')"),
+    **plain("published", "a grade is given after the run", "INSERT INTO grade VALUES ('N1', 9)"),
 }
 
 ROUND: Changes = {
@@ -154,7 +159,8 @@ MOVES: Changes = {
     **move("of the round under way", "open", 3, "A", None, "V", 1),
     **move("of the round under way", "published", 3, "A", "H1", "H2", None),
     **move("of a round to come", "open", 4, "A", None, "V", 1),
-    **move("into no room", "idle", 2, "A", "H1", None, 1),
+    **move("into no room, in wave 1", "idle", 2, "A", "H1", None, 1),
+    **move("into no room, as a swap", "idle", 2, "A", "H1", None, None),
     **move("into a bad code", "idle", 2, "A", None, "v", 1),
     **move("into an empty code", "idle", 2, "A", None, "", 1),
     **move("from a bad code", "idle", 2, "A", "ABCDEFGHI", "V", 1),
@@ -185,7 +191,9 @@ LAWFUL: Changes = {
     **each("idle", "the name", NAME, ["-", "a" * 60, "王" * 20, "a\u00a0b", "a\U0001f600"], IDLE_ROUND),
     **each("idle", "the key", KEY, ["0" * 16, "z" * 64], IDLE_ROUND),
     **each("idle", "the label", LABEL, ["a", "0-", "a" * 32], IDLE_ROUND),
-    **each("idle", "the kind", KIND, ["rooms", "people", "choices"], IDLE_ROUND),
+    **each("idle", "the kind", KIND, ["rooms", "people", "choices", "grades"], IDLE_ROUND),
+    **each("idle", "somebody has grade", "UPDATE grade SET value = ?", [1, 9], IDLE_ROUND),
+    **plain("open", "somebody leaves who has no home", "INSERT INTO going VALUES ('N1')", answer=f"{OPEN_ROUND} going 1"),
     **each("drawn", "the word", HEX, ["0" * 16, "f" * 16, "00000000000000ab"], "round 3 drawn people 5 withdrawn 1"),
     **each("idle", "a kept list added", ADDED, [0, 10000], IDLE_ROUND),
     **each("idle", "a kept list, of bytes", BODY, [0, 262144], IDLE_ROUND),
@@ -194,5 +202,7 @@ LAWFUL: Changes = {
     **plain("open", "the own room in a list", "INSERT INTO choice VALUES ('B', 1, 'H2')", answer=OPEN_ROUND),
     **many("open", 40, OPEN_ROUND),
     **move("of wave 65,535", "idle", 2, "Z1", "GONE", "GONE-2", 65535, answer=IDLE_ROUND),
+    **move("out of the college", "idle", 2, "A", "H1", None, 0, answer=IDLE_ROUND),
+    **move("of wave 0, into a room", "idle", 2, "A", None, "V", 0, answer=IDLE_ROUND),
     **move("of a round that was given up", "open", 2, "A", None, "V", 1, answer=OPEN_ROUND),
 }

@@ -17,13 +17,14 @@ KEYS = {"A": "key000000000000a", "B": "key000000000000b", "C": "key000000000000c
 # round was given up.
 MOVES: list[Row] = [(1, "A", "H3", "H1", None), (1, "B", "W", "H2", 1), (1, "C", "H1", "H3", None), (1, "X9", None, "W", 2)]
 LISTS: list[Row] = [(LABEL, "rooms", LIST, 2)]
+GRADES: list[Row] = [("B", 9)]
 
 # The third round, from which C has withdrawn: so H3 takes no part, and C's list counts for nothing. S takes none either.
 CHOICES: list[Row] = [("A", 0, "H2"), ("A", 1, "V"), ("B", 0, "H1"), ("C", 0, "V"), ("N1", 0, "H3"), ("N1", 1, "H1"),
                       ("N1", 2, "V"), ("N2", 0, "V"), ("N2", 1, "S")]
 WORDS: list[Row] = [("A", "00000000000000ab"), ("B", "ffffffffffffffff"), ("N1", "0000000000000001"), ("N2", "0000000000000002")]
 
-# The drawn order is N1, N2, A, B. A asks for H2, where B lives, and B for H1, where A lives: they are a cycle, and leave with each
+# The drawn order is N1, N2, A, B, the last also by the grade. A asks for H2, where B lives, and B for H1, where A lives: they are a cycle, and leave with each
 # other's rooms. N1 cannot have H3, and H1 is gone then: so N1 asks for V, which points to N1, the first who is left. For N2 V is
 # gone and S shut, and nothing else is listed.
 RESULTS: list[Row] = [("A", "H2"), ("B", "H1"), ("N1", "V"), ("N2", None)]
@@ -53,7 +54,7 @@ ORDER_TABLE = """\
    1 0000000000000001 N1
    2 0000000000000002 N2
    3 00000000000000ab A
-   4 ffffffffffffffff B"""
+   4 ffffffffffffffff B grade 9"""
 RESULTS_TABLE = """\
 person        room
 A             H2
@@ -98,12 +99,12 @@ HOMES = {"A": "H1", "B": "H2", "C": "H3"}
 
 def in_round(phase: str, withdrawn: tuple[str, ...] = ("C",), **tables: list[Row]) -> Rows:
     """The rows of the third round in this phase."""
-    none: Rows = {"word": [], "result": []}
-    return {"room": ROOMS, "person": people(HOMES, withdrawn), "round": [(1, 1, 3, phase)], **none, "move": MOVES, "list": LISTS,
-            "choice": CHOICES, **tables}
+    none: Rows = {"word": [], "result": [], "going": []}
+    return {"room": ROOMS, "person": people(HOMES, withdrawn), "round": [(1, 3, 3, phase)], **none, "move": MOVES, "list": LISTS,
+            "choice": CHOICES, "grade": GRADES, **tables}
 
 
-def me(person: str, home: str, phase: str, choices: str, withdrawn: str, result: str) -> str:
+def me(person: str, home: str, phase: str, choices: str, withdrawn: str, result: str, going: str = "no") -> str:
     """What a person sees by the key in the third round."""
     listed = f"choices {choices}".rstrip()
     return f"""\
@@ -113,11 +114,13 @@ home {home}
 round 3 {phase}
 {listed}
 withdrawn {withdrawn}
+going {going}
 result {result}"""
 
 
 EMPTY = Office(
-    rows={"room": [], "person": [], "round": [(1, 1, 0, "idle")], "word": [], "result": [], "move": [], "list": [], "choice": []},
+    rows={"room": [], "person": [], "round": [(1, 3, 0, "idle")], "word": [], "result": [], "move": [], "list": [], "choice": [],
+          "grade": [], "going": []},
     told={
         "do round": "round 0 idle people 0 withdrawn 0",
         "do rooms": "room      state     tenant",
@@ -134,8 +137,8 @@ EMPTY = Office(
 )
 
 IDLE = Office(
-    rows={"room": ROOMS, "person": people(HOMES), "round": [(1, 1, 2, "idle")], "word": [], "result": [], "move": MOVES,
-          "list": LISTS, "choice": []},
+    rows={"room": ROOMS, "person": people(HOMES), "round": [(1, 3, 2, "idle")], "word": [], "result": [], "move": MOVES,
+          "list": LISTS, "choice": [], "grade": GRADES, "going": []},
     told={
         "do round": "round 2 idle people 5 withdrawn 0",
         "do rooms": ROOMS_TABLE,
@@ -143,7 +146,7 @@ IDLE = Office(
         "do moves 1": MOVES_TABLE,
         "do moves 2": "wave  person        from      to",
         "do moves 3": "refused 17 NoSuchRound",
-        f"do me {LONG_KEY}": "person N2\nname Nia Noor\nhome none\nround 2 idle\nchoices\nwithdrawn no\nresult hidden",
+        f"do me {LONG_KEY}": "person N2\nname Nia Noor\nhome none\nround 2 idle\nchoices\nwithdrawn no\ngoing no\nresult hidden",
         "do room H1": "refused 4 DuplicateRoom",
         "export people": PEOPLE_EXPORT,
         "export moves": MOVES_EXPORT,
@@ -182,7 +185,7 @@ ALL_OPEN = Office(
     },
     command="do close",
     answer="closed 5",
-    changed={"round": [(1, 1, 3, "closed")]},
+    changed={"round": [(1, 3, 3, "closed")]},
     then="round 3 closed people 5 withdrawn 0",
 )
 
@@ -197,7 +200,7 @@ CLOSED = Office(
     },
     command="do draw 00000000000000AB ffffFFFFffffFFFF 0000000000000001 0000000000000002",
     answer="drawn 4",
-    changed={"round": [(1, 1, 3, "drawn")], "word": WORDS},
+    changed={"round": [(1, 3, 3, "drawn")], "word": WORDS},
     then="round 3 drawn people 5 withdrawn 1",
 )
 
@@ -211,7 +214,7 @@ DRAWN = Office(
     },
     command="do run",
     answer="ran 4",
-    changed={"round": [(1, 1, 3, "ran")], "result": RESULTS},
+    changed={"round": [(1, 3, 3, "ran")], "result": RESULTS},
     then="round 3 ran people 5 withdrawn 1",
 )
 
@@ -228,7 +231,7 @@ RAN = Office(
     },
     command="do publish",
     answer="published 4",
-    changed={"round": [(1, 1, 3, "published")]},
+    changed={"round": [(1, 3, 3, "published")]},
     then="round 3 published people 5 withdrawn 1",
 )
 
@@ -246,7 +249,7 @@ PUBLISHED = Office(
     answer="settled 3",
     changed={
         "person": people({"A": "H2", "B": "H1", "C": "H3", "N1": "V"}),
-        "round": [(1, 1, 3, "idle")],
+        "round": [(1, 3, 3, "idle")],
         "move": [*MOVES, (3, "A", "H1", "H2", None), (3, "B", "H2", "H1", None), (3, "N1", None, "V", 1)],
         "word": [], "result": [], "choice": [],
     },
@@ -259,8 +262,8 @@ FULL = Office(
     rows={
         "room": [(f"R{number:04d}", 0) for number in range(2000)],
         "person": FULL_HOMES,
-        "round": [(1, 1, 9999, "idle")],
-        "word": [], "result": [],
+        "round": [(1, 3, 9999, "idle")],
+        "word": [], "result": [], "grade": [("P0000", 1)], "going": [],
         "move": [(9999, "P0000", None, "R0000", 1)],
         "list": [("long", "people", b"x" * 262144, 10000), *((f"l{number}", "choices", b"", 0) for number in range(199))],
         "choice": [],
@@ -279,5 +282,23 @@ FULL = Office(
     has_list=False,
 )
 
-OFFICES = {"empty": EMPTY, "idle": IDLE, "open": OPEN, "open, nobody has withdrawn": ALL_OPEN, "closed": CLOSED, "drawn": DRAWN,
+# B leaves the college: so H2 is in the round without a tenant, and B's list counts for nothing.
+LEAVING = Office(
+    rows=in_round("open", going=[("B",)]),
+    told={
+        "do round": "round 3 open people 5 withdrawn 1 going 1",
+        "do me key000000000000b": me("B", "H2", "open", "H1", "no", "hidden", "yes"),
+        "do choose B V": "refused 24 Going",
+        "do withdraw B": "refused 24 Going",
+        "do going C": "refused 11 Withdrawn",
+        "do going N1": "refused 10 NoHome",
+        "export grades": "person,grade\nA,0\nB,9\nC,0\nN1,0\nN2,0",
+    },
+    command="do going A",
+    answer="going",
+    changed={"going": [("A",), ("B",)]},
+    then="round 3 open people 5 withdrawn 1 going 2",
+)
+
+OFFICES = {"empty": EMPTY, "idle": IDLE, "open": OPEN, "open, nobody has withdrawn": ALL_OPEN, "open, somebody leaves": LEAVING, "closed": CLOSED, "drawn": DRAWN,
            "ran": RAN, "published": PUBLISHED, "full": FULL}

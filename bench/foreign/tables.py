@@ -15,7 +15,9 @@ Rows = dict[str, list[Row]]
 Way = Callable[[Program, Path, Rows], None]
 
 DOCUMENT = Path(__file__).resolve().parents[2] / "docs" / "formats.md"
-HEADING = "## Tables of the database, version 1"
+HEADING = "## Tables of the database, version 3"
+# The order in which the program makes the tables.
+OWN_ORDER = ("room", "person", "round", "move", "list", "grade", "word", "result", "choice", "going")
 
 
 def documented_tables() -> list[str]:
@@ -41,18 +43,24 @@ def opened(file: Path) -> Iterator[sqlite3.Connection]:
 
 def fill(database: sqlite3.Connection, rows: Rows) -> None:
     """Puts the rows of an office into its tables, in one transaction, and looks after references."""
+    fill_some(database, rows, list(map(name_of, documented_tables())))
+
+
+def fill_some(database: sqlite3.Connection, rows: Rows, tables: list[str]) -> None:
+    """The same, with these tables alone."""
     database.execute("PRAGMA foreign_keys = ON")
     database.execute("BEGIN")
-    for table in map(name_of, documented_tables()):
+    for table in sorted(tables, key=("room", "person").__contains__, reverse=True):
         for row in rows[table]:
             database.execute(f"INSERT INTO {table} VALUES ({', '.join('?' * len(row))})", row)
     database.execute("COMMIT")
 
 
-def declare(database: sqlite3.Connection) -> None:
-    """Declares the documented tables."""
-    for table in documented_tables():
-        database.execute(table)
+def declare(database: sqlite3.Connection, *names: str) -> None:
+    """Declares the documented tables, or those of these names, in their order."""
+    tables = {name_of(table): table for table in documented_tables()}
+    for name in names or tables:
+        database.execute(tables[name])
 
 
 def by_pragmas(*pragmas: str) -> Way:
@@ -66,6 +74,13 @@ def by_pragmas(*pragmas: str) -> Way:
             fill(database, rows)
 
     return write
+
+
+def in_own_order(_: Program, file: Path, rows: Rows) -> None:
+    """The tables stand as the program makes them, and sqlite3 makes them."""
+    with opened(file) as database:
+        declare(database, *OWN_ORDER)
+        fill(database, rows)
 
 
 def with_a_gap(_: Program, file: Path, rows: Rows) -> None:
@@ -153,6 +168,7 @@ WAYS: dict[str, Way] = {
     "pages of 65,536 bytes": by_pragmas("page_size = 65536", "journal_mode = wal"),
     "free pages": with_a_gap,
     "vacuum": vacuumed,
+    "the order of the program": in_own_order,
     "tables made by the program": made_by_the_program,
 }
 
