@@ -1,5 +1,5 @@
 """Copies of earlier versions of the office's file: the keeper and rooms-restore bring the one that they put back to the
-version of the program, and an office that is not migrated yet changes nothing.
+version of the program, and an office that is not migrated yet takes no line.
 
 This run alone, by root: /usr/bin/python3 deploy/trial/earlier.py PROGRAM
 """
@@ -11,6 +11,7 @@ import subprocess
 import sys
 from pathlib import Path
 
+from office_requests import Page
 from stand import DEPLOY, PYTHON, Stand, check, until
 
 TABLE = re.compile(r"CREATE TABLE (\w+)\(.*?\) STRICT;", re.DOTALL)
@@ -136,6 +137,10 @@ def not_migrated(stand):
     check("an office of version 1 takes no line", told[:2] == (1, "refused 22 OtherVersion 1\n"), told)
     told = stand.command("view")
     check("and can be looked at", told[0] == 0 and told[1].startswith("round 2 open\n"), told)
+    stand.start_page()
+    stand.start_proxy()
+    status, _, text = Page(stand).get("/office/")
+    check("the office's page says so", status == 200 and "brought to version\n3" in text, text)
     told = stand.command("record")
     check("there is no record of it", told[0] != 0 and "rooms migrate" in told[2], told)
     check("it can be kept", stand.command("backup")[0] == 0)
@@ -146,6 +151,9 @@ def not_migrated(stand):
     stand.start()
     until(lambda: stand.server() is not None, 10, "the server")
     check("and then it goes on", stand.office("round") == OPEN and stand.office("room O9") == "ok\n")
+    stand.until_listening(stand.server_port)
+    text = Page(stand).get("/office/")[2]
+    check("also on the page", "has to be brought" not in text and "does not run" not in text, text)
 
 
 def try_earlier(program):

@@ -17,6 +17,8 @@ from pathlib import Path
 sys.dont_write_bytecode = True
 
 # pylint: disable=wrong-import-position  # nothing may be written before
+from selenium.webdriver.common.by import By
+
 from office_browser import WIDTHS, Clerk
 from office_requests import Page, hand_in
 from stand import OFFICE, PYTHON, Stand, check
@@ -203,10 +205,15 @@ def note_leavers(clerk, college):
     clerk.put("text", " ".join(others))
     clerk.tick("going")
     clerk.press("Show who they are")
+    clerk.shot("15-many-leave")
     clerk.press("Yes: note that they leave")
     clerk.reads("Done for 2 people")
     clerk.visit("/office/")
-    clerk.reads("Leave the college: 3")
+    clerk.reads("Leave the college: 3", "and 3 leave the college")
+    clerk.shot("15-leavers")
+    clerk.visit(f"/office/person/{one}")
+    clerk.reads("This person leaves the college.")
+    clerk.shot("15-leaver")
 
 
 def look_at_large_text(stand, shots, phase):
@@ -240,6 +247,7 @@ def draw_and_run(clerk, stand):
     clerk.press("Yes: close the round")
     clerk.reads("The round is closed, with 292 participants.")
     clerk.press("Draw the order")
+    clerk.reads("the seed decides among people of the same grade")
     clerk.shot("16-draw")
     clerk.put("text", THROWS.replace(" ", ""))
     clerk.press("Write the seed of this text")
@@ -257,6 +265,9 @@ def draw_and_run(clerk, stand):
     clerk.shot("17-seed")
     clerk.press("Yes: draw with this seed")
     clerk.reads("The order of 292 participants is drawn.", "The seed of this draw")
+    rows = [row.text.split() for row in clerk.driver.find_elements(By.CSS_SELECTOR, "tbody tr")]
+    check("the order goes by grade and word", len(rows) == 292 and rows == sorted(rows, key=lambda row: row[-2:]))
+    check("and shows the grades", {row[-2] for row in rows} >= set("012"), {row[-2] for row in rows})
     clerk.shot("18-order")
     clerk.visit("/office/")
     clerk.press("Give the rooms")

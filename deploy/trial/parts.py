@@ -94,6 +94,7 @@ def copied_before():
         "settle",
         "shut A-1",
         "withdraw R1",
+        "going R1",
         "leave R1",
         "remove R1",
     ]
@@ -101,7 +102,7 @@ def copied_before():
         "the office is copied before each line that cannot be taken back",
         all(reason_to_copy([one], {}) for one in lasting),
     )
-    others = ["room A-1", "person R1 k Ann", "home R1 A-1", "reopen A-1", "open", "choose R1 A-1"]
+    others = ["room A-1", "person R1 k Ann", "home R1 A-1", "grade R1 2", "reopen A-1", "open", "choose R1 A-1"]
     check("and before no other", not any(reason_to_copy([one], {}) for one in others))
     check(
         "but before a list that replaces another one, and before several lines",

@@ -39,6 +39,9 @@ class Meaning(NamedTuple):
         return f"{self.says} {self.to_do}".strip()
 
 
+# The version of the office's file that the program works on.
+VERSION = 3
+
 PAGES = {
     "/office/": "Overview", "/office/lists": "Lists in", "/office/register": "People", "/office/rooms": "Rooms",
     "/office/draw": "Draw", "/office/results": "Results", "/office/print": "Print and export",
