@@ -126,13 +126,18 @@ def restored(stand):
         check("and the keeper goes on with it", stand.office("round") == OPEN)
 
 
-def not_migrated(stand):
-    """An office whose file is of an earlier version: lines are refused, the view is there, and the way on as well."""
+def start_earlier(stand):
+    """Starts the keeper over an office of version 1."""
     stand.stop_keeper()
     for end in ("", "-wal", "-shm"):
         stand.file.with_name(stand.file.name + end).unlink(missing_ok=True)
     make_earlier(stand.file, 1)
     stand.start_keeper()
+
+
+def not_migrated(stand):
+    """An office whose file is of an earlier version: lines are refused, the view is there, and the way on as well."""
+    start_earlier(stand)
     told = stand.command("do", "room", "O9")
     check("an office of version 1 takes no line", told[:2] == (1, "refused 22 OtherVersion 1\n"), told)
     told = stand.command("view")
@@ -156,6 +161,16 @@ def not_migrated(stand):
     check("also on the page", "has to be brought" not in text and "does not run" not in text, text)
 
 
+def put_back_in_earlier(stand):
+    """Where the office's own file is of an earlier version, a copy of it can be put back too."""
+    start_earlier(stand)
+    name = stand.script("rooms-office", "backup").strip()
+    told = stand.command("back", name)
+    check("a copy is put back in the place of a file that is not migrated", told[0] == 0, told)
+    stand.until_listening(stand.server_port)
+    check("and is of this version", version_of(stand) == VERSION and stand.office("round") == OPEN)
+
+
 def try_earlier(program):
     """All of it. rooms-restore stops the units of a machine with systemd, so there it is left out."""
     with Stand(program) as stand:
@@ -166,6 +181,7 @@ def try_earlier(program):
         put_back(stand, "20200101T000003Z", 2)
         put_back_later(stand)
         not_migrated(stand)
+        put_back_in_earlier(stand)
         if Path("/run/systemd/system").exists():
             print("      rooms-restore is left out: this machine has units")
         else:
