@@ -4,6 +4,8 @@
 # that is not 0 where it is another than examples/files.out. With the word `print` nothing is compared.
 #
 #     examples/files.sh
+#
+# shellcheck disable=SC1010 # `do` is a line of the program
 set -euo pipefail
 if ! command -v sqlite3 >/dev/null; then
     echo "files.sh: sqlite3 is not installed (Debian: apt-get install sqlite3)" >&2

@@ -4,6 +4,8 @@
 # `print` nothing is compared.
 #
 #     examples/lists.sh
+#
+# shellcheck disable=SC1010 # `do` is a line of the program
 set -euo pipefail
 here=$(CDPATH='' cd -- "$(dirname -- "$0")" && pwd)
 . "$here/../bench/program.sh"

@@ -6,13 +6,14 @@
 | try | lines | answers: of a copy, which is thrown away |
 | do | lines, seen | answers, done, took, copy |
 | draw | seed, seen | as `do` |
-| import | kind, label, body, only_try, seen | as `do`; `body` in base 64 |
+| import | kind, label, body, only_try, seen | as `do`; known: whether its label was taken; `body` in base 64 |
 | export | kind | answers |
 | copy | | body: the office without keys and names, a database in base 64 |
 | record | | body: the public record of the round |
 | backup, backups | | name; backups: name, bytes and reason of each |
 | back | name, seen | name: of the copy that was taken of the present office before |
 | blank | label, seen | blanked: the label |
+| correct | person, name or key or both, seen | corrected: the person; copy |
 | note, journal | line; last | nothing; journal: the last entries |
 
 An answer is a text and a status of the program. What cannot be done is answered `fault`, with the reason.
@@ -30,8 +31,8 @@ from backups import ASKED_FOR, blank, without_names
 from hand import CarryOut, Change, Hand
 from journal import masked, masked_line, masked_note
 from office import Office
-from program import NOT_UNDERSTOOD, Answer, is_of_earlier_version, is_refused
-from rows import Rows
+from program import NOT_UNDERSTOOD, Answer, correct, is_of_earlier_version, is_refused
+from rows import Rows, rows_of
 from settings import Fault
 
 Job = dict[str, Any]
@@ -73,6 +74,11 @@ def participants(rows: Rows) -> int:
     return sum(not withdrawn and person not in going for person, _, _, withdrawn in rows["people"])
 
 
+def has_label(rows: Rows, label: str) -> bool:
+    """Whether a list came in under this label."""
+    return any(label == taken for taken, *_ in rows["lists"])
+
+
 def only(answer: Answer) -> Job:
     """One answer that changed nothing."""
     return {"answers": [answer], "done": False}
@@ -88,7 +94,7 @@ class Asks:
             "view": self.view, "try": self.try_out, "do": self.do_lines, "draw": self.draw, "import": self.bring_in,
             "export": self.export, "copy": self.copy, "record": self.record, "backup": self.backup,
             "backups": self.list_backups, "back": self.put_back, "blank": self.blank, "note": self.note,
-            "journal": self.show_journal,
+            "journal": self.show_journal, "correct": self.correct,
         }
 
     def answer(self, job: Job) -> Job:
@@ -164,11 +170,14 @@ class Asks:
         return self.change(job, spoken, lambda file: [self.program.tell(line, file)], kind="draw")
 
     def bring_in(self, job: Job) -> Job:
-        """A list. With `only_try` it is tried alone."""
+        """A list. With `only_try` it is tried alone, and so is one under a label that is taken: it changes nothing."""
         kind, label, body = text(job, "kind"), text(job, "label"), body_of(job)
-        if job.get("only_try"):
+        if job.get("only_try") or has_label(self.hand.view.rows(), label):
             with self.copies.copied() as copy:
-                return only(self.program.bring_in(kind, label, body, copy))
+                known = has_label(rows_of(copy), label)
+                answer = self.program.bring_in(kind, label, body, copy)
+            if job.get("only_try") or known:
+                return {**only(answer), "known": known}
         spoken = masked(f"import {kind} {label} ({len(body)} bytes)")
         return self.change(job, spoken, lambda file: [self.program.bring_in(kind, label, body, file)], kind="import")
 
@@ -224,6 +233,24 @@ class Asks:
             said = change.answers[-1].text.strip()
             raise Fault(f"the program does not take the office afterwards ({said}). Nothing was changed.")
         return {"blanked": label}
+
+    def correct(self, job: Job) -> Job:
+        """Another name or key for a person (`correct` in program.py). The journal has neither."""
+        person = text(job, "person")
+        values = {name: text(job, name) for name in ("name", "key") if name in job}
+        if not values:
+            raise Fault("not understood: neither name nor key")
+
+        def carry_out(copy: Path) -> list[Answer]:
+            correct(person, values, copy)
+            return [self.program.look(copy)]
+        spoken = masked(f"correct {person}: {' and '.join(values)}")
+        change = self.hand.change(Change(job["who"], spoken, carry_out, whole=True, kind="correct",
+                                         why=f"before {spoken}, by {job['who']}", seen=seen_in(job)))
+        if is_refused(change.answers):
+            said = change.answers[-1].text.strip()
+            raise Fault(f"the program does not take this name or key ({said}). Nothing was changed.")
+        return {"corrected": person, "copy": change.copy}
 
     # --- the journal
 

@@ -160,8 +160,12 @@ class Hand:  # pylint: disable=too-many-instance-attributes  # the parts of the 
         """One change, if its sender still waits for it."""
         if not change.wanted.acquire(blocking=False):
             return
+        # Until it is made its answers are those of the copy on which it was tried: where nobody knows what went wrong,
+        # its sender must not get them.
+        change.fault = "the keeper failed at this line. Look whether it stands."
         try:
             self.make(change)
+            change.fault = ""
         except Fault as fault:
             change.fault = str(fault)
         except (OSError, sqlite3.Error) as fault:

@@ -17,10 +17,9 @@ from collections.abc import Iterator
 from pathlib import Path
 from typing import Any
 
+from lines import LIKE_A_KEY
 from settings import Fault, unwritten
 
-# What may be a key: identifiers have at most 12 signs, and codes 8. In capitals it may be a key too that was typed so.
-LIKE_A_KEY = re.compile(r"[A-Za-z0-9]{16,}")
 SEED = re.compile(r"seed [0-9A-Fa-f]{64}\b")
 SEEDS = re.compile(r"^(?:seed|draw \$\(rooms words --seed) ([0-9A-Fa-f]{64})\b")
 TAIL = 4 << 20   # bytes: so much of the end of the journal is read

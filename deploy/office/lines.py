@@ -1,6 +1,10 @@
-"""The office's lines: which only read, before which the office is copied, and how the journal has them."""
+"""The office's lines: which only read, before which the office is copied, and which may show a key."""
 
+import re
 from typing import Any
+
+# What may be a key: identifiers have at most 12 signs, and codes 8. In capitals it may be a key too that was typed so.
+LIKE_A_KEY = re.compile(r"[A-Za-z0-9]{16,}")
 
 # What only reads is asked of a copy. Every other line may change the office.
 READS = frozenset({"rooms", "people", "round", "order", "results", "moves", "whatif", "me"})
@@ -36,6 +40,14 @@ def only_reads(lines: list[str]) -> bool:
 def have_keys(lines: list[str]) -> bool:
     """Whether one of these lines has a key."""
     return any(verb_of(line) in ("person", "me") for line in lines)
+
+
+def shows_a_key(line: str) -> bool:
+    """Whether a line that takes no key has a word that may be one, as `persn ID KEY NAME`.
+
+    The program understands no such line. Only the words of a draw look like keys.
+    """
+    return verb_of(line) != "draw" and LIKE_A_KEY.search(line) is not None
 
 
 def reason_to_copy(lines: list[str], choices: dict[str, Any]) -> str:

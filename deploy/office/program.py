@@ -16,7 +16,7 @@ import time
 from pathlib import Path
 from typing import NamedTuple
 
-from lines import verb_of
+from lines import shows_a_key, verb_of
 from settings import Fault, Settings
 
 KEY = re.compile(r"[a-z0-9]{16,64}")
@@ -57,6 +57,24 @@ def change_key(old: str, new: str, copy: Path) -> None:
             database.execute("UPDATE person SET passkey = ? WHERE passkey = ?", (new, old))
 
 
+def correct(person: str, values: dict[str, str], copy: Path) -> None:
+    """Gives a person another `name`, or another `key`, or both, in a copy, in any phase of a round.
+
+    The program has no line for it. The laws of the rows say of a name and a key what form they have, and that no two
+    people have one key. So the program has to take the copy as an office afterwards.
+    """
+    with contextlib.closing(sqlite3.connect(copy)) as database:
+        try:
+            with database:
+                changed = database.execute(
+                    "UPDATE person SET name = coalesce(?, name), passkey = coalesce(?, passkey) WHERE id = ?",
+                    (values.get("name"), values.get("key"), person))
+        except sqlite3.IntegrityError as fault:
+            raise Fault("another person has this key. Nothing was changed.") from fault
+    if changed.rowcount != 1:
+        raise Fault(f"nobody has the identifier {person!r}. Nothing was changed.")
+
+
 class Program:
     """The program, as the keeper runs it."""
 
@@ -80,7 +98,11 @@ class Program:
         return Answer((done.stdout + done.stderr).decode("utf-8", "replace"), done.returncode)
 
     def tell(self, line: str, file: Path) -> Answer:
-        """Tells one line to a file. No option gets through: all words stand behind `--`."""
+        """Tells one line to a file. A line with a word that may be a key is not understood, and never handed over."""
+        return NOT_UNDERSTOOD if shows_a_key(line) else self.hand_over(line, file)
+
+    def hand_over(self, line: str, file: Path) -> Answer:
+        """Hands one line over as it is. No option gets through: all words stand behind `--`."""
         if "\n" in line:
             return NOT_UNDERSTOOD
         return self.run("do", "--db", str(file), "--", *line.split(" "))
@@ -104,10 +126,10 @@ class Program:
     def add_person(self, line: str, copy: Path) -> Answer:
         """`person ID KEY NAME..` on a copy. The person comes in with a stand-in, which the key then replaces."""
         words = line.split()
-        if len(words) < 4 or not KEY.fullmatch(words[2]):
+        if len(words) < 4 or shows_a_key(words[1]) or not KEY.fullmatch(words[2]):
             return NOT_UNDERSTOOD
         stand_in = secrets.token_hex(16)
-        answer = self.tell(" ".join(["person", words[1], stand_in, *words[3:]]), copy)
+        answer = self.hand_over(" ".join(["person", words[1], stand_in, *words[3:]]), copy)
         if answer.status == 0:
             try:
                 change_key(stand_in, words[2], copy)
@@ -121,7 +143,7 @@ class Program:
         if len(words) != 2 or not KEY.fullmatch(words[1]):
             return NOT_UNDERSTOOD
         change_key(words[1], stand_in, copy)
-        answer = self.tell(f"me {stand_in}", copy)
+        answer = self.hand_over(f"me {stand_in}", copy)
         change_key(stand_in, words[1], copy)
         return answer
 

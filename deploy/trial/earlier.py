@@ -100,10 +100,10 @@ def put_back_later(stand):
     check("and the office is as before", stand.office("rooms") == before)
 
 
-def restore(stand, folder):
+def restore(stand, *words):
     """Runs rooms-restore, and gives its status, what it printed, and what it said beside."""
     environment = {**stand.environment, "ROOMS_ACCOUNT": "root"}
-    words = [PYTHON, str(DEPLOY / "rooms-restore"), str(folder)]
+    words = [PYTHON, str(DEPLOY / "rooms-restore"), *map(str, words)]
     done = subprocess.run(words, env=environment, capture_output=True, text=True, check=False)
     return done.returncode, done.stdout, done.stderr
 
@@ -124,6 +124,15 @@ def restored(stand):
         check("the copy is as it was", rows_of(folder / stand.file.name) == before)
         stand.start()
         check("and the keeper goes on with it", stand.office("round") == OPEN)
+
+
+def refuse_link(stand):
+    """The account may own the folder of a copy: a link there leads rooms-restore nowhere."""
+    folder = stand.folder / "copy-of-links"
+    folder.mkdir()
+    (folder / stand.file.name).symlink_to("/etc/shadow")
+    told = restore(stand, "--without-log", folder)
+    check("rooms-restore follows no link", told[0] == 1 and "cannot be copied" in told[2], told)
 
 
 def start_earlier(stand):
@@ -186,6 +195,7 @@ def try_earlier(program):
             print("      rooms-restore is left out: this machine has units")
         else:
             restored(stand)
+            refuse_link(stand)
         check("no trace of a fault is in the log", "Traceback" not in stand.log("keeper"), stand.log("keeper"))
 
 

@@ -60,8 +60,53 @@ def hand_in(stand):
     return status
 
 
+def while_full(stand, name, before, is_program):
+    """What reads goes on, and what changes is refused."""
+    view = stand.ask(ask="view")
+    check(
+        "full disk: the office can be looked at",
+        view["rooms"] == before["rooms"] and view["phase"] == "open",
+        view,
+    )
+    check("full disk: questions are answered", "H1" in stand.office("rooms"))
+    check("full disk: exports come", stand.command("export", "people")[0] == 0)
+    for job in (
+        {"ask": "do", "lines": ["room H2"]},
+        {"ask": "do", "lines": ["close"]},
+        {"ask": "do", "lines": ["room H3", "room H4"]},
+        {"ask": "backup"},
+        {"ask": "back", "name": name},
+    ):
+        told, said = refused(stand, **job)
+        check(f"full disk: {job} is refused", told, said)
+        print(f"      {said}")
+    if is_program:
+        check("full disk: a resident's list is answered 503", hand_in(stand) == 503)
+
+
+def with_room_again(stand, journal, is_program):
+    """Nothing was half done, and all goes on."""
+    view = stand.ask(ask="view")
+    check("nothing was half done", [row[0] for row in view["rooms"]] == ["H1"] and view["phase"] == "open", view)
+    stand.until_listening(stand.server_port)
+    if is_program:
+        check("once there is room a resident's list is taken", hand_in(stand) == 200)
+    check(
+        "once there is room all goes on",
+        stand.office("room H5") == "ok\n" and stand.office("close").startswith("closed"),
+    )
+    check(
+        "the journal is whole",
+        (stand.data / "journal").read_bytes().startswith(journal)
+        and "room H5" in stand.script("rooms-office", "journal"),
+    )
+    left = [one.name for one in [*(stand.data / "backups").glob(".part*"), *stand.data.glob("*.part")]]
+    check("no half copy is left", not left, left)
+
+
 def try_full(program):
     """Fills the disk under an office at work."""
+    is_program = Path(program).name != "standin.py"
     with small_disk() as disk:
         if disk is None:
             print("      a full disk was not tried: it takes the right to mount")
@@ -74,49 +119,9 @@ def try_full(program):
             name = stand.ask(ask="backup")["name"]
             before, journal = stand.ask(ask="view"), (disk / "journal").read_bytes()
             filler = fill_up(disk)
-            view = stand.ask(ask="view")
-            check(
-                "full disk: the office can be looked at",
-                view["rooms"] == before["rooms"] and view["phase"] == "open",
-                view,
-            )
-            check(
-                "full disk: questions are answered",
-                stand.office("rooms").endswith("H1\n") or "H1" in stand.office("rooms"),
-            )
-            check("full disk: exports come", stand.command("export", "people")[0] == 0)
-            for job in (
-                {"ask": "do", "lines": ["room H2"]},
-                {"ask": "do", "lines": ["close"]},
-                {"ask": "do", "lines": ["room H3", "room H4"]},
-                {"ask": "backup"},
-                {"ask": "back", "name": name},
-            ):
-                told, said = refused(stand, **job)
-                check(f"full disk: {job} is refused", told, said)
-                print(f"      {said}")
-            if Path(program).name != "standin.py":
-                check("full disk: a resident's list is answered 503", hand_in(stand) == 503)
+            while_full(stand, name, before, is_program)
             filler.unlink()
-            check(
-                "nothing was half done",
-                [row[0] for row in stand.ask(ask="view")["rooms"]] == ["H1"]
-                and stand.ask(ask="view")["phase"] == "open",
-            )
-            stand.until_listening(stand.server_port)
-            if Path(program).name != "standin.py":
-                check("once there is room a resident's list is taken", hand_in(stand) == 200)
-            check(
-                "once there is room all goes on",
-                stand.office("room H5") == "ok\n" and stand.office("close").startswith("closed"),
-            )
-            check(
-                "the journal is whole",
-                (disk / "journal").read_bytes().startswith(journal)
-                and "room H5" in stand.script("rooms-office", "journal"),
-            )
-            left = [one.name for one in (disk / "backups").glob(".part*")] + [one.name for one in disk.glob("*.part")]
-            check("no half copy is left", not left, left)
+            with_room_again(stand, journal, is_program)
 
 
 if __name__ == "__main__":

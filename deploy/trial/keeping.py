@@ -13,6 +13,7 @@ import threading
 import time
 from pathlib import Path
 
+from hanging import try_hanging
 from stand import Stand, check, command_of, until
 
 KEY = "abcdefabcdefabcdefabcdefabcdef99"
@@ -65,8 +66,13 @@ def quiet_lines(stand):
             f"a list is brought {turn}",
             stand.script("rooms-office", "import", "rooms", "rooms-1", str(rooms)) == "added 2\n",
         )
-    answer = stand.command("import", "rooms", "rooms-2", "-", given="room\nH4\nH2\n")
+    stand.until_listening(stand.server_port)
+    server, answer = stand.server(), stand.command("import", "rooms", "rooms-1", str(rooms))
+    check("and again without a stop", answer[:2] == (0, "added 2\n") and stand.server() == server, answer)
+    check("with a word that nothing came in", "nothing came in now" in answer[2], answer)
+    answer = stand.command("import", "rooms", "rooms-2", "-", given="room\n\nH4\nH2\n")
     check("a bad list is refused", answer[:2] == (1, "refused 15 BadRecord 2 refusal 4\n"), answer)
+    check("and its row in the spreadsheet is told", "record 2 is row 4 of the list, H2\n" in answer[2], answer)
     missing = stand.command("import", "rooms", "rooms-3", "/nowhere")
     check(
         "a list that is not there is told",
@@ -91,8 +97,10 @@ def hidden_keys(stand):
         check("the key's owner is told", told.startswith("person R9\nname Ann Li\n"), told)
         told = stand.command("do", "-", given=f"me {OTHER}\n")
         check("and of a key of nobody that it is unknown", told[:2] == (1, "refused 2 UnknownPerson\n"), told)
-        told = stand.command("do", "-", given=f"person R8 {KEY.upper()} Bea Ma\n")
-        check("a key with capitals is none", told[:2] == (2, "not understood\n"), told)
+        slips = f"person R8 {KEY.upper()} Bea", f"persn R8 {KEY} Bea", f"home R8 {KEY}", f"person {KEY} R8 Bea"
+        for line in slips:
+            told = stand.command("do", "-", given=f"{line}\n")
+            check("a line with a slip is not understood", told[:2] == (2, "not understood\n"), told)
     check(
         f"no process had a key, seen at {watcher.looks} looks", watcher.looks > 20 and not watcher.seen, watcher.seen
     )
@@ -135,6 +143,40 @@ def bundles(stand):
     )
     again = stand.script("rooms-office", "do", "-", given=f"me {OTHER}\n")
     check("and the key is the person's own", again.startswith("person R7\n"), again)
+
+
+def tried(stand):
+    """Lines are tried on a copy, up to the first that is not accepted, and nothing is changed."""
+    server, before = stand.server(), stand.ask(ask="view")
+    told = stand.command("try", given="# a round\nopen\nclose\nclose\nopen\n")
+    check("lines are tried", told[0] == 1 and re.fullmatch("round 1 open\nclosed \\d+\nrefused 1 .*\n", told[1]), told)
+    check("the one that is not accepted is told", "line 4 would not be accepted" in told[2], told)
+    check("nothing is changed", stand.ask(ask="view") == before and stand.server() == server)
+    check("there is no list to take out", stand.script("rooms-office", "export", "choices") == "person,choices\n")
+
+
+def corrected(stand, is_program):
+    """A name and a key are corrected while a round is open. The old key is one of nobody then."""
+    new = "fedcba9876543210fedcba9876543210"
+    stand.office("open")
+    told = stand.command("name", "R9", "Anna", "Lí")
+    check("a name is corrected", told[:2] == (0, "Anna Lí\n"), told)
+    told = stand.command("key", "R9")
+    check("a new key is made", told[0] == 0 and re.fullmatch("[0-9a-f]{32}\n", told[1]), told)
+    mine = stand.script("rooms-office", "do", "-", given=f"me {told[1]}")
+    check("it is the person's own", mine.startswith("person R9\nname Anna Lí\n"), mine)
+    told = stand.command("do", "-", given=f"me {KEY}\n")
+    check("and the old one is nobody's", told[:2] == (1, "refused 2 UnknownPerson\n"), told)
+    check("a key can be given", stand.ask(ask="correct", person="R7", key=new)["corrected"] == "R7")
+    answer = stand.ask(ask="correct", person="R9", key=new)
+    check("but not another person's", "another person has this key" in answer["fault"], answer)
+    wrong = [{"person": "NOBODY", "name": "No One"}, {"person": "R9"}]
+    wrong += [{"person": "R9", "name": "Two  Spaces"}, {"person": "R9", "key": "short"}] if is_program else []
+    for values in wrong:
+        check(f"{values} is refused", "fault" in stand.ask(ask="correct", **values))
+    journal = stand.file.with_name("journal").read_text(encoding="utf-8")
+    check("the journal has neither", "correct R9: name" in journal and not re.search(f"Lí|{new}", journal), journal)
+    stand.office("cancel")
 
 
 def ways_back(stand):
@@ -289,71 +331,19 @@ def try_keeping(program):
         quiet_lines(stand)
         hidden_keys(stand)
         bundles(stand)
+        tried(stand)
         ways_back(stand)
         blanked(stand)
         if Path(program).name != "standin.py":
             erased(stand)
         damaged(stand)
         two_clerks(stand)
+        corrected(stand, Path(program).name != "standin.py")
         nonsense(stand)
         server_ends(stand)
     try_hanging(program)
     with contextlib.suppress(FileNotFoundError):
         check("nothing is left", not stand.folder.exists() and not stand.scratch.exists())
-
-
-HANGING = """#!/bin/sh
-case "$*" in
-    *"--db {file} "*"room SLOW"*) exec sleep 60 ;;
-    *"room NAP"*) sleep 2 ;;
-esac
-exec {program} "$@"
-"""
-
-
-def try_hanging(program):
-    """A program that hangs is ended after its time, and who waits too long for their turn is told."""
-    with Stand(program, ROOMS_LINE_SECONDS="4", ROOMS_TURN_SECONDS="2") as stand:
-        hanging = stand.folder / "hanging"
-        hanging.write_text(HANGING.format(file=stand.file, program=stand.program), encoding="utf-8")
-        hanging.chmod(0o755)
-        stand.environment["ROOMS_PROGRAM"] = str(hanging)
-        stand.start()
-        answers = {}
-
-        def clerk(line, wait):
-            time.sleep(wait)
-            began = time.monotonic()
-            answer = stand.ask(ask="do", lines=[line])
-            answers[line] = time.monotonic() - began, answer
-
-        clerks = [
-            threading.Thread(target=clerk, args=more) for more in (("room SLOW", 0), ("room A", 0.7), ("room B", 3.2))
-        ]
-        for one in clerks:
-            one.start()
-        for one in clerks:
-            one.join()
-        took, answer = answers["room SLOW"]
-        check(
-            "a program that hangs is ended",
-            4 <= took < 7 and "did not end within 4 seconds" in answer["fault"],
-            answers,
-        )
-        took, answer = answers["room A"]
-        check("who waits too long is told", took < 3.5 and "took too long" in answer["fault"], answers)
-        check("and who waits for a moment is served", answers["room B"][1].get("done"), answers)
-        stand.until_listening(stand.server_port)
-        server = stand.server()
-        told = stand.command("lines", given="room NAP1\nroom NAP2\nroom NAP3\nroom NAP4\n")
-        check("lines that take too long together are refused", told[0] == 3 and "make several files" in told[2], told)
-        check("without a stop of the server", stand.server() == server)
-        rooms = [row[0] for row in stand.ask(ask="view")["rooms"]]
-        check("the server is there again, and only what was answered stands", rooms == ["B"], rooms)
-        check(
-            "the journal says that the program was ended",
-            "did not end within" in stand.script("rooms-office", "journal"),
-        )
 
 
 if __name__ == "__main__":

@@ -55,6 +55,7 @@ YEAR = [
     (bring("choices", "choices-1", "person,choices\nT2,A-7 A-8\nN,A-1 A-2\n"), False),
     (told("shut K2"), False),
     (told("withdraw P2"), False),
+    ({"ask": "correct", "person": "P2", "name": "Pim Po", "key": "c" * 16}, True),
     (told("going T2"), False),
     (told("close"), True),
     ({"ask": "draw", "seed": SEED}, False),
@@ -110,7 +111,7 @@ def is_noted(stand, entries):
 
 def accepted(answer):
     """Whether a line was answered as done."""
-    return bool(answer.get("done") or "name" in answer or "blanked" in answer)
+    return bool(answer.get("done") or any(word in answer for word in ("name", "blanked", "corrected")))
 
 
 def kill_in(stand, job):

@@ -37,6 +37,7 @@ CHANGES = [
     "/office/person",
     "/office/person/T01/remove",
     "/office/person/T01/key",
+    "/office/person/T01/name",
     "/office/person/T01/home",
     "/office/person/T01/choose",
     "/office/rooms",

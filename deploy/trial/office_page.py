@@ -7,7 +7,6 @@ and the audit have to agree with what the page shows, and no key may stand in an
 
 import csv
 import io
-import random
 import re
 import subprocess
 import sys
@@ -20,131 +19,13 @@ sys.dont_write_bytecode = True
 from selenium.webdriver.common.by import By
 
 from office_browser import WIDTHS, Clerk
+from office_college import College
+from office_register import bring_lists_in, keep_the_register
 from office_requests import Page, hand_in
 from stand import OFFICE, PYTHON, Stand, check
 
-PEOPLE, HOMELESS, HOUSES, ROOMS_A_HOUSE = 300, 40, "ABCD", 80
-FIRST = "Ann Bo Zoë Li Mia Jo Ola Tim Ömer Ida Kai Eva Nell Siân Ravi Noor".split()
-LAST = "Ash O'Neill Žák Wei Mo Kern Öz Tan Çelik Berg Lund Ng Diaz Smith-Jones Ødegård <b>Kaur</b>".split()
 THROWS = " ".join("31662541226316625415263412"[:25])
 CLOSING = "Moving day is 1 October. Questions: office@example.org"
-
-
-class College:
-    """The people and rooms of the trial, and their lists as files."""
-
-    def __init__(self, folder):
-        chance = random.Random(2027)
-        self.folder = folder
-        self.rooms = [f"{house}-{number}" for house in HOUSES for number in range(101, 101 + ROOMS_A_HOUSE)]
-        self.people = [f"R{number:03}" for number in range(1, PEOPLE + 1)]
-        self.names = {person: f"{chance.choice(FIRST)} {chance.choice(LAST)}" for person in self.people}
-        settled = chance.sample(self.people, PEOPLE - HOMELESS)
-        self.homes = dict(zip(settled, chance.sample(self.rooms, len(settled))))
-        wanted = sorted(self.rooms, key=lambda room: chance.random())
-        self.choices = {
-            person: sorted(chance.sample(self.rooms, chance.randint(1, 12)), key=wanted.index)
-            for person in self.people[:270]
-        }
-        self.keys = {}
-        self.leavers = [person for person in self.people[265:289] if person in self.homes][:3]
-
-    def write(self, name, header, rows):
-        """Writes a list as a spreadsheet does."""
-        text = io.StringIO(newline="")
-        csv.writer(text).writerows([header, *rows])
-        (self.folder / name).write_bytes(text.getvalue().encode())
-        return self.folder / name
-
-    def people_rows(self):
-        """The list of people, without keys."""
-        return [[person, self.names[person], "", self.homes.get(person, "")] for person in self.people]
-
-
-def bring_lists_in(clerk, college):
-    """Rooms and people, first with faults and then without. The keys come from the printed slips."""
-    clerk.reads("No round is under way")
-    clerk.shot("01-empty")
-    clerk.try_list("rooms", college.write("rooms.csv", ["room"], [[room] for room in college.rooms]))
-    clerk.reads("All 320 lines of the list of rooms fit")
-    clerk.press("Bring in the list")
-    clerk.reads("The list is in, with 320 lines.")
-    clerk.shot("02-lists")
-    wrong = college.people_rows()
-    wrong[4][1], wrong[8][3], wrong[19][0], wrong[29][0], wrong[39][2] = "Two  Spaces", "Z-999", "r020", "R029", "short"
-    wrong[49] = ["R050", "No Fields"]
-    wrong[59][3] = wrong[60][3] = "A-101"
-    clerk.try_list("people", college.write("wrong.csv", ["person", "name", "key", "home"], wrong))
-    rows = re.findall(r"^(\d+) ([Rr]\d+) ", clerk.text(), re.M)
-    check(
-        "all faults of a list are shown, with their rows",
-        [row for row, _ in rows][:6] == ["6", "10", "21", "31", "41", "51"] and len(rows) >= 7,
-        rows,
-    )
-    clerk.shot("03-faults")
-    clerk.try_list("people", college.write("people.csv", ["person", "name", "key", "home"], college.people_rows()))
-    clerk.reads("The page made 300 keys")
-    college.keys = {
-        person: key.replace(" ", "")
-        for person, key in re.findall(
-            r"\((R\d{3})\)\s+Your key for the room exchange: ((?:[0-9a-f]{4} ?){8})", clerk.text()
-        )
-    }
-    check("each slip has a key of its own", len(set(college.keys.values())) == PEOPLE, len(college.keys))
-    clerk.shot("04-slips")
-    print(f"      the slips are {clerk.pdf('04-slips')} sheets")
-    clerk.tick()
-    clerk.press("Bring in the list")
-    clerk.reads("The list is in, with 300 lines.")
-    grades = [[person, number % 3] for number, person in enumerate(college.people[:60])]
-    clerk.try_list("grades", college.write("grades.csv", ["person", "grade"], [*grades, ["R061", 10]]))
-    clerk.reads("Write a grade: one digit from 0 to 9.")
-    clerk.try_list("grades", college.write("grades.csv", ["person", "grade"], grades))
-    clerk.press("Bring in the list")
-    clerk.reads("The list is in, with 60 lines.")
-
-
-def keep_the_register(clerk, college):
-    """Search, one person, a new key, rooms, and many people at once."""
-    clerk.visit("/office/register")
-    clerk.put("text", "zoë")
-    clerk.press("Search")
-    clerk.shot("05-register")
-    check("what was searched for stands in no address", clerk.driver.current_url.endswith("/office/register"))
-    tenant = next(person for person in college.people if person in college.homes)
-    clerk.visit(f"/office/person/{tenant}")
-    clerk.shot("06-person")
-    clerk.press("Make a new key")
-    clerk.press("Yes: make a new key")
-    clerk.reads("This page shows the key once")
-    college.keys[tenant] = re.search(r"exchange: ((?:[0-9a-f]{4} ?){8})", clerk.text())[1].replace(" ", "").strip()
-    clerk.shot("07-key")
-    clerk.press("Go on")
-    clerk.reads(college.homes[tenant])
-    clerk.press(f"Leave {college.homes[tenant]}")
-    clerk.press("Yes: leave")
-    clerk.put("text", college.homes[tenant].lower())
-    clerk.press("Move in")
-    clerk.reads(college.homes[tenant])
-    clerk.put("grade", "7")
-    clerk.press("Set the grade")
-    clerk.reads("Done.")
-    clerk.visit("/office/rooms")
-    clerk.shot("08-rooms")
-    clerk.press("Out of use ...")
-    clerk.shot("09-shut")
-    clerk.press("No, go back")
-    clerk.visit("/office/many")
-    clerk.put("text", "R298 R299, r300\nNOBODY")
-    clerk.tick("remove")
-    clerk.press("Show who they are")
-    clerk.reads("No person has the identifier NOBODY")
-    clerk.put("text", "R298 R299, r300")
-    clerk.tick("remove")
-    clerk.press("Show who they are")
-    clerk.shot("10-many")
-    clerk.press("Yes: remove them")
-    clerk.reads("Done for 3 people", "of 297 people")
 
 
 def open_round(clerk, stand, college):
@@ -396,7 +277,7 @@ def try_office_page(program, shots):
         page = Page(stand)
         with Clerk(stand, "anna", shots) as clerk:
             bring_lists_in(clerk, college)
-            keep_the_register(clerk, college)
+            keep_the_register(clerk, stand, college)
             open_round(clerk, stand, college)
             look_at_large_text(stand, shots, "open")
             seed = draw_and_run(clerk, stand)

@@ -165,6 +165,11 @@ def changed_elsewhere(page: Page, stand: Stand) -> None:
     page.keys(Keys.TAB, Keys.ENTER)
     is_kept = page.waits(lambda: page.codes() == ["A-9", "V"])
     check("the list on record can be kept", is_kept and other.recorded() == ["A-9", "V"], page.codes())
+    decided(page, other)
+
+
+def decided(page: Page, other: Device) -> None:
+    """The list in the page takes the newer one's place where the resident says so, or where nothing has to be asked."""
     other.hand_in("A-10")
     page.add("A-11")
     page.click("hand-in")

@@ -22,8 +22,11 @@ sys.path.append(str(OFFICE))
 # pylint: disable=wrong-import-position,wrong-import-order  # they stand in the folder of the line above
 from backups import ASKED_FOR, Backups
 from copies import Copies, make_whole
+from hand import Change, Hand
 from journal import Journal, masked_line, masked_note
-from lines import only_reads, reason_to_copy
+from lines import only_reads, reason_to_copy, shows_a_key
+from office import Office
+from program import Answer
 from settings import Fault, Settings
 
 KEY = "0123456789abcdef0123456789abcdef"
@@ -81,6 +84,14 @@ def hiding():
         "and nothing else behind that word",
         masked_note(f"seed {KEY}") == "seed (key)" and masked_note(f"seed {seed} {KEY}") == f"seed {seed} (key)",
     )
+
+
+def slips():
+    """A line with a slip may have a key where no key belongs: it must not become a command line."""
+    wrong = [f"persn R9 {KEY} Ann Li", f"home R9 {KEY.upper()}", f"R9 {KEY}", f"whatif R9 A-1 {KEY[:16]}"]
+    check("a key in a line that takes none is seen", all(map(shows_a_key, wrong)))
+    right = ["draw 0123456789abcdef fedcba9876543210", "choose R9 A-101 B-102", "home ABCDEFGHIJKL A-1234-X", "rooms"]
+    check("and none where there is none", not any(map(shows_a_key, right)))
 
 
 def copied_before():
@@ -262,13 +273,28 @@ def keeping_damaged(settings):
     )
 
 
+def failing(settings):
+    """A change in which the keeper itself fails is not answered by what it gave on the copy."""
+    hand = Hand(Office(settings))
+    change = Change("anna", "room A", lambda _: [], answers=[Answer("ok\n", 0)])
+    with mock.patch.object(hand, "make", side_effect=ValueError), contextlib.suppress(ValueError):
+        hand.carry_out(change)
+    check("a failure of the keeper is a fault", change.done.is_set() and "keeper failed" in change.fault, change)
+    change = Change("anna", "room A", lambda _: [])
+    with mock.patch.object(hand, "make"):
+        hand.carry_out(change)
+    check("and what was made has none", change.done.is_set() and not change.fault, change)
+
+
 def try_parts():
     """Tries them all."""
     os.umask(0o077)
     hiding()
+    slips()
     copied_before()
     with an_office() as settings:
         noting(settings)
+        failing(settings)
     in_place()
     with an_office() as settings:
         keeping(settings)

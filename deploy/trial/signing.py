@@ -12,7 +12,7 @@ import socketserver
 import sys
 import threading
 
-from stand import CLERKS, HOST, Stand, check, unchecked
+from stand import CLERKS, HOST, Stand, check, has_ipv6, unchecked
 
 
 class Stub(socketserver.StreamRequestHandler):
@@ -41,7 +41,7 @@ class Page(socketserver.ThreadingUnixStreamServer):
 def asked(stand, path, *, method="GET", clerk=None, password=None, source="127.0.0.1", body=None, **fields):
     """Sends a request through the proxy, and gives status, fields and body of the answer."""
     connection = http.client.HTTPSConnection(HOST, timeout=60)
-    plain = socket.create_connection(("127.0.0.1", stand.port), 60, (source, 0))
+    plain = socket.create_connection(("::1" if source == "::1" else "127.0.0.1", stand.port), 60, (source, 0))
     connection.sock = unchecked().wrap_socket(plain, server_hostname=HOST)
     fields = {name.replace("_", "-"): value for name, value in fields.items()}
     if clerk:
@@ -87,6 +87,19 @@ def doors(stand):
     check("residents are asked for no password", asked(stand, "/", X_Office_User="root")[0] == 200)
 
 
+def over_ipv6(stand):
+    """Residents and clerks come in over IPv6 as well, and are told from others by their address."""
+    if not has_ipv6():
+        print("      IPv6 was not tried: this machine has none")
+        return
+    check("the residents' page comes over IPv6", asked(stand, "/", source="::1")[0] == 200)
+    check("the office's page asks for a password", asked(stand, "/office/", source="::1")[0] == 401)
+    check("and takes it", asked(stand, "/office/", clerk="anna", source="::1")[0] == 200)
+    tries = [asked(stand, "/office/", clerk="anna", password="guess", source="::1")[0] for _ in range(25)]
+    check("an address of IPv6 has to wait after 20 wrong ones", tries[:15] == [401] * 15 and tries[-1] == 429, tries)
+    check("but no address of IPv4", asked(stand, "/office/", clerk="anna")[0] == 200)
+
+
 def guesses(stand):
     """Many wrong passwords from one address."""
     statuses = [
@@ -110,6 +123,7 @@ def try_signing(program):
         page = Page(stand.environment["ROOMS_PAGE_SOCKET"], Stub)
         threading.Thread(target=page.serve_forever, daemon=True).start()
         doors(stand)
+        over_ipv6(stand)
         guesses(stand)
         page.shutdown()
         page.server_close()

@@ -85,6 +85,14 @@ def unchecked():
     return context
 
 
+def has_ipv6():
+    """Whether this machine has an address of its own in IPv6."""
+    with contextlib.suppress(OSError), socket.socket(socket.AF_INET6) as probe:
+        probe.bind(("::1", 0))
+        return True
+    return False
+
+
 def command_of(process):
     """The command line of a process, or nothing once it is gone."""
     with contextlib.suppress(OSError):
@@ -225,7 +233,7 @@ class Stand:  # pylint: disable=too-many-instance-attributes,too-many-public-met
         for old, new in [
             ("    log /dev/log local0\n    user haproxy\n    group haproxy\n", "    log stdout format raw local0\n"),
             ("bind :::80 v4v6\n", f"bind 127.0.0.1:{self.plain_port}\n"),
-            ("bind :::443 v4v6 ", f"bind 127.0.0.1:{self.port} "),
+            ("bind :::443 v4v6 ", f"bind 127.0.0.1:{self.port}{f',::1:{self.port}' if has_ipv6() else ''} "),
             ("/etc/haproxy/rooms.pem", str(self.folder / "rooms.pem")),
             ("127.0.0.1:8080", f"127.0.0.1:{self.server_port}"),
             ("/run/rooms-page.sock", self.environment["ROOMS_PAGE_SOCKET"]),

@@ -46,7 +46,8 @@ def own_export(office: Office, name: str) -> str | None:
             [ident, office.people[ident].name, office.people[ident].home or "", room or "", office.outcome(ident)]
             for ident, room in office.results.items()))
     if name == "choices":
-        lists = sorted(office.choices.items())
+        # With the list of somebody who takes no part the whole list would not come in again.
+        lists = [(ident, office.choices[ident]) for ident in sorted(office.choices) if office.people[ident].takes_part]
         return csv_of(["person", "choices"], ([ident, " ".join(rooms)] for ident, rooms in lists))
     if name == "missing":
         people = office.without_list

@@ -75,5 +75,6 @@ class Memory:
             self._held.pop(name, None)
 
     def _forget(self) -> None:
+        """Forgets what was held for longer than an hour."""
         for name in [name for name, held in self._held.items() if held.until < time.monotonic()]:
             del self._held[name]

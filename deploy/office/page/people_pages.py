@@ -1,14 +1,17 @@
 """The people of the register: search, one person, and what can be done to one person."""
 
+import re
 import secrets
 
 import explaining
 import plain
-from app import app, attempt, change, clerk, go_to, memory, office_now, show, tell, text_of
+from app import app, ask, attempt, change, clerk, field, go_to, memory, office_now, show, tell, text_of
+from keeper_client import KeeperFault
 from office_view import Office
 from questions import Question, put_question
 
 MOST_SHOWN = 200
+IDENTIFIER = re.compile(r"[A-Z0-9]{1,12}")
 
 
 @app.get("/office/register")
@@ -78,6 +81,25 @@ def set_grade(ident: str) -> None:
     go_to(person_of(office_now(), ident))
 
 
+@app.post("/office/person/<ident>/name")
+def correct_name(ident: str) -> None:
+    """Corrects a person's name."""
+    place = person_of(office_now(), ident)
+    if correct(ident, name=text_of("name")):
+        tell("good", "The name is corrected.")
+    go_to(place)
+
+
+def correct(ident: str, **values: str) -> bool:
+    """Gives a person another name or key. Whether that was done; else the clerk reads why not."""
+    try:
+        ask("correct", person=ident, seen=field("seen"), **values)
+    except KeeperFault as fault:
+        tell("bad", f"This could not be done. {fault}")
+        return False
+    return True
+
+
 def question_of(office: Office, ident: str, act: str) -> Question | None:
     """The question before something is done to a person."""
     person = office.people[ident]
@@ -102,7 +124,7 @@ def question_of(office: Office, ident: str, act: str) -> Question | None:
         return Question(f"Does {who} leave the college?", says, "Yes: leaves the college", place)
     if act == "key":
         says = ["The old key stops working. The next page shows the new key, once.",
-                "Identifier, name and room stay as they are."]
+                "Identifier, name, room, grade and list stay as they are."]
         return Question(f"Make a new key for {who}?", says, "Yes: make a new key", place)
     return None
 
@@ -123,27 +145,27 @@ def change_person(ident: str, act: str) -> str:
     """Lets a person leave the room, withdraw, leave the college, be removed, or get a new key."""
     office = office_now()
     place = person_of(office, ident)
-    leave = [f"leave {ident}"] if office.people[ident].home else []
+    person = office.people[ident]
+    leave = [f"leave {ident}"] if person.home else []
     if act in ("leave", "withdraw", "going"):
         change("do", lines=[f"{act} {ident}"])
     elif act == "remove" and change("do", lines=[*leave, f"remove {ident}"]):
         go_to("/office/register")
     elif act == "key":
-        person = office.people[ident]
-        return add_person(ident, person.name, person.home or "", before=[*leave, f"remove {ident}"])
+        key = secrets.token_hex(16)
+        if correct(ident, key=key):
+            return show("key", office=office_now(), ident=ident, slips=[(ident, person.name, key)])
     go_to(place)
 
 
 @app.post("/office/person")
 def new_person() -> str:
     """Adds a person, and shows the key."""
-    return add_person(text_of("ident").upper(), text_of("name"), text_of("room").upper(), before=[])
-
-
-def add_person(ident: str, name: str, home: str, before: list[str]) -> str:
-    """Adds a person with a new key after other lines, all or none of them. The answer shows the key, once."""
-    key = secrets.token_hex(16)
-    lines = [*before, f"person {ident} {key} {name}", *([f"home {ident} {home}"] if home else [])]
-    if not change("do", lines=lines):
+    ident = text_of("ident").upper()
+    if not IDENTIFIER.fullmatch(ident):
+        tell("bad", f"Nothing was changed. {plain.IDENTIFIER}")
+        go_to("/office/register")
+    name, home, key = text_of("name"), text_of("room").upper(), secrets.token_hex(16)
+    if not change("do", lines=[f"person {ident} {key} {name}", *([f"home {ident} {home}"] if home else [])]):
         go_to("/office/register")
     return show("key", office=office_now(), ident=ident, slips=[(ident, name, key)])

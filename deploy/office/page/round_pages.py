@@ -19,6 +19,11 @@ OF_TEXT = "SHA-256 of "
 SHORTEST_TEXT, LONGEST_TEXT = 8, 400
 # The journal masks what may be a key: 16 letters and digits in a row.
 LIKE_A_KEY = re.compile(r"[A-Za-z0-9]{16}")
+# What a clerk may want to take out before a step that deletes it.
+BEFORE = {
+    "settle": ("/office/record", "The public record, letters and plans"),
+    "cancel": ("/office/export/choices.csv", "The lists of choices of this round, as they can come in again"),
+}
 
 
 # --- the round
@@ -48,9 +53,8 @@ def ask_step(name: str) -> str:
     says = [step.does, step.undo, *([plain.COPY_FIRST] if step.final else [])]
     if name == "close" and office.without_list:
         says.insert(0, f"{len(office.without_list)} of {len(office.participants)} participants have handed in no list.")
-    link = ("/office/record", "The public record, letters and plans") if name == "settle" else None
-    title = f"{step.name}?"
-    return put_question(office, Question(title, says, f"Yes: {step.name[0].lower()}{step.name[1:]}", "/office/", link))
+    title, yes = f"{step.name}?", f"Yes: {step.name[0].lower()}{step.name[1:]}"
+    return put_question(office, Question(title, says, yes, "/office/", BEFORE.get(name)))
 
 
 @app.post("/office/step/<name>")
