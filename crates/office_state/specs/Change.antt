@@ -1,5 +1,6 @@
 -- What each change does to an office, and what holds on the way through the changes of a command.
 use Rattle.std.specs.Prelude.{◌≡◌, ℕ, zero, suc, eqb, Bool, true, false, not, List, [], ◌∷◌, Option, None, Some}
+use Rattle.std.specs.Prelude.{if◌then◌else◌}
 use Rattle.std.specs.FinMap as map
 use Rattle.room_types.specs.Texts.{Text, TextMap}
 use Rattle.office_state.specs.Empty.{is_empty}
@@ -22,6 +23,13 @@ with_home office person home = elim (map.get office.people person) [
   | Some kept ↦
       record office { people = map.insert office.people person (record kept { home = home }) }
 ]
+
+-- a person goes, and the grade with the person
+abbrev pub without_person : Office → Text → Office
+without_person office person = record office {
+  people = map.remove office.people person;
+  grades = map.remove office.grades person;
+}
 
 -- an empty list and none are the same: none is kept
 abbrev pub with_list : TextMap (List Text) → Text → List Text → TextMap (List Text)
@@ -52,10 +60,7 @@ applied office (PutPerson person name key home) =
           (record { name = name; key = key; home = home });
     }
 applied office (DropPerson person) =
-    record office {
-      people = map.remove office.people person;
-      grades = map.remove office.grades person;
-    }
+    if knows_person office person then without_person office person else office
 applied office (PutHome person home) = with_home office person home
 applied office (PutWithdrawn person) =
     record office { withdrawn = map.insert office.withdrawn person tt }
@@ -107,15 +112,16 @@ StaysApart office (change ∷ changes) =
 
 -- What a keeper of rows may rely on at each change, `first` being the office before all of them: a
 -- room is known now as it was at first, who is put is new, who is put or dropped has not withdrawn,
--- and who is dropped does not leave the college; who withdraws or gets a list or a grade is known, and
--- so is who gets a word or a result, and has none yet, and who leaves the college, and did not before;
--- a person moves once a round, and a label is new.
+-- and who is dropped does not leave the college, and has a grade only where known; who withdraws or
+-- gets a list or a grade is known, and so is who gets a word or a result, and has none yet, and who
+-- leaves the college, and did not before; a person moves once a round, and a label is new.
 abbrev pub Fits : Office → Office → Change → Type 0
 Fits first office (PutRoom room shut) = knows_room office room ≡ knows_room first room
 Fits first office (PutPerson person name key home) =
     (knows_person office person ≡ false) × (has_withdrawn office person ≡ false)
 Fits first office (DropPerson person) =
     (has_withdrawn office person ≡ false) × (is_going office person ≡ false)
+    × (map.contains_key office.grades person ≡ true → knows_person office person ≡ true)
 Fits first office (PutWithdrawn person) = knows_person office person ≡ true
 Fits first office (PutChoices person choices) = knows_person office person ≡ true
 Fits first office (PutWord person word) =

@@ -6,7 +6,7 @@ pub mod Phases
 use Rattle.std.specs.Prelude.{ℕ, ◌+◌, Bool, true, false, ◌&&◌, ◌||◌, List, [], ◌∷◌, Option, None, Some}
 use Rattle.std.specs.Prelude.{if◌then◌else◌, nat_le, eqb, not, map as map_list}
 use Rattle.std.specs.Option.{is_some, unwrap_or, option_and_then}
-use Rattle.std.specs.List.{filter}
+use Rattle.std.specs.List.{filter, list_any}
 use Rattle.std.specs.FinMap as map
 use Rattle.room_types.specs.Texts.{Text, TextMap, text_eq}
 use Rattle.room_types.specs.declared.phase.Phase.TheVariants.{Idle}
@@ -86,6 +86,10 @@ tenant office room = holder (λ p. p.home) office.people room
 -- whose key it is
 abbrev pub owner : Office → Text → Option Text
 owner office key = holder (λ p. Some p.key) office.people key
+
+-- whether somebody has a home
+abbrev pub has_tenants : Office → Bool
+has_tenants office = list_any (λ e. is_some e.1.home) (map.entries office.people)
 
 abbrev pub is_taken : Office → Text → Bool
 is_taken office room = is_some (tenant office room)

@@ -20,7 +20,7 @@ pub enum Change {
         key: Key,
         home: Option<RoomCode>,
     },
-    /// A person is no longer there, and has no grade.
+    /// A known person is no longer there, and has no grade. Of an unknown person it changes nothing.
     DropPerson {
         person: PersonId,
     },

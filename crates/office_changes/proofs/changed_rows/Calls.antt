@@ -169,7 +169,7 @@ module _ (old mid new : State) (inside : StaysInside mid new) where
       → CarriesAlways old new (DropPerson person)
   changed_rows-carries_gone person m n first =
       changed_rows-carries first old new _ (λ t. without_person person (without_grade_of person t))
-      (λ office fits. changed_rows-person_gone office person)
+      (λ office fits. changed_rows-person_gone office person fits.2)
       (changed_rows-turns_then old mid new _ _ (changed_rows-early mid new inside)
       (changed_rows-turns old mid _ (λ t h. alike_tables-without_grade_of_spelled t h person) m)
       (changed_rows-turns mid new _ (λ t h. alike_tables-without_person_spelled t h person) n))

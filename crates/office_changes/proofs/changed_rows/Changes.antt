@@ -18,6 +18,7 @@ use Rattle.room_types.specs.declared.moves.Move.{Move}
 use Rattle.room_types.specs.declared.phase.Phase.{Phase}
 use Rattle.room_types.proofs.maps.Trees.{maps-entries-empty}
 use Rattle.room_types.proofs.options.Options.{options-none_if_not_some, options-some_of}
+use Rattle.office_state.specs.Change as changes
 use Rattle.office_state.specs.Change.{applied}
 use Rattle.office_state.specs.Office.Moves.{moves_of}
 use Rattle.office_state.specs.Office.{knows_room, knows_person, has_withdrawn, is_going}
@@ -26,6 +27,7 @@ use Rattle.office_state.specs.declared.change.Change.TheVariants.{PutChoices, Pu
 use Rattle.office_state.specs.declared.change.Change.TheVariants.{PutRound, ClearRound, KeepList, PutGrade, PutGoing}
 use Rattle.office_state.specs.declared.office.Office.{Office}
 use Rattle.office_state.specs.declared.office.person.Person.{Person}
+use Rattle.office_state.proofs.offices.Dropping.{offices-person_dropped}
 use Rattle.office_rows.specs.Rows.{person_row, person_rows, choices_from, list_rows}
 use Rattle.office_rows.specs.SameRows.{AreSameRows}
 use Rattle.office_rows.specs.Tables.{Tables, rows_at, rows_of}
@@ -135,16 +137,24 @@ module _ (office : Office) (person : Text) where
       (options-none_if_not_some (maps.get office.people person) new)))
 
   -- a person who goes takes the grade along
-  pub changed_rows-person_gone : AreSameRows (rows_of (applied office (DropPerson person)))
+  changed_rows-person_out : AreSameRows (rows_of (changes.without_person office person))
       (without_person person (without_grade_of person (rows_of office)))
   unfolding rows_at without_person without_grade_of
-  changed_rows-person_gone =
+  changed_rows-person_out =
       alike_tables-alike-trans _ _ _
-      (alike_tables-people_alike (rows_of (applied office (DropPerson person))) _ _ (IsPermutation-same _ _
+      (alike_tables-people_alike (rows_of (changes.without_person office person)) _ _ (IsPermutation-same _ _
       (changed_rows-row_gone shown (λ (r : PersonRecord). r.id) (λ e. refl) person is_that
       (λ r. changed_rows-tells r.id person) office.people)))
       (alike_tables-grades_alike (without_person person (rows_of office)) _ _
       (IsPermutation-same _ _ (changed_rows-entry_gone office.grades person)))
+
+  -- where only known people have a grade, nobody else loses one
+  pub changed_rows-person_gone : (maps.contains_key office.grades person ≡ true → knows_person office person ≡ true)
+      → AreSameRows (rows_of (applied office (DropPerson person)))
+      (without_person person (without_grade_of person (rows_of office)))
+  changed_rows-person_gone graded =
+      subst (λ new. AreSameRows (rows_of new) (without_person person (without_grade_of person (rows_of office))))
+      (sym (offices-person_dropped office person graded)) changed_rows-person_out
 
   pub changed_rows-home_put : (home : Option Text)
       → AreSameRows (rows_of (applied office (PutHome person home))) (with_home person home (rows_of office))

@@ -6,10 +6,12 @@ use Rattle.room_types.specs.Texts.{Text}
 use Rattle.std.specs.Option.{is_some}
 use Rattle.std.specs.FinMap.{get-empty}
 use Rattle.room_types.specs.Texts.{text_cmp}
-use Rattle.office_state.specs.Change.{LeadsOn}
-use Rattle.office_state.specs.Office.Invariants.{IsLawful}
+use Rattle.office_state.specs.Change.{LeadsOn, applied}
+use Rattle.office_state.specs.Office.Invariants.{HomesDiffer, IsLawful}
+use Rattle.office_state.specs.declared.change.Change.TheVariants.{DropPerson}
 use Rattle.office_state.specs.declared.office.Office.{Office}
 use Rattle.office_state.specs.Office.Invariants.{AreLists}
+use Rattle.office_state.proofs.offices.Dropping.{offices-person_dropped}
 use Rattle.office_state.proofs.offices.Empty.{offices-no_lists}
 use Rattle.office_state.proofs.offices.Grades.{offices-grade_dropped}
 use Rattle.office_state.proofs.offices.Leavers.{offices-leaver_dropped}
@@ -30,6 +32,8 @@ commands-remove-leads office person l h =
     let new : Office = next office person in
     let no_choices = l.round.idle_choices idle in
     let nobody = l.round.idle_withdrawn idle in
+    let gone : applied office (DropPerson person) ≡ new =
+    offices-person_dropped office person (l.grades.graded person) in
     let stays : map.contains_key office.going person ≡ false =
     ap (λ going. map.contains_key going person) (l.leavers.idle_going idle)
     ∙ ap is_some (get-empty text_cmp person) in
@@ -50,13 +54,14 @@ commands-remove-leads office person l h =
       moves = round_phases-moves_stay office new refl (λ round o. o) l.moves;
     } in
     record {
-      leads = refl;
-      apart = (l.register.homes, lawful.register.homes);
+      leads = gone;
+      apart = (l.register.homes, subst HomesDiffer (sym gone) lawful.register.homes);
       fits = (
         (
           ap (λ withdrawn. map.contains_key withdrawn person) nobody
               ∙ ap is_some (get-empty text_cmp person),
           stays,
+          l.grades.graded person,
         ),
         tt,
       );

@@ -1,8 +1,8 @@
 -- A person without a home goes, and the grade with the person. Recorded moves stay.
 use Rattle.std.specs.Prelude.{not, List, [], ◌∷◌}
 use Rattle.std.specs.Option.{is_some}
-use Rattle.std.specs.FinMap as map
 use Rattle.room_types.specs.Texts.{Text}
+use Rattle.office_state.specs.Change.{without_person}
 use Rattle.office_state.specs.Office.{knows_person, home_of}
 use Rattle.office_state.specs.Office.Phases.{is_idle}
 use Rattle.office_state.specs.declared.office.Office.{Office}
@@ -20,10 +20,7 @@ checks office person =
     ∷ (is_some (home_of office person), HasHome) ∷ []
 
 abbrev pub next : Office → Text → Office
-next office person = record office {
-  people = map.remove office.people person;
-  grades = map.remove office.grades person;
-}
+next office person = without_person office person
 
 abbrev pub reply_to : Office → Text → Reply
 reply_to office person = reply.Done

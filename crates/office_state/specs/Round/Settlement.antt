@@ -1,7 +1,8 @@
 -- What the settlement of a round comes to: who moves, in which wave, and who lives where then.
-use Rattle.std.specs.Prelude.{◌≡◌, ℕ, Bool, true, ◌&&◌, not, List, [], ◌∷◌, None}
+use Rattle.std.specs.Prelude.{◌≡◌, ℕ, Bool, true, ◌&&◌, ◌||◌, not, List, [], ◌∷◌, None}
 use Rattle.std.specs.Prelude.{if◌then◌else◌, map as map_list}
 use Rattle.std.specs.List.{All, filter, fold}
+use Rattle.std.specs.Option.{is_some}
 use Rattle.std.specs.FinMap as map
 use Rattle.room_types.specs.Texts.{Text, TextMap}
 use Rattle.room_types.specs.declared.moves.Move.{Move}
@@ -18,6 +19,10 @@ use Rattle.office_state.specs.declared.office.person.Person.{Person}
 -- of somebody who leaves the college, who has no result, as nowhere
 abbrev pub is_settled : Office → Text → Bool
 is_settled office person = knows_person office person && not (has_withdrawn office person)
+
+-- whether a person has a home or a recorded room
+abbrev pub has_room : Office → Text → Bool
+has_room office person = is_some (home_of office person) || is_some (recorded_result office person)
 
 -- whether the home changes by the recorded result
 abbrev pub moves_out : Office → Text → Bool

@@ -16,7 +16,7 @@ use room_types::{
 
 /// Applies a change. Where memory is refused the office is as before. `DropPerson`, `PutRound` and `ClearRound`, an
 /// empty list in `PutChoices`, grade 0 in `PutGrade`, and `PutHome` of somebody unknown take no memory, and are never
-/// refused.
+/// refused. `PutHome` and `DropPerson` of somebody unknown change nothing.
 pub fn apply(office: &mut Office, change: &Change) -> Result<(), OutOfMemory>
     ensures ok { OnOk result (office.new ≡ applied office.old change.now) }
     ensures err { OnErr result (office.new ≡ office.old) }
@@ -82,8 +82,10 @@ fn put_person(
 fn drop_person(office: &mut Office, person: &PersonId)
     ensures { office.new ≡ applied office.old (Change.DropPerson person.now) }
 {
-    office.people.remove(person);
-    office.grades.remove(person);
+    if office.people.contains_key(person) {
+        office.people.remove(person);
+        office.grades.remove(person);
+    }
 }
 
 fn put_home(

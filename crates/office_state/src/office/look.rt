@@ -1,8 +1,8 @@
 //! What is read from an office.
-ghost use Rattle.std.specs.Prelude.{◌≡◌, ◌<◌, IfOk, IsSome, List, OnErr, length, ℕ};
+ghost use Rattle.std.specs.Prelude.{◌≡◌, ◌<◌, IfOk, IsSome, List, OnErr, length, true, ℕ};
 ghost use Rattle.std.specs.FinMap as map;
 ghost use Rattle.std.specs.Option.{option_copied};
-ghost use Rattle.office_state.specs.Office.{tenant, owner, home_of, recorded_result, is_shut, lives_in};
+ghost use Rattle.office_state.specs.Office.{tenant, owner, home_of, recorded_result, is_shut, lives_in, has_tenants};
 ghost use Rattle.office_state.specs.Office.{is_same_text, is_text};
 ghost use Rattle.office_state.specs.Office.{has_withdrawn, is_going, sits_out, grade_of, participants, is_over, is_under_way, is_shown};
 ghost use Rattle.office_state.specs.Round.{is_participant};
@@ -27,12 +27,12 @@ impl Office {
         None
     }
 
-    /// Who lives in each room, found in one pass over the people. It is refused only for memory. Where nobody is known it
+    /// Who lives in each room, found in one pass over the people. It is refused only for memory. Where nobody has a home it
     /// takes none.
     pub fn tenants(&self, alloc: Global) -> Result<Table<RoomCodes, PersonId>, OutOfMemory>
         ensures tenants { IfOk result
             (λ tenants. (room : List ℕ) → map.get tenants room ≡ tenant self.now room) }
-        ensures memory { OnErr result (0 < length (map.entries self.now.people)) }
+        ensures memory { OnErr result (has_tenants self.now ≡ true) }
     {
         let mut tenants = Table::new(alloc);
         for (id, person) in self.people.iter() {

@@ -1,7 +1,8 @@
 //! Who moves when a round is settled.
-ghost use Rattle.std.specs.Prelude.{◌≡◌, ◌<◌, IfOk, OnErr, length};
+ghost use Rattle.std.specs.Prelude.{◌≡◌, IfOk, OnErr, true};
+ghost use Rattle.std.specs.List.{list_any};
 ghost use Rattle.office_state.specs.Office.{people_not_withdrawn};
-ghost use Rattle.office_state.specs.Round.Settlement.{movers};
+ghost use Rattle.office_state.specs.Round.Settlement.{has_room, movers};
 
 use crate::office::Office;
 use crate::office::look::{copy_found_in_office, is_same_room};
@@ -12,10 +13,11 @@ use std::alloc::Global;
 /// The people whose home the settlement of the round changes, by identifier, each with the old room and the new one: the
 /// participants by their recorded results, and those who leave the college, who have no result and so no new room. Where
 /// no results are recorded it is each who has a home and has not withdrawn, with no new room. It goes through the people
-/// once, and is refused only for memory. Where all have withdrawn it takes none.
+/// once, and is refused only for memory. Where nobody who has not withdrawn has a home or a recorded room, it takes none.
 pub fn movers(alloc: Global, office: &Office) -> Result<Vec<Mover>, OutOfMemory>
     ensures movers { IfOk result (λ found. found.items ≡ movers office.now) }
-    ensures memory { OnErr result (0 < length (people_not_withdrawn office.now)) }
+    ensures memory { OnErr result
+        (list_any (has_room office.now) (people_not_withdrawn office.now) ≡ true) }
 {
     let mut movers = Vec::new(alloc);
     for (id, _) in office.people.iter() {

@@ -1,4 +1,4 @@
-use Rattle.std.proofs.Common.{◌∙◌, sym, ap, Some, cond, length, arith}
+use Rattle.std.proofs.Common.{◌∙◌, sym, ap, rules, Some, cond}
 use Rattle.std.specs.Option.{option_or}
 use Rattle.std.specs.FinMap as map
 use Rattle.std.specs.Map.Iter.{deref_pair}
@@ -18,10 +18,7 @@ loop-id-init c = record {
       ∙ offices-tenants-none room (first_person (lives_in room) c.into_iter-id-iterator.result)
       ∙ ap (λ es. first_person (lives_in room) es)
       (c.into_iter-id-iterator.ensures.into_iter_gives ∙ c.iter-id-items.ensures.rest);
-  left =
-      let all = ap (λ es. length es)
-      (c.into_iter-id-iterator.ensures.into_iter_gives ∙ c.iter-id-items.ensures.rest) in
-      omega (arith, all);
+  left = search rules;
 }
 
 pub loop-id-preserved-in_ok-insert : goal.loop-id-preserved-in_ok-insert
@@ -44,8 +41,5 @@ loop-id-preserved-in_ok-insert c = record {
       (sym (rest_more deref_pair _ _ _
       (c.in-Some.id, c.in-Some.person) c.in-Some.is c.next.ensures.steps))
       ∙ c.loop-id.invariant.found room;
-  left =
-      let more = ap (λ es. length es) (rest_more deref_pair _ _ _
-      (c.in-Some.id, c.in-Some.person) c.in-Some.is c.next.ensures.steps) in
-      omega (arith, more, c.loop-id.invariant.left);
+  left = search rules;
 }

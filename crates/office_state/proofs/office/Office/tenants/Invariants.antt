@@ -1,7 +1,8 @@
-use Rattle.std.proofs.Common.{◌≡◌, ◌≤◌, List, ℕ, length}
-use Rattle.std.specs.Option.{option_or}
+use Rattle.std.proofs.Common.{◌≡◌, true, List, ℕ}
+use Rattle.std.specs.List.{list_any}
+use Rattle.std.specs.Option.{is_some, option_or}
 use Rattle.std.specs.FinMap as map
-use Rattle.office_state.specs.Office.{first_person, lives_in, tenant}
+use Rattle.office_state.specs.Office.{first_person, has_tenants, lives_in, tenant}
 use Rattle.office_state.proofs.office.Office.tenants.Given as goal
 
 -- a room's tenant is the one found so far, or else the first of those who are left
@@ -11,5 +12,5 @@ invariant-loop-id l = record {
   ends : (goal.iterator-loop-id).is_finite l.id-iterator;
   found : (room : List ℕ) → option_or (map.get l.tenants room)
       (first_person (lives_in room) l.id-iterator) ≡ tenant l.self room;
-  left : length l.id-iterator ≤ length (map.entries l.self.people);
+  left : list_any (λ e. is_some e.1.home) l.id-iterator ≡ true → has_tenants l.self ≡ true;
 }

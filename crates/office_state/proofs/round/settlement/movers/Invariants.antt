@@ -1,7 +1,7 @@
-use Rattle.std.proofs.Common.{◌≡◌, ◌≤◌, ◌++◌, not, map, length}
-use Rattle.std.specs.List.{filter}
+use Rattle.std.proofs.Common.{◌≡◌, ◌++◌, true, not, map}
+use Rattle.std.specs.List.{filter, list_any}
 use Rattle.office_state.specs.Office.{home_of, has_withdrawn, people_not_withdrawn, recorded_result}
-use Rattle.office_state.specs.Round.Settlement.{movers, moves_out}
+use Rattle.office_state.specs.Round.Settlement.{has_room, movers, moves_out}
 use Rattle.office_state.proofs.round.settlement.movers.Given as goal
 
 -- the movers so far and those among who is left are all
@@ -13,6 +13,7 @@ invariant-loop-id l = record {
       (filter (moves_out l.office) (map (λ e. e.0)
       (filter (λ e. not (has_withdrawn l.office e.0)) l.id-iterator)))
       ≡ movers l.office;
-  left : length (filter (λ e. not (has_withdrawn l.office e.0)) l.id-iterator)
-      ≤ length (people_not_withdrawn l.office);
+  left : list_any (has_room l.office)
+      (map (λ e. e.0) (filter (λ e. not (has_withdrawn l.office e.0)) l.id-iterator)) ≡ true
+      → list_any (has_room l.office) (people_not_withdrawn l.office) ≡ true;
 }
