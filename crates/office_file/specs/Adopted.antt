@@ -1,16 +1,17 @@
 -- An office that is found in a file, and why there is none.
-use Rattle.std.specs.Prelude.{◌≡◌, ◌⊎◌, ℕ, List, false, IfErr, IsSome, Result, None, Some}
+use Rattle.std.specs.Prelude.{◌≡◌, ◌⊎◌, ℕ, ℤ, List, false, IfErr, IsSome, Result, Some}
 use Rattle.sqlite.specs.Held.{Held, state}
 use Rattle.sqlite.specs.State.{HasCleanDisk}
 use Rattle.sqlite_trees.specs.declared.store.Store.{Ghosts}
 use Rattle.office_state.specs.declared.office.Office.{Office}
 use Rattle.office_file.specs.Access.{FileAccess}
-use Rattle.office_load.specs.Finding.{AreDeclared, AreWhole, names_round}
+use Rattle.office_load.specs.Finding.{AreDeclared, AreWhole, IsOfOther, names_round}
+use Rattle.office_load.specs.Front.{IsFront, has_front}
 use Rattle.office_load.specs.Layout.{layout_in}
 use Rattle.office_store.specs.Adopting.{IsFaultOf, MayRefuse, StandsInOwnVersion}
 use Rattle.office_store.specs.Desk.{DeskState, Shows}
 use Rattle.office_store.specs.declared.desk.faults.DeskFault.{DeskFault}
-use Rattle.office_store.specs.declared.desk.faults.DeskFault.TheVariants.{NotAnOffice, Unavailable}
+use Rattle.office_store.specs.declared.desk.faults.DeskFault.TheVariants.{NotAnOffice, OtherVersion, Unavailable}
 use Rattle.office_tables.specs.Steps.{Follows, IsHonest}
 use Rattle.office_tables.specs.Tables.{HoldsOfficeIn}
 use Rattle.office_tables.specs.declared.layouts.Layout.{Layout}
@@ -34,15 +35,18 @@ module _ {S : Type 0} (g : Ghosts S) where
 
   -- The database of a connection is refused for this, and the connection is then the other one: only as what is declared
   -- allows, whatever the disk does (`allowed`); and only as what the tables hold allows, where they are declared as those of an
-  -- office and the disk returned what was written (`cause`). Its tables are as they were.
+  -- office and the disk returned what was written (`cause`). Where the row of the round says another version, it is refused for
+  -- that version, or it is unavailable (`other`). The tables are as they were.
   pub record RefusesFound (connection refused : Held S) (fault : DeskFault) : Type 0 where
     pub follows : Follows (state g connection) (state g refused)
     pub undone : IsHonest (state g refused) → (state g refused).now ≡ (state g connection).now
-    pub unread : layout_in (state g connection).now.schema ≡ None → refused ≡ connection
+    pub unread : has_front (state g connection).now.schema ≡ false → refused ≡ connection
     pub absent : names_round (state g connection).now.schema ≡ false → fault ≡ NotAnOffice
     pub allowed : IsFaultOf (state g connection).now.schema fault
     pub cause : HasCleanDisk (state g refused) → AreDeclared (state g connection).now.schema
         → MayRefuse (state g connection).now fault
+    pub other : (version : ℤ) → IsFront (state g connection).now.schema → IsOfOther (state g connection).now version
+        → HasCleanDisk (state g refused) → (fault ≡ Unavailable) ⊎ (fault ≡ OtherVersion version)
 
 module _ {F S : Type 0} (access : FileAccess F S) where
   -- The desk goes on from the database that was opened, which has the tables of an office of the version of this program, and

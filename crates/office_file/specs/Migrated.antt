@@ -1,5 +1,5 @@
 -- An office of an earlier version in a file, and why it is not brought over.
-use Rattle.std.specs.Prelude.{◌≡◌, ◌⊎◌, ℕ, List, false, IfErr, IsSome, Result, Some}
+use Rattle.std.specs.Prelude.{◌≡◌, ◌⊎◌, ℕ, ℤ, List, false, IfErr, IsSome, IsTrue, Result, Some}
 use Rattle.sqlite.specs.Held.{Held, state}
 use Rattle.sqlite.specs.State.{HasCleanDisk}
 use Rattle.sqlite_trees.specs.declared.store.Store.{Ghosts}
@@ -8,11 +8,13 @@ use Rattle.office_file.specs.Access.{FileAccess}
 use Rattle.office_load.specs.Finding.{AreDeclared, AreWhole, names_round}
 use Rattle.office_load.specs.Layout.{layout_in}
 use Rattle.office_load.specs.Front.{has_front}
-use Rattle.office_migrate.specs.Versions.{IsEarlierLayout, IsOfVersion}
+use Rattle.office_migrate.specs.Causes.{AreSaidRows, SaysVersion, StandsFirst}
+use Rattle.office_migrate.specs.Names.{is_lacking_name_used}
+use Rattle.office_migrate.specs.Versions.{IsEarlierLayout, IsNoEarlier, IsOfVersion}
 use Rattle.office_store.specs.Desk.{DeskState, Shows}
 use Rattle.office_store.specs.Migrating.{IsFaultOfMigration, MayNotMigrate}
 use Rattle.office_store.specs.declared.desk.faults.DeskFault.{DeskFault}
-use Rattle.office_store.specs.declared.desk.faults.DeskFault.TheVariants.{NotAnOffice, Unavailable}
+use Rattle.office_store.specs.declared.desk.faults.DeskFault.TheVariants.{AlreadyThere, NotAnOffice, OtherVersion, Unavailable}
 use Rattle.office_tables.specs.Layouts.{version_of}
 use Rattle.office_tables.specs.Steps.{Follows, IsHonest}
 use Rattle.office_tables.specs.Tables.{HoldsOfficeIn}
@@ -30,7 +32,10 @@ module _ {S : Type 0} (g : Ghosts S) where
 
   -- The database of a connection is refused for this, and the connection is then the other one: only as what is declared
   -- allows, whatever the disk does (`allowed`); and only as what the tables hold allows, where they are declared as those of an
-  -- office and the disk returned what was written (`cause`). Its tables are as they were.
+  -- office and the disk returned what was written (`cause`). An office of an earlier version whose tables come first, where the
+  -- name of a table that it lacks is taken, is refused for that name, or it is unavailable (`taken`). For a name it is refused only
+  -- where the rows that come first are an office's (`rows`). Where the row of the round says a version that is no earlier one, it is
+  -- refused for that version, or it is unavailable (`other`). The tables are as they were.
   pub record RefusesMigration (connection refused : Held S) (fault : DeskFault) : Type 0 where
     pub follows : Follows (state g connection) (state g refused)
     pub undone : IsHonest (state g refused) → (state g refused).now ≡ (state g connection).now
@@ -39,6 +44,12 @@ module _ {S : Type 0} (g : Ghosts S) where
     pub allowed : IsFaultOfMigration (state g connection).now.schema fault
     pub cause : HasCleanDisk (state g refused) → AreDeclared (state g connection).now.schema
         → MayNotMigrate (state g connection).now fault
+    pub taken : (layout : Layout) (office : Office) → StandsFirst layout (state g connection).now office
+        → IsTrue (is_lacking_name_used (version_of layout) (state g connection).now.schema)
+        → HasCleanDisk (state g refused) → (fault ≡ Unavailable) ⊎ (fault ≡ AlreadyThere)
+    pub rows : fault ≡ AlreadyThere → HasCleanDisk (state g refused) → AreSaidRows (state g connection).now
+    pub other : (version : ℤ) → SaysVersion (state g connection).now version → IsNoEarlier version
+        → HasCleanDisk (state g refused) → (fault ≡ Unavailable) ⊎ (fault ≡ OtherVersion version)
 
 module _ {F S : Type 0} (access : FileAccess F S) where
   -- The desk goes on from the database that was opened, which had the tables of an earlier version, and nothing beside them. It

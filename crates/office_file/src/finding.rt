@@ -14,7 +14,8 @@ use std::alloc::Global;
 /// # Errors
 ///
 /// `NotAnOffice` and `OtherVersion` only of the database that was opened, as `Desk::adopt` tells them. Else `Unavailable`:
-/// the file was not opened, it declares something else than the tables of an office, the disk failed or memory was refused.
+/// the file was not opened, it declares something else than the tables of an office and its row of the round says no other
+/// version, the disk failed or memory was refused.
 /// The connection that was opened is then closed, its tables as they were.
 pub fn find_in<B: Alter, F: Files<B> + Closes<Connection<B>>>(
     alloc: Global,

@@ -13,7 +13,7 @@ use std::alloc::Global;
 ///
 /// # Errors
 ///
-/// `NotAnOffice`, `OtherVersion` and `AlreadyThere` only of the database that was opened, as `Desk::migrate` tells them. Else
+/// `NotAnOffice`, `OtherVersion` and `AlreadyThere` only of the database that was opened, as `Desk::migrate` answers them. Else
 /// `Unavailable`: the file was not opened, it declares something else than the tables of an office, the disk failed or memory was
 /// refused. The connection that was opened is then closed, its tables as they were.
 pub fn migrate_in<B: Alter, F: Files<B> + Closes<Connection<B>>>(

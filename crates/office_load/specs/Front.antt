@@ -1,9 +1,16 @@
 -- Databases whose first tables are those of an office, whatever stands behind them.
-use Rattle.std.specs.Prelude.{◌≡◌, ◌&&◌, ◌==◌, Bool, false, List, [], ◌∷◌, codes, length, take}
+use Rattle.std.specs.Prelude.{◌≡◌, ◌&&◌, ◌==◌, ℕ, Bool, false, List, [], ◌∷◌, ◌++◌, codes, length, nat_le, take}
+use Rattle.sqlite_schema.specs.declared.schema.Index.{Index}
 use Rattle.sqlite_schema.specs.declared.schema.Schema.{Schema}
 use Rattle.sqlite_schema.specs.declared.schema.Table.{Table}
-use Rattle.office_load.specs.Layout.{is_kept_as}
+use Rattle.sqlite.specs.Effect.{Database}
+use Rattle.office_state.specs.declared.office.Office.{Office}
+use Rattle.office_rows.specs.Tables.{Tables, rows_at}
+use Rattle.office_load.specs.Layout.{are_indexes, are_tables, is_kept_as}
+use Rattle.office_tables.specs.Layouts.{schema_of, table_count, version_of}
 use Rattle.office_tables.specs.Schema.{room, person, round}
+use Rattle.office_tables.specs.Tables.{AreHeldIn}
+use Rattle.office_tables.specs.declared.layouts.Layout.{Layout}
 
 -- The first three tables are those of rooms, of people and of the round, which come first in each layout, and there are no views.
 pub record IsFront (schema : Schema) : Type 0 where
@@ -21,3 +28,39 @@ are_first (one ∷ two ∷ three ∷ tables) =
 
 abbrev pub has_front : Schema → Bool
 has_front schema = (length schema.views == 0) && are_first schema.tables
+
+-- ---- the tables of a layout, whatever stands behind them
+
+abbrev pub with_behind : Layout → List Table → List Index → Schema
+with_behind layout tables indexes = record {
+  tables = (schema_of layout).tables ++ tables;
+  indexes = (schema_of layout).indexes ++ indexes;
+  views = [];
+}
+
+-- the tables and the indexes of the layout come first, and there are no views
+pub record Begins (layout : Layout) (schema : Schema) : Type 0 where
+  pub tables : List Table
+  pub indexes : List Index
+  pub is : schema ≡ with_behind layout tables indexes
+
+-- so it is, with these rows
+pub record HasTablesFirst (layout : Layout) (db : Database) (tables : Tables) : Type 0 where
+  pub schema : Begins layout db.schema
+  pub rows : AreHeldIn layout db.trees tables
+
+-- the first tables are the rows of the office
+abbrev pub HoldsOfficeFirst : Layout → Database → Office → Type 0
+HoldsOfficeFirst layout db office = HasTablesFirst layout db (rows_at (version_of layout) office)
+
+abbrev pub index_count : Layout → ℕ
+index_count layout = length (schema_of layout).indexes
+
+-- there are as many tables and indexes at least, and the first ones are as those of the layout are
+abbrev pub begins_with : Layout → Schema → Bool
+begins_with layout schema =
+    (length schema.views == 0)
+    && (nat_le (table_count layout) (length schema.tables)
+    && are_tables layout (take (table_count layout) schema.tables))
+    && (nat_le (index_count layout) (length schema.indexes)
+    && are_indexes layout (take (index_count layout) schema.indexes))

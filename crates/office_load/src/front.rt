@@ -1,10 +1,13 @@
 //! What stands at the front of a database, whatever stands behind it.
-ghost use Rattle.std.specs.Prelude.{◌≡◌, IsTrue};
+ghost use Rattle.std.specs.Prelude.{◌≡◌, ◌&&◌, IsTrue, length, nat_le, take};
 ghost use Rattle.office_load.specs.Finding.{AreDeclared};
-ghost use Rattle.office_load.specs.Front.{IsFront, are_first, has_front};
+ghost use Rattle.office_load.specs.Front.{Begins, IsFront, are_first, begins_with, has_front, index_count};
+ghost use Rattle.office_load.specs.Layout.{are_indexes, are_tables};
+ghost use Rattle.office_tables.specs.Layouts.{table_count};
 
-use crate::layout::is_this_table;
-use sqlite_schema::schema::{Schema, Table};
+use crate::layout::{has_indexes, has_tables, is_this_table};
+use office_tables::layouts::Layout;
+use sqlite_schema::schema::{Index, Schema, Table};
 
 /// Whether the first three tables have the names of those of an office, each in its tree, and there are no views. Where tables
 /// are declared as an office's are, they are those.
@@ -26,5 +29,47 @@ fn are_first(tables: &[Table]) -> bool
                 && is_this_table(three, "round", 6)
         }
         _ => false,
+    }
+}
+
+/// Whether the tables of the layout and their indexes come first, each in its tree, and there are no views. Where tables are
+/// declared as an office's are, they are those of the layout.
+pub fn begins_with(schema: &Schema, layout: Layout) -> bool
+    ensures tested { result ≡ begins_with layout schema.now }
+    ensures whole { IsTrue result → AreDeclared schema.now → Begins layout schema.now }
+{
+    schema.views.as_slice().is_empty()
+        && has_first_tables(schema.tables.as_slice(), layout)
+        && has_first_indexes(schema.indexes.as_slice(), layout)
+}
+
+// Whether the first tables are those of the layout, each in its tree.
+fn has_first_tables(tables: &[Table], layout: Layout) -> bool
+    ensures { result ≡ (nat_le (table_count layout) (length tables.now)
+        && are_tables layout (take (table_count layout) tables.now)) }
+{
+    let count = layout.tables();
+    count <= tables.len() && has_tables(&tables[..count], layout)
+}
+
+// Whether the first indexes are those that keep the constraints of the tables of the layout.
+fn has_first_indexes(indexes: &[Index], layout: Layout) -> bool
+    ensures { result ≡ (nat_le (index_count layout) (length indexes.now)
+        && are_indexes layout (take (index_count layout) indexes.now)) }
+{
+    let count = index_count(layout);
+    count <= indexes.len() && has_indexes(&indexes[..count], layout)
+}
+
+// How many indexes keep the constraints of the tables of the layout.
+fn index_count(layout: Layout) -> usize
+    ensures { result ≡ index_count layout }
+{
+    match layout {
+        Layout::Own => 13,
+        Layout::Documented => 13,
+        Layout::DocumentedSecond => 12,
+        Layout::DocumentedFirst => 11,
+        Layout::EarlierFirst => 11,
     }
 }

@@ -1,5 +1,7 @@
 -- Lemmas on tables of earlier versions, and of other layouts.
 pub mod Causes
 pub mod Committed
+pub mod First
 pub mod Front
+pub mod Taken
 pub mod Tests

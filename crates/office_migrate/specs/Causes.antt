@@ -9,8 +9,8 @@ use Rattle.office_cells.specs.Spelled.{IsSpelled}
 use Rattle.office_tables.specs.Layouts.{schema_of, table_count, version_of}
 use Rattle.office_tables.specs.Tables.{AreHeldIn, HoldsOfficeIn}
 use Rattle.office_tables.specs.declared.layouts.Layout.{Layout}
-use Rattle.office_load.specs.Finding.{HoldsVersion, names_round}
-use Rattle.office_load.specs.Front.{IsFront, has_front}
+use Rattle.office_load.specs.Finding.{AreWhole, HoldsVersion, names_round}
+use Rattle.office_load.specs.Front.{Begins, IsFront, has_front}
 use Rattle.office_migrate.specs.Names.{is_lacking_name_used}
 use Rattle.office_migrate.specs.Versions.{IsEarlier, IsNoEarlier, IsOfVersion}
 use Rattle.office_migrate.specs.declared.migrating.MigrateFault.{MigrateFault}
@@ -35,22 +35,44 @@ pub record StandsFirst (layout : Layout) (db : Database) (office : Office) : Typ
   pub tables : take (table_count layout) db.schema.tables ≡ (schema_of layout).tables
   pub rows : AreHeldIn layout db.trees (rows_at (version_of layout) office)
 
+-- the tables of a layout come first, whatever stands behind them
+abbrev pub BeginsKnown : Schema → Type 0
+BeginsKnown schema = (layout : Layout) × Begins layout schema
+
+-- where the tables of a layout of this version come first, they are the rows of an office of that version
+abbrev pub AreEarlierRows : ℕ → Database → Type 0
+AreEarlierRows version db =
+    (layout : Layout) → version_of layout ≡ version → Begins layout db.schema → AreWhole layout db.trees
+    → (office : Office) × StandsFirst layout db office
+
+-- where the tables of a layout of the version that the row of the round holds come first, they are the rows of an office of it
+abbrev pub AreSaidRows : Database → Type 0
+AreSaidRows db = (version : ℕ) → IsEarlier version → HoldsVersion db (pos version) → AreEarlierRows version db
+
+-- the first tables are the rows of no office of this version
+abbrev pub AreNoEarlierRows : ℕ → Database → Type 0
+AreNoEarlierRows version db =
+    (layout : Layout) → version_of layout ≡ version → (office : Office) → ¬ StandsFirst layout db office
+
 -- the table of the round stands where an office has it, and its row holds this version
 abbrev pub SaysVersion : Database → ℤ → Type 0
 SaysVersion db version = IsFront db.schema × HoldsVersion db version
 
--- the row of the round holds no other version, and the tables are no office's of an earlier version
+-- The row of the round holds no other version, and the first tables are no office's of an earlier version. Where the row holds
+-- a version, the tables of a layout come first: an order that is not known says nothing of an office.
 pub record HoldsNoEarlier (db : Database) : Type 0 where
   pub front : IsFront db.schema
   pub version : (version : ℤ) → IsNoEarlier version → ¬ HoldsVersion db version
-  pub none : (layout : Layout) (office : Office) → ¬ HoldsEarlier layout db office
+  pub known : (version : ℤ) → HoldsVersion db version → BeginsKnown db.schema
+  pub none : (layout : Layout) (office : Office) → ¬ StandsFirst layout db office
 
--- the row of the round holds an earlier version, and the name of a table that it lacks is taken
+-- the row of the round holds an earlier version, the name of a table that it lacks is taken, and the rows are not at fault
 pub record HasNameTaken (db : Database) : Type 0 where
   pub version : ℕ
   pub earlier : IsEarlier version
   pub says : SaysVersion db (pos version)
   pub taken : IsTrue (is_lacking_name_used version db.schema)
+  pub rows : AreEarlierRows version db
 
 -- A database may be refused for this only where it is so.
 abbrev pub HasCause : Database → MigrateFault → Type 0
@@ -73,3 +95,10 @@ IsOfNumber Unavailable = ⊤
 IsOfNumber (OtherVersion version) = IsNoEarlier version
 IsOfNumber NotAnOffice = ⊤
 IsOfNumber AlreadyThere = ⊥
+
+-- for a name that is taken, or for the rows, and not for the version
+abbrev pub IsOfName : MigrateFault → Type 0
+IsOfName Unavailable = ⊤
+IsOfName (OtherVersion version) = ⊥
+IsOfName NotAnOffice = ⊤
+IsOfName AlreadyThere = ⊤

@@ -1,3 +1,4 @@
 pub mod Causes
+pub mod First
 pub mod Names
 pub mod Versions

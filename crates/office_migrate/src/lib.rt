@@ -3,6 +3,7 @@
 
 pub mod migrating;
 pub mod renewing;
+pub mod taken;
 pub mod versions;
 
 pub use crate::migrating::{MigrateFault, migrate};

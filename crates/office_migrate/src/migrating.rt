@@ -14,13 +14,14 @@ ghost use Rattle.office_load.specs.Finding.{AreDeclared, AreWhole, HoldsVersion,
 ghost use Rattle.office_load.specs.Layout.{layout_in};
 ghost use Rattle.office_load.specs.Reading.{OnlyReads};
 ghost use Rattle.office_migrate.specs.Causes.{HasCause, HoldsEarlier, IsAllowed, IsOfNumber};
-ghost use Rattle.office_migrate.specs.Causes.{SaysVersion, StandsFirst};
+ghost use Rattle.office_migrate.specs.Causes.{AreSaidRows, SaysVersion, StandsFirst};
 ghost use Rattle.office_load.specs.Front.{IsFront, has_front};
 ghost use Rattle.office_migrate.specs.Names.{is_lacking_name_used, takes_name};
 ghost use Rattle.office_migrate.specs.Versions.{IsEarlier, IsEarlierLayout, IsNoEarlier, IsOfVersion};
 ghost use Rattle.sqlite_catalog.specs.Change.{is_used};
 
 use crate::renewing::renewed_office;
+use crate::taken::refused_for_name;
 use office_load::front::has_front;
 use office_load::layout::{layout_in, layout_names_round};
 use office_load::versions::version_held;
@@ -38,9 +39,9 @@ pub enum MigrateFault {
     Unavailable,
     /// The row of the round holds this version, which is no earlier one.
     OtherVersion(i64),
-    /// Nothing has the name of the table of the round, or the tables are the rows of no office of an earlier version.
+    /// Nothing has the name of the table of the round, or the first tables are the rows of no office of an earlier version.
     NotAnOffice,
-    /// Something has the name of a table that the earlier version lacks.
+    /// Something has the name of a table that the earlier version lacks, and the rows are not at fault.
     AlreadyThere,
 }
 
@@ -50,10 +51,11 @@ pub enum MigrateFault {
 /// # Errors
 ///
 /// `NotAnOffice` where nothing has the name of the table of the round. Then `OtherVersion`, where its row holds another version
-/// than 1 and 2; `AlreadyThere`, where something has the name of a table that its version lacks; `NotAnOffice`, where the
-/// tables are the rows of no office of that version. Else `Unavailable`, which may come in place of each of these from the database or
-/// from memory, and where the tables stand in no layout that is known. The tables are then as they were, unless a fault shut
-/// the connection or the disk did not return what was written.
+/// than 1 and 2; `NotAnOffice`, where the first tables are those of a layout that is known and the rows of no office of its
+/// version, or the row of the round is absent; `AlreadyThere`, where something has the name of a table that its version lacks. Else
+/// `Unavailable`, which may come in place of each of these from the database or from memory, and where the tables stand in no
+/// layout that is known. The tables are then as they were, unless a fault shut the connection or the disk did not return what was
+/// written.
 pub fn migrate<S: Alter>(alloc: Global, conn: &mut Connection<S>) -> Result<Office, MigrateFault>
     requires { conn.old.in_transaction ≡ false }
     ensures outside { conn.new.in_transaction ≡ false }
@@ -89,6 +91,8 @@ pub fn migrate<S: Alter>(alloc: Global, conn: &mut Connection<S>) -> Result<Offi
         → IsTrue (is_lacking_name_used (version_of layout) (state S.Store conn.old).now.schema)
         → IsErrAnd result (λ fault.
         (fault ≡ MigrateFault.Unavailable) ⊎ (fault ≡ MigrateFault.AlreadyThere)) }
+    ensures rows { result ≡ Err MigrateFault.AlreadyThere → HasCleanDisk (state S.Store conn.new)
+        → AreSaidRows (state S.Store conn.old).now }
     ensures other { HasCleanDisk (state S.Store conn.new) → (version : _)
         → SaysVersion (state S.Store conn.old).now version → IsNoEarlier version
         → IsErrAnd result (λ fault.
@@ -103,7 +107,7 @@ pub fn migrate<S: Alter>(alloc: Global, conn: &mut Connection<S>) -> Result<Offi
     let declared = Declared::of(conn.schema());
     let version = earlier_version(conn)?;
     if declared.takes_name(version) {
-        return Err(MigrateFault::AlreadyThere);
+        return Err(refused_for_name(alloc, conn, version));
     }
     let Some(layout) = declared.layout else {
         return Err(MigrateFault::Unavailable);

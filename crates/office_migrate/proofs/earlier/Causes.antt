@@ -1,24 +1,25 @@
 -- Databases that hold no office of an earlier version.
-use Rattle.std.proofs.Common.{◌≡◌, ◌⊎◌, ℕ, ℤ, pos, Bool, true, false, Some, codes, refl, sym, ap, subst, inl, inr, arith}
+use Rattle.std.proofs.Common.{◌≡◌, ◌⊎◌, ℕ, ℤ, pos, Bool, true, false, IsTrue, codes, take, refl, sym, ap, subst, inl, inr, arith}
 use Rattle.sqlite_schema.specs.declared.schema.Schema.{Schema}
 use Rattle.sqlite_schema.specs.Names.{same_name}
 use Rattle.sqlite_catalog.specs.Change.{is_used}
 use Rattle.sqlite.specs.Effect.{Database}
 use Rattle.office_state.specs.declared.office.Office.{Office}
-use Rattle.office_tables.specs.Layouts.{schema_of, version_of}
+use Rattle.office_tables.specs.Layouts.{schema_of, table_count, version_of}
 use Rattle.office_tables.specs.declared.layouts.Layout.{Layout}
 use Rattle.office_tables.specs.declared.layouts.Layout.TheVariants.{Own, Documented, DocumentedSecond}
 use Rattle.office_tables.specs.declared.layouts.Layout.TheVariants.{DocumentedFirst, EarlierFirst}
 use Rattle.office_load.specs.Finding.{HoldsVersion}
-use Rattle.office_load.specs.Layout.{layout_in}
-use Rattle.office_load.proofs.found_offices.Finding.{found_offices-same_layout}
+use Rattle.office_load.proofs.found_offices.First.{found_offices-begins_if_laid}
 use Rattle.office_load.proofs.found_offices.Versions.{found_offices-one_version, found_offices-own_version}
-use Rattle.office_load.specs.Front.{IsFront}
-use Rattle.office_migrate.specs.Causes.{HoldsEarlier, HoldsNoEarlier, IsOfNumber, StandsFirst}
+use Rattle.office_load.specs.Front.{IsFront, has_front}
+use Rattle.office_migrate.specs.Causes.{AreEarlierRows, AreNoEarlierRows, BeginsKnown, HasCause, HoldsEarlier}
+use Rattle.office_migrate.specs.Causes.{HoldsNoEarlier, IsAllowed, IsOfName, IsOfNumber, StandsFirst}
 use Rattle.office_migrate.specs.Names.{is_lacking_name_used, takes_name}
 use Rattle.office_migrate.specs.Versions.{IsEarlier, IsNoEarlier}
 use Rattle.office_migrate.specs.declared.migrating.MigrateFault.{MigrateFault}
-use Rattle.office_migrate.specs.declared.migrating.MigrateFault.TheVariants.{Unavailable, OtherVersion}
+use Rattle.office_migrate.specs.declared.migrating.MigrateFault.TheVariants.{Unavailable, OtherVersion, NotAnOffice, AlreadyThere}
+use Rattle.office_migrate.proofs.earlier.First.{earlier-first_if_holds, earlier-first_is_laid, earlier-holds_if_first}
 
 -- the names of the tables that a layout of an earlier version lacks are free in it
 pub earlier-own_names_free : (layout : Layout) → IsEarlier (version_of layout)
@@ -34,6 +35,11 @@ earlier-own_names_free EarlierFirst e = refl
 
 pub earlier-pos : (v w : ℕ) → pos v ≡ pos w → v ≡ w
 earlier-pos v w e = cc
+
+-- a name that version 2 lacks is one that version 1 lacks
+earlier-lacking_first : (grade going : Bool) → IsTrue (takes_name grade going 2) → IsTrue (takes_name grade going 1)
+earlier-lacking_first true going h = refl
+earlier-lacking_first false going h = h
 
 -- an earlier version is an earlier one as a number, too
 pub earlier-not_no : (version : ℕ) → IsEarlier version → IsNoEarlier (pos version) → ⊥
@@ -76,24 +82,66 @@ module _ (db : Database) (front : IsFront db.schema) where
   earlier-none_without_version none_held = record {
     front = front;
     version = λ version other h. none_held version h;
-    none = λ layout office h. none_held (pos (version_of layout)) (found_offices-own_version layout db office h.rows);
+    known = λ version h. absurd (none_held version h);
+    none = λ layout office h. none_held (pos (version_of layout)) (earlier-first_says layout db office h);
   }
 
-  module _ (version : ℕ) (is_earlier : IsEarlier version) (holds : HoldsVersion db (pos version)) (layout : Layout)
-      (laid : layout_in db.schema ≡ Some layout) where
-    -- where the tables of the layout hold none
-    pub earlier-none_in_layout : ((office : Office) → HoldsEarlier layout db office → ⊥) → HoldsNoEarlier db
-    earlier-none_in_layout none = record {
+  module _ (version : ℕ) (is_earlier : IsEarlier version) (holds : HoldsVersion db (pos version)) where
+    earlier-same_version : (layout : Layout) (office : Office) → StandsFirst layout db office → version_of layout ≡ version
+    earlier-same_version layout office h = earlier-pos (version_of layout) version
+        (found_offices-one_version db (pos (version_of layout)) (pos version) (earlier-first_says layout db office h) holds)
+
+    -- where the first tables are the rows of no office of the version that their row says
+    pub earlier-none_first : BeginsKnown db.schema → AreNoEarlierRows version db → HoldsNoEarlier db
+    earlier-none_first known none = record {
       front = front;
+      known = λ version h. known;
       version = λ other none_earlier h. earlier-not_no version is_earlier
           (subst IsNoEarlier (found_offices-one_version db other (pos version) h holds) none_earlier);
-      none = λ other office h. none office
-          (subst (λ l. HoldsEarlier l db office) (sym (found_offices-same_layout other layout db h.rows.schema laid)) h);
+      none = λ layout office h. none layout (earlier-same_version layout office h) office h;
     }
 
-    -- where the tables are of another version than their row says
-    pub earlier-none_of_other : (version_of layout ≡ version → ⊥) → HoldsNoEarlier db
-    earlier-none_of_other differs = earlier-none_in_layout (λ office h.
-        differs (earlier-pos (version_of layout) version
-        (found_offices-one_version db (pos (version_of layout)) (pos version)
-        (found_offices-own_version layout db office h.rows) holds)))
+    -- why such tables are refused where the name of a table that they lack is taken
+    pub earlier-name_cause : (fault : MigrateFault) → IsOfName fault → IsTrue (is_lacking_name_used version db.schema)
+        → (fault ≡ NotAnOffice → BeginsKnown db.schema) → (fault ≡ NotAnOffice → AreNoEarlierRows version db)
+        → (fault ≡ AlreadyThere → AreEarlierRows version db) → HasCause db fault
+    earlier-name_cause Unavailable is taken known none rows = tt
+    earlier-name_cause (OtherVersion other) is taken known none rows = absurd is
+    earlier-name_cause NotAnOffice is taken known none rows = inr (earlier-none_first (known refl) (none refl))
+    earlier-name_cause AlreadyThere is taken known none rows = record {
+      version = version;
+      earlier = is_earlier;
+      says = (front, holds);
+      taken = taken;
+      rows = rows refl;
+    }
+
+    module _ (layout : Layout) (has : db.schema ≡ schema_of layout)
+        (free : is_lacking_name_used version db.schema ≡ false) where
+      -- where the tables of the layout hold none
+      pub earlier-none_in_layout : ((office : Office) → HoldsEarlier layout db office → ⊥) → HoldsNoEarlier db
+      earlier-none_in_layout none = earlier-none_first (layout, found_offices-begins_if_laid layout db.schema has) (λ other same office h.
+          let here = subst (λ v. is_lacking_name_used v (schema_of layout) ≡ false) (sym same)
+          (subst (λ (s : Schema). is_lacking_name_used version s ≡ false) has free) in
+          let tables = subst (λ (s : Schema). take (table_count other) s.tables ≡ (schema_of other).tables) has h.tables in
+          let is = earlier-first_is_laid layout other h.earlier here tables in
+          none office (earlier-holds_if_first layout db office has (subst (λ l. StandsFirst l db office) is h)))
+
+      -- where the tables are of another version than their row says
+      pub earlier-none_of_other : (version_of layout ≡ version → ⊥) → HoldsNoEarlier db
+      earlier-none_of_other differs = earlier-none_in_layout (λ office h.
+          differs (earlier-same_version layout office (earlier-first_if_holds layout db office h)))
+
+-- whatever the disk does
+pub earlier-name_allowed : (schema : Schema) (version : ℕ) (fault : MigrateFault) → IsOfName fault → IsEarlier version
+    → IsTrue (has_front schema) → IsTrue (is_lacking_name_used version schema) → IsAllowed schema fault
+earlier-name_allowed schema version Unavailable is earlier front taken = tt
+earlier-name_allowed schema version (OtherVersion other) is earlier front taken = absurd is
+earlier-name_allowed schema version NotAnOffice is earlier front taken = inr front
+earlier-name_allowed schema version AlreadyThere is (inl e) front taken =
+    (front, subst (λ v. IsTrue (is_lacking_name_used v schema)) e taken)
+earlier-name_allowed schema version AlreadyThere is (inr e) front taken = (
+  front,
+  earlier-lacking_first (is_used schema (codes "grade")) (is_used schema (codes "going"))
+      (subst (λ v. IsTrue (is_lacking_name_used v schema)) e taken),
+)

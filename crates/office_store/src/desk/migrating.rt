@@ -1,5 +1,5 @@
 //! Desks over an office that tables of an earlier version hold.
-ghost use Rattle.std.specs.Prelude.{◌≡◌, ◌⊎◌, ℤ, false, IfErr, IfOk, IsErrAnd, IsSome, MatchResult, OnOk, Some};
+ghost use Rattle.std.specs.Prelude.{◌≡◌, ◌⊎◌, ℤ, false, IfErr, IfOk, IsErrAnd, IsSome, IsTrue, MatchResult, OnOk, Some};
 ghost use Rattle.sqlite.specs.Held.{state};
 ghost use Rattle.sqlite.specs.State.{HasCleanDisk};
 ghost use Rattle.office_state.specs.declared.office.Office.{Office as AnyOffice};
@@ -9,8 +9,9 @@ ghost use Rattle.office_tables.specs.Tables.{HoldsOfficeIn};
 ghost use Rattle.office_tables.specs.declared.layouts.Layout.{Layout as AnyLayout};
 ghost use Rattle.office_load.specs.Finding.{AreDeclared, AreWhole, names_round};
 ghost use Rattle.office_load.specs.Layout.{layout_in};
-ghost use Rattle.office_migrate.specs.Causes.{HoldsEarlier, SaysVersion};
+ghost use Rattle.office_migrate.specs.Causes.{AreSaidRows, HoldsEarlier, SaysVersion, StandsFirst};
 ghost use Rattle.office_load.specs.Front.{has_front};
+ghost use Rattle.office_migrate.specs.Names.{is_lacking_name_used};
 ghost use Rattle.office_migrate.specs.Versions.{IsEarlierLayout, IsNoEarlier, IsOfVersion};
 ghost use Rattle.office_store.specs.Desk.{Shows};
 ghost use Rattle.office_store.specs.Migrating.{IsFaultOfMigration, MayNotMigrate, migrating_fault};
@@ -29,9 +30,10 @@ impl<S: Alter> Desk<S> {
     /// # Errors
     ///
     /// `NotAnOffice` where nothing has the name of the table of the round. Else, where the first tables are those of an
-    /// office: `OtherVersion` only where the row of the round holds that version, which is no earlier one; `AlreadyThere`
-    /// only where something has the name of a table that the version in the row lacks; `NotAnOffice` only where the tables
-    /// are the rows of no office of an earlier version. Else `Unavailable`, which may also come in place of each of these.
+    /// office: `OtherVersion` only where the row of the round holds that version, which is no earlier one; `NotAnOffice` only
+    /// where the first tables, in an order that is known, are the rows of no office of an earlier version, or the row of the
+    /// round is absent; `AlreadyThere` only where the rows are not at fault and something has the name of a table that the
+    /// version in the row lacks. Else `Unavailable`, which may also come in place of each of these.
     /// An office's tables of an earlier version are never refused otherwise. The connection comes back, its tables as they
     /// were, unless a fault shut it or the disk did not return what was written. Where the first tables are not those of an
     /// office, no statement has run on it.
@@ -68,6 +70,16 @@ impl<S: Alter> Desk<S> {
             (λ desk. HasCleanDisk (state S.Store desk.conn) → Shows S.Store desk office)
             (λ back. HasCleanDisk (state S.Store back.connection)
             → back.fault ≡ DeskFault.Unavailable) }
+        ensures taken { (layout : AnyLayout) → (office : AnyOffice)
+            → StandsFirst layout (state S.Store connection).now office
+            → IsTrue (is_lacking_name_used (version_of layout) (state S.Store connection).now.schema)
+            → MatchResult result
+            (λ desk. ¬ HasCleanDisk (state S.Store desk.conn))
+            (λ back. HasCleanDisk (state S.Store back.connection)
+            → (back.fault ≡ DeskFault.Unavailable) ⊎ (back.fault ≡ DeskFault.AlreadyThere)) }
+        ensures rows { IfErr result (λ back. back.fault ≡ DeskFault.AlreadyThere
+            → HasCleanDisk (state S.Store back.connection)
+            → AreSaidRows (state S.Store connection).now) }
         ensures other { (version : ℤ) → SaysVersion (state S.Store connection).now version
             → IsNoEarlier version → MatchResult result
             (λ desk. ¬ HasCleanDisk (state S.Store desk.conn))

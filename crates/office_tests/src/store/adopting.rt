@@ -58,13 +58,17 @@ const BREAKS: [(&str, &str); 12] = [
 ];
 
 // Statements over the tables of a desk in turn, each with the fault of the database that it leaves.
-const DECLARED: [(&str, Option<DeskFault>); 8] = [
+const DECLARED: [(&str, Option<DeskFault>); 9] = [
     (
         "UPDATE round SET version = 9",
         Some(DeskFault::OtherVersion(9)),
     ),
     (
-        "UPDATE round SET version = 1",
+        "CREATE TABLE more(text TEXT)",
+        Some(DeskFault::OtherVersion(9)),
+    ),
+    (
+        "DROP TABLE more; UPDATE round SET version = 1",
         Some(DeskFault::OtherVersion(1)),
     ),
     (

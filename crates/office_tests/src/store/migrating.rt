@@ -122,7 +122,7 @@ const FAULTS: [(&str, &str, DeskFault); 7] = [
     ),
 ];
 
-const FIRST_FAULTS: [(&str, &str, DeskFault); 5] = [
+const FIRST_FAULTS: [(&str, &str, DeskFault); 6] = [
     (
         "UPDATE round SET version = 9",
         "UPDATE round SET version = 1",
@@ -147,6 +147,11 @@ const FIRST_FAULTS: [(&str, &str, DeskFault); 5] = [
         "CREATE TABLE grade(text TEXT)",
         "DROP TABLE grade",
         DeskFault::AlreadyThere,
+    ),
+    (
+        "CREATE TABLE grade(text TEXT); DELETE FROM word WHERE person = 'N'",
+        "DROP TABLE grade; INSERT INTO word VALUES ('N', '0000000000000003')",
+        DeskFault::NotAnOffice,
     ),
 ];
 

@@ -14,6 +14,7 @@ returns-in-Err-adopt-clause-cause g c = inr (record {
     absent = λ none. (c.in-Err-adopt.ensures.absent none).0;
     allowed = c.in-Err-adopt.ensures.allowed;
     cause = c.in-Err-adopt.ensures.cause;
+    other = c.in-Err-adopt.ensures.other;
   };
   closed = c.close.ensures;
 })

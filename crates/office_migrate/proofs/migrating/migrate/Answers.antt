@@ -1,4 +1,4 @@
-use Rattle.std.proofs.Common.{◌≡◌, true, true≢false, pos, sym, ap, ◌∙◌, subst, inl, inr}
+use Rattle.std.proofs.Common.{◌≡◌, true, false, true≢false, pos, sym, ap, ap₂, ◌∙◌, subst, inl, inr}
 use Rattle.std.proofs.lemmas.Result.{err_from_is_err_and}
 use Rattle.sqlite.specs.Effect.{Database}
 use Rattle.sqlite.specs.Held.{state}
@@ -8,7 +8,7 @@ use Rattle.office_tables.specs.Layouts.{schema_of, version_of}
 use Rattle.office_tables.specs.Tables.{HoldsOfficeIn}
 use Rattle.office_tables.proofs.statements.Steps.{statements-honest_before}
 use Rattle.office_load.specs.Finding.{AreDeclared, AreWhole, names_round}
-use Rattle.office_load.specs.Front.{IsFront}
+use Rattle.office_load.specs.Front.{IsFront, has_front}
 use Rattle.office_load.specs.Layout.{layout_in}
 use Rattle.office_load.specs.Numbers.{IsLaidOut}
 use Rattle.office_load.proofs.found_offices.Finding.{found_offices-same_layout}
@@ -16,12 +16,15 @@ use Rattle.office_load.proofs.found_offices.Versions.{found_offices-none_some, f
 use Rattle.office_load.proofs.found_offices.Versions.{found_offices-own_version, found_offices-same_some}
 use Rattle.office_load.proofs.loaded.VersionMeanings.{loaded-front_if_laid}
 use Rattle.office_load.proofs.loaded.WholeRows.{loaded-laid_if_sound}
-use Rattle.office_migrate.specs.Causes.{HoldsEarlier}
-use Rattle.office_migrate.specs.Names.{is_lacking_name_used}
+use Rattle.office_migrate.specs.Causes.{AreEarlierRows, AreNoEarlierRows, BeginsKnown, HoldsEarlier, IsOfNumber, StandsFirst}
+use Rattle.office_migrate.specs.declared.migrating.MigrateFault.TheVariants.{AlreadyThere}
+use Rattle.office_migrate.specs.Names.{is_lacking_name_used, takes_name}
 use Rattle.office_migrate.specs.Versions.{IsOfVersion}
 use Rattle.office_migrate.proofs.earlier.Causes.{earlier-none_in_layout, earlier-none_of_other, earlier-only_unavailable}
+use Rattle.office_migrate.proofs.earlier.Causes.{earlier-name_allowed, earlier-name_cause}
 use Rattle.office_migrate.proofs.earlier.Causes.{earlier-pos, earlier-takes_none}
 use Rattle.office_migrate.proofs.earlier.Causes.{earlier-first_says, earlier-takes_used}
+use Rattle.office_migrate.proofs.earlier.First.{earlier-begins_front}
 use Rattle.office_migrate.proofs.earlier.Front.{earlier-front_named}
 use Rattle.office_migrate.proofs.migrating.migrate.Goals as goal
 
@@ -63,9 +66,10 @@ returns-in_err-version-clause-other g c clean version says later =
 pub returns-then-takes_name-clause-accepts : goal.returns-then-takes_name-clause-accepts
 returns-then-takes_name-clause-accepts g c clean layout office h =
     let start = state g.S.Store c.args.conn.now in
+    let clean_one = c.refused_for_name.ensures.reads.follows.clean clean in
     let front = loaded-front_if_laid layout start.now.schema h.rows.schema in
     let version = earlier-pos _ _
-    (c.in_ok-version.ensures.told clean front (pos (version_of layout))
+    (c.in_ok-version.ensures.told clean_one front (pos (version_of layout))
     (found_offices-own_version layout start.now office h.rows)) in
     let free = earlier-takes_none layout c.schema-3.result.now _ _ c.in_ok-version.version h.earlier
     (c.schema-3.ensures.value ∙ h.rows.schema) c.of-declared.ensures.grade c.of-declared.ensures.going version in
@@ -76,9 +80,13 @@ returns-then-version-clause-cause g c clean declared =
     let start = state g.S.Store c.args.conn.now in
     let front = subst (λ s. AreDeclared s → IsFront s) c.schema-2.ensures.value
     (c.has_front.ensures.whole c.if-not-has_front.false) declared in
-    let laid = ap layout_in (sym c.schema-3.ensures.value) ∙ sym c.of-declared.ensures.layout ∙ c.in-Some.is in
+    let has = subst (λ s. AreDeclared s → s ≡ schema_of c.in-Some.layout) c.schema-3.ensures.value
+    (rw c.in-Some.is at c.of-declared.ensures.whole) declared in
+    let free = subst (λ s. is_lacking_name_used c.in_ok-version.version s ≡ false) c.schema-3.ensures.value
+    (ap₂ (λ g n. takes_name g n c.in_ok-version.version) (sym c.of-declared.ensures.grade) (sym c.of-declared.ensures.going)
+    ∙ sym c.takes_name.ensures ∙ c.if-takes_name.false) in
     inr (earlier-none_of_other start.now front c.in_ok-version.version c.in_ok-version.ensures.earlier
-    (c.in_ok-version.ensures.held clean front) c.in-Some.layout laid
+    (c.in_ok-version.ensures.held clean front) c.in-Some.layout has free
     (λ same. c.if-version.true (c.version.ensures ∙ same)))
 
 pub returns-then-version-clause-accepts : goal.returns-then-version-clause-accepts
@@ -144,9 +152,13 @@ returns-in-Ok-None-clause-cause g c clean declared =
     let same = c.earlier_version.ensures.reads.same at_one in
     let front = subst (λ s. AreDeclared s → IsFront s) c.schema-2.ensures.value
     (c.has_front.ensures.whole c.if-not-has_front.false) declared in
-    let laid = ap layout_in (sym c.schema-3.ensures.value) ∙ sym c.of-declared.ensures.layout ∙ c.in-Some.is in
+    let has = subst (λ s. AreDeclared s → s ≡ schema_of c.in-Some.layout) c.schema-3.ensures.value
+    (rw c.in-Some.is at c.of-declared.ensures.whole) declared in
+    let free = subst (λ s. is_lacking_name_used c.in_ok-version.version s ≡ false) c.schema-3.ensures.value
+    (ap₂ (λ g n. takes_name g n c.in_ok-version.version) (sym c.of-declared.ensures.grade) (sym c.of-declared.ensures.going)
+    ∙ sym c.takes_name.ensures ∙ c.if-takes_name.false) in
     inr (earlier-none_in_layout start.now front c.in_ok-version.version c.in_ok-version.ensures.earlier
-    (c.in_ok-version.ensures.held at_one.0 front) c.in-Some.layout laid (λ office h.
+    (c.in_ok-version.ensures.held at_one.0 front) c.in-Some.layout has free (λ office h.
     let here = subst (λ (d : Database). HoldsEarlier c.in-Some.layout d office) (sym same) h in
     found_offices-none_some office
     ((rw c.in-Ok-None.field-0-is at c.in-Ok-None.ensures.found) clean office here.lawful here.spelled here.kind
@@ -224,3 +236,68 @@ returns-in-Ok-None-clause-taken g c clean layout office h used =
     let takes = earlier-takes_used c.schema-3.result.now _ _ c.in_ok-version.version
     (version_of layout) c.of-declared.ensures.grade c.of-declared.ensures.going version here in
     absurd (true≢false (sym takes ∙ sym c.takes_name.ensures ∙ c.if-takes_name.false))
+
+-- ---- where the name of a table that is lacking is taken
+
+pub returns-then-takes_name-clause-cause : goal.returns-then-takes_name-clause-cause
+returns-then-takes_name-clause-cause g c clean declared =
+    let start = state g.S.Store c.args.conn.now in
+    let clean_one = c.refused_for_name.ensures.reads.follows.clean clean in
+    let same = c.earlier_version.ensures.reads.same (clean_one, c.in_ok-version.ensures.is_open clean_one) in
+    let front = subst (λ s. AreDeclared s → IsFront s) c.schema-2.ensures.value
+    (c.has_front.ensures.whole c.if-not-has_front.false) declared in
+    let taken = subst (λ s. is_lacking_name_used c.in_ok-version.version s ≡ true) c.schema-3.ensures.value
+    (ap₂ (λ g n. takes_name g n c.in_ok-version.version) (sym c.of-declared.ensures.grade) (sym c.of-declared.ensures.going)
+    ∙ sym c.takes_name.ensures ∙ c.if-takes_name.true) in
+    earlier-name_cause start.now front c.in_ok-version.version c.in_ok-version.ensures.earlier
+    (c.in_ok-version.ensures.held clean_one front) c.refused_for_name.result c.refused_for_name.ensures.kind taken
+    (λ is. subst (λ (d : Database). BeginsKnown d.schema) same (c.refused_for_name.ensures.known is
+    (subst (λ (d : Database). AreDeclared d.schema) (sym same) declared)))
+    (λ is. subst (AreNoEarlierRows c.in_ok-version.version) same (c.refused_for_name.ensures.none is clean))
+    (λ is. subst (AreEarlierRows c.in_ok-version.version) same (c.refused_for_name.ensures.rows is clean))
+
+pub returns-then-takes_name-clause-allowed : goal.returns-then-takes_name-clause-allowed
+returns-then-takes_name-clause-allowed g c =
+    let start = state g.S.Store c.args.conn.now in
+    let taken = subst (λ s. is_lacking_name_used c.in_ok-version.version s ≡ true) c.schema-3.ensures.value
+    (ap₂ (λ g n. takes_name g n c.in_ok-version.version) (sym c.of-declared.ensures.grade) (sym c.of-declared.ensures.going)
+    ∙ sym c.takes_name.ensures ∙ c.if-takes_name.true) in
+    let front = subst (λ s. has_front s ≡ true) c.schema-2.ensures.value
+    (sym c.has_front.ensures.tested ∙ c.if-not-has_front.false) in
+    earlier-name_allowed start.now.schema c.in_ok-version.version c.refused_for_name.result c.refused_for_name.ensures.kind
+    c.in_ok-version.ensures.earlier front taken
+
+pub returns-then-takes_name-clause-undone : goal.returns-then-takes_name-clause-undone
+returns-then-takes_name-clause-undone g c honest =
+    let one = state g.S.Store c.earlier_version.new.conn in
+    let two = state g.S.Store c.refused_for_name.new.conn in
+    let at_one = statements-honest_before one two c.refused_for_name.ensures.reads.follows honest in
+    c.refused_for_name.ensures.reads.same honest ∙ c.earlier_version.ensures.reads.same at_one
+
+pub returns-then-takes_name-clause-taken : goal.returns-then-takes_name-clause-taken
+returns-then-takes_name-clause-taken g c clean layout office h used =
+    let start = state g.S.Store c.args.conn.now in
+    let clean_one = c.refused_for_name.ensures.reads.follows.clean clean in
+    let same = c.earlier_version.ensures.reads.same (clean_one, c.in_ok-version.ensures.is_open clean_one) in
+    let version = earlier-pos _ _
+    (c.in_ok-version.ensures.told clean_one h.front (pos (version_of layout)) (earlier-first_says layout start.now office h)) in
+    c.refused_for_name.ensures.told clean layout office version
+    (subst (λ (d : Database). StandsFirst layout d office) (sym same) h)
+
+pub returns-then-takes_name-clause-rows : goal.returns-then-takes_name-clause-rows
+returns-then-takes_name-clause-rows g c is clean version earlier holds layout same begins whole =
+    let start = state g.S.Store c.args.conn.now in
+    let there : c.refused_for_name.result ≡ AlreadyThere = cc in
+    let clean_one = c.refused_for_name.ensures.reads.follows.clean clean in
+    let unchanged = c.earlier_version.ensures.reads.same (clean_one, c.in_ok-version.ensures.is_open clean_one) in
+    let front = earlier-begins_front layout start.now.schema begins in
+    let one = earlier-pos _ _ (c.in_ok-version.ensures.told clean_one front (pos version) holds) in
+    subst (AreEarlierRows c.in_ok-version.version) unchanged (c.refused_for_name.ensures.rows there clean) layout
+    (same ∙ one) begins whole
+
+pub returns-in_err-version-clause-rows : goal.returns-in_err-version-clause-rows
+returns-in_err-version-clause-rows g c =
+    let p = err_from_is_err_and c.from_residual.result c.from_residual.ensures.1 in
+    rw (p.1, p.2) (λ is clean version earlier holds.
+    let there : c.in_err-version.field-0.0 ≡ AlreadyThere = cc in
+    absurd (subst IsOfNumber there c.in_err-version.ensures.number))

@@ -1,10 +1,13 @@
-use Rattle.std.proofs.Common.{sym, ◌∙◌}
+use Rattle.std.proofs.Common.{sym, ◌∙◌, subst, true≢false}
 use Rattle.sqlite.specs.Held.{state}
+use Rattle.office_state.specs.declared.office.Office.{Office}
 use Rattle.office_rows.specs.Tables.{rows_at}
 use Rattle.office_tables.specs.Edits.{with_version}
 use Rattle.office_tables.specs.Layouts.{version_of}
 use Rattle.office_tables.proofs.statements.Steps.{statements-honest_before}
 use Rattle.office_load.proofs.found_offices.Following.{found_offices-still_has}
+use Rattle.office_load.proofs.found_offices.Versions.{found_offices-same_some}
+use Rattle.office_migrate.specs.Versions.{IsOfVersion}
 use Rattle.office_migrate.proofs.renewing.renewed_office.Goals as goal
 
 pub returns-clause-renewed : goal.returns-clause-renewed
@@ -40,3 +43,13 @@ returns-clause-found g c clean office lawful spelled kind holds =
       c.in_ok-renew_read.ensures.renewed clean rows
           (found_offices-still_has layout start one rows c.held.ensures.reads at_one holds) spelled,
     )
+
+-- an office of this version passes the test
+pub returns-then-not-is_of_version-clause-found : goal.returns-then-not-is_of_version-clause-found
+returns-then-not-is_of_version-clause-found g c clean office lawful spelled kind holds =
+    let layout = c.args.layout in
+    let is = found_offices-same_some c.in-Some.office office
+    (sym c.in-Some.is ∙ c.in_ok-office.ensures.found clean office lawful spelled holds) in
+    let here = subst (λ (o : Office). IsOfVersion (version_of layout) o) (sym is) kind in
+    let passes = c.is_of_version.ensures.1 (subst (λ v. IsOfVersion v c.in-Some.office) (sym c.version.ensures) here) in
+    absurd (true≢false (sym passes ∙ c.if-not-is_of_version.true))

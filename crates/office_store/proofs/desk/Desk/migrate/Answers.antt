@@ -1,8 +1,8 @@
-use Rattle.std.proofs.Common.{Some, inl, inr, sym, ap, ◌∙◌, subst}
+use Rattle.std.proofs.Common.{Err, Some, inl, inr, sym, ap, ◌∙◌, subst}
 use Rattle.office_store.specs.Desk.{Shows}
 use Rattle.office_store.specs.Migrating.{migrating_fault}
 use Rattle.office_tables.specs.Layouts.{version_of}
-use Rattle.office_store.proofs.desks.Migrated.{desks-shows_migrated}
+use Rattle.office_store.proofs.desks.Migrated.{desks-shows_migrated, desks-there}
 use Rattle.office_store.proofs.desk.Desk.migrate.Goals as goal
 
 pub returns-in-Ok-clause-shows : goal.returns-in-Ok-clause-shows
@@ -26,3 +26,18 @@ returns-in-Err-clause-other g c version says other clean =
       | inl want ↦ inl (c.migrating_desk_fault.ensures ∙ ap migrating_fault want)
       | inr held ↦ inr (c.migrating_desk_fault.ensures ∙ ap migrating_fault held)
     ]
+
+pub returns-in-Ok-clause-taken : goal.returns-in-Ok-clause-taken
+returns-in-Ok-clause-taken g c layout office first used clean = c.in-Ok.ensures.taken clean layout office first used
+
+pub returns-in-Err-clause-taken : goal.returns-in-Err-clause-taken
+returns-in-Err-clause-taken g c layout office first used clean =
+    let told = c.in-Err.ensures.taken clean layout office first used in
+    elim told [
+      | inl want ↦ inl (c.migrating_desk_fault.ensures ∙ ap migrating_fault want)
+      | inr there ↦ inr (c.migrating_desk_fault.ensures ∙ ap migrating_fault there)
+    ]
+
+pub returns-in-Err-clause-rows : goal.returns-in-Err-clause-rows
+returns-in-Err-clause-rows g c there clean =
+    c.in-Err.ensures.rows (ap Err (desks-there c.in-Err.fault (sym c.migrating_desk_fault.ensures ∙ there))) clean

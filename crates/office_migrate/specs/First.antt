@@ -1,0 +1,16 @@
+-- The layout of an earlier version whose tables come first.
+use Rattle.std.specs.Prelude.{ℕ, nat_le, not, Option, Some, None, if◌then◌else◌}
+use Rattle.sqlite_schema.specs.declared.schema.Schema.{Schema}
+use Rattle.office_tables.specs.declared.layouts.Layout.{Layout}
+use Rattle.office_tables.specs.declared.layouts.Layout.TheVariants.{DocumentedSecond, DocumentedFirst, EarlierFirst}
+use Rattle.office_load.specs.Front.{begins_with}
+
+-- the layout of this version whose tables come first, if those of one do, whatever stands behind them
+abbrev pub first_layout : ℕ → Schema → Option Layout
+first_layout version schema =
+    if not (nat_le 2 version) then
+    (if begins_with DocumentedFirst schema then Some DocumentedFirst
+    else if begins_with EarlierFirst schema then Some EarlierFirst
+    else None)
+    else if begins_with DocumentedSecond schema then Some DocumentedSecond
+    else None

@@ -1,0 +1,83 @@
+//! Tables of an earlier version that lack a table whose name is taken.
+ghost use Rattle.std.specs.Prelude.{◌≡◌, ◌⊎◌, false};
+ghost use Rattle.std.specs.Option.{IfSome};
+ghost use Rattle.sqlite.specs.Held.{state};
+ghost use Rattle.sqlite.specs.State.{HasCleanDisk};
+ghost use Rattle.office_state.specs.declared.office.Office.{Office as Books};
+ghost use Rattle.office_tables.specs.Layouts.{version_of};
+ghost use Rattle.office_tables.specs.declared.layouts.Layout.{Layout as AnyLayout};
+ghost use Rattle.office_load.specs.Finding.{AreDeclared};
+ghost use Rattle.office_load.specs.Front.{Begins};
+ghost use Rattle.office_load.specs.Reading.{OnlyReads};
+ghost use Rattle.office_migrate.specs.Causes.{AreEarlierRows, AreNoEarlierRows, BeginsKnown, IsOfName, StandsFirst};
+ghost use Rattle.office_migrate.specs.First.{first_layout};
+ghost use Rattle.office_migrate.specs.Versions.{IsEarlier};
+
+use crate::migrating::MigrateFault;
+use crate::versions::is_of_version;
+use office_load::front::begins_with;
+use office_load::held;
+use office_tables::layouts::Layout;
+use sqlite::{Alter, Connection};
+use sqlite_schema::schema::Schema;
+use std::alloc::Global;
+
+/// Why tables of this version are refused where something has the name of a table that they lack: for their rows, where the tables
+/// of a layout of that version come first and are the rows of no office of it, and else for the name. No table changes.
+pub fn refused_for_name<S: Alter>(
+    alloc: Global,
+    conn: &mut Connection<S>,
+    version: u16,
+) -> MigrateFault
+    requires outside { conn.old.in_transaction ≡ false }
+    requires earlier { IsEarlier version }
+    ensures outside { conn.new.in_transaction ≡ false }
+    ensures reads { OnlyReads (state S.Store conn.old) (state S.Store conn.new) }
+    ensures kind { IsOfName result }
+    ensures none { result ≡ MigrateFault.NotAnOffice → HasCleanDisk (state S.Store conn.new)
+        → AreNoEarlierRows version (state S.Store conn.old).now }
+    ensures known { result ≡ MigrateFault.NotAnOffice → AreDeclared (state S.Store conn.old).now.schema
+        → BeginsKnown (state S.Store conn.old).now.schema }
+    ensures rows { result ≡ MigrateFault.AlreadyThere → HasCleanDisk (state S.Store conn.new)
+        → AreEarlierRows version (state S.Store conn.old).now }
+    ensures told { HasCleanDisk (state S.Store conn.new) → (layout : AnyLayout) → (office : Books)
+        → version_of layout ≡ version
+        → StandsFirst layout (state S.Store conn.old).now office
+        → (result ≡ MigrateFault.Unavailable) ⊎ (result ≡ MigrateFault.AlreadyThere) }
+{
+    let Some(layout) = first_layout(conn.schema(), version) else {
+        return MigrateFault::AlreadyThere;
+    };
+    match held(alloc, conn, layout) {
+        Ok(Some(office)) => {
+            if is_of_version(&office, version) {
+                return MigrateFault::AlreadyThere;
+            }
+            MigrateFault::NotAnOffice
+        }
+        Ok(None) => MigrateFault::NotAnOffice,
+        Err(_) => MigrateFault::Unavailable,
+    }
+}
+
+// The layout of this version whose tables come first, if those of one do, whatever stands behind them.
+fn first_layout(schema: &Schema, version: u16) -> Option<Layout>
+    requires { IsEarlier version }
+    ensures tested { result ≡ first_layout version schema.now }
+    ensures whole { IfSome result (λ layout. AreDeclared schema.now → Begins layout schema.now) }
+    ensures version { IfSome result (λ layout. version_of layout ≡ version) }
+{
+    if version < 2 {
+        if begins_with(schema, Layout::DocumentedFirst) {
+            return Some(Layout::DocumentedFirst);
+        }
+        if begins_with(schema, Layout::EarlierFirst) {
+            return Some(Layout::EarlierFirst);
+        }
+        return None;
+    }
+    if begins_with(schema, Layout::DocumentedSecond) {
+        return Some(Layout::DocumentedSecond);
+    }
+    None
+}
