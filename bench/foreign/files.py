@@ -9,9 +9,10 @@ from collections.abc import Callable
 from pathlib import Path
 
 from foreign.declared import DECLARED
+from foreign.earlier import ORDERS, as_earlier
 from foreign.offices import OFFICES
 from foreign.program import NOT_AN_OFFICE, UNAVAILABLE, Cases, Program, expect, left_alone
-from foreign.tables import Rows, begin_large, by_pragmas, killed_while, opened
+from foreign.tables import Rows, begin_large, by_pragmas, declare, fill_some, killed_while, opened
 
 Case = Callable[[Program, Path], None]
 OFFICE = OFFICES["ran"]
@@ -205,7 +206,8 @@ def by_nobody(program: Program, folder: Path) -> Program:
 
 
 def not_permitted(mode: int, folder_mode: int = 0o777) -> Case:
-    """The user may not read the file, not write it, or make no log beside it; where all may, it is an office."""
+    """The user may not read the file, not write it, or make no log beside it; where all may, it is an office. Its tables stand in the
+    documented order, so that the line that takes it writes it."""
 
     def attempt(program: Program, folder: Path) -> None:
         file, other = folder / "office.db", by_nobody(program, folder)
@@ -216,6 +218,25 @@ def not_permitted(mode: int, folder_mode: int = 0o777) -> Case:
         file.chmod(0o666)
         folder.chmod(0o777)
         served(other, file)
+
+    return attempt
+
+
+def not_migrated(order: str) -> Case:
+    """An office of an earlier version that the user may read alone; where all may write, it is migrated."""
+
+    def attempt(program: Program, folder: Path) -> None:
+        file, other = folder / "office.db", by_nobody(program, folder)
+        version, tables = ORDERS[order]
+        with opened(file) as database:
+            declare(database, *tables)
+            fill_some(database, as_earlier(OFFICE, version), tables)
+        file.chmod(0o444)
+        folder.chmod(0o777)
+        with left_alone(folder):
+            other.answers(file, "migrate", UNAVAILABLE)
+        file.chmod(0o666)
+        other.answers(file, "migrate", "ok")
 
     return attempt
 
@@ -254,6 +275,7 @@ CASES: dict[str, Case] = {
 }
 BY_NOBODY: dict[str, Case] = {
     "may be read alone": not_permitted(0o444),
+    **{f"{order}, may be read alone": not_migrated(order) for order in ORDERS},
     "may be written alone": not_permitted(0o222),
     "may not be touched": not_permitted(0),
     "a folder in which no log may be made": not_permitted(0o666, 0o555),

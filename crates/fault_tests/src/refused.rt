@@ -20,7 +20,7 @@ use crate::refused::rehearsing::is_rehearsed;
 use crate::refused::residents::{FAULTS, LIST, LIST_AGAIN, LONGEST_LIST, RESULTS, are_served};
 use crate::refused::told::are_as_accepted;
 use crate::refused::writing::rows_are_sent;
-use crate::tables::{FIRST, SECOND, THIRD};
+use crate::tables::{EARLIER_FIRST, FIRST, SECOND, THIRD};
 use crate::texts::{CHOICES, GRADES, LEAVING, PEOPLE, REGISTER, ROOMS, ROUND};
 use room_types::{ListKind, OutOfMemory};
 use std::alloc::Global;
@@ -222,6 +222,11 @@ fn an_office_is_adopted(rt: HostRuntime) {
 #[test]
 fn the_first_version_is_migrated(rt: HostRuntime) {
     assert!(rt; ended_well(&rt, office_is_brought_over(rt.alloc(), &FIRST)));
+}
+
+#[test]
+fn the_first_version_of_this_program_is_migrated(rt: HostRuntime) {
+    assert!(rt; ended_well(&rt, office_is_brought_over(rt.alloc(), &EARLIER_FIRST)));
 }
 
 #[test]

@@ -11,7 +11,7 @@ use crate::stops::stories::{
     Story, bringing_over, coming_lists, making, small_year, year_of_leavers,
 };
 use crate::stops::visits::{Opening, Visit, Visited, visit_files};
-use crate::tables::{FIRST, SECOND, THIRD, Tables};
+use crate::tables::{EARLIER_FIRST, FIRST, SECOND, THIRD, Tables};
 use office_state::Office;
 use office_store::DeskFault;
 use sqlite::Files;
@@ -33,10 +33,17 @@ struct Ran {
 // How far a story came.
 #[derive(Clone, Copy, Drop)]
 struct Told {
-    // Whether there was a desk.
-    is_open: bool,
+    // Why there was no desk.
+    fault: Option<DeskFault>,
     // How many requests were answered by a reply.
     answered: usize,
+}
+
+impl Told {
+    // Whether there was a desk.
+    fn is_open(self) -> bool {
+        self.fault.is_none()
+    }
 }
 
 // How often a file was stopped, how many offices were found afterwards, and how many of them were those after a command that was not
@@ -97,6 +104,15 @@ fn earlier_versions_are_migrated_whole(rt: HostRuntime) -> Result<(), Fail> {
     Ok(())
 }
 
+// By itself, since each test has its own time.
+#[test]
+fn tables_of_the_earlier_program_are_migrated_whole(rt: HostRuntime) -> Result<(), Fail> {
+    let count = brought_over(&rt, rt.alloc(), &EARLIER_FIRST);
+    assert!(rt; is_on_both_sides(count));
+    tell(&rt, "version 1 of this program", count)?;
+    Ok(())
+}
+
 fn brought_over(rt: &impl Abort, alloc: Global, tables: &Tables) -> Count {
     let story = bringing_over(alloc, tables).expect(rt, "no tables are made");
     both_stopped(alloc, &story).expect(rt, "tables")
@@ -140,6 +156,9 @@ fn each_stopped(
 ) -> Result<Count, &'static str> {
     for passed in 0..MOST_CALLS {
         let mut ran = run(alloc, story, calls_of(is_log, passed)).ok_or("memory is wanting")?;
+        if !is_unavailable_at_most(ran.told) {
+            return Err("a file that stops is refused for another cause");
+        }
         let is_whole = is_whole(story, &mut ran);
         count = looked_at(alloc, story, ran, count)?;
         if is_whole {
@@ -148,6 +167,11 @@ fn each_stopped(
         count.stops = count.stops.saturating_add(1);
     }
     Err("the file is called without end")
+}
+
+// Whether there was a desk, or else the files did not serve: also where the tables may be read and not be made anew.
+fn is_unavailable_at_most(told: Told) -> bool {
+    matches!(told.fault, None | Some(DeskFault::Unavailable))
 }
 
 fn calls_of(is_log: bool, passed: u64) -> Calls {
@@ -166,7 +190,7 @@ fn calls_of(is_log: bool, passed: u64) -> Calls {
 
 // Whether nothing was stopped.
 fn is_whole(story: &Story, ran: &mut Ran) -> bool {
-    ran.told.is_open
+    ran.told.is_open()
         && ran.told.answered == story.requests.len()
         && is_working(&mut ran.files.log)
         && is_working(&mut ran.files.db)
@@ -182,7 +206,7 @@ fn run(alloc: Global, story: &Story, calls: Calls) -> Option<Ran> {
     };
     let (visited, files) = visit_files(alloc, files, asking);
     let told = Told {
-        is_open: visited.fault.is_none(),
+        fault: visited.fault,
         answered: visited.answered,
     };
     Some(Ran { told, files })
@@ -232,7 +256,7 @@ fn found_judged(
     count: Count,
 ) -> Result<Count, &'static str> {
     let found = office_in(alloc, log, database, Opening::Held).ok_or("memory is wanting")?;
-    if is_earlier(&found) && story.opening == Opening::Earlier && !told.is_open {
+    if is_earlier(&found) && story.opening == Opening::Earlier && !told.is_open() {
         let found = office_in(alloc, log, database, Opening::Earlier).ok_or("memory is wanting")?;
         return earlier_judged(story, &found, count);
     }
@@ -304,7 +328,7 @@ fn judged(
         count.before = count.before.saturating_add(1);
         return Ok(count);
     }
-    if told.is_open && is_nth(story, told.answered.saturating_add(1), found) {
+    if told.is_open() && is_nth(story, told.answered.saturating_add(1), found) {
         count.after = count.after.saturating_add(1);
         return Ok(count);
     }
@@ -313,7 +337,7 @@ fn judged(
 
 // Whether tables of an earlier version were to be migrated, and nobody was told that they are.
 fn is_brought_over(story: &Story, told: Told) -> bool {
-    story.opening == Opening::Earlier && !told.is_open
+    story.opening == Opening::Earlier && !told.is_open()
 }
 
 // Only an office that was not made to its end may be absent.
@@ -324,7 +348,7 @@ fn fault_judged(
     count: Count,
 ) -> Result<Count, &'static str> {
     let is_absent = matches!(found, Err(DeskFault::NotAnOffice));
-    if is_absent && story.opening == Opening::Made && !told.is_open {
+    if is_absent && story.opening == Opening::Made && !told.is_open() {
         Ok(count)
     } else {
         Err("the office is lost")

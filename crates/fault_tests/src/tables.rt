@@ -11,21 +11,25 @@ pub struct Tables {
     pub lines: &'static [&'static str],
 }
 
-const TABLES: &str = "CREATE TABLE room(code TEXT PRIMARY KEY NOT NULL,
+const REGISTER_TABLES: &str = "CREATE TABLE room(code TEXT PRIMARY KEY NOT NULL,
   shut INTEGER NOT NULL CHECK(shut IN (0, 1))) STRICT;
 CREATE TABLE person(id TEXT PRIMARY KEY NOT NULL, name TEXT NOT NULL,
   passkey TEXT NOT NULL UNIQUE, home TEXT UNIQUE REFERENCES room(code),
   withdrawn INTEGER NOT NULL CHECK(withdrawn IN (0, 1))) STRICT;
 CREATE TABLE round(one INTEGER PRIMARY KEY CHECK(one = 1),
-  version INTEGER NOT NULL, number INTEGER NOT NULL, phase TEXT NOT NULL) STRICT;
-CREATE TABLE choice(person TEXT NOT NULL REFERENCES person(id),
+  version INTEGER NOT NULL, number INTEGER NOT NULL, phase TEXT NOT NULL) STRICT;";
+
+const CHOICE_TABLE: &str = "CREATE TABLE choice(person TEXT NOT NULL REFERENCES person(id),
   place INTEGER NOT NULL, room TEXT NOT NULL REFERENCES room(code),
-  PRIMARY KEY(person, place), UNIQUE(person, room)) STRICT;
-CREATE TABLE word(person TEXT PRIMARY KEY NOT NULL REFERENCES person(id),
+  PRIMARY KEY(person, place), UNIQUE(person, room)) STRICT;";
+
+const DRAWN_TABLES: &str =
+    "CREATE TABLE word(person TEXT PRIMARY KEY NOT NULL REFERENCES person(id),
   hex TEXT NOT NULL) STRICT;
 CREATE TABLE result(person TEXT PRIMARY KEY NOT NULL REFERENCES person(id),
-  room TEXT UNIQUE REFERENCES room(code)) STRICT;
-CREATE TABLE move(round INTEGER NOT NULL, person TEXT NOT NULL,
+  room TEXT UNIQUE REFERENCES room(code)) STRICT;";
+
+const KEPT_TABLES: &str = "CREATE TABLE move(round INTEGER NOT NULL, person TEXT NOT NULL,
   from_room TEXT, to_room TEXT, wave INTEGER, PRIMARY KEY(round, person)) STRICT;
 CREATE TABLE list(label TEXT PRIMARY KEY NOT NULL, kind TEXT NOT NULL,
   body BLOB NOT NULL, added INTEGER NOT NULL) STRICT;";
@@ -48,9 +52,28 @@ INSERT INTO word VALUES ('N', '0000000000000003'), ('T1', '0000000000000001');
 INSERT INTO word VALUES ('T2', '0000000000000002');
 INSERT INTO result VALUES ('N', 'V'), ('T1', 'H2'), ('T2', 'H1');";
 
-/// The tables of the first version.
+/// The tables of the first version in the documented order.
 pub const FIRST: Tables = Tables {
-    statements: &[TABLES, ROWS],
+    statements: &[
+        REGISTER_TABLES,
+        CHOICE_TABLE,
+        DRAWN_TABLES,
+        KEPT_TABLES,
+        ROWS,
+    ],
+    are_earlier: true,
+    lines: &[REGISTER, ROUND],
+};
+
+/// Those of the first version in the order in which this program made them.
+pub const EARLIER_FIRST: Tables = Tables {
+    statements: &[
+        REGISTER_TABLES,
+        KEPT_TABLES,
+        DRAWN_TABLES,
+        CHOICE_TABLE,
+        ROWS,
+    ],
     are_earlier: true,
     lines: &[REGISTER, ROUND],
 };
@@ -58,7 +81,10 @@ pub const FIRST: Tables = Tables {
 /// Those of the second version, with a grade.
 pub const SECOND: Tables = Tables {
     statements: &[
-        TABLES,
+        REGISTER_TABLES,
+        CHOICE_TABLE,
+        DRAWN_TABLES,
+        KEPT_TABLES,
         GRADE_TABLE,
         ROWS,
         "UPDATE round SET version = 2; INSERT INTO grade VALUES ('N', 2);",
@@ -70,7 +96,10 @@ pub const SECOND: Tables = Tables {
 /// Those of this version, in the documented order.
 pub const THIRD: Tables = Tables {
     statements: &[
-        TABLES,
+        REGISTER_TABLES,
+        CHOICE_TABLE,
+        DRAWN_TABLES,
+        KEPT_TABLES,
         GRADE_TABLE,
         GOING_TABLE,
         ROWS,

@@ -26,7 +26,7 @@ pub(crate) fn put_round<S: Alter>(
     set_round(tx, number, phase)
 }
 
-/// Lists, withdrawals, words and results go.
+/// Lists, withdrawals, leavers, words and results go.
 pub(crate) fn clear_round<S: Alter>(tx: &mut Transaction<'_, S>) -> Result<(), Error>
     ensures same_reference { tx.new.conn.ghost_name ≡ tx.old.conn.ghost_name }
     ensures made { OnOk result

@@ -18,9 +18,10 @@ pub enum Query {
     Rooms,
     /// The people by identifier.
     People,
-    /// The last round's number and the phase, how many people there are, and how many have withdrawn.
+    /// The last round's number and the phase, how many people there are, how many have withdrawn, and how many leave the
+    /// college.
     Round,
-    /// The participants in the drawn order.
+    /// The participants in the drawn order, with their words and grades.
     Order,
     /// What the participants get.
     Results,

@@ -2,6 +2,7 @@
 mod adopting;
 mod exporting;
 mod importing;
+mod leaving;
 mod migrating;
 
 use crate::asserting::assert_same;

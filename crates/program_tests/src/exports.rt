@@ -22,6 +22,11 @@ const LEAVING: &str = "room H1\nroom H2\nperson T1 key00000000000t1 Tim Tan\n\
     grade N 9\nopen\nchoose T1 H2\ngoing T2\nclose\ndraw 0000000000000001 0000000000000002\n\
     run\npublish\nsettle\ngrade T2 1\n";
 
+// A draw in which E3 has grade 1.
+const GRADED: &str = "person E3 key00000000000e3 Cy Coy\nperson E1 key00000000000e1 Ann Ash\n\
+    person E2 key00000000000e2 Bo\nopen\ngrade E3 1\nclose\n\
+    draw 0000000000000005 0000000000000005 0000000000000000\n";
+
 const MOVES: &str = "round,wave,person,from,to\n1,1,N,,V\n1,swap,T1,H1,H2\n1,swap,T2,H2,H1\n";
 
 // A desk that has heard these lines.
@@ -124,5 +129,16 @@ fn tells_why_there_is_no_office_to_export(rt: HostRuntime) -> Result<(), Fail> {
     let (status, bytes) = exported(alloc, &mut found, ExportKind::Rooms);
     assert_same!(rt; status, 1);
     assert_same!(rt; bytes.as_slice(), b"refused 21 NotAnOffice\n".as_slice());
+    Ok(())
+}
+
+// Everybody stands there, also with grade 0.
+#[test]
+fn exports_the_grades_of_a_draw(rt: HostRuntime) -> Result<(), Fail> {
+    let alloc = rt.alloc();
+    let mut found = Ok(desk_after(alloc, GRADED)?);
+    let (status, bytes) = exported(alloc, &mut found, ExportKind::Grades);
+    assert_same!(rt; status, 0);
+    assert_same!(rt; bytes.as_slice(), b"person,grade\nE1,0\nE2,0\nE3,1\n".as_slice());
     Ok(())
 }

@@ -1,8 +1,14 @@
-//! Lines of the program over a file with an office of an earlier version.
+//! Lines of the program over a file with an office of an earlier version, and the call that migrates such a file.
 use crate::asserting::assert_same;
 use crate::file_lines::{carried, make_folder};
-use sqlite::Connection;
+use office_file::{FileDesk, close_file, migrate_file, on_file};
+use office_program::at_desk::do_at;
+use office_store::DeskFault;
+use room_types::Watched;
+use sqlite::{Connection, Wary};
+use std::alloc::Global;
 use std::fs;
+use std::process::Abort;
 use std::test::Fail;
 
 const MIGRATED: &str = "lines_migrate/office.db";
@@ -36,14 +42,20 @@ INSERT INTO choice VALUES ('T1', 0, 'H2'), ('T2', 0, 'H1'), ('N', 0, 'H1'), ('N'
 INSERT INTO word VALUES ('T1', '0000000000000001'), ('T2', '0000000000000002');
 INSERT INTO word VALUES ('N', '0000000000000003');";
 
+// A file with the tables and rows above.
+fn make_first_version(rt: &HostRuntime, path: &str) -> Result<(), Fail> {
+    let mut connection = Connection::open(rt, path)?;
+    connection.execute_batch(FIRST_VERSION)?;
+    drop(connection);
+    Ok(())
+}
+
 // Until the file is migrated there is no office of this version in it, and afterwards none of an earlier one.
 #[test]
 fn migrates_an_office(rt: HostRuntime) -> Result<(), Fail> {
     make_folder(&rt, "lines_migrate")?;
     fs::write(&rt, "lines_migrate/empty", b"".as_slice())?;
-    let mut connection = Connection::open(&rt, MIGRATED)?;
-    connection.execute_batch(FIRST_VERSION)?;
-    drop(connection);
+    make_first_version(&rt, MIGRATED)?;
     for (words, status, printed) in [
         (
             ["do", "--db", MIGRATED, "round"].as_slice(),
@@ -85,5 +97,48 @@ fn migrates_an_office(rt: HostRuntime) -> Result<(), Fail> {
     }
     assert!(rt; !fs::exists(&rt, "lines_migrate/missing")?);
     fs::remove_dir_all(&rt, "lines_migrate")?;
+    Ok(())
+}
+
+// What the desk of the file prints for these lines, or why there is no desk. The file is closed.
+fn printed_at(
+    rt: &impl Abort,
+    alloc: Global,
+    mut opened: Result<FileDesk<Wary>, DeskFault>,
+    lines: &[&str],
+) -> Vec<u8> {
+    let mut text = Vec::new(alloc);
+    for line in lines {
+        let mut output = Watched::new(Vec::new(alloc));
+        do_at(alloc, &mut opened, &[*line], &mut output);
+        text.extend_from_slice(output.into_inner().as_slice())
+            .expect(rt, "memory");
+    }
+    close_file(opened);
+    text
+}
+
+// The call that migrates the file of a path gives a desk that goes on, once.
+#[test]
+fn migrates_a_file(rt: HostRuntime) -> Result<(), Fail> {
+    make_folder(&rt, "file_migrate")?;
+    let path = "file_migrate/office.db";
+    make_first_version(&rt, path)?;
+    let told = printed_at(&rt, rt.alloc(), on_file(&rt, path), &["round"]);
+    assert_same!(rt; told.as_slice(), b"refused 22 OtherVersion 1\n".as_slice());
+    let told = printed_at(
+        &rt,
+        rt.alloc(),
+        migrate_file(&rt, path),
+        &["run", "results"],
+    );
+    let results =
+        "ran 3\nperson        room\nN             V\nT1            H2\nT2            H1\n";
+    assert_same!(rt; told.as_slice(), results.as_bytes());
+    let told = printed_at(&rt, rt.alloc(), migrate_file(&rt, path), &["round"]);
+    assert_same!(rt; told.as_slice(), b"refused 22 OtherVersion 3\n".as_slice());
+    let told = printed_at(&rt, rt.alloc(), on_file(&rt, path), &["round"]);
+    assert_same!(rt; told.as_slice(), b"round 1 ran people 3 withdrawn 0\n".as_slice());
+    fs::remove_dir_all(&rt, "file_migrate")?;
     Ok(())
 }

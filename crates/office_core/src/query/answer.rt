@@ -26,9 +26,9 @@ use std::alloc::Global;
 ///
 /// `BadPhase` for `Order` before the draw, and for `Results` and `WhatIf` before the run; `NoSuchRound` for the moves
 /// of a round that is not over; `UnknownPerson` for a key or an identifier that nobody has; `NotInRound` for `WhatIf`
-/// of somebody who has withdrawn, and for the first room on the list that is not known or is shut `UnknownRoom` or
-/// `RoomShut`. `OutOfMemory` only for the code in a refusal, and for every reply but that of `Round`, and those of
-/// `Rooms`, `People`, `Order`, `Results` and `Moves` where there are none.
+/// of somebody who has withdrawn or leaves the college, and for the first room on the list that is not known or is
+/// shut `UnknownRoom` or `RoomShut`. `OutOfMemory` only for the code in a refusal, and for every reply but that of
+/// `Round`, and those of `Rooms`, `People`, `Order`, `Results` and `Moves` where there are none.
 pub fn answer(alloc: Global, office: &Office, query: &Query) -> Result<Reply, Refusal>
     requires { IsLawful office.now }
     ensures told { Tells (told office.now query.now) result }

@@ -26,7 +26,7 @@ use Rattle.office_state.specs.Round.Settlement.{is_settled}
 use Rattle.office_state.specs.Office.{knows_person, grade_of, has_withdrawn, participants, people_not_withdrawn, sits_out}
 use Rattle.office_state.specs.Round.{is_participant, word_of, lots_of, round_people, round_rooms}
 use Rattle.office_state.specs.Round.{is_kept_back, number_in}
-use Rattle.office_state.specs.Round.Laws.{GoesByWordAlone, plain_lots_of}
+use Rattle.office_state.specs.Round.Laws.{people_by_word, plain_lots_of}
 use Rattle.office_state.specs.declared.office.Office.{Office}
 use Rattle.office_state.proofs.round_problems.Names.{round_problems-text_eq-tied, round_problems-position-cons}
 
@@ -206,8 +206,8 @@ round_problems-ungraded_lots grade word none (p ∷ people) =
     λ i. (p, none p i, word p) ∷ round_problems-ungraded_lots grade word none people i
 
 -- the participants of a round without grades stand by word and identifier alone
-pub round_problems-goes_by_word_alone : GoesByWordAlone
+pub round_problems-people_by_word : (office : Office) → office.grades ≡ maps.empty → round_people office ≡ people_by_word office
 unfolding round_people
-round_problems-goes_by_word_alone office none =
+round_problems-people_by_word office none =
     ap drawn_order (round_problems-ungraded_lots (grade_of office) (word_of office) (round_problems-no_grade office none) (participants office))
     ∙ draws-goes_by_word_alone (plain_lots_of office)

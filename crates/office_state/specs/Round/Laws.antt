@@ -1,11 +1,16 @@
 -- What holds of the round's problem and of its results.
-use Rattle.std.specs.Prelude.{◌≡◌, ◌≤◌, Bool, true, List, Option, Some, is_some, map as map_list}
+use Rattle.std.specs.Prelude.{◌≡◌, ◌≤◌, Bool, true, List, length, Option, Some, is_some, map as map_list}
+use Rattle.std.specs.Option.{option_and_then}
 use Rattle.std.specs.FinMap as map
 use Rattle.draw_order.specs.Draw.{PlainLot, plain_order}
-use Rattle.room_types.specs.Texts.{Text}
-use Rattle.office_state.specs.Office.{home_of, participants}
+use Rattle.room_types.specs.Texts.{Text, TextMap}
+use Rattle.trade_line.specs.Market.{Market}
+use Rattle.trade_line.specs.TopTradingCycles.{gets}
+use Rattle.office_state.specs.Office.{choices_of, home_of, participants}
 use Rattle.office_state.specs.Round.{is_participant, word_of, round_people, round_rooms}
+use Rattle.office_state.specs.Round.{round_home, round_list, round_room}
 use Rattle.office_state.specs.Round.{round_market, round_results, round_rank, number_in}
+use Rattle.office_state.specs.declared.office.Assigned.{Assigned}
 use Rattle.office_state.specs.declared.office.Office.{Office}
 
 -- rooms of the round, or nothing, for those who take part, and no room twice
@@ -79,12 +84,41 @@ abbrev pub plain_lots_of : Office → List PlainLot
 plain_lots_of office =
     map_list (λ person. (person, word_of office person)) (participants office)
 
--- where nobody has a grade, the participants stand in the order of their words, and of their
--- identifiers where the words are equal, as if there were no grades
+-- the participants in the order of their words, and of their identifiers where the words are equal, as if there were no grades
+abbrev pub people_by_word : Office → List Text
+people_by_word office = plain_order (plain_lots_of office)
+
+-- the problem of the rooms of the round in which people stand in this order, with their homes and lists as these count there
+abbrev pub market_in : Office → List Text → Market
+market_in office people = record {
+  people = length people;
+  rooms = length (round_rooms office);
+  homes = map_list (round_home office) people;
+  lists = map_list (λ person. round_list office person (choices_of office person)) people;
+}
+
+-- what each participant gets by top trading cycles in that problem
+abbrev pub results_in : Office → List Text → TextMap Assigned
+results_in office people =
+    map.from_entries
+    (map_list (λ person. (
+      person,
+      record {
+        room =
+            option_and_then (λ number. round_room office (gets (market_in office people) number))
+            (number_in people person);
+      },
+    )) (participants office))
+
+-- the people of the round, its problem and its results are those of the order by word and identifier
+pub record GoesByWord (office : Office) : Type 0 where
+  pub people : round_people office ≡ people_by_word office
+  pub market : round_market office ≡ market_in office (people_by_word office)
+  pub results : round_results office ≡ results_in office (people_by_word office)
+
+-- where nobody has a grade, it is so
 abbrev pub GoesByWordAlone : Type 0
-GoesByWordAlone =
-    (office : Office) → office.grades ≡ map.empty
-    → round_people office ≡ plain_order (plain_lots_of office)
+GoesByWordAlone = (office : Office) → office.grades ≡ map.empty → GoesByWord office
 
 -- two offices have the same round
 pub record HaveSameRound (one other : Office) : Type 0 where

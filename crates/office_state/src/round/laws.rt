@@ -75,7 +75,7 @@ pub fn rounds_stand()
 {}
 
 /// Where nobody has a grade, the participants stand in the order of their words alone, as if there were no grades: the
-/// same people in the same order, and so the same problem and the same results.
+/// same people in the same order, the same problem and the same results.
 pub fn rounds_without_grades_go_by_word()
     ensures { GoesByWordAlone }
 {}

@@ -369,3 +369,26 @@ fn taken(rt: &impl Abort, alloc: Global, conn: Connection<MemStore>) -> Desk<Mem
         Err(_) => panic!(rt; "no desk takes the database"),
     }
 }
+
+// Rows of version 1 in the tables of version 2: there they lack a table of a name that is taken. With 2 in the row of the round
+// they are those of an office of version 2.
+#[test]
+fn tells_of_the_first_version_in_tables_of_the_second(rt: HostRuntime) {
+    let alloc = rt.alloc();
+    let mut conn = tables_made(&rt, alloc, Layout::DocumentedSecond);
+    conn.execute_batch(ROWS).expect(&rt, ROWS);
+    let statements = statements_of_nothing();
+    let conn = refused_after(&rt, alloc, conn, statements, DeskFault::AlreadyThere);
+    let mut conn = tried_after(
+        &rt,
+        alloc,
+        conn,
+        statements,
+        Some(DeskFault::OtherVersion(1)),
+    );
+    let second = "UPDATE round SET version = 2";
+    conn.execute_batch(second).expect(&rt, second);
+    let mut desk = migrated(&rt, alloc, conn);
+    let (_, lines, told) = PHASES[3];
+    tells(&rt, alloc, &mut desk, lines, told);
+}

@@ -1,5 +1,13 @@
-use Rattle.office_state.proofs.round_problems.People.{round_problems-goes_by_word_alone}
+use Rattle.std.proofs.Common.{ap}
+use Rattle.office_state.specs.Round.{result_of, round_market, round_results}
+use Rattle.office_state.specs.Round.Laws.{market_in, results_in}
+use Rattle.office_state.proofs.round_problems.People.{round_problems-people_by_word}
 use Rattle.office_state.proofs.round.laws.rounds_without_grades_go_by_word.Goals as goal
 
 pub returns : goal.returns
-returns c = round_problems-goes_by_word_alone
+unfolding round_market result_of round_results
+returns c = λ office none. record {
+  people = round_problems-people_by_word office none;
+  market = ap (market_in office) (round_problems-people_by_word office none);
+  results = ap (results_in office) (round_problems-people_by_word office none);
+}

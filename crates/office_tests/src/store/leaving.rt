@@ -1,0 +1,24 @@
+//! Lists of choices in which somebody stands who leaves the college.
+use super::importing::{says, says_of_lists};
+use crate::building::{lines_asked, new_desk};
+use room_types::ListKind;
+
+const LEAVING: &str = "room H1\nroom H2\nperson E1 key00000000000e1 Ann Ash\n\
+    person E2 key00000000000e2 Bo\nhome E1 H1\nopen\ngoing E1\n";
+
+const LEAVING_TOLD: &str = "ok\nok\nok\nok\nok\nround 1 open\ngoing\n";
+
+// Where the leaver stands in a list it adds nobody's choices; without that record it comes in under the same label.
+#[test]
+fn refuses_choices_of_leavers(rt: HostRuntime) {
+    let alloc = rt.alloc();
+    let mut desk = new_desk(&rt, alloc);
+    let lines = lines_asked(&rt, alloc, LEAVING);
+    says(&rt, alloc, &mut desk, &lines, LEAVING_TOLD);
+    let lists = [
+        ("c-1", b"person,choices\nE2,H1\nE1,H2\n".as_slice()),
+        ("c-1", b"person,choices\nE2,H1\n".as_slice()),
+    ];
+    let told = "refused 15 BadRecord 2 refusal 24\nadded 1\n";
+    says_of_lists(&rt, alloc, &mut desk, ListKind::Choices, &lists, told);
+}
