@@ -33,8 +33,9 @@ module _ {H : Type 0} (handles : H → Request → Answer → H → Type 0) wher
       ⊎ ((is_broken text ≡ true) × (new ≡ old) × Says (text_of NotUnderstood) 2 status out out')
       ⊎ ((is_broken text ≡ false) × (is_short text ≡ false) × (new ≡ old) × (status ≡ 3) × (out' ≡ out))
 
-  -- The words are joined by one space and heard as a line. Or memory is wanting to join them, and nothing is handled.
+  -- The words are joined by one space and heard as a line. Or memory is refused to join them, which takes memory only for two words
+  -- or more, and nothing is handled.
   abbrev pub DoesWords : H → List Text → ℕ → H → Output → Output → Type 0
   DoesWords old words status new out out' =
       DoesText old (joined words) status new out out'
-      ⊎ ((new ≡ old) × SaysUnavailable status out out')
+      ⊎ ((1 < length words) × (new ≡ old) × SaysUnavailable status out out')

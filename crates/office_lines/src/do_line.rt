@@ -7,15 +7,15 @@ ghost use Rattle.office_texts.specs.Texts.{SaidAscends};
 
 use crate::hearing::hear;
 use crate::limits::LINE_LIMIT;
-use crate::say::say;
+use crate::say::{say, say_line_unavailable};
 use office_store::Handler;
 use office_texts::{NOT_UNDERSTOOD, Said, UNAVAILABLE, answer_text_status, text_of};
 use room_types::Watched;
 use std::alloc::Global;
 use std::io::Write;
 
-/// Hears the line that these words are, joined by one space, and answers it on the output. Gives the exit status. Where
-/// memory is refused to join them, that is said, and nothing is handled.
+/// Hears the line that these words are, joined by one space, and answers it on the output. Gives the exit status. Two words or
+/// more take memory to join; where it is refused, that is said, and nothing is handled.
 pub fn do_words<H: Handler, W: Write>(
     alloc: Global,
     handler: &mut H,
@@ -29,9 +29,13 @@ pub fn do_words<H: Handler, W: Write>(
         handler.new (output_of W.contents output.old) (output_of W.contents output.new) }
     ensures ready { H.is_ready handler.new }
 {
-    match words.join(alloc, " ") {
-        Ok(line) => do_line(alloc, handler, line.as_bytes(), output),
-        Err(_) => say(output, "unavailable\n", UNAVAILABLE),
+    match words {
+        [] => do_line(alloc, handler, b"", output),
+        [word] => do_line(alloc, handler, word.as_bytes(), output),
+        _ => match words.join(alloc, " ") {
+            Ok(line) => do_line(alloc, handler, line.as_bytes(), output),
+            Err(_) => say_line_unavailable(output),
+        },
     }
 }
 

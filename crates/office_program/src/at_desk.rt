@@ -57,8 +57,9 @@ pub fn do_at<S: Alter, W: Write>(
     }
 }
 
-/// Lets the list of the path `list` come in, under this label, at the desk that was found. It is opened once. Where no desk was
-/// found, that is said, and no list is opened. Where the list can't be opened or read, `unavailable` is said. Gives the exit status.
+/// Lets the list of the path `list` come in, under this label, at the desk that was found. It is opened once, and closed as its
+/// import left it. Where no desk was found, that is said, and no list is opened. Where the list can't be opened or read,
+/// `unavailable` is said. Gives the exit status.
 pub fn import_at<S: Alter, L: Lists, W: Write>(
     alloc: Global,
     found: &mut Result<Desk<S>, DeskFault>,
@@ -70,7 +71,7 @@ pub fn import_at<S: Alter, L: Lists, W: Write>(
 ) -> u8
     requires fresh_output { IsFresh output.old }
     ensures no_wasted_write { StopsAtFailure output.old output.new }
-    ensures imports { let shelf = shelf_of L.opens L.fails L.List.remaining in
+    ensures imports { let shelf = shelf_of L.opens L.fails L.closes L.List.remaining in
         ImportsAt S.Store shelf lists.old found.old lists.new found.new kind label list.now result
         (output_of W.contents output.old) (output_of W.contents output.new) }
     ensures unopened { IsErr found.old → lists.new ≡ lists.old }
@@ -93,14 +94,15 @@ fn import_desk<S: Alter, L: Lists, W: Write>(
 ) -> u8
     requires fresh_output { IsFresh output.old }
     ensures no_wasted_write { StopsAtFailure output.old output.new }
-    ensures imports { let shelf = shelf_of L.opens L.fails L.List.remaining in
+    ensures imports { let shelf = shelf_of L.opens L.fails L.closes L.List.remaining in
         ImportsDesk S.Store shelf lists.old desk.old lists.new desk.new kind label list.now result
         (output_of W.contents output.old) (output_of W.contents output.new) }
 {
     match lists.open(list) {
-        Ok(reader) => {
-            let mut source = Watched::new(reader);
-            import_list(alloc, desk, kind, label, &mut source, output)
+        Ok(mut source) => {
+            let status = import_list(alloc, desk, kind, label, &mut source, output);
+            lists.close(source);
+            status
         }
         Err(Unavailable) => say_line_unavailable(output),
     }

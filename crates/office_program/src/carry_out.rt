@@ -47,7 +47,7 @@ pub fn carry_out<'a, R: Read, W: Write, E: Write>(
     ensures no_wasted_error { StopsAtFailure error.old error.new }
     ensures carries_out { let shelf = shelf_of
         ⟦<SystemLists<'static> as Lists>⟧.opens ⟦<SystemLists<'static> as Lists>⟧.fails
-        ⟦<File as Read>⟧.remaining in
+        ⟦<SystemLists<'static> as Lists>⟧.closes ⟦<File as Read>⟧.remaining in
         let access = file_access ⟦<FileStore<FileFrom<Wary>> as Store>⟧
         ⟦<SystemFiles<'static, Wary> as Files<FileStore<FileFrom<Wary>>>>⟧.opens ⟦<SystemFiles<'static, Wary> as Files<FileStore<FileFrom<Wary>>>>⟧.finds
         ⟦<SystemFiles<'static, Wary> as Files<FileStore<FileFrom<Wary>>>>⟧.fails ⟦<SystemFiles<'static, Wary> as Closes<Connection<FileStore<FileFrom<Wary>>>>>⟧.closes in
@@ -84,7 +84,7 @@ pub fn carry_out_over<'a, S: Start, R: Read, W: Write, E: Write>(
     ensures no_wasted_error { StopsAtFailure error.old error.new }
     ensures carries_out { let shelf = shelf_of
         ⟦<SystemLists<'static> as Lists>⟧.opens ⟦<SystemLists<'static> as Lists>⟧.fails
-        ⟦<File as Read>⟧.remaining in
+        ⟦<SystemLists<'static> as Lists>⟧.closes ⟦<File as Read>⟧.remaining in
         let access = file_access ⟦<FileStore<FileFrom<S>> as Store>⟧
         ⟦<SystemFiles<'static, S> as Files<FileStore<FileFrom<S>>>>⟧.opens ⟦<SystemFiles<'static, S> as Files<FileStore<FileFrom<S>>>>⟧.finds
         ⟦<SystemFiles<'static, S> as Files<FileStore<FileFrom<S>>>>⟧.fails ⟦<SystemFiles<'static, S> as Closes<Connection<FileStore<FileFrom<S>>>>>⟧.closes in
@@ -115,7 +115,8 @@ pub fn carry_out_over<'a, S: Start, R: Read, W: Write, E: Write>(
 }
 
 /// Does what these words after the program's name ask for, and gives the exit status, wherever files of offices and lists lie. A
-/// line over a file opens the file of its path once, is done at its desk, and closes it as that desk left it. A list is opened by `import` alone, once.
+/// line over a file opens the file of its path once, is done at its desk, and closes it as that desk left it. A list is opened by
+/// `import` alone, once, and closed as its import left it.
 pub fn carry_out_from<
     'a,
     B: Alter,
@@ -142,7 +143,7 @@ pub fn carry_out_from<
     ensures no_wasted_read { StopsAtEnd input.old input.new }
     ensures no_wasted_write { StopsAtFailure output.old output.new }
     ensures no_wasted_error { StopsAtFailure error.old error.new }
-    ensures carries_out { let shelf = shelf_of L.opens L.fails L.List.remaining in
+    ensures carries_out { let shelf = shelf_of L.opens L.fails L.closes L.List.remaining in
         let access = file_access B.Store F.opens F.finds F.fails F.closes in
         let network = network_of
         P.Socket.Stream.reads P.Socket.Stream.writes P.Socket.Stream.flushes

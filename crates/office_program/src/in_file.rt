@@ -81,7 +81,8 @@ pub fn do_in_file<B: Alter, F: Files<B> + Closes<Connection<B>>, W: Write>(
 }
 
 /// Lets the list of the path `list` come in, under this label, at the office in the file of this path, or says why there is no
-/// office. Gives the exit status. The office's file is opened once, and closed as its desk left it; the list is opened once then.
+/// office. Gives the exit status. The office's file is opened once, and closed as its desk left it; the list is opened once then,
+/// and closed as its import left it.
 pub fn import_in_file<B: Alter, F: Files<B> + Closes<Connection<B>>, L: Lists, W: Write>(
     alloc: Global,
     files: &mut F,
@@ -94,7 +95,7 @@ pub fn import_in_file<B: Alter, F: Files<B> + Closes<Connection<B>>, L: Lists, W
 ) -> u8
     requires fresh_output { IsFresh output.old }
     ensures no_wasted_write { StopsAtFailure output.old output.new }
-    ensures imports { let shelf = shelf_of L.opens L.fails L.List.remaining in
+    ensures imports { let shelf = shelf_of L.opens L.fails L.closes L.List.remaining in
         let access = file_access B.Store F.opens F.finds F.fails F.closes in
         ImportsInFile access shelf files.old path.now lists.old kind label list.now result
         files.new lists.new

@@ -1,5 +1,5 @@
 //! Lines of the program over a file that is a database in memory, with a list and a port that are no more than scripts. Each line
-//! opens the file once, and closes it once.
+//! opens the file once, and closes it once. The list is opened, read and closed once.
 ghost use Rattle.std.specs.Prelude.{◌≡◌, false, IfOk, ⊤};
 
 use crate::asserting::assert_same;
@@ -69,22 +69,31 @@ impl Closes<Connection<MemStore>> for OneFile {
     }
 }
 
-// A list of two rooms, at one path: how often a list was asked for.
+// A list of two rooms, at one path: how often a list was asked for, how often one was closed, and how often it had been read then.
 #[derive(Drop)]
 struct OneList {
     asked: u32,
+    closed: u32,
+    reads: u64,
 }
 
 impl Lists for OneList {
     type List = &'static [u8];
 
-    fn open(&mut self, path: &str) -> Result<&'static [u8], Unavailable> {
+    fn open(&mut self, path: &str) -> Result<Watched<&'static [u8]>, Unavailable> {
         self.asked = self.asked.saturating_add(1);
         if path == "rooms.csv" {
-            Ok(b"room\nH1\nH2\n".as_slice())
+            Ok(Watched::new(b"room\nH1\nH2\n".as_slice()))
         } else {
             Err(Unavailable)
         }
+    }
+
+    fn close(&mut self, list: Watched<&'static [u8]>)
+        ensures { ⊤ }
+    {
+        self.closed = self.closed.saturating_add(1);
+        self.reads = self.reads.saturating_add(list.reads());
     }
 }
 
@@ -232,7 +241,11 @@ fn opens_and_closes_a_file_once_a_line(rt: HostRuntime) -> Result<(), Fail> {
         opened: 0,
         closed: 0,
     };
-    let mut lists = OneList { asked: 0 };
+    let mut lists = OneList {
+        asked: 0,
+        closed: 0,
+        reads: 0,
+    };
     let mut ports = OnePort {
         listened: 0,
         asked: 0,
@@ -246,7 +259,7 @@ fn opens_and_closes_a_file_once_a_line(rt: HostRuntime) -> Result<(), Fail> {
         assert_same!(rt; files.opened.saturating_sub(before.0), times, printed);
         assert_same!(rt; files.closed.saturating_sub(before.1), times, printed);
     }
-    assert_same!(rt; lists.asked, 2);
+    assert_same!(rt; (lists.asked, lists.closed, lists.reads), (2, 1, 2));
     assert_same!(rt; (ports.listened, ports.asked, ports.stopped), (1, 2, 1));
     Ok(())
 }

@@ -37,4 +37,4 @@ module _ {H K : Type 0} (handles : H → Request → Answer → H → Type 0) (d
   heard-words_shown words status out out' (inl h) k s =
       let n = heard-text_shown (joined words) status out out' h k s in
       (n.0, inl n.1, n.2)
-  heard-words_shown words status out out' (inr h) k s = (k, inr (refl, h.1), subst (λ z. shows z k) (sym h.0) s)
+  heard-words_shown words status out out' (inr h) k s = (k, inr (h.0, refl, h.2), subst (λ z. shows z k) (sym h.1) s)
