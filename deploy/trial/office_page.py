@@ -42,7 +42,7 @@ def open_round(clerk, stand, college):
     check("200 residents hand in a list with the keys of the slips", not faults and len(handed) == 200, faults[:5])
     by_office = [[person, " ".join(college.choices[person])] for person in college.people[200:260]]
     clerk.try_list("choices", college.write("choices.csv", ["person", "choices"], [["R001", "A-101"], *by_office]))
-    clerk.reads("1 of these people have handed in another list already")
+    clerk.reads("1 of these people has handed in another list already")
     clerk.shot("12-replaces")
     clerk.press("Bring in only the people without a list")
     clerk.reads("The list is in, with 60 lines.")

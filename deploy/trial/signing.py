@@ -41,7 +41,7 @@ class Page(socketserver.ThreadingUnixStreamServer):
 def asked(stand, path, *, method="GET", clerk=None, password=None, source="127.0.0.1", body=None, **fields):
     """Sends a request through the proxy, and gives status, fields and body of the answer."""
     connection = http.client.HTTPSConnection(HOST, timeout=60)
-    plain = socket.create_connection(("::1" if source == "::1" else "127.0.0.1", stand.port), 60, (source, 0))
+    plain = socket.create_connection(("::1" if ":" in source else "127.0.0.1", stand.port), 60, (source, 0))
     connection.sock = unchecked().wrap_socket(plain, server_hostname=HOST)
     fields = {name.replace("_", "-"): value for name, value in fields.items()}
     if clerk:

@@ -233,7 +233,7 @@ class Stand:  # pylint: disable=too-many-instance-attributes,too-many-public-met
         for old, new in [
             ("    log /dev/log local0\n    user haproxy\n    group haproxy\n", "    log stdout format raw local0\n"),
             ("bind :::80 v4v6\n", f"bind 127.0.0.1:{self.plain_port}\n"),
-            ("bind :::443 v4v6 ", f"bind 127.0.0.1:{self.port}{f',::1:{self.port}' if has_ipv6() else ''} "),
+            ("bind :::443 v4v6 ", f"bind {self.addresses()} "),
             ("/etc/haproxy/rooms.pem", str(self.folder / "rooms.pem")),
             ("127.0.0.1:8080", f"127.0.0.1:{self.server_port}"),
             ("/run/rooms-page.sock", self.environment["ROOMS_PAGE_SOCKET"]),
@@ -249,6 +249,12 @@ class Stand:  # pylint: disable=too-many-instance-attributes,too-many-public-met
         subprocess.run(["haproxy", "-q", "-c", "-f", settings], check=True)
         self.proxy = self.launch("proxy", "haproxy", "-db", "-f", str(settings))
         self.until_listening(self.port)
+
+    def addresses(self):
+        """This machine's own addresses. That of IPv4 comes as a part of IPv6, as it does by `bind :::443 v4v6`."""
+        if has_ipv6():
+            return f"ipv6@::ffff:127.0.0.1:{self.port},::1:{self.port} v4v6"
+        return f"127.0.0.1:{self.port}"
 
     @staticmethod
     def userlist():

@@ -55,6 +55,8 @@ end
 
 function Code(code)
     local text = code.text
+    -- A line of the page's source that begins with a space would begin a new line of the page.
+    text = text:gsub('^ ', '\u{a0}')
     if #text <= LONG or text:find(' ') then return pandoc.Strong(pandoc.Str(text)) end
     local pieces = pandoc.List({})
     for piece in text:gmatch('[^,]+,?') do
