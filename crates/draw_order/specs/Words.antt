@@ -1,13 +1,13 @@
--- What a generator's stream gives to a draw.
+-- What a draw takes from a generator's stream.
 use Rattle.std.specs.Prelude.{ℕ, zero, suc, List, [], ◌∷◌}
 use Rattle.std.specs.Fn.{iterate}
 use Rattle.rand_core.specs.Stream.{Stream, next_u64}
 
--- the next answers to `next_u64`
+-- the next results of `next_u64`
 abbrev pub next_words : ℕ → Stream → List ℕ
 next_words zero stream = []
 next_words (suc count) stream = (next_u64 stream).0 ∷ next_words count (next_u64 stream).1
 
--- the stream that is left after as many calls of `next_u64`
+-- the stream after the given number of calls of `next_u64`
 abbrev pub stream_after : ℕ → Stream → Stream
 stream_after = iterate (λ stream. (next_u64 stream).1)

@@ -8,9 +8,9 @@ ghost use Rattle.draw_order.specs.Turns.{lot_of};
 use room_types::{Grade, OutOfMemory, PersonId, Word};
 use std::alloc::Global;
 
-/// The identifiers of these participants, each with its grade and the word that was drawn for it: ascending by grade,
-/// where grades are equal by word, and where words are equal by identifier. It takes n log n comparisons, and for no
-/// lots no memory.
+/// Puts the participants of a round in priority order and returns their identifiers: ascending by grade, then by word, then
+/// by identifier. Each ticket holds an identifier, its grade, and the word that was drawn for it. Makes O(n log n)
+/// comparisons. Does not allocate if there are no tickets.
 pub fn order(alloc: Global, lots: &[(PersonId, Grade, Word)]) -> Result<Vec<PersonId>, OutOfMemory>
     ensures drawn { IfOk result (λ people. IsDrawnOrder lots.now people.items) }
     ensures computed { IfOk result (λ people. people.items ≡ drawn_order lots.now) }
@@ -24,7 +24,7 @@ pub fn order(alloc: Global, lots: &[(PersonId, Grade, Word)]) -> Result<Vec<Pers
     identifiers(alloc, &ascending)
 }
 
-// The lots with their grades and words in front, as they are compared.
+// Returns the sort keys of the tickets: grade, word, and identifier.
 fn turns(
     alloc: Global,
     lots: &[(PersonId, Grade, Word)],
@@ -38,7 +38,7 @@ fn turns(
     Ok(turns)
 }
 
-// Ascending by grade, then by word, and by identifier where words are equal.
+// Sorts by grade, then by word, then by identifier.
 fn sort_turns(turns: &mut Vec<(Grade, Word, &PersonId)>)
     ensures moved { IsPermutation turns.old.items turns.new.items }
     ensures ascending { IsSorted (on lot_of lot_cmp) turns.new.items }
@@ -46,7 +46,7 @@ fn sort_turns(turns: &mut Vec<(Grade, Word, &PersonId)>)
     turns.sort_unstable();
 }
 
-// The identifiers alone, in the same order.
+// Copies the identifiers, in the same order.
 fn identifiers(
     alloc: Global,
     turns: &[(Grade, Word, &PersonId)],
@@ -60,7 +60,8 @@ fn identifiers(
     Ok(people)
 }
 
-/// The law that lots have one drawn order, the one that `drawn_order` of `specs/` computes. It does nothing.
+/// Theorem: tickets have exactly one drawn order, the one that `drawn_order` of `specs/` computes. The function does
+/// nothing.
 pub fn one_drawn_order()
     ensures { (lots : List Lot) → HasOneDrawnOrder lots }
 {}

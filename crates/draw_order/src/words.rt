@@ -1,4 +1,4 @@
-//! Words from a generator of random numbers.
+//! Random words for a draw.
 ghost use Rattle.std.specs.Prelude.{◌≡◌, IfOk, OnOk, OnErr, ◌<◌};
 ghost use Rattle.rand_core.specs.Stream.{next_u64};
 ghost use Rattle.draw_order.specs.Words.{next_words, stream_after};
@@ -7,8 +7,8 @@ use rand_core::Rng;
 use room_types::{OutOfMemory, Word};
 use std::alloc::Global;
 
-/// The next `count` answers of the generator's `next_u64`, in order. The generator is left after them, or, where
-/// memory is refused, where it was. No words take no memory.
+/// Draws `count` words: the next results of the generator's `next_u64`, in order. If the allocation fails, nothing is drawn
+/// and the generator is unchanged. Does not allocate for 0 words.
 pub fn words_from<R: Rng>(
     alloc: Global,
     generator: &mut R,
@@ -20,7 +20,7 @@ pub fn words_from<R: Rng>(
     ensures unchanged { OnErr result (R.stream generator.new ≡ R.stream generator.old) }
     ensures memory { OnErr result (0 < count) }
 {
-    // The memory is taken first, so that no word is drawn in vain.
+    // All memory is allocated first, so that no word is drawn in vain.
     let mut words = Vec::with_capacity(alloc, count)?;
     for _place in 0..count {
         words.push(next_draw_word(generator))?;

@@ -1,2 +1,2 @@
--- Lemmas on cells of a row.
+-- Lemmas on the cells of a row.
 pub mod TextCells

@@ -1,4 +1,4 @@
-//! Cells in their types. A cell of another form is none. Numbers take no memory.
+//! Reading cells as typed values. A cell of another form gives `None`. Reading a number or a flag does not allocate.
 ghost use Rattle.std.specs.Prelude.{◌≡◌, ◌⊎◌, ◌<◌, ℕ, length, pos, IfOk, IfSome, IsUtf8, MatchOption, OnErr, Option};
 ghost use Rattle.std.specs.Bool.{Decides};
 ghost use Rattle.sqlite_value.specs.Order.{column};
@@ -13,7 +13,7 @@ use sqlite_value::value::ValueRef;
 use std::alloc::Global;
 use std::str;
 
-/// A column as a text, which the row lends. It takes no memory.
+/// Reads a column as a text, borrowed from the row. Does not allocate.
 pub fn str_in(row: &Row, at: usize) -> Option<&str>
     ensures { MatchOption result (¬ IsString (column row.now at))
         (λ t. (column row.now at ≡ text_value t.now) × IsUtf8 t.now) }
@@ -24,7 +24,7 @@ pub fn str_in(row: &Row, at: usize) -> Option<&str>
     }
 }
 
-/// A column as a text of the grammar. Memory is taken for such a text alone.
+/// Reads a column as a text of the grammar. Allocates only for such a text. Fails only if an allocation does.
 pub fn text_in<G: Grammar>(
     alloc: Global,
     row: &Row,
@@ -47,8 +47,8 @@ pub fn text_in<G: Grammar>(
     }
 }
 
-/// A column as a text of the grammar, or NULL. Memory is taken for such a text alone. A row that ends before the column
-/// has NULL there.
+/// Reads a column as a text of the grammar, or NULL. A column past the end of the row is NULL. Allocates only for such
+/// a text. Fails only if an allocation does.
 pub fn optional_text_in<G: Grammar>(
     alloc: Global,
     row: &Row,
@@ -70,14 +70,14 @@ pub fn optional_text_in<G: Grammar>(
     }
 }
 
-// Whether a column is NULL.
+// Whether a column is NULL. A column past the end of the row is.
 fn is_null(row: &Row, at: usize) -> bool
     ensures { Decides result (column row.now at ≡ Null) }
 {
     matches!(row.get_ref(at), Ok(ValueRef::Null) | Err(_))
 }
 
-/// A column as bytes. Memory is taken for bytes alone, and none for no bytes.
+/// Reads a column as a blob. Allocates only for a blob that is not empty. Fails only if an allocation does.
 pub fn bytes_in(alloc: Global, row: &Row, at: usize) -> Result<Option<Listing<u8>>, OutOfMemory>
     ensures told { IfOk result (λ found. MatchOption found (¬ IsBlob (column row.now at))
         (λ bytes. column row.now at ≡ blob_value bytes)) }
@@ -90,7 +90,7 @@ pub fn bytes_in(alloc: Global, row: &Row, at: usize) -> Result<Option<Listing<u8
     }
 }
 
-// These bytes, kept. No bytes take no memory.
+// Copies the bytes. Does not allocate if there are none.
 fn kept_cell_bytes(alloc: Global, bytes: &[u8]) -> Result<Listing<u8>, OutOfMemory>
     ensures same { IfOk result (λ kept. kept ≡ bytes.now) }
     ensures memory { OnErr result (0 < length bytes.now) }
@@ -101,7 +101,7 @@ fn kept_cell_bytes(alloc: Global, bytes: &[u8]) -> Result<Listing<u8>, OutOfMemo
     Ok(Listing::new(Vec::from_slice(alloc, bytes)?))
 }
 
-/// A column as a number from 0.
+/// Reads a column as an integer from 0 up.
 pub fn count_in(row: &Row, at: usize) -> Option<u64>
     ensures told { MatchOption result (¬ IsCount (column row.now at))
         (λ n. column row.now at ≡ Int (pos n)) }
@@ -113,7 +113,7 @@ pub fn count_in(row: &Row, at: usize) -> Option<u64>
     }
 }
 
-// A column as a number from 0 or NULL. A row that ends before the column has NULL there.
+// Reads a column as an integer from 0 up, or NULL. A column past the end of the row is NULL.
 fn optional_count_in(row: &Row, at: usize) -> Option<Option<u64>>
     ensures { MatchOption result
         (¬ ((column row.now at ≡ Null) ⊎ IsCount (column row.now at)))
@@ -129,7 +129,7 @@ fn optional_count_in(row: &Row, at: usize) -> Option<Option<u64>>
     }
 }
 
-/// A column as a flag: 0 or 1.
+/// Reads a column as a flag: 0 or 1.
 pub fn flag_in(row: &Row, at: usize) -> Option<bool>
     ensures told { MatchOption result (¬ IsFlag (column row.now at))
         (λ b. column row.now at ≡ flag b) }
@@ -142,7 +142,7 @@ pub fn flag_in(row: &Row, at: usize) -> Option<bool>
     }
 }
 
-/// A column as a number of sixteen bits.
+/// Reads a column as an unsigned integer of 16 bits.
 pub fn short_in(row: &Row, at: usize) -> Option<u16>
     ensures told { MatchOption result (¬ IsShort (column row.now at))
         (λ n. column row.now at ≡ Int (pos n)) }
@@ -152,7 +152,8 @@ pub fn short_in(row: &Row, at: usize) -> Option<u16>
     u16::try_from(number).ok()
 }
 
-/// A column as a wave: NULL is a swap.
+/// Reads a column as a wave: NULL for a swap, or the number of a wave, an unsigned integer of 16 bits. A column past
+/// the end of the row is NULL.
 pub fn wave_in(row: &Row, at: usize) -> Option<Wave>
     ensures told { MatchOption result (¬ IsWave (column row.now at))
         (λ w. column row.now at ≡ wave_value w) }

@@ -1,4 +1,4 @@
-//! Rows of recorded lists.
+//! Rows of preference lists.
 use crate::cells::{count_in, text_in};
 use crate::records::Record;
 use office_rows::ChoiceRecord;

@@ -1,4 +1,4 @@
-//! Rows of kept lists.
+//! Rows of imported lists.
 ghost use Rattle.std.specs.Prelude.{◌≡◌, IfSome, MatchOption};
 ghost use Rattle.sqlite_value.specs.Order.{column};
 ghost use Rattle.sqlite_value.specs.declared.value.Value.TheVariants.{Text as text_value};
@@ -12,7 +12,7 @@ use room_types::{Label, ListKind, OutOfMemory};
 use sqlite::Row;
 use std::alloc::Global;
 
-// A column as a kind of lists.
+// Reads a column as a kind of list.
 fn kind_in(row: &Row, at: usize) -> Option<ListKind>
     ensures told { MatchOption result (¬ IsKind (column row.now at))
         (λ k. column row.now at ≡ text_value (kind_text k)) }

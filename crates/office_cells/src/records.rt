@@ -1,4 +1,4 @@
-//! All rows of a table in their type.
+//! Reading all rows of a table into their records.
 ghost use Rattle.std.specs.Prelude.{◌≡◌, map, IfOk, IfSome, MatchOption, OnErr};
 ghost use Rattle.std.specs.List.{All};
 ghost use Rattle.sqlite_value.specs.Order.{Row as Values};
@@ -8,18 +8,19 @@ use room_types::OutOfMemory;
 use sqlite::Row;
 use std::alloc::Global;
 
-/// What a row of a table tells.
+/// A record of a table, read from its row.
 pub trait Record: Drop {
-    /// Which rows are rows of a record.
+    /// The form of a row that holds a record.
     ghost is_form: { Values → Type 0 };
     /// The columns of a row that are read.
     ghost front: { Values → Values };
-    /// The columns that a record shows.
+    /// The columns of a record.
     ghost columns: { Self → Values };
-    /// The rows for which memory may be taken.
+    /// The rows for which reading may allocate.
     ghost takes: { Values → Type 0 };
 
-    /// The record of a row, or none where the row has another form. Memory is taken for some rows alone.
+    /// Reads a row into a record. Returns `None` if the row has another form. Allocates only for the rows in `takes`.
+    /// Fails only if an allocation does.
     fn record_from_cells(alloc: Global, row: &Row) -> Result<Option<Self>, OutOfMemory>
         ensures told { IfOk result (λ found. MatchOption found (¬ is_form row.now)
             (λ record_. front row.now ≡ columns record_)) }
@@ -27,8 +28,10 @@ pub trait Record: Drop {
         ensures memory { OnErr result (takes row.now) };
 }
 
-/// The records of all rows, in their order, or none where some row has another form. Memory is taken for
-/// the first row that takes some, or that has the form, if those before it have it.
+/// Reads all rows into records, in order. Returns `None` if a row has another form.
+///
+/// Fails only if an allocation does: at some row whose predecessors all have the form, and which has the form itself or
+/// is one of those for which reading may allocate.
 pub fn records_in<R: Record>(alloc: Global, rows: &[Row]) -> Result<Option<Vec<R>>, OutOfMemory>
     ensures told { IfOk result (λ found. MatchOption found (¬ All R.is_form rows.now)
         (λ records. map R.columns records.items ≡ map R.front rows.now)) }

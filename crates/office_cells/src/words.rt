@@ -1,4 +1,4 @@
-//! Rows of words.
+//! Rows of drawn words.
 ghost use Rattle.std.specs.Prelude.{◌≡◌, IfOk, IfSome, MatchOption, OnErr};
 ghost use Rattle.sqlite_value.specs.Order.{column};
 ghost use Rattle.sqlite_value.specs.declared.value.Value.TheVariants.{Text as text_value};
@@ -11,8 +11,8 @@ use room_types::{OutOfMemory, PersonId, Word};
 use sqlite::Row;
 use std::alloc::Global;
 
-// A column as a word. Its digits are in lower case, as they are printed. Memory is taken for such digits of either case
-// alone.
+// Reads a column as a word: sixteen hexadecimal digits in lower case, as words are printed. Allocates only for sixteen
+// such digits in either case. Fails only if an allocation does.
 fn word_in(alloc: Global, row: &Row, at: usize) -> Result<Option<Word>, OutOfMemory>
     ensures told { IfOk result (λ found. MatchOption found (¬ IsWord (column row.now at))
         (λ w. column row.now at ≡ text_value (word_text w))) }

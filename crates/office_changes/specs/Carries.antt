@@ -1,4 +1,4 @@
--- What calls make of a database that has the tables of an office.
+-- The effect of calls on a database that has the tables of an office.
 use Rattle.std.specs.Prelude.{◌≡◌, List}
 use Rattle.sqlite.specs.State.{State, HasCleanDisk}
 use Rattle.office_state.specs.Change.{applied, applied_all, Fits, AllFit}
@@ -8,15 +8,15 @@ use Rattle.office_cells.specs.Spelled.{IsSpelled}
 use Rattle.office_rows.specs.Tables.{Tables, rows_of}
 use Rattle.office_tables.specs.Tables.{HasTables, HoldsOffice}
 
--- The tables that were there are now there as this makes them. Where texts were in their grammars
--- and numbers in their ranges they still are.
+-- If the database had these tables, and all rows had the form of their tables, it now has them as `change` makes them,
+-- and all rows still have that form.
 pub record Turns (old new : State) (change : Tables → Tables) : Type 0 where
   pub shown : (tables : Tables) → HasCleanDisk new → IsSpelled tables → HasTables old.now tables
       → HasTables new.now (change tables) × IsSpelled (change tables)
   pub mode : HasCleanDisk new → new.in_transaction ≡ old.in_transaction
 
--- The tables that were the rows of an office are now those of the office after the change, where
--- it fits. `first` is the office before all changes.
+-- If the tables held the rows of an office, all of the form of their tables, and the change fits the office, they now
+-- hold the rows of the office after the change, still of that form. `first` is the office before all changes.
 pub record CarriesOne (first : Office) (old new : State) (change : Change) : Type 0 where
   pub shown : (office : Office) → HasCleanDisk new → Fits first office change
       → IsSpelled (rows_of office)
@@ -24,12 +24,11 @@ pub record CarriesOne (first : Office) (old new : State) (change : Change) : Typ
       → HoldsOffice new.now (applied office change) × IsSpelled (rows_of (applied office change))
   pub mode : HasCleanDisk new → new.in_transaction ≡ old.in_transaction
 
--- whatever the office was at first
+-- whatever the office was before all changes
 abbrev pub CarriesAlways : State → State → Change → Type 0
 CarriesAlways old new change = (first : Office) → CarriesOne first old new change
 
--- The tables that were the rows of an office are now those of the office after the changes, where
--- they fit.
+-- The same for a list of changes, each of which fits the office that those before it lead to.
 pub record Carries (first : Office) (old new : State) (changes : List Change) : Type 0 where
   pub shown : (office : Office) → HasCleanDisk new → AllFit first office changes
       → IsSpelled (rows_of office)

@@ -1,10 +1,10 @@
--- A list that is written row by row.
+-- Writing a preference list row by row.
 use Rattle.std.specs.Prelude.{ℕ, ◌+◌, List, [], ◌∷◌}
 use Rattle.room_types.specs.Texts.{Text}
 use Rattle.office_rows.specs.Tables.{Tables}
 use Rattle.office_tables.specs.Edits.{with_choice}
 
--- a row for each room, from this place on
+-- adds a row for each room, with places from this one on
 abbrev pub with_choices : Text → ℕ → List Text → Tables → Tables
 with_choices person place [] tables = tables
 with_choices person place (room ∷ rooms) tables =

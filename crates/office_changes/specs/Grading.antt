@@ -1,10 +1,10 @@
--- A grade that is written.
+-- Writing a grade.
 use Rattle.std.specs.Prelude.{ℕ, zero, suc}
 use Rattle.room_types.specs.Texts.{Text}
 use Rattle.office_rows.specs.Tables.{Tables}
 use Rattle.office_tables.specs.Edits.{with_grade}
 
--- a row for the grade, unless it is 0
+-- adds a row for the grade, unless it is 0
 abbrev pub with_grade_recorded : Text → ℕ → Tables → Tables
 with_grade_recorded person zero tables = tables
 with_grade_recorded person (suc grade) tables = with_grade person (suc grade) tables

@@ -1,4 +1,4 @@
-//! That what an office keeps has the form of a cell, as its types say. Nothing here does anything.
+//! What the types of an office guarantee of its cells, for use in proofs. The functions here do nothing.
 ghost use Rattle.std.specs.Prelude.{IsUtf8, ◌<◌, ◌≤◌, ◌^◌, All};
 ghost use Rattle.sqlite_value.specs.declared.value.Value.TheVariants as value;
 ghost use Rattle.office_cells.specs.Cells.{IsTextOf, IsOptionalTextOf, IsWave, text_or_null, wave_value};
@@ -23,7 +23,7 @@ pub(crate) fn know_changed_row_text<G: Grammar>(text: &Text<G>)
     know_changed_row_utf8(text.as_str());
 }
 
-/// And so is one that may be missing.
+/// A text that may be missing is in its grammar, if it is there.
 pub(crate) fn know_changed_row_optional<G: Grammar>(text: &Option<Text<G>>)
     ensures { IsOptionalTextOf G.is_text (text_or_null text.now) }
 {
@@ -32,7 +32,7 @@ pub(crate) fn know_changed_row_optional<G: Grammar>(text: &Option<Text<G>>)
     }
 }
 
-/// A word has 64 bits.
+/// A word fits in 64 bits.
 pub(crate) fn know_changed_row_word(word: Word)
     ensures { word < 2 ^ 64 }
 {
@@ -55,7 +55,7 @@ fn know_changed_row_wave(wave: Wave)
     }
 }
 
-/// The parts of a move have their forms.
+/// The row of a move has its form.
 pub(crate) fn know_changed_row_move(moved: &Move)
     ensures { IsMoveRow (move_columns moved.now) }
 {

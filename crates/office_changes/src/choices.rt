@@ -1,4 +1,4 @@
-//! Changes of the lists.
+//! Storing preference lists.
 ghost use Rattle.std.specs.Prelude.{◌≡◌, OnOk};
 ghost use Rattle.sqlite.specs.Held.{state};
 ghost use Rattle.office_state.specs.declared.change.Change.TheVariants.{PutChoices};
@@ -11,7 +11,7 @@ use office_tables::choices::{add_choice, drop_choices};
 use room_types::{Choices, PersonId};
 use sqlite::{Alter, Error, Transaction};
 
-/// A person's list is this one. Of an empty list no row is left.
+/// Replaces a person's list. An empty list leaves no row.
 pub(crate) fn put_choices<S: Alter>(
     tx: &mut Transaction<'_, S>,
     person: &PersonId,
@@ -27,7 +27,7 @@ pub(crate) fn put_choices<S: Alter>(
     add_choices(tx, person, choices)
 }
 
-// A row for each room, the best at place 0.
+// Adds a row for each room, the best at place 0.
 fn add_choices<S: Alter>(
     tx: &mut Transaction<'_, S>,
     person: &PersonId,

@@ -1,4 +1,4 @@
-//! Changes of the grades, and of who leaves the college.
+//! Storing grades, and who leaves the college.
 ghost use Rattle.std.specs.Prelude.{◌≡◌, OnOk};
 ghost use Rattle.sqlite.specs.Held.{state};
 ghost use Rattle.office_state.specs.declared.change.Change.TheVariants.{PutGoing, PutGrade};
@@ -12,7 +12,7 @@ use office_tables::grades::{add_grade, drop_grade};
 use room_types::{Grade, PersonId};
 use sqlite::{Alter, Error, Transaction};
 
-/// A person's grade is this one. Of grade 0 no row is left.
+/// Replaces a person's grade. Grade 0 leaves no row.
 pub(crate) fn put_grade<S: Alter>(
     tx: &mut Transaction<'_, S>,
     person: &PersonId,
@@ -28,7 +28,7 @@ pub(crate) fn put_grade<S: Alter>(
     record_grade(tx, person, grade)
 }
 
-// A row for a grade that is not 0.
+// Adds a row for the grade, unless it is 0.
 fn record_grade<S: Alter>(
     tx: &mut Transaction<'_, S>,
     person: &PersonId,
@@ -48,7 +48,7 @@ fn record_grade<S: Alter>(
     add_grade(tx, person, grade)
 }
 
-/// A person leaves the college after the round.
+/// Adds a person who leaves the college after the round.
 pub(crate) fn put_going<S: Alter>(
     tx: &mut Transaction<'_, S>,
     person: &PersonId,

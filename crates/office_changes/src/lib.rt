@@ -1,4 +1,4 @@
-//! The changes of an office as statements over its tables, all those of a command in one transaction.
+//! Storing the changes of an office by statements on its tables, all changes of a command in one transaction.
 #![tactic(auto)]
 
 mod cells;

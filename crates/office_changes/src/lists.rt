@@ -1,4 +1,4 @@
-//! Changes of the kept lists.
+//! Storing imported lists.
 ghost use Rattle.std.specs.Prelude.{◌≡◌, OnOk};
 ghost use Rattle.sqlite.specs.Held.{state};
 ghost use Rattle.office_state.specs.declared.change.Change.TheVariants.{KeepList};
@@ -10,7 +10,7 @@ use office_tables::lists::add_list;
 use room_types::{Label, ListKind, Listing};
 use sqlite::{Alter, Error, Transaction};
 
-/// A list is kept under a label, and added so many records.
+/// Stores an imported list under its label, with the number of records that it added.
 pub(crate) fn keep_list<S: Alter>(
     tx: &mut Transaction<'_, S>,
     label: &Label,

@@ -1,4 +1,4 @@
-//! Changes of the people.
+//! Storing people.
 ghost use Rattle.std.specs.Prelude.{◌≡◌, OnOk};
 ghost use Rattle.sqlite.specs.Held.{state};
 ghost use Rattle.office_state.specs.declared.change.Change.TheVariants.{PutPerson, DropPerson, PutHome, PutWithdrawn};
@@ -11,7 +11,7 @@ use office_tables::people::{add_person, drop_person, set_home, set_withdrawn};
 use room_types::{Key, Name, PersonId, RoomCode};
 use sqlite::{Alter, Error, Transaction};
 
-/// A person is added, of an identifier that nobody has.
+/// Adds a person, whose identifier has to be new.
 pub(crate) fn put_person<S: Alter>(
     tx: &mut Transaction<'_, S>,
     person: &PersonId,
@@ -32,7 +32,7 @@ pub(crate) fn put_person<S: Alter>(
     add_person(tx, person, name, key, home)
 }
 
-/// A person is no longer there, and has no grade.
+/// Deletes a person and their grade.
 pub(crate) fn remove_person<S: Alter>(
     tx: &mut Transaction<'_, S>,
     person: &PersonId,
@@ -47,7 +47,7 @@ pub(crate) fn remove_person<S: Alter>(
     drop_person(tx, person)
 }
 
-/// A person, if known, lives there, or nowhere.
+/// Sets or clears a person's home. Does nothing if the person is unknown.
 pub(crate) fn put_home<S: Alter>(
     tx: &mut Transaction<'_, S>,
     person: &PersonId,
@@ -63,7 +63,7 @@ pub(crate) fn put_home<S: Alter>(
     set_home(tx, person, home)
 }
 
-/// A person has withdrawn from the round.
+/// Marks a person as withdrawn from the round. Does nothing if the person is unknown.
 pub(crate) fn put_withdrawn<S: Alter>(
     tx: &mut Transaction<'_, S>,
     person: &PersonId,

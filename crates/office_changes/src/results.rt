@@ -1,4 +1,4 @@
-//! Changes of the results and the moves.
+//! Storing results and moves.
 ghost use Rattle.std.specs.Prelude.{◌≡◌, OnOk};
 ghost use Rattle.sqlite.specs.Held.{state};
 ghost use Rattle.office_state.specs.declared.change.Change.TheVariants.{PutResult, AddMove};
@@ -11,7 +11,7 @@ use office_tables::results::add_result;
 use room_types::{Move, PersonId, RoomCode};
 use sqlite::{Alter, Error, Transaction};
 
-/// A person, who has no result yet, gets this room, or none.
+/// Adds the result of a person who has none yet: this room, or none.
 pub(crate) fn put_result<S: Alter>(
     tx: &mut Transaction<'_, S>,
     person: &PersonId,
@@ -28,7 +28,7 @@ pub(crate) fn put_result<S: Alter>(
     add_result(tx, person, room)
 }
 
-/// A person has moved.
+/// Adds a move.
 pub(crate) fn record_move<S: Alter>(tx: &mut Transaction<'_, S>, moved: &Move) -> Result<(), Error>
     ensures same_reference { tx.new.conn.ghost_name ≡ tx.old.conn.ghost_name }
     ensures made { OnOk result

@@ -1,4 +1,4 @@
-//! Changes of the rooms.
+//! Storing rooms.
 ghost use Rattle.std.specs.Prelude.{◌≡◌, OnOk};
 ghost use Rattle.sqlite.specs.Held.{state};
 ghost use Rattle.office_state.specs.declared.change.Change.TheVariants.{PutRoom};
@@ -11,8 +11,8 @@ use office_tables::rooms::{add_room, set_shut};
 use room_types::RoomCode;
 use sqlite::{Alter, Error, Transaction};
 
-/// A room is there, and is shut or not. A room that people list or live in can't be taken out of its table, so a room
-/// that `first` knows is changed where it is.
+/// Adds a room, or sets its `shut` flag if `first` knows it. A room that people list or live in can't be deleted, so a
+/// known room is changed in place.
 pub(crate) fn put_room<S: Alter>(
     tx: &mut Transaction<'_, S>,
     first: &Office,

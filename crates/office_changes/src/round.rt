@@ -1,4 +1,4 @@
-//! Changes of the round.
+//! Storing the round.
 ghost use Rattle.std.specs.Prelude.{◌≡◌, OnOk};
 ghost use Rattle.sqlite.specs.Held.{state};
 ghost use Rattle.office_state.specs.declared.change.Change.TheVariants.{PutRound, ClearRound};
@@ -11,7 +11,7 @@ use office_tables::rounds::set_round;
 use room_types::Phase;
 use sqlite::{Alter, Error, Transaction};
 
-/// The round has this number and phase.
+/// Sets the number and the phase of the round.
 pub(crate) fn put_round<S: Alter>(
     tx: &mut Transaction<'_, S>,
     number: u16,
@@ -26,7 +26,7 @@ pub(crate) fn put_round<S: Alter>(
     set_round(tx, number, phase)
 }
 
-/// Lists, withdrawals, leavers, words and results go.
+/// Deletes lists, withdrawals, leavers, words and results.
 pub(crate) fn clear_round<S: Alter>(tx: &mut Transaction<'_, S>) -> Result<(), Error>
     ensures same_reference { tx.new.conn.ghost_name ≡ tx.old.conn.ghost_name }
     ensures made { OnOk result

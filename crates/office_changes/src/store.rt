@@ -1,4 +1,4 @@
-//! The changes of a command, all of them stored in one transaction.
+//! Storing all changes of a command in one transaction.
 ghost use Rattle.std.specs.Prelude.{◌≡◌, false, OnOk, OnErr, IsTrue};
 ghost use Rattle.sqlite.specs.Held.{state};
 ghost use Rattle.sqlite.specs.State.{HasCleanDisk};
@@ -17,11 +17,11 @@ use office_state::{Change, Office};
 use sqlite::{Alter, Connection, Error, Transaction};
 use std::alloc::Global;
 
-/// Stores changes of an office whose rows the tables are: all of them in one transaction, or none.
+/// Stores changes of the office whose rows the tables hold: all of them in one transaction, or none.
 ///
-/// Where it succeeds, the connection is open, and the tables are the rows of the office after the changes, if these
-/// fit. Where it fails, for a fault of the disk, want of memory, or a change that the tables refuse, they are as they
-/// were, unless a fault shut the connection.
+/// On success the connection is open, and if the changes fit, the tables hold the rows of the office after them. On
+/// failure, which is a fault of the disk, an allocation that fails, or a change that the tables refuse, the tables are
+/// unchanged, unless a fault closed the connection. Both presuppose a disk that returns what was written to it.
 pub fn store_changes<S: Alter>(
     alloc: Global,
     conn: &mut Connection<S>,
@@ -47,7 +47,7 @@ pub fn store_changes<S: Alter>(
     Ok(())
 }
 
-// Makes the changes in turn.
+// Applies the changes in order.
 fn make_all<S: Alter>(
     alloc: Global,
     tx: &mut Transaction<'_, S>,
@@ -66,7 +66,7 @@ fn make_all<S: Alter>(
     Ok(())
 }
 
-// Makes one change.
+// Applies one change.
 fn make_change<S: Alter>(
     alloc: Global,
     tx: &mut Transaction<'_, S>,

@@ -1,4 +1,4 @@
-//! Changes of the words.
+//! Storing drawn words.
 ghost use Rattle.std.specs.Prelude.{◌≡◌, OnOk};
 ghost use Rattle.sqlite.specs.Held.{state};
 ghost use Rattle.office_state.specs.declared.change.Change.TheVariants.{PutWord};
@@ -11,7 +11,7 @@ use room_types::{PersonId, Word};
 use sqlite::{Alter, Error, Transaction};
 use std::alloc::Global;
 
-/// A person, who has none yet, drew this word.
+/// Adds the word of a person who has none yet.
 pub(crate) fn put_word<S: Alter>(
     alloc: Global,
     tx: &mut Transaction<'_, S>,

@@ -1,4 +1,4 @@
-//! The program `rooms`: its words and its streams are handed to what carries them out.
+//! The program `rooms`: passes its arguments and its standard streams to `carry_out`.
 #![tactic(auto)]
 
 ghost use Rattle.std.specs.Prelude.{◌≡◌, ◌<◌, IfOk, OnErr, drop, length, map, string_bytes};
@@ -24,7 +24,7 @@ fn main(rt: HostRuntime) -> ExitCode {
     ExitCode::from(status)
 }
 
-// The words that the system gives, the program's name first. Words that are not UTF-8 are not understood.
+// The arguments from the system, the program's name first. Arguments that are not UTF-8 are not understood.
 fn words_of_main(rt: &HostRuntime) -> Result<Vec<String>, WordFault> {
     match env::args(rt) {
         Ok(words) => {
@@ -38,7 +38,7 @@ fn words_of_main(rt: &HostRuntime) -> Result<Vec<String>, WordFault> {
     }
 }
 
-// The words after the program's name, as texts. Memory is taken only where there are any.
+// The arguments after the program's name, as texts. Allocates only if there are any.
 fn texts_after_name<'a>(alloc: Global, words: &'a [String]) -> Result<Vec<&'a str>, AllocError>
     ensures texts { IfOk result
         (λ texts. map (λ text. text.now) texts.items ≡ drop 1 (map string_bytes words.now)) }

@@ -1,4 +1,4 @@
--- Lemmas on lists that come in.
+-- Lemmas on imports.
 pub mod Import
 pub mod Indexed
 pub mod ListChecks

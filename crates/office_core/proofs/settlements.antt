@@ -1,4 +1,4 @@
--- Lemmas on settlements.
+-- Lemmas on settling a round.
 pub mod Moving
 pub mod Recorded
 pub mod Settle

@@ -1,4 +1,4 @@
--- The command table: what each command is refused for, what it does, and what it answers.
+-- The command table: the refusals of each command, its effect and its reply.
 use Rattle.std.specs.Prelude.{List, Option}
 pub mod AddPerson
 pub mod AddRoom
@@ -47,7 +47,7 @@ use Rattle.office_core.specs.Command.Settle as settle
 use Rattle.office_core.specs.Command.Shut as shut
 use Rattle.office_core.specs.Command.Withdraw as withdraw
 
--- each refusal of a command, in the order of its line
+-- the refusals of a command, in their order
 abbrev pub checks : Office → Command → List Check
 checks office (command.AddRoom room) = add_room.checks office room
 checks office (command.AddPerson person name key home) =

@@ -1,4 +1,4 @@
--- Words that only the contracts of private functions use.
+-- Definitions that only the contracts of private functions use.
 pub mod Formed
 pub mod Passes
 pub mod Tries

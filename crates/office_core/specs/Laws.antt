@@ -1,4 +1,4 @@
--- What holds of the results of a round while commands are accepted.
+-- How commands affect a round that has results.
 use Rattle.std.specs.Prelude.{◌≡◌, Bool, true, false}
 use Rattle.office_state.specs.Office.Phases.{has_results}
 use Rattle.office_state.specs.Round.Laws.{HaveSameEntries}
@@ -6,13 +6,13 @@ use Rattle.office_state.specs.declared.office.Office.{Office}
 use Rattle.office_core.specs.declared.command.Command.{Command}
 use Rattle.office_core.specs.declared.command.Command.TheVariants as command
 
--- whether a command ends the round
+-- the command ends the round
 abbrev pub ends_round : Command → Bool
 ends_round command.Settle = true
 ends_round command.Cancel = true
 ends_round _ = false
 
--- the round goes on: entries, number and results stay, and there are results still
+-- the round goes on with the same entries, number and results, and its phase still has results
 pub record KeepsResults (one other : Office) : Type 0 where
   pub entries : HaveSameEntries one other
   pub number : one.number ≡ other.number

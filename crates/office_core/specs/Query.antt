@@ -1,4 +1,4 @@
--- The query table: what each query is answered.
+-- The query table: the answer to each query.
 use Rattle.std.specs.Prelude.{Result}
 pub mod Answer
 pub mod Me
@@ -23,7 +23,7 @@ use Rattle.office_core.specs.Query.Rooms as rooms
 use Rattle.office_core.specs.Query.Round as round
 use Rattle.office_core.specs.Query.WhatIf as what_if
 
--- the reply, or the refusal
+-- the reply to a query, or its refusal
 abbrev pub told : Office → Query → Result Reply Refusal
 told office query.Rooms = rooms.told office
 told office query.People = people.told office
@@ -34,7 +34,7 @@ told office (query.Moves number) = moves.told office number
 told office (query.Me key) = me.told office key
 told office (query.WhatIf person choices) = what_if.told office person choices
 
--- nobody gains by another list
+-- if the query is `WhatIf`, the reply shows no gain by another list
 abbrev pub GainsNothing : Office → Query → Reply → Type 0
 GainsNothing office (query.WhatIf person choices) reply = what_if.GainsNothing office person reply
 GainsNothing office _ reply = Unit {0}

@@ -13,6 +13,7 @@ use Rattle.office_core.specs.declared.refusal.Refusal.TheVariants.{ListDiffers, 
 use Rattle.office_core.specs.declared.refusal.Refusal.TheVariants.{NoSuchRound, NotShut}
 use Rattle.office_core.specs.declared.refusal.Refusal.TheVariants.{OutOfMemory, Going}
 
+-- the number of a refusal
 abbrev pub number_of : Refusal → ℕ
 number_of (BadPhase phase) = 1
 number_of UnknownPerson = 2
@@ -35,6 +36,7 @@ number_of NotShut = 18
 number_of OutOfMemory = 19
 number_of Going = 24
 
+-- the name of a refusal
 abbrev pub name_of : Refusal → List ℕ
 name_of (BadPhase phase) = codes "BadPhase"
 name_of UnknownPerson = codes "UnknownPerson"

@@ -1,11 +1,10 @@
--- What holds of every reply.
+-- An invariant of replies.
 use Rattle.std.specs.Prelude.{⊤}
 use Rattle.room_types.specs.Ascending.{AscendsBy}
 use Rattle.office_core.specs.declared.reply.Reply.{Reply}
 use Rattle.office_core.specs.declared.reply.Reply.TheVariants as reply
 
--- rows of rooms ascend by code, rows of people and of results by identifier, and no two have the
--- same
+-- rows of rooms ascend strictly by code, and rows of people and of results by identifier
 abbrev pub RowsAscend : Reply → Type 0
 RowsAscend reply.Done = ⊤
 RowsAscend (reply.Shut displaced) = ⊤

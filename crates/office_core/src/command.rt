@@ -1,4 +1,4 @@
-//! What the office is asked to do.
+//! Commands of the office.
 pub mod add_person;
 pub mod add_room;
 pub mod cancel;
@@ -23,7 +23,7 @@ pub mod withdraw;
 
 use room_types::{Choices, Grade, Key, Label, ListKind, Listing, Name, PersonId, RoomCode, Word};
 
-/// A command of the office, or of a resident.
+/// A command by the office or by a resident.
 #[derive(Drop)]
 pub enum Command {
     /// Adds a room that is not shut.
@@ -42,7 +42,7 @@ pub enum Command {
         person: PersonId,
         room: RoomCode,
     },
-    /// Ends a tenancy: the person has no home from then on.
+    /// Ends a tenancy: the person then has no home.
     Leave {
         person: PersonId,
     },
@@ -50,11 +50,11 @@ pub enum Command {
     Remove {
         person: PersonId,
     },
-    /// Shuts a room, whose tenancy ends.
+    /// Takes a room out of use and ends its tenancy.
     Shut {
         room: RoomCode,
     },
-    /// Opens a shut room again.
+    /// Brings a shut room back into use.
     Reopen {
         room: RoomCode,
     },
@@ -71,7 +71,7 @@ pub enum Command {
     },
     /// Makes the lists final.
     CloseRound,
-    /// Gives each participant a word, by identifier.
+    /// Gives each participant a lottery number, in ascending order of identifier.
     Draw {
         words: Listing<Word>,
     },
@@ -79,12 +79,11 @@ pub enum Command {
     Run,
     /// Shows each participant the result.
     Publish,
-    /// Moves each participant whose home changes to the room of the result, and whoever leaves the college out, and ends
-    /// the round.
+    /// Moves each participant whose home changes to the new room, moves out those who leave the college, and ends the round.
     Settle,
-    /// Gives the round up.
+    /// Cancels the round.
     Cancel,
-    /// Adds what a list tells, all of it or nothing, and keeps the list under its label.
+    /// Adds the records of a list, all of them or none, and stores the list under its label.
     Import {
         label: Label,
         kind: ListKind,
@@ -95,7 +94,7 @@ pub enum Command {
         person: PersonId,
         grade: Grade,
     },
-    /// Has a person leave the college after the round, and gives the room to the round.
+    /// Records that a person leaves the college after the round, which gives away the person's room.
     Going {
         person: PersonId,
     },

@@ -1,5 +1,4 @@
-//! What the office of a college's room exchange is asked to do and to tell: commands that change it, queries that it
-//! answers, replies and refusals.
+//! The office of a college's room exchange: commands that change it, queries that read it, replies and refusals.
 #![tactic(auto)]
 
 mod command;

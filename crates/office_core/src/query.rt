@@ -1,4 +1,4 @@
-//! What the office is asked.
+//! Queries of the office.
 pub mod answer;
 pub mod me;
 pub mod moves;
@@ -11,7 +11,7 @@ pub mod what_if;
 
 use room_types::{Choices, Key, PersonId};
 
-/// A question of the office, or of a resident.
+/// A query by the office or by a resident.
 #[derive(Drop)]
 pub enum Query {
     /// The rooms by code.
@@ -21,9 +21,9 @@ pub enum Query {
     /// The last round's number and the phase, how many people there are, how many have withdrawn, and how many leave the
     /// college.
     Round,
-    /// The participants in the drawn order, with their words and grades.
+    /// The participants in the drawn order, with their lottery numbers and grades.
     Order,
-    /// What the participants get.
+    /// The results of the participants.
     Results,
     /// The moves of the round of this number.
     Moves(u16),

@@ -1,4 +1,4 @@
-//! Why a command or a query is refused.
+//! Refusals of commands and queries.
 ghost use Rattle.std.specs.Prelude.{◌≡◌, ◌⊎◌};
 ghost use Rattle.office_core.specs.Refusal.{number_of, name_of};
 
@@ -8,24 +8,24 @@ use office_lists::{Cause, ListFault};
 use room_types::{OutOfMemory, Phase, RoomCode};
 use std::alloc::{AllocError, AllocFailed};
 
-/// Why a command or a query is refused. Nothing is changed by it.
+/// Why a command or a query is refused. A refusal changes nothing.
 #[derive(Debug, Drop)]
 pub enum Refusal {
-    /// Not in this phase.
+    /// Not allowed in this phase.
     BadPhase(Phase),
     /// Nobody has this identifier, or this key.
     UnknownPerson,
     /// No room has this code.
     UnknownRoom(RoomCode),
-    /// There is a room of this code.
+    /// There already is a room with this code.
     DuplicateRoom,
-    /// Somebody has this identifier.
+    /// Somebody already has this identifier.
     DuplicatePerson,
-    /// Somebody has this key.
+    /// Somebody already has this key.
     KeyInUse,
     /// The room is out of use.
     RoomShut(RoomCode),
-    /// Somebody lives there.
+    /// Somebody lives in the room.
     RoomTaken,
     /// The person has a home.
     HasHome,
@@ -33,28 +33,28 @@ pub enum Refusal {
     NoHome,
     /// The person has withdrawn from the round.
     Withdrawn,
-    /// There are `want` participants, and `got` words.
+    /// There are `want` participants, but `got` lottery numbers.
     WrongWordCount { want: usize, got: usize },
-    /// There are as many rooms, people, rounds or kept lists as there may be, or the list is too long.
+    /// The limit of rooms, people, rounds or stored lists is reached, or the list is too long.
     LimitReached,
-    /// Another list is kept under this label.
+    /// A different list is stored under this label.
     ListDiffers,
-    /// Record `at` of the list is bad, where the header is record 0.
+    /// Record `at` of the list is bad. The header is record 0.
     BadRecord { at: u32, cause: Cause },
-    /// The person takes no part in the round, and so has no place in the order.
+    /// The person does not take part in the round, and so has no place in the order.
     NotInRound,
     /// No round of this number is over: it is 0, has not begun, or is still under way.
     NoSuchRound,
     /// The room is not shut.
     NotShut,
-    /// Memory was refused.
+    /// An allocation failed.
     OutOfMemory,
     /// The person leaves the college after the round.
     Going,
 }
 
 impl Refusal {
-    /// The refusal's number. It is printed, but for that of `OutOfMemory`.
+    /// Returns the number of the refusal. It is printed, except for `OutOfMemory`.
     pub fn number(&self) -> u8
         ensures { result ≡ number_of self.now }
     {
@@ -82,7 +82,7 @@ impl Refusal {
         }
     }
 
-    /// The refusal's name. It is printed, but for that of `OutOfMemory`.
+    /// Returns the name of the refusal. It is printed, except for `OutOfMemory`.
     pub fn name(&self) -> &'static str
         ensures { result.now ≡ name_of self.now }
     {
@@ -111,7 +111,7 @@ impl Refusal {
     }
 }
 
-/// `UnknownRoom` with a copy of the code, or `OutOfMemory`.
+/// Returns `UnknownRoom` with a copy of the code, or `OutOfMemory` if it cannot be copied.
 pub(crate) fn refusal_of_unknown_room(room: &RoomCode) -> Refusal
     ensures { (result ≡ Refusal.UnknownRoom room.now) ⊎ (result ≡ Refusal.OutOfMemory) }
 {
@@ -121,7 +121,7 @@ pub(crate) fn refusal_of_unknown_room(room: &RoomCode) -> Refusal
     }
 }
 
-/// `RoomShut` with a copy of the code, or `OutOfMemory`.
+/// Returns `RoomShut` with a copy of the code, or `OutOfMemory` if it cannot be copied.
 pub(crate) fn refusal_of_shut_room(room: &RoomCode) -> Refusal
     ensures { (result ≡ Refusal.RoomShut room.now) ⊎ (result ≡ Refusal.OutOfMemory) }
 {

@@ -1,10 +1,10 @@
-//! What commands and queries are answered.
+//! Replies to commands and queries.
 use room_types::{
     Choices, Grade, Listing, Move, Name, PersonId, PersonRow, Phase, ResultRow, RoomCode, RoomRow,
     Word,
 };
 
-/// A participant, with the word that was drawn and the grade.
+/// A participant, with the lottery number and the grade.
 #[derive(Debug, Drop)]
 pub struct OrderRow {
     pub word: Word,
@@ -12,7 +12,7 @@ pub struct OrderRow {
     pub grade: Grade,
 }
 
-/// What a person sees.
+/// What a person sees of the office.
 #[derive(Debug, Drop)]
 pub struct Standing {
     pub person: PersonId,
@@ -21,27 +21,27 @@ pub struct Standing {
     /// The number of the last round.
     pub round: u16,
     pub phase: Phase,
-    /// The recorded list; the empty one where none is recorded.
+    /// The recorded list; empty if none is recorded.
     pub choices: Choices,
     pub withdrawn: bool,
     /// Whether the person leaves the college after the round.
     pub going: bool,
-    /// Whether the result is there to be seen: it is published, and the person takes part.
+    /// Whether the result is visible: it is published, and the person takes part in the round.
     pub shown: bool,
-    /// The room that the person gets, where it is shown; none for no room.
+    /// The room that the person gets; `None` for no room, or if the result is not shown.
     pub result: Option<RoomCode>,
 }
 
 /// The reply to a command that was accepted, or to a query.
 #[derive(Debug, Drop)]
 pub enum Reply {
-    /// The command is carried out, and there is no more to say.
+    /// The command is accepted; there is nothing else to report.
     Done,
-    /// The room is shut; `displaced` lived there, if anybody did.
+    /// The room is shut; `displaced` is the tenant who lived there, if any.
     Shut {
         displaced: Option<PersonId>,
     },
-    /// The round of this number has begun.
+    /// The round with this number is open.
     Opened {
         round: u16,
     },
@@ -49,13 +49,13 @@ pub enum Reply {
     Chosen {
         choices: Choices,
     },
-    /// The person takes no part in the round.
+    /// The person does not take part in the round.
     Withdrawn,
-    /// The lists are final, and so many people take part.
+    /// The lists are final; this number of people take part.
     Closed {
         participants: usize,
     },
-    /// Each participant has a word.
+    /// Each participant has a lottery number.
     Drawn {
         participants: usize,
     },
@@ -67,13 +67,13 @@ pub enum Reply {
     Published {
         participants: usize,
     },
-    /// So many people move.
+    /// This number of people move.
     Settled {
         moves: usize,
     },
-    /// The round is given up.
+    /// The round is cancelled.
     Cancelled,
-    /// The list has added so many records, now or when it first came.
+    /// The list has this number of records, which were added now or when it was first imported.
     Added {
         count: u16,
     },
@@ -91,13 +91,13 @@ pub enum Reply {
     },
     /// The participants, in the drawn order.
     Order(Listing<OrderRow>),
-    /// What the participants get, by identifier.
+    /// The results of the participants, by identifier.
     Results(Listing<ResultRow>),
     /// The moves of a round, by identifier.
     Moves(Listing<Move>),
     /// What the person of a key sees.
     Me(Standing),
-    /// The room that the other list would give, or none for no room.
+    /// The room that the other list would give; `None` for no room.
     WouldGet(Option<RoomCode>),
     /// The person leaves the college after the round.
     Going,

@@ -1,4 +1,4 @@
-//! Making an office in a database.
+//! Creating an office in a database.
 ghost use Rattle.std.specs.Prelude.{◌≡◌, ◌≢◌, false, Err, OnOk, OnErr, IfErr, IsTrue};
 ghost use Rattle.sqlite.specs.Held.{state};
 ghost use Rattle.sqlite.specs.State.{HasCleanDisk};
@@ -15,22 +15,23 @@ use office_tables::rounds::add_round;
 use room_types::Phase;
 use sqlite::{Alter, Connection, Error, Transaction};
 
-/// Why no office was made.
+/// Why no office was created.
 #[derive(Clone, Copy, Debug, PartialEq, Eq, Drop)]
 pub enum CreateFault {
-    /// The database or memory did not serve, or something is declared, though under none of the ten names.
+    /// The database or an allocation failed, or something is declared, though under none of the ten names.
     Unavailable,
     /// A table, an index, a view or a trigger has the name of one of the ten tables of an office.
     AlreadyThere,
 }
 
-/// Makes the tables of an office with nothing in it, all of them or none, in a database where nothing is declared.
+/// Creates the tables of an empty office, all of them or none, in a database where nothing is declared.
 ///
 /// # Errors
 ///
-/// `AlreadyThere` exactly where one of the names is taken. Else `Unavailable`, where something else is declared, or
-/// where the database or memory did not serve. The tables are then as they were, unless a fault shut the connection or, over a
-/// file, the disk did not return what was written. Where anything is declared, no statement runs.
+/// `AlreadyThere` if and only if one of the names is taken. Otherwise `Unavailable`, if something else is declared, or
+/// if the database or an allocation fails. After an error the tables are unchanged, unless a fault closed the
+/// connection or, for a file, the disk did not return what was written to it. If anything is declared, no statement
+/// runs.
 pub fn create<S: Alter>(conn: &mut Connection<S>) -> Result<(), CreateFault>
     requires { conn.old.in_transaction ≡ false }
     ensures outside { conn.new.in_transaction ≡ false }
@@ -62,7 +63,7 @@ pub fn create<S: Alter>(conn: &mut Connection<S>) -> Result<(), CreateFault>
     }
 }
 
-// All in one transaction.
+// Creates the office in one transaction.
 fn start_office<S: Alter>(conn: &mut Connection<S>) -> Result<(), Error>
     requires { conn.old.in_transaction ≡ false }
     ensures outside { conn.new.in_transaction ≡ false }
@@ -81,7 +82,7 @@ fn start_office<S: Alter>(conn: &mut Connection<S>) -> Result<(), Error>
     Ok(())
 }
 
-// The tables, and the row of a round that has not begun.
+// Creates the tables, and adds the row of a round that has not begun.
 fn start<S: Alter>(tx: &mut Transaction<'_, S>) -> Result<(), Error>
     ensures same_reference { tx.new.conn.ghost_name ≡ tx.old.conn.ghost_name }
     ensures made { OnOk result

@@ -1,4 +1,4 @@
-//! An office with nothing in it, made in a database where nothing is declared.
+//! Creating an empty office in a database where nothing is declared.
 #![tactic(auto)]
 
 pub mod creation;

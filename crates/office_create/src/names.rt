@@ -1,4 +1,4 @@
-//! What is declared in a database.
+//! Checking what a database declares.
 ghost use Rattle.std.specs.Prelude.{◌≡◌, Decides};
 ghost use Rattle.office_create.specs.Names.{is_taken};
 ghost use Rattle.office_tables.specs.Schema.{no_schema};
@@ -6,8 +6,8 @@ ghost use Rattle.office_tables.specs.Schema.{no_schema};
 use sqlite_catalog::layout::is_used;
 use sqlite_schema::schema::Schema;
 
-/// Whether a table, an index, a view or a trigger has the name of a table of an office. A trigger is listed among the views, as
-/// a table is that the engine does not understand.
+/// Whether a table, index, view or trigger has the name of one of an office's tables. A trigger is listed among the
+/// views, and so is a table that the engine does not understand.
 pub(crate) fn is_created_table_blocked(schema: &Schema) -> bool
     ensures { result ≡ is_taken schema.now }
 {

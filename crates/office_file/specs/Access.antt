@@ -3,7 +3,7 @@ use Rattle.std.specs.Prelude.{ℕ, List}
 use Rattle.sqlite_trees.specs.declared.store.Store.{Ghosts}
 use Rattle.sqlite.specs.Held.{Held}
 
--- What a database shows, and what a place of files does: it opens the file of a path and makes it where it is missing, opens one
+-- What a database shows, and what a place of files does: it opens the file of a path and creates it if it is missing, opens one
 -- that is there, fails to open one, and closes a connection. Each relates a state of the place to the next.
 pub record FileAccess (F S : Type 0) : Type 1 where
   pub base : Ghosts S

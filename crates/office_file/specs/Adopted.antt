@@ -1,4 +1,4 @@
--- An office that is found in a file, and why there is none.
+-- An office that is found in a file, and why none is found.
 use Rattle.std.specs.Prelude.{◌≡◌, ◌⊎◌, ℕ, ℤ, List, false, IfErr, IsSome, Result, Some}
 use Rattle.sqlite.specs.Held.{Held, state}
 use Rattle.sqlite.specs.State.{HasCleanDisk}
@@ -18,25 +18,25 @@ use Rattle.office_tables.specs.declared.layouts.Layout.{Layout}
 use Rattle.office_tables.specs.declared.layouts.Layout.TheVariants.{Own}
 
 module _ {S : Type 0} (g : Ghosts S) where
-  -- The database of the connection holds the rows of an office, and the desk shows that office, where the disk returned what
-  -- was written and the tables are declared as those of an office.
+  -- The database of the connection holds the rows of an office, and the desk shows that office, if the disk returned what was
+  -- written and the tables are declared as those of an office.
   abbrev pub ShowsFound : Held S → DeskState S → Type 0
   ShowsFound connection desk =
       HasCleanDisk (state g desk.conn) → AreDeclared (state g connection).now.schema → (layout : Layout)
       → layout_in (state g connection).now.schema ≡ Some layout → AreWhole layout (state g connection).now.trees
       → (office : Office) × HoldsOfficeIn layout (state g connection).now office × Shows g desk office
 
-  -- The tables of the desk are those that the connection had, where they stand there as this program makes them, as long as no
-  -- fault shuts the connection.
+  -- If the connection had its tables in the layout of this program, the desk has the same tables, as long as no fault closes
+  -- the connection.
   abbrev pub StaysFound : Held S → DeskState S → Type 0
   StaysFound connection desk =
       layout_in (state g connection).now.schema ≡ Some Own → IsHonest (state g desk.conn)
       → (state g desk.conn).now ≡ (state g connection).now
 
-  -- The database of a connection is refused for this, and the connection is then the other one: only as what is declared
-  -- allows, whatever the disk does (`allowed`); and only as what the tables hold allows, where they are declared as those of an
-  -- office and the disk returned what was written (`cause`). Where the row of the round says another version, it is refused for
-  -- that version, or it is unavailable (`other`). The tables are as they were.
+  -- The database of a connection is refused with this fault, and leaves the other connection. The schema allows the fault,
+  -- whatever the disk does (`allowed`). If the tables are declared as those of an office and the disk returned what was
+  -- written, the tables give the cause (`cause`). If the row of table `round` holds another version, the fault is that version
+  -- or `Unavailable` (`other`). The tables are unchanged.
   pub record RefusesFound (connection refused : Held S) (fault : DeskFault) : Type 0 where
     pub follows : Follows (state g connection) (state g refused)
     pub undone : IsHonest (state g refused) → (state g refused).now ≡ (state g connection).now
@@ -49,9 +49,9 @@ module _ {S : Type 0} (g : Ghosts S) where
         → HasCleanDisk (state g refused) → (fault ≡ Unavailable) ⊎ (fault ≡ OtherVersion version)
 
 module _ {F S : Type 0} (access : FileAccess F S) where
-  -- The desk goes on from the database that was opened, which has the tables of an office of the version of this program, and
-  -- nothing beside them. It keeps an office. It shows the one that was found, and tables that stand as this program makes them
-  -- stay as they were, each under its own premises (`shows`, `unchanged`).
+  -- The desk uses the database that was opened, which has exactly the tables of an office of the version of this program. It
+  -- caches an office. It shows the office that was found, and leaves tables in the layout of this program unchanged, each under
+  -- its own premises (`shows`, `unchanged`).
   pub record BeginsFound (files : F) (path : List ℕ) (desk : DeskState S) (files' : F) : Type 0 where
     pub connection : Held S
     pub opened : access.finds files path connection files'
@@ -61,7 +61,7 @@ module _ {F S : Type 0} (access : FileAccess F S) where
     pub shows : ShowsFound access.base connection desk
     pub unchanged : StaysFound access.base connection desk
 
-  -- the database that was opened is refused, and its connection is closed
+  -- The database that was opened is refused, and its connection is closed.
   pub record ClosesFound (files : F) (path : List ℕ) (fault : DeskFault) (files' : F) : Type 0 where
     pub connection : Held S
     pub between : F
@@ -70,7 +70,7 @@ module _ {F S : Type 0} (access : FileAccess F S) where
     pub refuses : RefusesFound access.base connection refused fault
     pub closed : access.closes between refused files'
 
-  -- the file was not opened, or what was opened is refused
+  -- The file was not opened, or the database that was opened is refused.
   abbrev pub IsFileFault : F → List ℕ → Result (DeskState S) DeskFault → F → Type 0
   IsFileFault files path result files' =
       IfErr result (λ fault. ((fault ≡ Unavailable) × access.fails files path files') ⊎ ClosesFound files path fault files')

@@ -1,4 +1,4 @@
--- An office that is made in a file, and why there is none.
+-- An office that is created in a file, and why none is created.
 use Rattle.std.specs.Prelude.{◌≡◌, ◌≢◌, ◌⊎◌, ℕ, List, IfErr, Result}
 use Rattle.sqlite.specs.Held.{Held, state}
 use Rattle.sqlite_trees.specs.declared.store.Store.{Ghosts}
@@ -11,8 +11,8 @@ use Rattle.office_tables.specs.Schema.{no_schema}
 use Rattle.office_tables.specs.Steps.{Follows, IsHonest}
 
 module _ {S : Type 0} (g : Ghosts S) where
-  -- The database of a connection is refused for this, and the connection is then the other one: `AlreadyThere` exactly where a
-  -- name is taken. Then, and where anything else is declared, no statement ran. Its tables are as they were.
+  -- The database of a connection is refused with this fault, and leaves the other connection. The fault is `AlreadyThere` if
+  -- and only if a name is taken. Then, and if the schema has anything else, no statement ran. The tables are unchanged.
   pub record RefusesNew (connection refused : Held S) (fault : DeskFault) : Type 0 where
     pub follows : Follows (state g connection) (state g refused)
     pub undone : IsHonest (state g refused) → (state g refused).now ≡ (state g connection).now
@@ -22,14 +22,14 @@ module _ {S : Type 0} (g : Ghosts S) where
         → (fault ≡ Unavailable) × (refused ≡ connection)
 
 module _ {F S : Type 0} (access : FileAccess F S) where
-  -- the desk goes on from the database that was opened, in which nothing was declared
+  -- The desk uses the database that was opened, whose schema was empty.
   pub record BeginsBlank (files : F) (path : List ℕ) (desk : DeskState S) (files' : F) : Type 0 where
     pub connection : Held S
     pub opened : access.opens files path connection files'
     pub blank : (state access.base connection).now.schema ≡ no_schema
     pub follows : Follows (state access.base connection) (state access.base desk.conn)
 
-  -- the database that was opened is refused, and its connection is closed
+  -- The database that was opened is refused, and its connection is closed.
   pub record ClosesNew (files : F) (path : List ℕ) (fault : DeskFault) (files' : F) : Type 0 where
     pub connection : Held S
     pub between : F
@@ -38,7 +38,7 @@ module _ {F S : Type 0} (access : FileAccess F S) where
     pub refuses : RefusesNew access.base connection refused fault
     pub closed : access.closes between refused files'
 
-  -- the file was not opened, or what was opened is refused
+  -- The file was not opened, or the database that was opened is refused.
   abbrev pub IsCreateFault : F → List ℕ → Result (DeskState S) DeskFault → F → Type 0
   IsCreateFault files path result files' =
       IfErr result (λ fault. ((fault ≡ Unavailable) × access.fails files path files') ⊎ ClosesNew files path fault files')

@@ -1,4 +1,4 @@
--- An office of an earlier version in a file, and why it is not brought over.
+-- An office of an earlier version in a file, and why it is not migrated.
 use Rattle.std.specs.Prelude.{◌≡◌, ◌⊎◌, ℕ, ℤ, List, false, IfErr, IsSome, IsTrue, Result, Some}
 use Rattle.sqlite.specs.Held.{Held, state}
 use Rattle.sqlite.specs.State.{HasCleanDisk}
@@ -21,7 +21,7 @@ use Rattle.office_tables.specs.Tables.{HoldsOfficeIn}
 use Rattle.office_tables.specs.declared.layouts.Layout.{Layout}
 
 module _ {S : Type 0} (g : Ghosts S) where
-  -- The database of the connection held the rows of an office of an earlier version, and the desk shows that office, where the
+  -- The database of the connection held the rows of an office of an earlier version, and the desk shows that office, if the
   -- disk returned what was written and the tables were declared as those of an office.
   abbrev pub ShowsMigrated : Held S → DeskState S → Type 0
   ShowsMigrated connection desk =
@@ -30,12 +30,12 @@ module _ {S : Type 0} (g : Ghosts S) where
       → (office : Office) × IsOfVersion (version_of layout) office × HoldsOfficeIn layout (state g connection).now office
       × Shows g desk office
 
-  -- The database of a connection is refused for this, and the connection is then the other one: only as what is declared
-  -- allows, whatever the disk does (`allowed`); and only as what the tables hold allows, where they are declared as those of an
-  -- office and the disk returned what was written (`cause`). An office of an earlier version whose tables come first, where the
-  -- name of a table that it lacks is taken, is refused for that name, or it is unavailable (`taken`). For a name it is refused only
-  -- where the rows that come first are an office's (`rows`). Where the row of the round says a version that is no earlier one, it is
-  -- refused for that version, or it is unavailable (`other`). The tables are as they were.
+  -- The database of a connection is refused with this fault, and leaves the other connection. The schema allows the fault,
+  -- whatever the disk does (`allowed`). If the tables are declared as those of an office and the disk returned what was
+  -- written, the tables give the cause (`cause`). If the database begins with the rows of an office of an earlier version and
+  -- the name of a table that it lacks is taken, the fault is `AlreadyThere` or `Unavailable` (`taken`). It is `AlreadyThere`
+  -- only if the first rows are those of an office (`rows`). If the row of table `round` holds a version that is not an earlier
+  -- one, the fault is that version or `Unavailable` (`other`). The tables are unchanged.
   pub record RefusesMigration (connection refused : Held S) (fault : DeskFault) : Type 0 where
     pub follows : Follows (state g connection) (state g refused)
     pub undone : IsHonest (state g refused) → (state g refused).now ≡ (state g connection).now
@@ -52,8 +52,8 @@ module _ {S : Type 0} (g : Ghosts S) where
         → HasCleanDisk (state g refused) → (fault ≡ Unavailable) ⊎ (fault ≡ OtherVersion version)
 
 module _ {F S : Type 0} (access : FileAccess F S) where
-  -- The desk goes on from the database that was opened, which had the tables of an earlier version, and nothing beside them. It
-  -- keeps an office, and shows the one that the tables held.
+  -- The desk uses the database that was opened, which had exactly the tables of an earlier version. It caches an office, and
+  -- shows the one that the tables held.
   pub record BeginsMigrated (files : F) (path : List ℕ) (desk : DeskState S) (files' : F) : Type 0 where
     pub connection : Held S
     pub opened : access.finds files path connection files'
@@ -62,7 +62,7 @@ module _ {F S : Type 0} (access : FileAccess F S) where
     pub kept : IsSome desk.kept
     pub shows : ShowsMigrated access.base connection desk
 
-  -- the database that was opened is refused, and its connection is closed
+  -- The database that was opened is refused, and its connection is closed.
   pub record ClosesUnmigrated (files : F) (path : List ℕ) (fault : DeskFault) (files' : F) : Type 0 where
     pub connection : Held S
     pub between : F
@@ -71,7 +71,7 @@ module _ {F S : Type 0} (access : FileAccess F S) where
     pub refuses : RefusesMigration access.base connection refused fault
     pub closed : access.closes between refused files'
 
-  -- the file was not opened, or what was opened is refused
+  -- The file was not opened, or the database that was opened is refused.
   abbrev pub IsMigrateFault : F → List ℕ → Result (DeskState S) DeskFault → F → Type 0
   IsMigrateFault files path result files' =
       IfErr result (λ fault. ((fault ≡ Unavailable) × access.fails files path files') ⊎ ClosesUnmigrated files path fault files')

@@ -7,8 +7,8 @@ use Rattle.sqlite_wal.specs.Recovery.{Image}
 use Rattle.office_file.specs.Access.{FileAccess}
 use Rattle.office_file.specs.Files.{IsOpenedOver}
 
--- A file of the system and its log held this when it was opened, where the disk returned what they held. Which file a path
--- names, whether it can be opened, and what closing does is not known.
+-- A file of the system and its log had these contents when it was opened, if the disk returned what they held. Nothing is known
+-- of which file a path names, whether it can be opened, or what closing does.
 abbrev pub system_access : {D : Type 0} {g : Ghosts D} → Image → FileAccess ⊤ (FileStore D g)
 system_access contents = record {
   base = over_files;

@@ -1,4 +1,4 @@
-//! Desks over files are closed.
+//! Closes desks over files.
 ghost use Rattle.std.specs.Prelude.{◌≡◌, IfOk, OnErr};
 
 use crate::files::Closes;

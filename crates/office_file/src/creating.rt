@@ -1,4 +1,4 @@
-//! An empty office in a file.
+//! Creates an empty office in a file.
 ghost use Rattle.std.specs.Prelude.{◌≡◌, IfOk, Some};
 ghost use Rattle.sqlite.specs.Held.{state};
 ghost use Rattle.sqlite.specs.State.{HasCleanDisk};
@@ -12,14 +12,14 @@ use office_store::{Desk, DeskFault, Unavailable};
 use sqlite::{Alter, Connection};
 use std::alloc::Global;
 
-/// A desk over the file at this path, in which it makes the tables of the empty office. The file is opened once; a missing one is
-/// made.
+/// Opens the file at this path, and creates a desk that makes the tables of the empty office in it. Opens the file once.
+/// Creates a missing file.
 ///
 /// # Errors
 ///
-/// `AlreadyThere` exactly where a table, an index, a view or a trigger of the database that was opened has one of the ten
-/// names. Else `Unavailable`: the file was not opened, other tables are there, the disk failed or memory was refused. The
-/// connection that was opened is then closed, its tables as they were.
+/// `AlreadyThere` if and only if a table, an index, a view or a trigger of the opened database has one of the ten names.
+/// `Unavailable` otherwise: the file was not opened, it has other tables, the disk failed, or memory ran out. The opened
+/// connection is then closed, with its tables unchanged.
 pub fn create_in<B: Alter, F: Files<B> + Closes<Connection<B>>>(
     alloc: Global,
     files: &mut F,

@@ -1,4 +1,4 @@
-//! Places where files of offices are kept.
+//! Where files of offices are.
 ghost use Rattle.std.specs.Prelude.{⊤};
 ghost use Rattle.sqlite_wal.specs.Files.{image_at};
 ghost use Rattle.office_file.specs.Files.{IsOpenedOver};
@@ -7,36 +7,37 @@ use crate::opening::{FileConnection, open_file, open_present_file};
 use office_store::Unavailable;
 use sqlite::{Alter, Connection, FileFrom, FileStore, Start};
 
-/// A place where files of offices are kept: each is opened by its path, as a database over the store `B`. Each call is a relation
-/// between the states of the place; generic code can show one only by that call.
+/// A place with files of offices: each is opened by its path, as a database over the store `B`. Each call is a relation between
+/// the states of the place. Generic code can establish one only by that call.
 pub trait Files<B: Alter> {
     ghost use Rattle.std.specs.Prelude.{◌≡◌, false, List, ℕ, IfOk, OnErr, ⊤};
     ghost use Rattle.sqlite.specs.Held.{Held};
 
-    /// Opening the file of this path, made where it was missing, gave this connection and led from the one state to the other.
+    /// Opening the file of this path, which was created if it was missing, gave this connection and led from the old state to
+    /// the new one.
     ghost opens: { Self → List ℕ → Held B → Self → Type 0 } = { λ _ _ _ _. ⊤ };
 
-    /// Opening the file of this path, which was there, gave this connection and led from the one state to the other.
+    /// Opening the file of this path, which was there, gave this connection and led from the old state to the new one.
     ghost finds: { Self → List ℕ → Held B → Self → Type 0 } = { λ _ _ _ _. ⊤ };
 
-    /// Opening the file of this path failed and led from the one state to the other.
+    /// Opening the file of this path failed and led from the old state to the new one.
     ghost fails: { Self → List ℕ → Self → Type 0 } = { λ _ _ _. ⊤ };
 
-    /// The database in the file of this path, which is made where it is missing.
+    /// Opens the database in the file of this path. Creates a missing file.
     ///
     /// # Errors
     ///
-    /// `Unavailable` where the file cannot be opened.
+    /// `Unavailable` if the file cannot be opened.
     fn open(&mut self, path: &str) -> Result<Connection<B>, Unavailable>
         ensures outside { IfOk result (λ connection. connection.in_transaction ≡ false) }
         ensures opened { IfOk result (λ connection. opens self.old path.now connection self.new) }
         ensures failed { OnErr result (fails self.old path.now self.new) };
 
-    /// The database in the file of this path. A missing file is not made.
+    /// Opens the database in the file of this path. Does not create a missing file.
     ///
     /// # Errors
     ///
-    /// `Unavailable` where there is no file, or it cannot be opened.
+    /// `Unavailable` if there is no file, or it cannot be opened.
     fn open_present(&mut self, path: &str) -> Result<Connection<B>, Unavailable>
         ensures outside { IfOk result (λ connection. connection.in_transaction ≡ false) }
         ensures found { IfOk result (λ connection. finds self.old path.now connection self.new) }
@@ -47,7 +48,7 @@ pub trait Files<B: Alter> {
 pub trait Closes<C> {
     ghost use Rattle.std.specs.Prelude.{⊤};
 
-    /// Closing this connection led from the one state to the other.
+    /// Closing this connection led from the old state to the new one.
     ghost closes: { Self → C → Self → Type 0 } = { λ _ _ _. ⊤ };
 
     /// Closes a connection and its file.
@@ -55,22 +56,22 @@ pub trait Closes<C> {
         ensures { closes self.old connection self.new };
 }
 
-/// The files of the system, of which one is opened: it and its log held what `S` stands for. Which file a path names is not
-/// known. It alone has the runtime, so that code which is generic in the files reaches no others.
+/// The files of the system, of which one is opened. That file and its log held what `S` represents. Which file a path names is
+/// not known. Only this type has the runtime, so code that is generic in the files cannot reach any other.
 #[derive(Drop)]
 pub struct SystemFiles<'a, S: Start> {
     opening: Option<(&'a HostRuntime, S)>,
 }
 
 impl<'a, S: Start> SystemFiles<'a, S> {
-    /// The files of the system, of which none was opened.
+    /// Creates the files of the system, of which none is opened yet.
     pub fn new(rt: &'a HostRuntime, start: S) -> Self {
         SystemFiles {
             opening: Some((rt, start)),
         }
     }
 
-    // The files of the system, of which none can be opened: for closing alone.
+    // Creates the files of the system, of which none can be opened: for closing alone.
     pub(crate) fn unopened() -> Self {
         SystemFiles { opening: None }
     }

@@ -1,4 +1,4 @@
-//! The office that a file holds.
+//! Finds the office that a file holds.
 ghost use Rattle.std.specs.Prelude.{IfOk};
 ghost use Rattle.office_file.specs.Adopted.{BeginsFound, IsFileFault};
 ghost use Rattle.office_file.specs.Access.{file_access};
@@ -8,15 +8,14 @@ use office_store::{Desk, DeskFault, Unavailable};
 use sqlite::{Alter, Connection};
 use std::alloc::Global;
 
-/// A desk over the office that the file at this path holds, whose tables are those of the version of this program, in its
-/// order or in the documented one. The file is opened once; a missing one is not made.
+/// Opens a desk over the office that the file at this path holds. Its tables have to be those of the version of this program,
+/// in this program's order or in the documented one. Opens the file once. Does not create a missing file.
 ///
 /// # Errors
 ///
-/// `NotAnOffice` and `OtherVersion` only of the database that was opened, as `Desk::adopt` tells them. Else `Unavailable`:
-/// the file was not opened, it declares something else than the tables of an office and its row of the round says no other
-/// version, the disk failed or memory was refused.
-/// The connection that was opened is then closed, its tables as they were.
+/// `NotAnOffice` and `OtherVersion` only for the database that was opened, as `Desk::adopt` returns them. `Unavailable`
+/// otherwise: the file was not opened, its schema is not exactly the tables of an office and the row of table `round` holds no
+/// other version, the disk failed, or memory ran out. The opened connection is then closed, with its tables unchanged.
 pub fn find_in<B: Alter, F: Files<B> + Closes<Connection<B>>>(
     alloc: Global,
     files: &mut F,

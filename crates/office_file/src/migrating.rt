@@ -1,4 +1,4 @@
-//! An office of an earlier version in a file.
+//! Migrates an office of an earlier version in a file.
 ghost use Rattle.std.specs.Prelude.{IfOk};
 ghost use Rattle.office_file.specs.Access.{file_access};
 ghost use Rattle.office_file.specs.Migrated.{BeginsMigrated, IsMigrateFault};
@@ -9,13 +9,13 @@ use sqlite::{Alter, Connection};
 use std::alloc::Global;
 
 /// A desk over the office of an earlier version that the file at this path holds, whose tables are made those of the
-/// version of this program. The file is opened once; a missing one is not made.
+/// version of this program. Opens the file once. Does not create a missing file.
 ///
 /// # Errors
 ///
-/// `NotAnOffice`, `OtherVersion` and `AlreadyThere` only of the database that was opened, as `Desk::migrate` answers them. Else
-/// `Unavailable`: the file was not opened, it declares something else than the tables of an office, the disk failed or memory was
-/// refused. The connection that was opened is then closed, its tables as they were.
+/// `NotAnOffice`, `OtherVersion` and `AlreadyThere` only for the database that was opened, as `Desk::migrate` returns them.
+/// `Unavailable` otherwise: the file was not opened, its schema is not the tables of an office, the disk failed, or memory ran
+/// out. The opened connection is then closed, with its tables unchanged.
 pub fn migrate_in<B: Alter, F: Files<B> + Closes<Connection<B>>>(
     alloc: Global,
     files: &mut F,

@@ -18,10 +18,10 @@ use crate::migrating::migrate_in;
 use office_store::{Desk, DeskFault};
 use sqlite::{FileFrom, FileStore, Start, Wary};
 
-/// A desk over a file of the system and its log, which held what `S` stands for.
+/// A desk over a file of the system and its log, which held what `S` represents.
 pub type FileDesk<S> = Desk<FileStore<FileFrom<S>>>;
 
-/// A desk over the file at this path, in which it makes the tables of the empty office. A missing file is made.
+/// Creates a desk over the file at this path, and makes the tables of the empty office in it. Creates a missing file.
 ///
 /// # Errors
 ///
@@ -37,7 +37,7 @@ pub fn create_file(rt: &HostRuntime, path: &str) -> Result<FileDesk<Wary>, DeskF
     create_over(rt, path, Wary)
 }
 
-/// `create_file`, whatever the file and its log held, for which `start` stands.
+/// Does what `create_file` does, for any contents of the file and its log, which `start` represents.
 ///
 /// # Errors
 ///
@@ -58,7 +58,7 @@ pub fn create_over<S: Start>(
     create_in(rt.alloc(), &mut files, path)
 }
 
-/// A desk over the office that the file at this path holds. A missing file is not made.
+/// Opens a desk over the office that the file at this path holds. Does not create a missing file.
 ///
 /// # Errors
 ///
@@ -71,7 +71,7 @@ pub fn on_file(rt: &HostRuntime, path: &str) -> Result<FileDesk<Wary>, DeskFault
     find_over(rt, path, Wary)
 }
 
-/// `on_file`, whatever the file and its log held, for which `start` stands.
+/// Does what `on_file` does, for any contents of the file and its log, which `start` represents.
 ///
 /// # Errors
 ///
@@ -85,8 +85,8 @@ pub fn find_over<S: Start>(rt: &HostRuntime, path: &str, start: S) -> Result<Fil
     find_in(rt.alloc(), &mut files, path)
 }
 
-/// A desk over the office of an earlier version that the file at this path holds, whose tables are made those of the
-/// version of this program. A missing file is not made.
+/// Opens a desk over the office of an earlier version that the file at this path holds, and makes its tables anew in the
+/// version of this program. Does not create a missing file.
 ///
 /// # Errors
 ///
@@ -99,7 +99,7 @@ pub fn migrate_file(rt: &HostRuntime, path: &str) -> Result<FileDesk<Wary>, Desk
     migrate_over(rt, path, Wary)
 }
 
-/// `migrate_file`, whatever the file and its log held, for which `start` stands.
+/// Does what `migrate_file` does, for any contents of the file and its log, which `start` represents.
 ///
 /// # Errors
 ///
@@ -117,8 +117,8 @@ pub fn migrate_over<S: Start>(
     migrate_in(rt.alloc(), &mut files, path)
 }
 
-/// Closes the file of a desk, if there is one. A caller hands the desk to here, since the proof that an open file can be dropped
-/// takes minutes in each crate that drops one.
+/// Closes the file of a desk, if there is a desk. Callers pass the desk to this function because the proof that an open file
+/// can be dropped takes minutes in each crate that drops one.
 pub fn close_file<S: Start>(desk: Result<FileDesk<S>, DeskFault>) {
     let mut files = SystemFiles::unopened();
     close(&mut files, desk);

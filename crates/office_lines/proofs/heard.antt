@@ -1,4 +1,4 @@
--- Lemmas on lines that are heard, piece by piece.
+-- Lemmas about input that is handled chunk by chunk.
 pub mod Lines
 pub mod Sessions
 pub mod Steps

@@ -1,4 +1,4 @@
--- Lemmas on rehearsals, and on runs of lines.
+-- Lemmas about rehearsals and about runs of lines.
 pub mod Rehearsals
 pub mod Runs
 pub mod Simulations

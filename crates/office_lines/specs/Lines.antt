@@ -1,56 +1,56 @@
--- The lines of the input.
+-- How the input splits into lines.
 use Rattle.std.specs.Prelude.{ℕ, Bool, List, [], ◌∷◌, ◌++◌, length, ◌==◌, nat_le}
 use Rattle.std.specs.List.{slice_split}
 
--- a line feed
+-- the byte is a line feed
 abbrev pub is_line_end : ℕ → Bool
 is_line_end byte = byte == 10
 
--- what stands between the line feeds; no line feed ends the last part
+-- the parts between line feeds; the last part is not ended by one
 abbrev pub parts_of : List ℕ → List (List ℕ)
 parts_of bytes = slice_split is_line_end bytes
 
--- all but the last
+-- the initial segment: all elements but the last
 abbrev pub front : {A : Type 0} → List A → List A
 front [] = []
 front (part ∷ []) = []
 front (part ∷ next ∷ more) = part ∷ front (next ∷ more)
 
--- the last, and nothing of an empty list
+-- the last element, or the empty one of an empty list
 abbrev pub last : List (List ℕ) → List ℕ
 last [] = []
 last (part ∷ []) = part
 last (part ∷ next ∷ more) = last (next ∷ more)
 
--- the lines that a line feed ends
+-- the lines that end at a line feed
 abbrev pub ended_lines : List ℕ → List (List ℕ)
 ended_lines bytes = front (parts_of bytes)
 
--- what follows the last line feed
+-- the bytes after the last line feed
 abbrev pub last_part : List ℕ → List ℕ
 last_part bytes = last (parts_of bytes)
 
--- the line that the end of the input ends, if it has bytes
+-- the line that the end of the input ends, if it is not empty
 abbrev pub unended : List ℕ → List (List ℕ)
 unended [] = []
 unended (byte ∷ bytes) = (byte ∷ bytes) ∷ []
 
--- the lines: one ends at a line feed, or at the end of the input
+-- all lines: each ends at a line feed or, the last one, at the end of the input
 abbrev pub lines_of : List ℕ → List (List ℕ)
 lines_of bytes = ended_lines bytes ++ unended (last_part bytes)
 
--- the longest line that is heard, without its line feed
+-- the longest line that is handled, in bytes without its line feed
 abbrev pub line_limit : ℕ
 line_limit = 65536
 
--- the line is heard
+-- the line is within the limit
 abbrev pub is_short : List ℕ → Bool
 is_short line = nat_le (length line) line_limit
 
--- how many bytes are read at once at most
+-- the greatest number of bytes that one read asks for
 abbrev pub piece_limit : ℕ
 piece_limit = 4096
 
--- how often the input is read at most
+-- the greatest number of reads
 abbrev pub read_limit : ℕ
 read_limit = 1048576

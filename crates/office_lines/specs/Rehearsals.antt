@@ -1,5 +1,5 @@
--- What a rehearsal does, on each of its endings. What is said of bytes, endings and devices holds whoever handles the requests;
--- what was handled is told by the relation `handles`.
+-- What a rehearsal does, by its ending. The parts about bytes, endings and devices hold for any handler; the relation
+-- `handles` describes what the handler does.
 use Rattle.std.specs.Prelude.{◌≡◌, ℕ, ◌+◌, ◌<◌, ◌≤◌, ◌⊎◌, true, false, List, [], ◌++◌, length, take}
 use Rattle.std.specs.List.{list_all}
 use Rattle.std.specs.Io.KnownBytes.{Consumes, IsAtEnd}
@@ -13,17 +13,17 @@ use Rattle.office_lines.specs.Lines.{is_short, line_limit, piece_limit, read_lim
 use Rattle.room_types.specs.Streams.{Input, Output, Puts}
 use Rattle.office_lines.specs.Runs.{Run, texts_of, last_is_made, greatest_status}
 
--- Why memory was wanting after these lines of what was heard, these answers and so many bytes sent: for the text of the last
--- answer, which is made in memory and has bytes, and none of them went out; or for a line that has begun and is not too long,
--- when all that was answered had gone out.
+-- Which allocation failed, given the bytes handled, their lines, the responses, and the number of bytes written. Either it
+-- was for the text of the last response, which is allocated and not empty, and no byte of that text was written. Or it was
+-- for an unfinished line within the limit, after all responses were written completely.
 abbrev pub WantsMemory : List ℕ → List (List ℕ) → List Said → ℕ → Type 0
 WantsMemory heard lines answers sent =
     ((sent ≡ length (texts_of (front answers))) × (sent < length (texts_of answers)) × (last_is_made answers ≡ true))
     ⊎ ((sent ≡ length (texts_of answers)) × (lines ≡ ended_lines heard) × (0 < length (last_part heard)) × (length (last_part heard) ≤ line_limit))
 
 module _ {H : Type 0} (handles : H → Request → Answer → H → Type 0) where
-  -- The whole input was heard, each read but the last gave a byte, and no read, write or flush failed: each of its lines was
-  -- answered in turn, all texts went out, and one flush followed, so no byte of them waits for one.
+  -- The whole input was handled: each line got its response in turn, all texts were written, and one flush followed, so no
+  -- byte is pending. No read, write or flush failed. There was at most one more read than bytes.
   pub record WholeInput (old new : H) (input input' : Input) (output output' : Output) (status : ℕ) : Type 0 where
     pub bytes : List ℕ
     pub answers : List Said
@@ -39,10 +39,11 @@ module _ {H : Type 0} (handles : H → Request → Answer → H → Type 0) wher
     pub no_write_failed : output'.failed ≡ false
     pub greatest : status ≡ greatest_status answers
 
-  -- All that was read was heard, up to less than one piece. Its lines were answered, and the first `sent` bytes of their texts went
-  -- out: all texts but the last went out whole. No line that was answered is too long. A line is ended by its line feed, or by
-  -- the end of the input where that was reached and nothing is unheard. Each read but the last gave a byte. Nothing was flushed,
-  -- but once where the end of the input was reached and all texts had gone out.
+  -- All bytes read were handled, except fewer than one chunk at the end (`ahead`). Their lines got responses, of whose
+  -- texts the first `sent` bytes were written, and every text but the last completely. No handled line is too long. A line
+  -- ends at its line feed; the last one may also end at the end of the input, if that was reached and every byte was
+  -- handled. There was at most one more read than bytes. Nothing was flushed, except once if the end of the input was
+  -- reached and all texts were written.
   pub record PartOfInput (old new : H) (input input' : Input) (output output' : Output) (sent : ℕ) : Type 0 where
     pub heard : List ℕ
     pub ahead : List ℕ
@@ -62,10 +63,10 @@ module _ {H : Type 0} (handles : H → Request → Answer → H → Type 0) wher
         ⊎ (IsAtEnd input'.remaining × (ahead ≡ []) × (lines ≡ lines_of heard) × (sent ≡ length (texts_of answers))
         × (output'.flushes ≡ counted output.flushes 1))
 
-  -- The lines that were ended before a fault were answered, none of them too long, and all their texts went out. Then a
-  -- line is too long by its last byte, though no read failed, and less than one piece is unheard; or all that was read was
-  -- heard, what has begun of a line is not too long, and a read failed or too many were made that each gave a byte. Each
-  -- read but the last gave a byte. Nothing was flushed.
+  -- The lines ended before a fault, none of them too long, got responses, and all their texts were written. Then either
+  -- a byte made a line too long, no read had failed, and fewer than one chunk of bytes was left unhandled. Or all bytes
+  -- read were handled, the unfinished line is within the limit, and a read failed or the number of reads reached
+  -- `read_limit`, and so did the number of bytes. There was at most one more read than bytes. Nothing was flushed.
   pub record WholeLines (old new : H) (input input' : Input) (output output' : Output) : Type 0 where
     pub heard : List ℕ
     pub unheard : List ℕ
@@ -82,8 +83,8 @@ module _ {H : Type 0} (handles : H → Request → Answer → H → Type 0) wher
         ⊎ ((unheard ≡ []) × (length (last_part heard) ≤ line_limit) × ((input'.failed ≡ true)
         ⊎ ((read_limit ≤ input'.reads) × (read_limit ≤ length heard))))
 
-  -- What a rehearsal did, by its ending. The writer failed where the ending is a write fault, and on no other; a failed read is
-  -- a read fault, and no other ending; and memory was wanting only where it is taken.
+  -- What a rehearsal did, by its ending. The writer has failed exactly if the ending is `WriteFault`. A read has failed
+  -- only if the ending is `ReadFault`. The ending is `NoMemory` only after one of the allocations of `WantsMemory`.
   abbrev pub Rehearses : Ending → ℕ → H → H → Input → Input → Output → Output → Type 0
   Rehearses Ended status old new input input' output output' = WholeInput old new input input' output output' status
   Rehearses ReadFault status old new input input' output output' =

@@ -12,9 +12,9 @@ use Rattle.office_words.specs.Sentences.{begins_request, sentence_of}
 use Rattle.office_texts.specs.Texts.{is_constant, text_of, answer_text_status}
 
 module _ {H : Type 0} (handles : H → Request → Answer → H → Type 0) where
-  -- What may be said of a line that says this, and who handles requests after it. Of a silent line nothing is said. What is not
-  -- understood changes nothing. Memory may be wanting for the words, before anybody handles a request; for what is not
-  -- understood only where the line begins as a request.
+  -- `Answers old sentence begins said new`: in state `old`, a handler may give this response to a line parsed so, and be in
+  -- state `new` then. A blank line gets no response. A line that is not understood changes nothing. Parsing may run out of
+  -- memory before any request is handled; for a line that is not understood, only if it begins as a request.
   abbrev pub Answers : H → Sentence → Bool → Said → H → Type 0
   Answers old Silent begins said new = (said ≡ Nothing) × (new ≡ old)
   Answers old (Asks request) begins said new =
@@ -23,28 +23,28 @@ module _ {H : Type 0} (handles : H → Request → Answer → H → Type 0) wher
   Answers old Unclear begins said new =
       ((said ≡ NotUnderstood) ⊎ ((begins ≡ true) × (said ≡ Answered Unavailable))) × (new ≡ old)
 
-  -- what may be said of a line, and who handles requests after it
+  -- `Step old line said new`: the same for an unparsed line
   abbrev pub Step : H → List ℕ → Said → H → Type 0
   Step old line said new = Answers old (sentence_of line) (begins_request line) said new
 
-  -- From the old one on, this may be said of the lines, each in turn, and the new one is left.
+  -- `Run old lines all new`: handling the lines in turn from `old` may give these responses and end in `new`.
   abbrev pub Run : H → List (List ℕ) → List Said → H → Type 0
   Run old [] [] new = new ≡ old
   Run old (line ∷ lines) (said ∷ others) new = (between : H) × Step old line said between × Run between lines others new
   Run old [] (said ∷ others) new = ⊥
   Run old (line ∷ lines) [] new = ⊥
 
--- the texts one after another
+-- the concatenated texts of the responses
 abbrev pub texts_of : List Said → List ℕ
 texts_of all = flat_map text_of all
 
--- The text of the last one is made in memory: there is one, and its text is no constant.
+-- whether there is a last response and its text is allocated, not constant
 abbrev pub last_is_made : List Said → Bool
 last_is_made [] = false
 last_is_made (said ∷ []) = not (is_constant said)
 last_is_made (said ∷ next ∷ others) = last_is_made (next ∷ others)
 
--- the greatest status, 0 without any
+-- the greatest exit status of the responses, 0 if there are none
 abbrev pub greatest_status : List Said → ℕ
 greatest_status [] = 0
 greatest_status (said ∷ others) = max (answer_text_status said) (greatest_status others)

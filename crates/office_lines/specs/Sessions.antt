@@ -1,4 +1,4 @@
--- What a rehearsal did with a part of its input: words of inner contracts and invariants.
+-- What a rehearsal does with a part of its input, for inner contracts and invariants.
 use Rattle.std.specs.Prelude.{◌≡◌, ℕ, ◌+◌, ◌-◌, ◌<◌, ◌≤◌, ◌⊎◌, Bool, true, not, max, List, [], ◌∷◌, ◌++◌, length, take, Option, if◌then◌else◌}
 use Rattle.std.specs.List.{list_all}
 use Rattle.std.specs.Io.KnownBytes.{Consumes}
@@ -14,18 +14,18 @@ use Rattle.room_types.specs.Watched.{counted}
 use Rattle.office_texts.specs.Texts.{is_constant, text_of, answer_text_status}
 use Rattle.office_lines.specs.Runs.{Run, Step, texts_of, last_is_made, greatest_status}
 
--- the lines that the bytes end, where a line has begun already
+-- the lines that the bytes end, continuing an unfinished line
 abbrev pub ended_from : List ℕ → List ℕ → List (List ℕ)
 ended_from partial_line [] = []
 ended_from partial_line (b ∷ bytes) = if is_line_end b then partial_line ∷ ended_from [] bytes else ended_from (partial_line ++ b ∷ []) bytes
 
--- what has begun after the bytes
+-- the unfinished line after the bytes
 abbrev pub partial_from : List ℕ → List ℕ → List ℕ
 partial_from partial_line [] = partial_line
 partial_from partial_line (b ∷ bytes) = if is_line_end b then partial_from [] bytes else partial_from (partial_line ++ b ∷ []) bytes
 
--- what is kept between two bytes: who handles requests, the output, what has come of a line, how many bytes were sent, and
--- the greatest status
+-- The state between two bytes: the handler, the output, the unfinished line, the number of bytes written, and the greatest
+-- exit status so far.
 pub record State (H : Type 0) : Type 0 where
   pub handler : H
   pub out : Output
@@ -42,9 +42,9 @@ state handler out session = record {
   status = session.status;
 }
 
--- How an ending fits the number of bytes sent, of those among them of the last text, of those not sent, whether the last text is
--- made in memory, and the length of the line that has begun. Memory was wanting for the last text, of which nothing went out,
--- or for the line that has begun.
+-- How an ending relates to the number of bytes written, those among them of the last text, the bytes of the texts not
+-- written, whether the last text is allocated, and the length of the unfinished line. Out of memory means that an
+-- allocation failed either for the last text, no byte of which was written, or for the unfinished line.
 abbrev pub Suits : Ending → ℕ → ℕ → ℕ → Bool → ℕ → Type 0
 Suits Ended sent of_last unsent made begun = ⊥
 Suits ReadFault sent of_last unsent made begun = (unsent ≡ 0) × (begun ≡ line_limit + 1)
@@ -52,11 +52,11 @@ Suits (WriteFault n) sent of_last unsent made begun = n ≡ sent
 Suits (NoMemory n) sent of_last unsent made begun =
     (n ≡ sent) × (((of_last ≡ 0) × (0 < unsent) × (made ≡ true)) ⊎ ((unsent ≡ 0) × (0 < begun) × (begun ≤ line_limit)))
 
--- how many of the bytes that went out are of the last text
+-- the number of written bytes that belong to the last text
 abbrev pub of_last_text : ℕ → List Said → ℕ
 of_last_text sent answers = sent - length (texts_of (front answers))
 
--- a write fault where the writer failed, and any other ending where it did not
+-- After a write fault the writer has failed; any other ending leaves its failure flag unchanged.
 abbrev pub OnlyWhereFailed : Ending → Bool → Bool → Type 0
 OnlyWhereFailed Ended failed failed' = failed' ≡ failed
 OnlyWhereFailed ReadFault failed failed' = failed' ≡ failed
@@ -64,7 +64,8 @@ OnlyWhereFailed (WriteFault n) failed failed' = failed' ≡ true
 OnlyWhereFailed (NoMemory n) failed failed' = failed' ≡ failed
 
 module _ {H : Type 0} (handles : H → Request → Answer → H → Type 0) where
-  -- The lines that the bytes ended were answered, and their texts went out.
+  -- The lines that the bytes end got responses, and the texts were written. Nothing was flushed, and the writer's failure
+  -- flag did not change.
   pub record Heard (before after : State H) (bytes : List ℕ) : Type 0 where
     pub answers : List Said
     pub partial_line : after.partial_line ≡ partial_from before.partial_line bytes
@@ -76,8 +77,8 @@ module _ {H : Type 0} (handles : H → Request → Answer → H → Type 0) wher
     pub sent : after.sent ≡ before.sent + length (texts_of answers)
     pub status : after.status ≡ max before.status (greatest_status answers)
 
-  -- The rehearsal stopped within the bytes, after the first of them or later. The lines that the bytes up to there ended were answered, and a front of their texts
-  -- went out, all but the last text whole. Nothing was flushed.
+  -- The rehearsal stopped within the bytes, after the first one or later. The lines ended up to there got responses, and a
+  -- prefix of their texts was written: all but the last text completely. Nothing was flushed.
   pub record Halted (before : State H) (ending : Ending) (handler : H) (out : Output) (bytes : List ℕ) : Type 0 where
     pub heard : List ℕ
     pub rest : List ℕ
@@ -94,7 +95,7 @@ module _ {H : Type 0} (handles : H → Request → Answer → H → Type 0) wher
     pub whole : length (texts_of (front answers)) ≤ sent
     pub suits : Suits ending (before.sent + sent) (of_last_text sent answers) unsent (last_is_made answers) (length (partial_from before.partial_line heard))
 
-  -- The line that had come was answered, and all of the text went out.
+  -- The unfinished line got a response, whose whole text was written.
   pub record Answered (before after : State H) : Type 0 where
     pub said : Said
     pub step : Step handles before.handler before.partial_line said after.handler
@@ -105,7 +106,7 @@ module _ {H : Type 0} (handles : H → Request → Answer → H → Type 0) wher
     pub sent : after.sent ≡ before.sent + length (text_of said)
     pub status : after.status ≡ max before.status (answer_text_status said)
 
-  -- The line that had come was answered, and a front of the text went out. Nothing was flushed.
+  -- The unfinished line got a response, of whose text a prefix was written. Nothing was flushed.
   pub record Broken (before : State H) (ending : Ending) (handler : H) (out : Output) : Type 0 where
     pub said : Said
     pub sent : ℕ
@@ -116,7 +117,8 @@ module _ {H : Type 0} (handles : H → Request → Answer → H → Type 0) wher
     pub all : sent + unsent ≡ length (text_of said)
     pub suits : Suits ending (before.sent + sent) sent unsent (not (is_constant said)) 0
 
-  -- The last line, if one has begun, was answered and is gone, its text went out, and the output was flushed so often in all.
+  -- The last line, if it is not empty, got a response, whose text was written. The output was flushed this many times in
+  -- all.
   pub record Finished (before after : State H) (flushes : ℕ) : Type 0 where
     pub answers : List Said
     pub run : Run handles before.handler (unended before.partial_line) answers after.handler
@@ -127,7 +129,8 @@ module _ {H : Type 0} (handles : H → Request → Answer → H → Type 0) wher
     pub sent : after.sent ≡ before.sent + length (texts_of answers)
     pub status : after.status ≡ max before.status (greatest_status answers)
 
-  -- The last line, if one has begun, was answered, and a front of its text went out. Nothing was flushed, but once after all of it.
+  -- The last line, if it is not empty, got a response, of whose text a prefix was written. Nothing was flushed, except once
+  -- if the whole text was written.
   pub record Unfinished (before : State H) (ending : Ending) (handler : H) (out : Output) : Type 0 where
     pub answers : List Said
     pub sent : ℕ
@@ -140,14 +143,14 @@ module _ {H : Type 0} (handles : H → Request → Answer → H → Type 0) wher
     pub whole : length (texts_of (front answers)) ≤ sent
     pub suits : Suits ending (before.sent + sent) (of_last_text sent answers) unsent (last_is_made answers) 0
 
-  -- All that was read was heard.
+  -- All bytes read were handled.
   pub record Listened (before after : State H) (unread unread' : Option (List ℕ)) : Type 0 where
     pub bytes : List ℕ
     pub read : Consumes unread unread' bytes
     pub heard : Heard before after bytes
 
-  -- All that was read was heard, what has begun of a line is not too long, and a read failed, or too many were made that each
-  -- gave a byte.
+  -- All bytes read were handled, and the unfinished line is within the limit. Then a read failed, or the number of reads
+  -- reached `read_limit`, and so did the number of bytes.
   pub record Cut (before : State H) (handler : H) (out : Output) (bytes : List ℕ) (input : Input) : Type 0 where
     pub after : State H
     pub heard : Heard before after bytes
@@ -156,8 +159,8 @@ module _ {H : Type 0} (handles : H → Request → Answer → H → Type 0) wher
     pub begun : length after.partial_line ≤ line_limit
     pub cause : (input.failed ≡ true) ⊎ ((read_limit ≤ input.reads) × (read_limit ≤ length bytes))
 
-  -- Why a rehearsal stopped: within the piece that was read last, without a failed read; or since no more could be read. Each
-  -- read but the last gave a byte.
+  -- Why a rehearsal stopped: within the last chunk, without a failed read; or because no more could be read. There was at
+  -- most one more read than bytes.
   pub record Stopped (before : State H) (ending : Ending) (handler : H) (out : Output) (input input' : Input) : Type 0 where
     pub bytes : List ℕ
     pub read : Consumes input.remaining input'.remaining bytes

@@ -1,4 +1,4 @@
-//! A single line, as it stands among the words of the program: heard as the line of a rehearsal is.
+//! A single line from the program's arguments, handled like a line of a rehearsal.
 ghost use Rattle.std.specs.Prelude.{◌≡◌, map};
 ghost use Rattle.room_types.specs.Streams.{output_of};
 ghost use Rattle.room_types.specs.Watched.{IsFresh, StopsAtFailure};
@@ -14,8 +14,8 @@ use room_types::Watched;
 use std::alloc::Global;
 use std::io::Write;
 
-/// Hears the line that these words are, joined by one space, and answers it on the output. Gives the exit status. Two words or
-/// more take memory to join; where it is refused, that is said, and nothing is handled.
+/// Handles the words, joined by single spaces, as one line, and prints its response. Returns the exit status. Joining two
+/// or more words allocates; if that fails, it prints `unavailable` and handles nothing.
 pub fn do_words<H: Handler, W: Write>(
     alloc: Global,
     handler: &mut H,
@@ -39,9 +39,9 @@ pub fn do_words<H: Handler, W: Write>(
     }
 }
 
-/// Hears one line, and answers it on the output. Gives the exit status: that of the line, and 3 where the output fails or
-/// memory is refused for the answer. What was handled stands then too. A text with a line feed is not understood; a line
-/// that is too long is not heard, has no answer, and the status is 3.
+/// Handles one line and prints its response. Returns the exit status of the response, or 3 if the output or an allocation
+/// for the text fails; the request has been handled even then. A text with a line feed is not understood. A line longer
+/// than `LINE_LIMIT` is not handled and prints nothing; the status is 3.
 pub fn do_line<H: Handler, W: Write>(
     alloc: Global,
     handler: &mut H,
@@ -65,14 +65,14 @@ pub fn do_line<H: Handler, W: Write>(
     tell(alloc, &said, output)
 }
 
-// Whether it holds a line feed.
+// Whether the text contains a line feed.
 fn is_heard_line_broken(text: &[u8]) -> bool
     ensures { result ≡ is_broken text.now }
 {
     text.iter().any(|byte| *byte == b'\n')
 }
 
-/// Writes what is said, and flushes. Gives its status, and 3 where the output fails or memory is refused.
+/// Writes the response and flushes. Returns its exit status, or 3 if the output or an allocation for the text fails.
 pub fn tell<W: Write>(alloc: Global, said: &Said, output: &mut Watched<W>) -> u8
     requires ascending { SaidAscends said.now }
     requires fresh { IsFresh output.old }

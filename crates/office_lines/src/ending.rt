@@ -3,20 +3,20 @@
 /// How a rehearsal ended.
 #[derive(Clone, Copy, Debug, PartialEq, Eq)]
 pub enum Ending {
-    /// The input had ended, and all was answered, written and flushed.
+    /// The input ended, and all responses were written and flushed.
     Ended,
-    /// The input could not be read, a line is too long, or too many reads were needed.
+    /// A read failed, a line is longer than `LINE_LIMIT`, or the input did not end within `READ_LIMIT` reads.
     ReadFault,
-    /// A write or the flush failed after so many bytes.
+    /// A write or the flush failed after `sent` bytes were written.
     WriteFault { sent: u128 },
-    /// Memory was refused for a line or its answer after so many bytes.
+    /// An allocation for a line or for the text of its response failed after `sent` bytes were written.
     NoMemory { sent: u128 },
 }
 
-/// The status of a rehearsal and how it ended.
+/// The exit status of a rehearsal, and how it ended.
 #[derive(Clone, Copy, Debug, PartialEq, Eq)]
 pub struct Rehearsed {
-    /// The greatest status of the lines, 0 without any, and 3 on each ending but `Ended`.
+    /// The greatest status of the lines, 0 if there are none; 3 on every ending but `Ended`.
     pub status: u8,
     pub ending: Ending,
 }

@@ -1,4 +1,4 @@
-//! What is said of a line.
+//! Handling one line.
 ghost use Rattle.office_lines.specs.Runs.{Step};
 ghost use Rattle.office_texts.specs.Texts.{SaidAscends};
 
@@ -7,7 +7,8 @@ use office_texts::Said;
 use office_words::{Sentence, read_line};
 use std::alloc::Global;
 
-/// Hears a line: who handles requests handles the one that it asks, if it asks one.
+/// Parses a line, passes its request, if any, to the handler, and returns the response. If parsing runs out of memory, the
+/// response is `Unavailable`, and the handler is not called.
 pub fn hear<H: Handler>(alloc: Global, handler: &mut H, line: &[u8]) -> Said
     requires { H.is_ready handler.old }
     ensures step { Step H.handles handler.old line.now result handler.new }

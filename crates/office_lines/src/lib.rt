@@ -1,4 +1,4 @@
-//! Lines that are heard and answered, whoever handles the requests.
+//! Lines of requests: each is parsed, handled by any `Handler`, and its response is printed.
 #![tactic(auto)]
 
 pub mod do_line;

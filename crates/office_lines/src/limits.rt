@@ -1,10 +1,10 @@
-//! How long lines may be, how much is read at once, and how often.
+//! Limits on the length of a line and on reads.
 
-/// The longest line that is heard, in bytes without its line feed.
+/// The longest line that is handled, in bytes without its line feed.
 pub const LINE_LIMIT: usize = 65536;
 
-/// How many bytes are read at once at most.
+/// The greatest number of bytes that one read asks for.
 pub const PIECE_LIMIT: usize = 4096;
 
-/// How often the input is read at most.
+/// The greatest number of reads.
 pub const READ_LIMIT: u32 = 1048576;

@@ -1,4 +1,4 @@
-//! A rehearsal: lines from a reader are heard, and answered on a writer.
+//! A rehearsal: handles lines from a reader and writes the responses.
 ghost use Rattle.std.specs.Prelude.{◌≡◌, ◌+◌, ◌^◌, ◌≤◌, length, OnOk, IfErr};
 ghost use Rattle.std.specs.Io.KnownBytes.{IsAtEnd};
 ghost use Rattle.room_types.specs.Streams.{input_of, output_of};
@@ -17,9 +17,10 @@ use room_types::Watched;
 use std::alloc::Global;
 use std::io::{Read, Write};
 
-/// Hears each line of the input, and answers it on the output. What was handled stands on every ending. Apart from what the
-/// handler takes, it takes no memory but that of one line, its words and its answer. The lines of a piece are answered
-/// before more is read, and neither the input nor the output is used after its failure, nor the input after its end.
+/// Handles each line of the input and writes the responses, which it flushes at the end of the input. Requests that were
+/// handled take effect whatever the ending. Besides what the handler allocates, it allocates only for one line, its request
+/// and its response. It handles all lines of a chunk before it reads the next. It does not use the input or the output
+/// again after a failure, nor the input after its end.
 pub fn rehearse<H: Handler, R: Read, W: Write>(
     alloc: Global,
     handler: &mut H,
@@ -56,7 +57,7 @@ pub fn rehearse<H: Handler, R: Read, W: Write>(
     }
 }
 
-// Hears the input up to its end.
+// Handles the input up to its end.
 fn listen<H: Handler, R: Read, W: Write>(
     alloc: Global,
     handler: &mut H,

@@ -1,4 +1,4 @@
-//! A text is said, with its status.
+//! Printing a text with an exit status.
 ghost use Rattle.room_types.specs.Streams.{output_of};
 ghost use Rattle.room_types.specs.Watched.{StopsAtFailure};
 ghost use Rattle.office_lines.specs.Saying.{Says, SaysUnavailable};
@@ -8,7 +8,7 @@ use room_types::Watched;
 use room_types::send::send;
 use std::io::Write;
 
-/// Writes the text and flushes. The exit status is this one, and 3 where the device fails.
+/// Writes the text and flushes. Returns `status`, or 3 if the device fails.
 pub fn say<W: Write>(output: &mut Watched<W>, text: &str, status: u8) -> u8
     ensures no_wasted_write { StopsAtFailure output.old output.new }
     ensures says { Says text.now status result (output_of W.contents output.old)
@@ -23,7 +23,7 @@ pub fn say<W: Write>(output: &mut Watched<W>, text: &str, status: u8) -> u8
     }
 }
 
-/// Says that memory or the database did not serve, and flushes. The exit status is 3.
+/// Prints `unavailable`, because an allocation or the database failed. Returns exit status 3.
 pub fn say_line_unavailable<W: Write>(output: &mut Watched<W>) -> u8
     ensures no_wasted_write { StopsAtFailure output.old output.new }
     ensures says { SaysUnavailable result (output_of W.contents output.old)

@@ -1,4 +1,4 @@
-//! What is kept of a rehearsal between two bytes of its input.
+//! The state of a rehearsal between two bytes of its input.
 ghost use Rattle.std.specs.Prelude.{◌≤◌, vec_len};
 ghost use Rattle.office_lines.specs.Lines.{line_limit};
 
@@ -12,7 +12,7 @@ use room_types::send::send;
 use std::alloc::Global;
 use std::io::Write;
 
-/// What has come of a line, how many bytes were sent, and the greatest status so far.
+/// The unfinished line, the number of bytes written, and the greatest exit status so far.
 #[derive(Drop)]
 pub struct Session {
     pub partial_line: Vec<u8>,
@@ -27,7 +27,7 @@ impl Session {
     ghost use Rattle.room_types.specs.Watched.{watched_failed, watched_flushes, watched_pending, counted, StopsAtFailure};
     ghost use Rattle.office_lines.specs.Sessions.{Answered, Broken, Finished, Heard, Halted, OnlyWhereFailed, Unfinished, state};
 
-    /// Nothing was heard or sent.
+    /// A session before any input.
     pub fn new(alloc: Global) -> Self
         ensures line { result.partial_line.items ≡ [] }
         ensures sent { result.sent ≡ 0 }
@@ -40,7 +40,7 @@ impl Session {
         }
     }
 
-    /// Answers the line that has come.
+    /// Handles the line that has been read, writes its response, and clears the line.
     pub fn answer_line<H: Handler, W: Write>(
         &mut self,
         alloc: Global,
@@ -78,7 +78,7 @@ impl Session {
         }
     }
 
-    /// Hears one byte.
+    /// Takes one byte of input. A line feed ends a line, which is then handled.
     pub fn take_byte<H: Handler, W: Write>(
         &mut self,
         alloc: Global,
@@ -112,7 +112,7 @@ impl Session {
         }
     }
 
-    /// Hears some bytes.
+    /// Takes a chunk of input.
     pub fn take_piece<H: Handler, W: Write>(
         &mut self,
         alloc: Global,
@@ -140,7 +140,7 @@ impl Session {
         Ok(())
     }
 
-    // Answers the line that the end of the input ends, if one has begun.
+    // Handles the line that the end of the input ends, unless it is empty.
     fn answer_rest<H: Handler, W: Write>(
         &mut self,
         alloc: Global,
@@ -166,7 +166,7 @@ impl Session {
         self.answer_line(alloc, handler, output)
     }
 
-    /// Answers the line that the end of the input ends, if one has begun, and flushes.
+    /// Handles the line that the end of the input ends, unless it is empty, and flushes the output.
     pub fn finish<H: Handler, W: Write>(
         &mut self,
         alloc: Global,

@@ -1,4 +1,4 @@
--- Lemmas on lists in CSV, read and written.
+-- Lemmas on reading and writing lists in CSV.
 pub mod Fields
 pub mod Headers
 pub mod Reaching

@@ -1,4 +1,4 @@
--- Lemmas on days of moving: leavers, chains, waves.
+-- Lemmas on the day of moving: leavers, chains, waves.
 pub mod Chains
 pub mod Following
 pub mod Leavers

@@ -1,2 +1,2 @@
--- Lemmas on columns that are padded.
+-- Lemmas on padded columns.
 pub mod Cells

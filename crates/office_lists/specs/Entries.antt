@@ -11,11 +11,11 @@ use Rattle.office_lists.specs.Records.{ListForm, field}
 use Rattle.office_lists.specs.declared.entries.PersonEntry.{PersonEntry}
 use Rattle.office_lists.specs.declared.entries.ChoicesEntry.{ChoicesEntry}
 
--- a room in each record
+-- lists of rooms: a room in each record
 abbrev pub room_list : ListForm Text
 room_list = record { header = codes "room" ∷ []; grammars = is_room_code ∷ []; entry = field 0 }
 
--- the text of a field that may be empty
+-- the value of a field that may be empty
 abbrev pub optional : Text → Option Text
 optional [] = None
 optional (byte ∷ rest) = Some (byte ∷ rest)
@@ -31,7 +31,7 @@ person_entry fields = record {
   home = optional (field 3 fields);
 }
 
--- a person in each record, whose home may be empty
+-- lists of people: a person in each record, whose home may be empty
 abbrev pub people_list : ListForm PersonEntry
 people_list = record {
   header = codes "person" ∷ codes "name" ∷ codes "key" ∷ codes "home" ∷ [];
@@ -42,19 +42,19 @@ people_list = record {
 abbrev pub is_space : ℕ → Bool
 is_space byte = eqb byte 32
 
--- the codes of a field, which stand between single spaces
+-- the codes of a field, which is split at each space; an empty field has none
 abbrev pub codes_in : Text → List Text
 codes_in [] = []
 codes_in (byte ∷ rest) = slice_split is_space (byte ∷ rest)
 
--- room codes, not too many and none twice
+-- room codes, at most `choice_limit` of them and none twice
 abbrev pub is_choices : Text → Bool
 is_choices text = list_all is_room_code (codes_in text) && is_none (choices_fault (codes_in text))
 
 abbrev pub choices_entry : List Text → ChoicesEntry
 choices_entry fields = record { person = field 0 fields; choices = codes_in (field 1 fields) }
 
--- a person's list of rooms in each record
+-- lists of choices: a person's preference list in each record
 abbrev pub choices_list : ListForm ChoicesEntry
 choices_list = record {
   header = codes "person" ∷ codes "choices" ∷ [];
@@ -66,14 +66,14 @@ choices_list = record {
 abbrev pub is_grade : Text → Bool
 is_grade text = is_some (grade_of text)
 
--- the grade of a field, and 0 where it is outside its grammar
+-- the grade of a field, or 0 if the field is outside its grammar
 abbrev pub grade_in : Text → ℕ
 grade_in text = unwrap_or (grade_of text) 0
 
 abbrev pub grade_entry : List Text → GradeRow
 grade_entry fields = record { person = field 0 fields; grade = grade_in (field 1 fields) }
 
--- a person's grade in each record
+-- lists of grades: a person's grade in each record
 abbrev pub grades_list : ListForm GradeRow
 grades_list = record {
   header = codes "person" ∷ codes "grade" ∷ [];

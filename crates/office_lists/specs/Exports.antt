@@ -18,8 +18,8 @@ use Rattle.office_lists.specs.Records.{Record, records_of}
 use Rattle.office_lists.specs.declared.exports.ExportKind.{ExportKind}
 use Rattle.office_lists.specs.declared.exports.ExportKind.TheVariants.{Rooms, People, Moves, Grades}
 
--- the bytes of a record, as `csv` writes it by default: commas between the fields, quotes round a field where it needs
--- them, a quote inside doubled, and a line feed at the end
+-- the bytes of a record, as `csv` writes it by default: commas between the fields, quotes around a field that needs them,
+-- quotes inside doubled, and a line feed at the end
 unfoldable pub record_bytes : Record → List ℕ
 record_bytes = row_text default_writer
 
@@ -67,19 +67,19 @@ moves_export = export Moves move_fields
 abbrev pub grades_export : List GradeRow → List Record
 grades_export = export Grades grade_fields
 
--- by round, and by identifier in one round
+-- the order by round, and by identifier within a round
 abbrev pub by_round : Move → Move → Ordering
 by_round = then_cmp (on (λ move. move.round) nat_cmp) (on (λ move. move.person) text_cmp)
 
--- the moves ascend by round, and by identifier in one round; none stands there twice
+-- the moves strictly ascend by round, and by identifier within a round
 abbrev pub AscendByRound : List Move → Type 0
 AscendByRound = IsStrictlySortedBy by_round
 
--- read again, the bytes of an export are its records
+-- reading the bytes of the export gives back its records
 abbrev pub IsReadBack : List Record → Type 0
 IsReadBack records = records_of (export_bytes records) ≡ records
 
--- each export is read back
+-- each kind of export is read back
 pub record AreReadBack : Type 0 where
   pub rooms : (rows : List RoomRow) → IsReadBack (rooms_export rows)
   pub people : (rows : List PersonRow) → IsReadBack (people_export rows)

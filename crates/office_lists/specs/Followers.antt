@@ -1,25 +1,26 @@
--- The leavers seen from the other end.
+-- The inverse of following the leavers.
 use Rattle.std.specs.Prelude.{◌≡◌, ℕ, ◌+◌, ◌<◌, List, length, slice_index_or, Option, Some, ◌⊎◌}
 use Rattle.room_types.specs.declared.moves.Wave.{Wave}
 use Rattle.room_types.specs.declared.moves.Wave.TheVariants.{Swap, Nth}
 use Rattle.office_lists.specs.Waves.{next, followed}
 
--- each leaver is an entry, and is that of one entry only
+-- each leaver is an entry, and no two entries have the same leaver
 pub record AreApart (leavers : List (Option ℕ)) : Type 0 where
   pub within : (i j : ℕ) → next leavers i ≡ Some j → j < length leavers
   pub one : (i j k : ℕ) → next leavers i ≡ Some k → next leavers j ≡ Some k → i ≡ j
 
--- for each entry, the one whose leaver it is
+-- `followers` is the inverse of `leavers`: for each entry, the one whose leaver it is
 pub record AreFollowers (leavers followers : List (Option ℕ)) : Type 0 where
   pub as_many : length followers ≡ length leavers
   pub after : (i j : ℕ) → next followers j ≡ Some i → next leavers i ≡ Some j
   pub before : (i j : ℕ) → next leavers i ≡ Some j → next followers j ≡ Some i
 
--- the wave of entry i is a number
+-- entry i has a numbered wave
 abbrev pub IsNumbered : List Wave → ℕ → Type 0
 IsNumbered waves i = (number : ℕ) × (slice_index_or waves i Swap ≡ Nth number)
 
--- the chain that ends at entry `end` has its numbers, from `first` on, and all else is as before
+-- Each entry on the chain that ends at `end` has a number: the one that it had before, or its distance from `end` plus
+-- `first`. All other entries are as before.
 pub record NumbersChain (followers : List (Option ℕ)) (end first : ℕ) (old new : List Wave) : Type 0 where
   pub reached : (count i : ℕ) → followed followers count end ≡ Some i → IsNumbered new i
   pub right : (i number : ℕ) → slice_index_or new i Swap ≡ Nth number

@@ -10,21 +10,21 @@ use Rattle.room_types.specs.declared.moves.Wave.TheVariants.{Swap, Nth}
 use Rattle.room_types.specs.declared.moves.Move.{Move}
 use Rattle.office_lists.specs.Tables.{table, or_none}
 
--- whether it is a swap
+-- whether the wave is a swap
 abbrev pub is_swap : Wave → Bool
 is_swap Swap = true
 is_swap (Nth number) = false
 
--- the number of a wave that has one
+-- the number of a numbered wave, and 0 for a swap
 abbrev pub number_of : Wave → ℕ
 number_of Swap = 0
 number_of (Nth number) = number
 
--- by whether it is a swap, the swaps last, and then by number
+-- the order of waves: by number, with swaps last
 abbrev pub wave_cmp : Wave → Wave → Ordering
 wave_cmp = then_cmp (on is_swap bool_cmp) (on number_of nat_cmp)
 
--- by wave, and by identifier in one wave
+-- the order of moves: by wave, and by identifier within a wave
 abbrev pub move_cmp : Move → Move → Ordering
 move_cmp = then_cmp (on (λ move. move.wave) wave_cmp) (on (λ move. move.person) text_cmp)
 
@@ -33,23 +33,23 @@ abbrev pub wave_text : Wave → Text
 wave_text (Nth number) = decimal number
 wave_text Swap = codes "swap"
 
--- a line for each move, in the order given
+-- the table of moves, in the order given
 abbrev pub moves_table : List Move → Text
 moves_table =
     table (4 ∷ 12 ∷ 8 ∷ []) (codes "wave" ∷ codes "person" ∷ codes "from" ∷ codes "to" ∷ [])
     (λ row. wave_text row.wave ∷ row.person ∷ or_none row.from ∷ or_none row.to ∷ [])
 
--- the list for the day of moving: a line for each move, ascending by wave and, in one wave, by identifier
+-- the list for the day of moving: the table of the moves, sorted by wave and, within a wave, by identifier
 pub record IsMoveDayList (moves : List Move) (text : Text) : Type 0 where
   pub rows : List Move
   pub in_order : IsArrangement move_cmp moves rows
   pub lines : text ≡ moves_table rows
 
--- the list for the day of moving, as it is computed
+-- the list for the day of moving, computed
 abbrev pub move_day_table : List Move → Text
 move_day_table moves = moves_table (ascending move_cmp moves)
 
--- moves have one such list, and it is the one that is computed
+-- moves have exactly one list for the day of moving, the one that `move_day_table` computes
 pub record HaveOneMoveDayList (moves : List Move) : Type 0 where
   pub some : IsMoveDayList moves (move_day_table moves)
   pub one : (text : Text) → IsMoveDayList moves text → text ≡ move_day_table moves

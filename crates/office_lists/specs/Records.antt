@@ -1,4 +1,4 @@
--- The records of a list, and the first of them that is bad.
+-- The records of a list, and the first bad one.
 use Rattle.std.specs.Prelude.{◌≡◌, ◌<◌, ◌+◌, ◌==◌, ◌&&◌, ◌⊎◌, ℕ, suc, Bool, true, false, not, List, [], ◌∷◌, length, nat_lt, map, Option, Some, None, unwrap_or, if◌then◌else◌}
 use Rattle.std.specs.List.{list_all}
 use Rattle.std.specs.Option.{option_map, option_map_or}
@@ -15,15 +15,15 @@ use Rattle.office_lists.specs.declared.fault.ListFault.TheVariants as list
 use Rattle.office_lists.specs.declared.fault.RecordFault.{RecordFault}
 use Rattle.office_lists.specs.declared.fault.RecordFault.TheVariants as one
 
--- the fields of a record, each as its bytes
+-- a record: its fields, each as its bytes
 abbrev pub Record : Type 0
 Record = List Text
 
--- the records of a list, as `csv` reads them after a byte order mark at the start
+-- the records of a list, as `csv` reads them by default, after a byte order mark at the start is dropped
 unfoldable pub records_of : List ℕ → List Record
 records_of bytes = records default_config (strip_bom bytes)
 
--- the field at this place, counted from 0, and no bytes where there is none
+-- the field at an index, or no bytes if there is none
 abbrev pub field : ℕ → Record → Text
 field at fields = unwrap_or (field_at fields at) []
 
@@ -34,20 +34,21 @@ same_fields [] (y ∷ ys) = false
 same_fields (x ∷ xs) [] = false
 same_fields (x ∷ xs) (y ∷ ys) = text_eq y x && same_fields xs ys
 
--- what a list of one kind is: its header, the grammar of each field, and what a good record tells
+-- the form of a list of one kind: its header, the grammar of each field, and the entry that a good record makes
 pub record ListForm (X : Type 0) : Type 0 where
   pub header : Record
   pub grammars : List (Text → Bool)
   pub entry : Record → X
 
--- the first field, counted from 1, that is outside its grammar, where so many stand before these grammars
+-- the number, from 1, of the first field outside its grammar; `before` counts the fields that come before those of these
+-- grammars
 abbrev pub first_outside : ℕ → List (Text → Bool) → Record → Option ℕ
 first_outside before [] fields = None
 first_outside before (grammar ∷ grammars) fields =
     if grammar (field before fields) then first_outside (suc before) grammars fields
     else Some (suc before)
 
--- what is wrong with the fields of a record that has so many as the header
+-- what is wrong with the fields of a record that has as many of them as the header
 abbrev pub field_cause : {X : Type 0} → ListForm X → Record → Option Cause
 field_cause form fields = option_map (λ number. BadField number) (first_outside 0 form.grammars fields)
 
@@ -58,11 +59,11 @@ cause_of form fields =
     else if not (list_all is_utf8 fields) then Some NotText
     else field_cause form fields
 
--- how many data records a list may have
+-- how many data records a list may have at most
 abbrev pub record_limit : ℕ
 record_limit = 10000
 
--- the first bad one of the data records, the first of which has the number `at`
+-- the first bad one of these data records, the first of which has the number `at`
 unfoldable pub first_bad : (Record → Option Cause) → ℕ → List Record → Option ListFault
 first_bad cause at [] = None
 first_bad cause at (fields ∷ rest) =
@@ -81,33 +82,33 @@ abbrev pub data_records : List Record → List Record
 data_records [] = []
 data_records (header ∷ rest) = rest
 
--- no record of the list is bad, and these are told by its data records, in order
+-- no record of the list is bad, and its data records make these entries, in order
 pub record Tells {X : Type 0} (form : ListForm X) (bytes : List ℕ) (entries : List X) : Type 0 where
   pub good : list_fault form (records_of bytes) ≡ None
   pub told : entries ≡ map form.entry (data_records (records_of bytes))
 
--- the list was not read for its first bad record, or for memory, which is taken where it has bytes
+-- reading the list fails: for its first bad record, or out of memory, which never happens if there are no bytes
 abbrev pub Fails : {X : Type 0} → ListForm X → List ℕ → ListFault → Type 0
 Fails form bytes fault =
     ((fault ≡ list.OutOfMemory) × (0 < length bytes)) ⊎ (list_fault form (records_of bytes) ≡ Some fault)
 
--- the fault of a list whose record `at` has this fault
+-- the error of a list whose record `at` has this fault
 abbrev pub fault_at : ℕ → RecordFault → ListFault
 fault_at at (one.Bad cause) = list.Bad at cause
 fault_at at one.OutOfMemory = list.OutOfMemory
 
--- the fault of a record whose field of this number has this fault
+-- the fault of a record whose field `number` has this fault
 abbrev pub field_fault : ℕ → TypeFault → RecordFault
 field_fault number type.OutOfMemory = one.OutOfMemory
 field_fault number type.BadValue = one.Bad (BadField number)
 field_fault number type.TooManyChoices = one.Bad (BadField number)
 field_fault number (type.RoomRepeated code) = one.Bad (BadField number)
 
--- the record was not read for this cause, or for memory
+-- the record is not read, for this cause or out of memory
 abbrev pub FailsFor : Option Cause → RecordFault → Type 0
 FailsFor cause fault = (fault ≡ one.OutOfMemory) ⊎ (option_map (λ why. one.Bad why) cause ≡ Some fault)
 
--- the field of this number was not read, for it is outside its grammar, or for memory
+-- field `number` is not read: it is outside its grammar, or memory runs out
 abbrev pub FailsAt : ℕ → Bool → RecordFault → Type 0
 FailsAt number in_grammar fault =
     (fault ≡ one.OutOfMemory) ⊎ ((fault ≡ one.Bad (BadField number)) × (in_grammar ≡ false))

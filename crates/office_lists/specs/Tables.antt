@@ -1,4 +1,4 @@
--- The tables of text.
+-- Text tables.
 use Rattle.std.specs.Prelude.{ℕ, ◌-◌, List, [], ◌∷◌, ◌++◌, replicate, codes, Option, unwrap_or}
 use Rattle.std.specs.List.{flat_map}
 use Rattle.std.specs.Fmt.{char_count}
@@ -8,17 +8,17 @@ use Rattle.room_types.specs.declared.rows.ResultRow.{ResultRow}
 use Rattle.room_types.specs.declared.rows.RoomRow.{RoomRow}
 use Rattle.room_types.specs.declared.rows.PersonRow.{PersonRow}
 
--- the text, and spaces up to the width
+-- the text, padded with spaces to the width
 abbrev pub left_in : ℕ → Text → Text
 left_in width text = text ++ replicate (width - char_count text) 32
 
--- a line of a table: each cell left in its column's width, two spaces between columns, the last cell as it is
+-- a line of a table: each cell but the last padded to its column's width, and two spaces between columns
 abbrev pub line : List ℕ → List Text → Text
 line (width ∷ widths) (cell ∷ cells) = left_in width cell ++ (codes "  " ++ line widths cells)
 line [] (cell ∷ cells) = cell ++ codes "\n"
 line widths [] = codes "\n"
 
--- a table: the line of its headings, and one for each row
+-- a table: a line of headings, and a line for each row
 abbrev pub table : {Row : Type 0} → List ℕ → List Text → (Row → List Text) → List Row → Text
 table widths headings cells rows = line widths headings
     ++ flat_map (λ row. line widths (cells row)) rows
@@ -27,18 +27,18 @@ table widths headings cells rows = line widths headings
 abbrev pub or_none : Option Text → Text
 or_none text = unwrap_or text (codes "none")
 
--- a line for each room, with who lives there
+-- the table of rooms: a line for each, with its state and its tenant
 abbrev pub rooms_table : List RoomRow → Text
 rooms_table =
     table (8 ∷ 8 ∷ []) (codes "room" ∷ codes "state" ∷ codes "tenant" ∷ [])
     (λ row. row.room ∷ state_text row.state ∷ or_none row.tenant ∷ [])
 
--- a line for each person, with where they live
+-- the table of people: a line for each, with home and name
 abbrev pub people_table : List PersonRow → Text
 people_table =
     table (12 ∷ 8 ∷ []) (codes "person" ∷ codes "home" ∷ codes "name" ∷ [])
     (λ row. row.person ∷ or_none row.home ∷ row.name ∷ [])
 
--- a line for each participant, with what they get
+-- the table of results: a line for each participant, with the room that they get
 abbrev pub results_table : List ResultRow → Text
 results_table = table (12 ∷ []) (codes "person" ∷ codes "room" ∷ []) (λ row. row.person ∷ or_none row.room ∷ [])

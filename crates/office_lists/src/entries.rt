@@ -1,4 +1,4 @@
-//! What the records of lists tell.
+//! The entries of imported lists.
 ghost use Rattle.std.specs.Prelude.{◌≡◌, IfOk, IfErr, None};
 ghost use Rattle.csv.specs.Records.{fields_of};
 ghost use Rattle.office_lists.specs.Entries.{choices_list, grades_list, people_list, room_list};
@@ -10,33 +10,33 @@ use csv::{ByteRecord, StringRecord};
 use room_types::{Choices, GradeRow, Key, Name, PersonId, RoomCode};
 use std::alloc::Global;
 
-/// What a record of a list of people tells. It has no `Debug`, which would print the key.
+/// An entry of a list of people. It does not implement `Debug`, which would print the key.
 #[derive(Drop)]
 pub struct PersonEntry {
     pub person: PersonId,
     pub name: Name,
     pub key: Key,
-    /// The room where the person lives, if any.
+    /// The person's home, if any.
     pub home: Option<RoomCode>,
 }
 
-/// What a record of a list of choices tells.
+/// An entry of a list of choices.
 #[derive(Debug, Drop)]
 pub struct ChoicesEntry {
     pub person: PersonId,
     pub choices: Choices,
 }
 
-/// What a record of a list tells, in a list of one kind.
+/// An entry of a list of one kind, made from a data record.
 pub trait ListEntry: Drop {
-    /// The lists of this kind.
+    /// The form of such lists.
     ghost form: { ListForm Self };
 
-    /// Whether a record is the header of such a list.
+    /// Returns whether a record is the header of such a list.
     fn is_header(row: &ByteRecord) -> bool
         ensures { result ≡ same_fields form.header (fields_of row.now) };
 
-    /// What the fields of a data record tell.
+    /// Parses the fields of a data record.
     fn from_fields(alloc: Global, fields: &StringRecord) -> Result<Self, RecordFault>
         ensures told { IfOk result (λ entry. entry ≡ form.entry (fields_of fields.now)) }
         ensures good { IfOk result (λ _. field_cause form (fields_of fields.now) ≡ None) }

@@ -1,4 +1,4 @@
-//! The bytes of the records of exports.
+//! Exports as CSV records.
 ghost use Rattle.std.specs.Prelude.{◌≡◌, IfOk, map};
 ghost use Rattle.room_types.specs.Rows.{state_text};
 ghost use Rattle.office_lists.specs.Exports.{grade_fields, header_of, move_fields, field_or_empty, person_fields};
@@ -10,7 +10,7 @@ use csv::{StringRecord, WriterBuilder};
 use room_types::{GradeRow, Grammar, Move, OutOfMemory, PersonRow, RoomRow, Text};
 use std::alloc::Global;
 
-/// What is exported.
+/// The kinds of exports.
 #[derive(Clone, Copy, Debug, PartialEq, Eq, Drop)]
 pub enum ExportKind {
     /// The rooms, by code, with their tenants.
@@ -23,11 +23,11 @@ pub enum ExportKind {
     Grades,
 }
 
-/// The bytes of the header of an export of this kind.
+/// Returns the bytes of the header of an export of this kind.
 ///
 /// # Errors
 ///
-/// `OutOfMemory` where memory for the bytes is refused.
+/// `OutOfMemory` if an allocation fails.
 pub fn head_bytes(alloc: Global, kind: ExportKind) -> Result<Vec<u8>, OutOfMemory>
     ensures { IfOk result (λ bytes. bytes.items ≡ record_bytes (header_of kind)) }
 {
@@ -39,11 +39,11 @@ pub fn head_bytes(alloc: Global, kind: ExportKind) -> Result<Vec<u8>, OutOfMemor
     }
 }
 
-/// The bytes of the record of a room: its code, its state, and its tenant or an empty field.
+/// Returns the bytes of a room's record: its code, its state, and its tenant or an empty field.
 ///
 /// # Errors
 ///
-/// `OutOfMemory` where memory for the bytes is refused.
+/// `OutOfMemory` if an allocation fails.
 pub fn room_row_bytes(alloc: Global, row: &RoomRow) -> Result<Vec<u8>, OutOfMemory>
     ensures { IfOk result (λ bytes. bytes.items ≡ record_bytes (room_fields row.now)) }
 {
@@ -55,11 +55,11 @@ pub fn room_row_bytes(alloc: Global, row: &RoomRow) -> Result<Vec<u8>, OutOfMemo
     record_bytes(alloc, &fields)
 }
 
-/// The bytes of the record of a person: the identifier, the name, and the home or an empty field.
+/// Returns the bytes of a person's record: the identifier, the name, and the home or an empty field.
 ///
 /// # Errors
 ///
-/// `OutOfMemory` where memory for the bytes is refused.
+/// `OutOfMemory` if an allocation fails.
 pub fn person_row_bytes(alloc: Global, row: &PersonRow) -> Result<Vec<u8>, OutOfMemory>
     ensures { IfOk result (λ bytes. bytes.items ≡ record_bytes (person_fields row.now)) }
 {
@@ -71,12 +71,12 @@ pub fn person_row_bytes(alloc: Global, row: &PersonRow) -> Result<Vec<u8>, OutOf
     record_bytes(alloc, &fields)
 }
 
-/// The bytes of the record of a move: the round, the wave as a number or `swap`, who moves, the old room and the new
-/// one, where an empty field stands for none.
+/// Returns the bytes of a move's record: the round, the wave as a number or `swap`, the person, the old room and the new
+/// room. A missing room is an empty field.
 ///
 /// # Errors
 ///
-/// `OutOfMemory` where memory for the bytes is refused.
+/// `OutOfMemory` if an allocation fails.
 pub fn move_row_bytes(alloc: Global, row: &Move) -> Result<Vec<u8>, OutOfMemory>
     ensures { IfOk result (λ bytes. bytes.items ≡ record_bytes (move_fields row.now)) }
 {
@@ -92,11 +92,11 @@ pub fn move_row_bytes(alloc: Global, row: &Move) -> Result<Vec<u8>, OutOfMemory>
     record_bytes(alloc, &fields)
 }
 
-/// The bytes of the record of a person's grade: the identifier, and the grade as one digit.
+/// Returns the bytes of the record of a person's grade: the identifier, and the grade as one digit.
 ///
 /// # Errors
 ///
-/// `OutOfMemory` where memory for the bytes is refused.
+/// `OutOfMemory` if an allocation fails.
 pub fn grade_row_bytes(alloc: Global, row: &GradeRow) -> Result<Vec<u8>, OutOfMemory>
     ensures { IfOk result (λ bytes. bytes.items ≡ record_bytes (grade_fields row.now)) }
 {
@@ -110,7 +110,7 @@ pub trait ExportRow {
     /// The fields of its record.
     ghost fields: { Self → Record };
 
-    /// The bytes of its record.
+    /// Returns the bytes of its record.
     fn row_bytes(&self, alloc: Global) -> Result<Vec<u8>, OutOfMemory>
         ensures { IfOk result (λ bytes. bytes.items ≡ record_bytes (fields self.now)) };
 }
@@ -147,14 +147,14 @@ impl ExportRow for GradeRow {
     }
 }
 
-/// The bytes of a record of these fields.
+/// Returns the bytes of a record of these fields.
 pub fn record_bytes(alloc: Global, fields: &[&str]) -> Result<Vec<u8>, OutOfMemory>
     ensures { IfOk result (λ bytes.
         bytes.items ≡ record_bytes (map (λ field. field.now) fields.now)) }
 {
     let record = StringRecord::from_fields(alloc, fields)?;
     let mut writer = WriterBuilder::new().from_writer(Vec::new(alloc));
-    // A writer over memory fails for memory alone, and its first record may have any number of fields.
+    // A writer into memory fails only if an allocation does, and its first record may have any number of fields.
     let Ok(()) = writer.write_byte_record(record.as_byte_record()) else {
         return Err(OutOfMemory {});
     };
@@ -164,14 +164,14 @@ pub fn record_bytes(alloc: Global, fields: &[&str]) -> Result<Vec<u8>, OutOfMemo
     }
 }
 
-// The state of a room as it is printed, lent for as long as the other fields of its row.
+// Returns the state as it is printed, with the lifetime of the row's other fields.
 fn room_state_text(row: &RoomRow) -> &str
     ensures { result.now ≡ state_text row.now.state }
 {
     row.state.as_str()
 }
 
-// The text, or the empty one.
+// Returns the text, or the empty text.
 fn field_or_empty<G: Grammar>(text: &Option<Text<G>>) -> &str
     ensures { result.now ≡ field_or_empty text.now }
 {

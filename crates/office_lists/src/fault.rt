@@ -1,11 +1,11 @@
-//! What may be wrong with a list.
+//! What can be wrong with a list.
 ghost use Rattle.std.specs.Prelude.{◌≡◌};
 ghost use Rattle.office_lists.specs.Records.{fault_at};
 
 /// What is wrong with a record of a list.
 #[derive(Clone, Copy, Debug, PartialEq, Eq, Drop)]
 pub enum Cause {
-    /// The first record is not the header of its kind, or there is none.
+    /// The first record is not the header of the list's kind, or there is no record.
     Header,
     /// A field is not UTF-8.
     NotText,
@@ -13,32 +13,32 @@ pub enum Cause {
     FieldCount,
     /// The first field, counted from 1, that is outside its grammar.
     BadField(u8),
-    /// The record stands after the last that a list may have.
+    /// The record comes after the last that a list may have.
     TooMany,
-    /// The office refuses what the record asks for, by the refusal of this number.
+    /// The office refuses the record; this is the number of the refusal.
     Denied(u8),
 }
 
-/// Why a list was not read.
+/// Why a list could not be read.
 #[derive(Clone, Copy, Debug, PartialEq, Eq, Drop)]
 pub enum ListFault {
-    /// The first bad record, where the header is record 0, and what is wrong with it.
+    /// The first bad record, counted from the header as record 0, and what is wrong with it.
     Bad { at: u32, cause: Cause },
-    /// Memory was refused.
+    /// An allocation failed.
     OutOfMemory,
 }
 
-/// Why a record was not read.
+/// Why a record could not be read.
 #[derive(Clone, Copy, Debug, PartialEq, Eq, Drop)]
 pub enum RecordFault {
     /// What is wrong with it.
     Bad(Cause),
-    /// Memory was refused.
+    /// An allocation failed.
     OutOfMemory,
 }
 
 impl RecordFault {
-    /// The fault of a list whose record `at` has this fault.
+    /// Returns the error of a list whose record `at` has this fault.
     pub fn of_record(self, at: u32) -> ListFault
         ensures { result ≡ fault_at at self }
     {

@@ -1,4 +1,4 @@
-//! The values of a record's fields.
+//! Parsing the fields of a record.
 ghost use Rattle.std.specs.Prelude.{◌≡◌, ◌⊎◌, true, false, map, IfOk, IfErr, MatchResult, None, Some};
 ghost use Rattle.std.specs.List.{list_all};
 ghost use Rattle.csv.specs.Records.{fields_of};
@@ -12,7 +12,7 @@ use csv::{ByteRecord, StringRecord};
 use room_types::{Choices, Grade, Grammar, RoomCode, Text, TypeFault};
 use std::alloc::{AllocError, Global};
 
-/// Whether the fields of a record are these.
+/// Returns whether the fields of a record are exactly these.
 pub fn has_fields(row: &ByteRecord, names: &[&str]) -> bool
     ensures { result ≡ same_fields (map (λ name. name.now) names.now) (fields_of row.now) }
 {
@@ -32,14 +32,14 @@ pub fn has_fields(row: &ByteRecord, names: &[&str]) -> bool
     true
 }
 
-/// The field at a place, counted from 0, and the empty text where there is none.
+/// Returns the field at an index, or the empty text if there is none.
 pub fn field(fields: &StringRecord, at: usize) -> &str
     ensures { result.now ≡ field at (fields_of fields.now) }
 {
     fields.get(at).unwrap_or("")
 }
 
-/// The value of the field of this number. Memory is taken for a text of the grammar alone.
+/// Parses the text of field `number`. Allocates only if the text is in the grammar.
 pub fn value<G: Grammar>(alloc: Global, text: &str, number: u8) -> Result<Text<G>, RecordFault>
     ensures value { IfOk result (λ value. value ≡ text.now) }
     ensures in_grammar { IfOk result (λ _. G.is_text text.now ≡ true) }
@@ -51,7 +51,7 @@ pub fn value<G: Grammar>(alloc: Global, text: &str, number: u8) -> Result<Text<G
     }
 }
 
-/// The room of the field of this number, which may be empty.
+/// Parses the room of field `number`, which may be empty.
 pub fn optional_room(alloc: Global, text: &str, number: u8) -> Result<Option<RoomCode>, RecordFault>
     ensures value { IfOk result (λ room. room ≡ optional text.now) }
     ensures in_grammar { IfOk result (λ _. is_optional_room_code text.now ≡ true) }
@@ -66,7 +66,7 @@ pub fn optional_room(alloc: Global, text: &str, number: u8) -> Result<Option<Roo
     }
 }
 
-/// The list of rooms of the field of this number: none where it is empty, and else codes between single spaces.
+/// Parses the preference list of field `number`: codes separated by single spaces, or an empty list if the field is empty.
 pub fn choices(alloc: Global, text: &str, number: u8) -> Result<Choices, RecordFault>
     ensures value { IfOk result (λ choices. choices ≡ codes_in text.now) }
     ensures in_grammar { IfOk result (λ _. is_choices text.now ≡ true) }
@@ -78,7 +78,7 @@ pub fn choices(alloc: Global, text: &str, number: u8) -> Result<Choices, RecordF
     }
 }
 
-/// The grade of the field of this number. It takes no memory.
+/// Parses the grade of field `number`. Does not allocate.
 pub fn grade(text: &str, number: u8) -> Result<Grade, RecordFault>
     ensures { MatchResult result (λ grade. grade_of text.now ≡ Some grade)
         (λ fault. (fault ≡ RecordFault.Bad (Cause.BadField number)) × (grade_of text.now ≡ None)) }
@@ -89,7 +89,7 @@ pub fn grade(text: &str, number: u8) -> Result<Grade, RecordFault>
     }
 }
 
-// The fault of a record whose field of this number has this fault.
+// Returns the fault of a record whose field `number` has this fault.
 fn field_fault(fault: TypeFault, number: u8) -> RecordFault
     ensures { result ≡ field_fault number fault }
 {
@@ -129,7 +129,7 @@ fn codes(alloc: Global, text: &str) -> Result<Vec<RoomCode>, TypeFault>
     Ok(codes)
 }
 
-// What stands between single spaces, and nothing in an empty text.
+// Splits a text at each space. An empty text has no parts.
 fn words(alloc: Global, text: &str) -> Result<Vec<&str>, AllocError>
     ensures { IfOk result (λ words. map (λ word. word.now) words.items ≡ codes_in text.now) }
 {

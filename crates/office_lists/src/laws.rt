@@ -1,8 +1,8 @@
-//! Laws of the definitions. The function does nothing.
+//! A theorem about the definitions. The function does nothing.
 ghost use Rattle.office_lists.specs.Exports.{AreReadBack};
 
-/// The law that the bytes of an export, read as a list, are its records: the header, and one for each row, field by
-/// field as it was.
+/// Theorem: reading the bytes of an export as a list gives back its records, the header and one for each row, with the same
+/// fields.
 pub fn exports_are_read_back()
     ensures { AreReadBack }
 {}

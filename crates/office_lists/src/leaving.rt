@@ -1,4 +1,4 @@
-//! Waves: who has to move before whom.
+//! Waves: who moves before whom on the day of moving.
 ghost use Rattle.std.specs.Prelude.{◌≡◌, ◌<◌, ◌≤◌, ℕ, List, Some, length, IfOk, OnErr};
 ghost use Rattle.std.specs.BTreeMap.{get_by};
 ghost use Rattle.room_types.specs.Texts.{Text, text_cmp};
@@ -9,13 +9,13 @@ use room_types::{OutOfMemory, PersonId, RoomCode, Wave};
 use std::alloc::{AllocError, Global};
 use std::collections::BTreeMap;
 
-/// A person who moves, the old room and the new room.
+/// A person who moves, with the old room and the new room.
 pub type Mover = (PersonId, Option<RoomCode>, Option<RoomCode>);
 
-/// The wave of each entry, in order: 0 where there is no new room, 1 where nobody leaves the new room, a swap where the
-/// movers pass their rooms round in a circle, and else the wave after that of the new room's leaver. The leaver of a room
-/// is the first entry whose old room it is. There are at most 2,000 entries, and their new rooms differ. No entries take
-/// no memory. It takes n log n comparisons.
+/// Returns the wave of each entry, in order: 0 without a new room, 1 if nobody leaves the new room, a swap if the person
+/// moves in a cycle, and otherwise 1 plus the wave of the new room's leaver. The leaver of a room is the first entry whose
+/// old room it is. There may be at most 2,000 entries, and their new rooms must differ. Makes O(n log n) comparisons. Does
+/// not allocate if there are no entries.
 pub fn waves(alloc: Global, entries: &[Mover]) -> Result<Vec<Wave>, OutOfMemory>
     requires few { length entries.now ≤ move_limit }
     requires new_rooms_differ { NewRoomsDiffer entries.now }
@@ -38,7 +38,7 @@ pub fn waves(alloc: Global, entries: &[Mover]) -> Result<Vec<Wave>, OutOfMemory>
     Ok(waves)
 }
 
-// For each entry, the leaver of its new room.
+// Returns, for each entry, the leaver of its new room.
 fn leavers(alloc: Global, entries: &[Mover]) -> Result<Vec<Option<usize>>, OutOfMemory>
     ensures { IfOk result (λ leavers. leavers.items ≡ leavers_of entries.now) }
 {
@@ -54,7 +54,7 @@ fn leavers(alloc: Global, entries: &[Mover]) -> Result<Vec<Option<usize>>, OutOf
     Ok(leavers)
 }
 
-// For each old room, the first entry that leaves it.
+// Returns, for each old room, the first entry that leaves it.
 fn leavers_by_room(alloc: Global, entries: &[Mover]) -> Result<BTreeMap<&str, usize>, AllocError>
     ensures { IfOk result (λ by_room. (room : Text)
         → get_by (λ key. text_cmp room key.now) by_room ≡ leaver entries.now room) }
@@ -70,7 +70,7 @@ fn leavers_by_room(alloc: Global, entries: &[Mover]) -> Result<BTreeMap<&str, us
     Ok(by_room)
 }
 
-// For each entry, the one whose leaver it is.
+// Returns, for each entry, the one whose leaver it is.
 fn followers(alloc: Global, leavers: &[Option<usize>]) -> Result<Vec<Option<usize>>, OutOfMemory>
     requires { AreApart leavers.now }
     ensures { IfOk result (λ followers. AreFollowers leavers.now followers.items) }
@@ -84,7 +84,7 @@ fn followers(alloc: Global, leavers: &[Option<usize>]) -> Result<Vec<Option<usiz
     Ok(followers)
 }
 
-// The number of an entry at the end of its chain: 0 where it has no new room, and 1 where nobody leaves its new room.
+// Returns the number of an entry at the end of its chain: 0 without a new room, otherwise 1.
 fn chain_end_number(entries: &[Mover], end: usize) -> u16
     requires { end < length entries.now }
     ensures value { result ≡ own_number (end_numbers entries.now) end }
@@ -96,7 +96,7 @@ fn chain_end_number(entries: &[Mover], end: usize) -> u16
     }
 }
 
-// Numbers the moves of a chain, from the first number on, which is that of its end.
+// Numbers the entries of a chain from its end, which gets the number `first`.
 fn number_chain(waves: &mut [Wave], followers: &[Option<usize>], end: usize, first: u16)
     requires within { (count i : ℕ) → followed followers.now count end ≡ Some i
         → i < length waves.old }
@@ -115,8 +115,8 @@ fn number_chain(waves: &mut [Wave], followers: &[Option<usize>], end: usize, fir
     }
 }
 
-/// The law that each entry has one wave, the one that `wave_of` of `specs/` computes, where the new rooms differ.
-/// It does nothing.
+/// Theorem: if the new rooms differ, each entry has exactly one wave, the one that `wave_of` of `specs/` computes. The
+/// function does nothing.
 pub fn one_wave_each()
     ensures { (entries : List AnyMover) → NewRoomsDiffer entries → HaveOneWaveEach entries }
 {}

@@ -1,4 +1,4 @@
-//! What the office reads and writes in whole: lists as CSV, tables of text, and who moves when.
+//! The lists that the office imports and exports as CSV, its text tables, and the waves of the day of moving.
 #![tactic(auto)]
 
 mod entries;

@@ -10,8 +10,8 @@ use room_types::{Move, OutOfMemory, PersonId, Wave};
 use std::alloc::{AllocError, Global};
 use std::cmp::Ordering;
 
-/// The list of these moves: the numbered waves ascending, then the swaps, each by identifier. It takes n log n
-/// comparisons.
+/// Returns the list for the day of moving as text: the numbered waves ascending, then the swaps, each by identifier. Makes
+/// O(n log n) comparisons.
 pub fn move_day_text(alloc: Global, moves: &[Move]) -> Result<String, OutOfMemory>
     ensures listed { IfOk result (λ text. IsMoveDayList moves.now (string_bytes text)) }
     ensures computed { IfOk result (λ text. string_bytes text ≡ move_day_table moves.now) }
@@ -32,7 +32,8 @@ pub fn move_day_text(alloc: Global, moves: &[Move]) -> Result<String, OutOfMemor
     Ok(text)
 }
 
-/// The moves by wave, the swaps last, and by identifier in one wave. It takes n log n comparisons. No moves take no memory.
+/// Sorts the moves by wave, with swaps last, and by identifier within a wave. Makes O(n log n) comparisons. Does not
+/// allocate if there are no moves.
 pub fn in_moving_order(alloc: Global, moves: &[Move]) -> Result<Vec<&Move>, OutOfMemory>
     ensures ordered { IfOk result (λ rows. map (λ row. row.now) rows.items
         ≡ ascending move_cmp moves.now) }
@@ -52,7 +53,7 @@ fn compare_moves(a: &Move, b: &Move) -> Ordering
     turn(a).cmp(&turn(b))
 }
 
-// Whether it is a swap, the number of a wave that has one, and who moves.
+// Returns the sort key of a move: whether it is a swap, the number of its wave or 0, and the person.
 fn turn(row: &Move) -> (bool, u16, &PersonId)
     ensures swap { result.0 ≡ is_swap row.now.wave }
     ensures number { result.1 ≡ number_of row.now.wave }
@@ -64,7 +65,7 @@ fn turn(row: &Move) -> (bool, u16, &PersonId)
     }
 }
 
-/// A wave as it is printed.
+/// Returns a wave as it is printed: its number, or `swap`.
 pub fn wave_text(alloc: Global, wave: Wave) -> Result<String, AllocError>
     ensures { IfOk result (λ text. string_bytes text ≡ wave_text wave) }
 {
@@ -87,8 +88,8 @@ fn push_move(
     writeln!(text, "{wave:<4}  {person:<12}  {from:<8}  {to}")
 }
 
-/// The law that moves have one list for the day of moving, the one that `move_day_table` of `specs/` computes. It
-/// does nothing.
+/// Theorem: moves have exactly one list for the day of moving, the one that `move_day_table` of `specs/` computes. The
+/// function does nothing.
 pub fn one_move_day_list()
     ensures { (moves : List Move) → HaveOneMoveDayList moves }
 {}

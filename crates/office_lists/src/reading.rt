@@ -1,4 +1,4 @@
-//! Reading lists.
+//! Reading lists from CSV.
 ghost use Rattle.std.specs.Prelude.{◌≡◌, ◌<◌, IfOk, IfErr, None, Some, length, true, false};
 ghost use Rattle.csv.specs.Reading.{default_config, error_kind, is_flexible, names_headers, owned_rows_left};
 ghost use Rattle.csv.specs.Reading.{owned_rows_reader, reader_config, reader_headers, reader_state, reader_trim};
@@ -15,26 +15,26 @@ use csv::{ByteRecord, ByteRecordsIntoIter, ReaderBuilder, StringRecord};
 use room_types::{GradeRow, RoomCode};
 use std::alloc::Global;
 
-/// How many records a list may have after its header.
+/// How many data records a list may have at most.
 pub const RECORD_LIMIT: usize = 10_000;
 
-// The first record is no header.
+// The first record is not the header, or there is none.
 const NO_HEADER: ListFault = ListFault::Bad {
     at: 0,
     cause: Cause::Header,
 };
 
-// The first record after the last that a list may have.
+// There is a record after the last that a list may have.
 const TOO_MANY: ListFault = ListFault::Bad {
     at: RECORD_LIMIT as u32 + 1,
     cause: Cause::TooMany,
 };
 
-/// The rooms of a list, in its order.
+/// Reads a list of rooms and returns them in its order.
 ///
 /// # Errors
 ///
-/// `Bad` with the first bad record, or `OutOfMemory`, which comes of no empty list.
+/// `Bad` with the first bad record, or `OutOfMemory` if an allocation fails, which never happens if `bytes` is empty.
 pub fn read_rooms(alloc: Global, bytes: &[u8]) -> Result<Vec<RoomCode>, ListFault>
     ensures told { IfOk result (λ rooms. Tells room_list bytes.now rooms.items) }
     ensures fault { IfErr result (λ fault. Fails room_list bytes.now fault) }
@@ -42,11 +42,11 @@ pub fn read_rooms(alloc: Global, bytes: &[u8]) -> Result<Vec<RoomCode>, ListFaul
     read_list(alloc, bytes)
 }
 
-/// The people of a list, in its order, with their keys and homes.
+/// Reads a list of people, with their keys and homes, and returns them in its order.
 ///
 /// # Errors
 ///
-/// `Bad` with the first bad record, or `OutOfMemory`, which comes of no empty list.
+/// `Bad` with the first bad record, or `OutOfMemory` if an allocation fails, which never happens if `bytes` is empty.
 pub fn read_people(alloc: Global, bytes: &[u8]) -> Result<Vec<PersonEntry>, ListFault>
     ensures told { IfOk result (λ people. Tells people_list bytes.now people.items) }
     ensures fault { IfErr result (λ fault. Fails people_list bytes.now fault) }
@@ -54,11 +54,11 @@ pub fn read_people(alloc: Global, bytes: &[u8]) -> Result<Vec<PersonEntry>, List
     read_list(alloc, bytes)
 }
 
-/// The choices of a list, in its order. A person may stand there more than once.
+/// Reads a list of choices and returns them in its order. A person may be on it more than once.
 ///
 /// # Errors
 ///
-/// `Bad` with the first bad record, or `OutOfMemory`, which comes of no empty list.
+/// `Bad` with the first bad record, or `OutOfMemory` if an allocation fails, which never happens if `bytes` is empty.
 pub fn read_choices(alloc: Global, bytes: &[u8]) -> Result<Vec<ChoicesEntry>, ListFault>
     ensures told { IfOk result (λ choices. Tells choices_list bytes.now choices.items) }
     ensures fault { IfErr result (λ fault. Fails choices_list bytes.now fault) }
@@ -66,11 +66,11 @@ pub fn read_choices(alloc: Global, bytes: &[u8]) -> Result<Vec<ChoicesEntry>, Li
     read_list(alloc, bytes)
 }
 
-/// The grades of a list, in its order. A person may stand there more than once.
+/// Reads a list of grades and returns them in its order. A person may be on it more than once.
 ///
 /// # Errors
 ///
-/// `Bad` with the first bad record, or `OutOfMemory`, which comes of no empty list.
+/// `Bad` with the first bad record, or `OutOfMemory` if an allocation fails, which never happens if `bytes` is empty.
 pub fn read_grades(alloc: Global, bytes: &[u8]) -> Result<Vec<GradeRow>, ListFault>
     ensures told { IfOk result (λ grades. Tells grades_list bytes.now grades.items) }
     ensures fault { IfErr result (λ fault. Fails grades_list bytes.now fault) }
@@ -78,7 +78,7 @@ pub fn read_grades(alloc: Global, bytes: &[u8]) -> Result<Vec<GradeRow>, ListFau
     read_list(alloc, bytes)
 }
 
-// A list is read record by record, up to its first bad one.
+// Reads a list record by record, up to its first bad one.
 fn read_list<E: ListEntry>(alloc: Global, bytes: &[u8]) -> Result<Vec<E>, ListFault>
     ensures told { IfOk result (λ entries. Tells E.form bytes.now entries.items) }
     ensures fault { IfErr result (λ fault. Fails E.form bytes.now fault) }
@@ -119,7 +119,7 @@ fn read_list<E: ListEntry>(alloc: Global, bytes: &[u8]) -> Result<Vec<E>, ListFa
     Ok(entries)
 }
 
-// The records of a list, one after the other. The header is one of them, and they may have any number of fields.
+// Returns an iterator over the records of a list. It yields the header as a record, and accepts any number of fields.
 fn csv_records(alloc: Global, bytes: &[u8]) -> ByteRecordsIntoIter<&[u8]>
     ensures config { reader_config (owned_rows_reader result) ≡ default_config }
     ensures trim { reader_trim (owned_rows_reader result) ≡ trim.None }
@@ -138,8 +138,8 @@ fn csv_records(alloc: Global, bytes: &[u8]) -> ByteRecordsIntoIter<&[u8]>
         .into_byte_records()
 }
 
-// The fault of a reader that failed: a reader over memory fails for memory alone. An error that tells of a record, as
-// that it has more fields than the one before, is none of these.
+// Converts an error that stops a reader over memory: only a failed allocation does. Errors about a single record, such as a
+// number of fields that differs from the one before, do not stop a reader and are excluded.
 fn list_memory_fault(error: csv::Error) -> ListFault
     requires { stops_reader (error_kind error) ≡ true }
     ensures { result ≡ ListFault.OutOfMemory }
@@ -148,7 +148,7 @@ fn list_memory_fault(error: csv::Error) -> ListFault
     ListFault::OutOfMemory
 }
 
-// What a data record tells, where the header has so many fields.
+// Parses a data record. The header has `width` fields.
 fn read_record<E: ListEntry>(alloc: Global, row: ByteRecord, width: usize) -> Result<E, RecordFault>
     requires { width ≡ length E.form.header }
     ensures told { IfOk result (λ entry. entry ≡ E.form.entry (fields_of row)) }

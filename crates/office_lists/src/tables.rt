@@ -1,4 +1,4 @@
-//! Tables of text, as they are printed.
+//! Text tables, as they are printed.
 ghost use Rattle.std.specs.Prelude.{◌≡◌, ◌++◌, [], ◌∷◌, IfOk, OnOk, string_bytes};
 ghost use Rattle.room_types.specs.Ascending.{AscendsBy};
 ghost use Rattle.office_lists.specs.Tables.{line, or_none, rooms_table, people_table, results_table};
@@ -7,7 +7,7 @@ use room_types::text::{Grammar, Text};
 use room_types::{OutOfMemory, PersonRow, ResultRow, RoomRow};
 use std::alloc::{AllocError, Global};
 
-/// The table of these rooms, which ascend by code, with a line for each.
+/// Returns the text table of these rooms, which must ascend by code, with a line for each.
 pub fn rooms_text(alloc: Global, rows: &[RoomRow]) -> Result<String, OutOfMemory>
     requires ascending { AscendsBy (λ row. row.room) rows.now }
     ensures { IfOk result (λ text. string_bytes text ≡ rooms_table rows.now) }
@@ -25,7 +25,7 @@ pub fn rooms_text(alloc: Global, rows: &[RoomRow]) -> Result<String, OutOfMemory
     Ok(text)
 }
 
-/// The table of these people, who ascend by identifier, with a line for each.
+/// Returns the text table of these people, who must ascend by identifier, with a line for each.
 pub fn people_text(alloc: Global, rows: &[PersonRow]) -> Result<String, OutOfMemory>
     requires ascending { AscendsBy (λ row. row.person) rows.now }
     ensures { IfOk result (λ text. string_bytes text ≡ people_table rows.now) }
@@ -43,7 +43,7 @@ pub fn people_text(alloc: Global, rows: &[PersonRow]) -> Result<String, OutOfMem
     Ok(text)
 }
 
-/// The table of what these people get, who ascend by identifier, with a line for each.
+/// Returns the text table of these results, which must ascend by identifier, with a line for each.
 pub fn results_text(alloc: Global, rows: &[ResultRow]) -> Result<String, OutOfMemory>
     requires ascending { AscendsBy (λ row. row.person) rows.now }
     ensures { IfOk result (λ text. string_bytes text ≡ results_table rows.now) }
@@ -77,7 +77,7 @@ fn push_result(text: &mut String, person: &str, room: &str) -> Result<(), AllocE
     writeln!(text, "{person:<12}  {room}")
 }
 
-/// The text, or `none`.
+/// Returns the text, or `none`.
 pub fn or_none<G: Grammar>(text: &Option<Text<G>>) -> &str
     ensures { result.now ≡ or_none text.now }
 {

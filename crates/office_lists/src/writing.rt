@@ -13,20 +13,20 @@ use room_types::{GradeRow, Move, PersonRow, RoomRow, Watched};
 use std::alloc::Global;
 use std::io::Write;
 
-/// Why an export came to an early end, and how many of its bytes were written before. They are its first ones.
+/// Why an export stopped early, and how many bytes were written. They are a prefix of the export.
 #[derive(Clone, Copy, Debug, PartialEq, Eq, Drop)]
 pub enum WriteEnd {
     /// A write failed.
     Fault { sent: u128 },
-    /// Memory was refused for the bytes of a record. All records before it were written.
+    /// The bytes of a record could not be allocated. All records before it were written.
     OutOfMemory { sent: u128 },
 }
 
-/// Writes the export of these rooms, which ascend by code. It does not flush.
+/// Writes the export of these rooms, which must ascend by code. Does not flush.
 ///
 /// # Errors
 ///
-/// `Fault` after a write that failed or took nothing, and `OutOfMemory`.
+/// `Fault` if a write fails or takes nothing, and `OutOfMemory` if an allocation fails.
 pub fn write_rooms<W: Write>(
     alloc: Global,
     rows: &[RoomRow],
@@ -49,11 +49,11 @@ pub fn write_rooms<W: Write>(
     write_list(alloc, ExportKind::Rooms, rows, output)
 }
 
-/// Writes the export of these people, who ascend by identifier. It does not flush.
+/// Writes the export of these people, who must ascend by identifier. Does not flush.
 ///
 /// # Errors
 ///
-/// `Fault` after a write that failed or took nothing, and `OutOfMemory`.
+/// `Fault` if a write fails or takes nothing, and `OutOfMemory` if an allocation fails.
 pub fn write_people<W: Write>(
     alloc: Global,
     rows: &[PersonRow],
@@ -77,11 +77,11 @@ pub fn write_people<W: Write>(
     write_list(alloc, ExportKind::People, rows, output)
 }
 
-/// Writes the export of these moves, which ascend by round and, in one round, by identifier. It does not flush.
+/// Writes the export of these moves, which must ascend by round and, within a round, by identifier. Does not flush.
 ///
 /// # Errors
 ///
-/// `Fault` after a write that failed or took nothing, and `OutOfMemory`.
+/// `Fault` if a write fails or takes nothing, and `OutOfMemory` if an allocation fails.
 pub fn write_moves<W: Write>(
     alloc: Global,
     rows: &[Move],
@@ -104,11 +104,11 @@ pub fn write_moves<W: Write>(
     write_list(alloc, ExportKind::Moves, rows, output)
 }
 
-/// Writes the export of the grades of these people, who ascend by identifier. It does not flush.
+/// Writes the export of these people's grades. The rows must ascend by identifier. Does not flush.
 ///
 /// # Errors
 ///
-/// `Fault` after a write that failed or took nothing, and `OutOfMemory`.
+/// `Fault` if a write fails or takes nothing, and `OutOfMemory` if an allocation fails.
 pub fn write_grades<W: Write>(
     alloc: Global,
     rows: &[GradeRow],

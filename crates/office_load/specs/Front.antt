@@ -1,4 +1,4 @@
--- Databases whose first tables are those of an office, whatever stands behind them.
+-- Databases whose first tables are those of an office, whatever follows them.
 use Rattle.std.specs.Prelude.{◌≡◌, ◌&&◌, ◌==◌, ℕ, Bool, false, List, [], ◌∷◌, ◌++◌, codes, length, nat_le, take}
 use Rattle.sqlite_schema.specs.declared.schema.Index.{Index}
 use Rattle.sqlite_schema.specs.declared.schema.Schema.{Schema}
@@ -12,12 +12,12 @@ use Rattle.office_tables.specs.Schema.{room, person, round}
 use Rattle.office_tables.specs.Tables.{AreHeldIn}
 use Rattle.office_tables.specs.declared.layouts.Layout.{Layout}
 
--- The first three tables are those of rooms, of people and of the round, which come first in each layout, and there are no views.
+-- The first three tables are `room`, `person` and `round`, with which each layout begins, and there are no views.
 pub record IsFront (schema : Schema) : Type 0 where
   pub tables : take 3 schema.tables ≡ room 0 ∷ person 2 ∷ round 6 ∷ []
   pub views : schema.views ≡ []
 
--- they have those names, and are kept in those trees
+-- The first three tables have those names and trees.
 abbrev pub are_first : List Table → Bool
 are_first [] = false
 are_first (one ∷ []) = false
@@ -29,7 +29,7 @@ are_first (one ∷ two ∷ three ∷ tables) =
 abbrev pub has_front : Schema → Bool
 has_front schema = (length schema.views == 0) && are_first schema.tables
 
--- ---- the tables of a layout, whatever stands behind them
+-- ---- the tables of a layout, whatever follows them
 
 abbrev pub with_behind : Layout → List Table → List Index → Schema
 with_behind layout tables indexes = record {
@@ -38,25 +38,25 @@ with_behind layout tables indexes = record {
   views = [];
 }
 
--- the tables and the indexes of the layout come first, and there are no views
+-- The schema begins with the tables and the indexes of the layout, and has no views.
 pub record Begins (layout : Layout) (schema : Schema) : Type 0 where
   pub tables : List Table
   pub indexes : List Index
   pub is : schema ≡ with_behind layout tables indexes
 
--- so it is, with these rows
+-- The database begins with the tables of the layout, and they have these rows.
 pub record HasTablesFirst (layout : Layout) (db : Database) (tables : Tables) : Type 0 where
   pub schema : Begins layout db.schema
   pub rows : AreHeldIn layout db.trees tables
 
--- the first tables are the rows of the office
+-- The first tables are the rows of the office.
 abbrev pub HoldsOfficeFirst : Layout → Database → Office → Type 0
 HoldsOfficeFirst layout db office = HasTablesFirst layout db (rows_at (version_of layout) office)
 
 abbrev pub index_count : Layout → ℕ
 index_count layout = length (schema_of layout).indexes
 
--- there are as many tables and indexes at least, and the first ones are as those of the layout are
+-- There are at least as many tables and indexes as in the layout, and the first ones pass the tests of the layout's.
 abbrev pub begins_with : Layout → Schema → Bool
 begins_with layout schema =
     (length schema.views == 0)

@@ -1,4 +1,4 @@
-//! What stands at the front of a database, whatever stands behind it.
+//! Tests of the first tables of a database. What follows them does not matter.
 ghost use Rattle.std.specs.Prelude.{◌≡◌, ◌&&◌, IsTrue, length, nat_le, take};
 ghost use Rattle.office_load.specs.Finding.{AreDeclared};
 ghost use Rattle.office_load.specs.Front.{Begins, IsFront, are_first, begins_with, has_front, index_count};
@@ -9,8 +9,8 @@ use crate::layout::{has_indexes, has_tables, is_this_table};
 use office_tables::layouts::Layout;
 use sqlite_schema::schema::{Index, Schema, Table};
 
-/// Whether the first three tables have the names of those of an office, each in its tree, and there are no views. Where tables
-/// are declared as an office's are, they are those.
+/// Returns whether the first three tables have the names of an office's first three, each in its tree, and there are no views.
+/// If the tables are declared as an office's are, then they are those three.
 pub fn has_front(schema: &Schema) -> bool
     ensures tested { result ≡ has_front schema.now }
     ensures whole { IsTrue result → AreDeclared schema.now → IsFront schema.now }
@@ -18,7 +18,7 @@ pub fn has_front(schema: &Schema) -> bool
     schema.views.as_slice().is_empty() && are_first(schema.tables.as_slice())
 }
 
-// Whether the first three have these names and are kept in these trees.
+// Returns whether the first three tables have these names and trees.
 fn are_first(tables: &[Table]) -> bool
     ensures { result ≡ are_first tables.now }
 {
@@ -32,8 +32,8 @@ fn are_first(tables: &[Table]) -> bool
     }
 }
 
-/// Whether the tables of the layout and their indexes come first, each in its tree, and there are no views. Where tables are
-/// declared as an office's are, they are those of the layout.
+/// Returns whether the schema begins with the tables of the layout and their indexes, each in its tree, and has no views. If
+/// the tables are declared as an office's are, then they are those of the layout.
 pub fn begins_with(schema: &Schema, layout: Layout) -> bool
     ensures tested { result ≡ begins_with layout schema.now }
     ensures whole { IsTrue result → AreDeclared schema.now → Begins layout schema.now }
@@ -43,7 +43,7 @@ pub fn begins_with(schema: &Schema, layout: Layout) -> bool
         && has_first_indexes(schema.indexes.as_slice(), layout)
 }
 
-// Whether the first tables are those of the layout, each in its tree.
+// Returns whether the first tables are those of the layout, each in its tree.
 fn has_first_tables(tables: &[Table], layout: Layout) -> bool
     ensures { result ≡ (nat_le (table_count layout) (length tables.now)
         && are_tables layout (take (table_count layout) tables.now)) }
@@ -52,7 +52,7 @@ fn has_first_tables(tables: &[Table], layout: Layout) -> bool
     count <= tables.len() && has_tables(&tables[..count], layout)
 }
 
-// Whether the first indexes are those that keep the constraints of the tables of the layout.
+// Returns whether the first indexes are those of the layout's constraints.
 fn has_first_indexes(indexes: &[Index], layout: Layout) -> bool
     ensures { result ≡ (nat_le (index_count layout) (length indexes.now)
         && are_indexes layout (take (index_count layout) indexes.now)) }
@@ -61,7 +61,7 @@ fn has_first_indexes(indexes: &[Index], layout: Layout) -> bool
     count <= indexes.len() && has_indexes(&indexes[..count], layout)
 }
 
-// How many indexes keep the constraints of the tables of the layout.
+// Returns the number of indexes of the layout's constraints.
 fn index_count(layout: Layout) -> usize
     ensures { result ≡ index_count layout }
 {

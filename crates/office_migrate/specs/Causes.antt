@@ -1,4 +1,4 @@
--- Why the tables of an earlier version are not made those of this one.
+-- Why tables of an earlier version are not migrated.
 use Rattle.std.specs.Prelude.{◌≡◌, ◌⊎◌, ℕ, ℤ, pos, false, IsTrue, take, ⊤}
 use Rattle.sqlite_schema.specs.declared.schema.Schema.{Schema}
 use Rattle.sqlite.specs.Effect.{Database}
@@ -16,7 +16,7 @@ use Rattle.office_migrate.specs.Versions.{IsEarlier, IsNoEarlier, IsOfVersion}
 use Rattle.office_migrate.specs.declared.migrating.MigrateFault.{MigrateFault}
 use Rattle.office_migrate.specs.declared.migrating.MigrateFault.TheVariants.{Unavailable, OtherVersion, NotAnOffice, AlreadyThere}
 
--- the tables of the layout, which is of an earlier version, are the rows of an office of that version
+-- The tables of the layout, which is of an earlier version, are the rows of an office of that version.
 pub record HoldsEarlier (layout : Layout) (db : Database) (office : Office) : Type 0 where
   pub earlier : IsEarlier (version_of layout)
   pub lawful : IsLawful office
@@ -24,8 +24,8 @@ pub record HoldsEarlier (layout : Layout) (db : Database) (office : Office) : Ty
   pub kind : IsOfVersion (version_of layout) office
   pub rows : HoldsOfficeIn layout db office
 
--- the first tables are those of a layout of an earlier version, whatever stands behind them, and hold the rows of an office of
--- that version
+-- The first tables are those of a layout of an earlier version, whatever follows them, and hold the rows of an office of that
+-- version.
 pub record StandsFirst (layout : Layout) (db : Database) (office : Office) : Type 0 where
   pub earlier : IsEarlier (version_of layout)
   pub lawful : IsLawful office
@@ -35,38 +35,39 @@ pub record StandsFirst (layout : Layout) (db : Database) (office : Office) : Typ
   pub tables : take (table_count layout) db.schema.tables ≡ (schema_of layout).tables
   pub rows : AreHeldIn layout db.trees (rows_at (version_of layout) office)
 
--- the tables of a layout come first, whatever stands behind them
+-- The schema begins with the tables of a layout, whatever follows them.
 abbrev pub BeginsKnown : Schema → Type 0
 BeginsKnown schema = (layout : Layout) × Begins layout schema
 
--- where the tables of a layout of this version come first, they are the rows of an office of that version
+-- If the database begins with the tables of a layout of this version, they are the rows of an office of that version.
 abbrev pub AreEarlierRows : ℕ → Database → Type 0
 AreEarlierRows version db =
     (layout : Layout) → version_of layout ≡ version → Begins layout db.schema → AreWhole layout db.trees
     → (office : Office) × StandsFirst layout db office
 
--- where the tables of a layout of the version that the row of the round holds come first, they are the rows of an office of it
+-- If the database begins with the tables of a layout of the version in the row of table `round`, they are the rows of an office
+-- of that version.
 abbrev pub AreSaidRows : Database → Type 0
 AreSaidRows db = (version : ℕ) → IsEarlier version → HoldsVersion db (pos version) → AreEarlierRows version db
 
--- the first tables are the rows of no office of this version
+-- The first tables are not the rows of an office of this version.
 abbrev pub AreNoEarlierRows : ℕ → Database → Type 0
 AreNoEarlierRows version db =
     (layout : Layout) → version_of layout ≡ version → (office : Office) → ¬ StandsFirst layout db office
 
--- the table of the round stands where an office has it, and its row holds this version
+-- Table `round` is where an office has it, and its row holds this version.
 abbrev pub SaysVersion : Database → ℤ → Type 0
 SaysVersion db version = IsFront db.schema × HoldsVersion db version
 
--- The row of the round holds no other version, and the first tables are no office's of an earlier version. Where the row holds
--- a version, the tables of a layout come first: an order that is not known says nothing of an office.
+-- The row of table `round` holds no other version, and the first tables are not the rows of an office of an earlier version. If
+-- the row holds a version, the schema begins with the tables of a layout: an unknown order says nothing about an office.
 pub record HoldsNoEarlier (db : Database) : Type 0 where
   pub front : IsFront db.schema
   pub version : (version : ℤ) → IsNoEarlier version → ¬ HoldsVersion db version
   pub known : (version : ℤ) → HoldsVersion db version → BeginsKnown db.schema
   pub none : (layout : Layout) (office : Office) → ¬ StandsFirst layout db office
 
--- the row of the round holds an earlier version, the name of a table that it lacks is taken, and the rows are not at fault
+-- The row of table `round` holds an earlier version, the name of a table that it lacks is taken, and the rows are not at fault.
 pub record HasNameTaken (db : Database) : Type 0 where
   pub version : ℕ
   pub earlier : IsEarlier version
@@ -74,14 +75,14 @@ pub record HasNameTaken (db : Database) : Type 0 where
   pub taken : IsTrue (is_lacking_name_used version db.schema)
   pub rows : AreEarlierRows version db
 
--- A database may be refused for this only where it is so.
+-- A database may be refused with this fault only for this cause.
 abbrev pub HasCause : Database → MigrateFault → Type 0
 HasCause db Unavailable = ⊤
 HasCause db (OtherVersion version) = SaysVersion db version × IsNoEarlier version
 HasCause db NotAnOffice = (names_round db.schema ≡ false) ⊎ HoldsNoEarlier db
 HasCause db AlreadyThere = HasNameTaken db
 
--- Whatever the disk does, it is refused for this only where what is declared allows it.
+-- Whatever the disk does, the schema allows this fault.
 abbrev pub IsAllowed : Schema → MigrateFault → Type 0
 IsAllowed schema Unavailable = ⊤
 IsAllowed schema (OtherVersion version) = IsTrue (has_front schema) × IsNoEarlier version
@@ -89,14 +90,14 @@ IsAllowed schema NotAnOffice = (names_round schema ≡ false) ⊎ IsTrue (has_fr
 IsAllowed schema AlreadyThere =
     IsTrue (has_front schema) × IsTrue (is_lacking_name_used 1 schema)
 
--- another version is no earlier one, and it is not for a name that the tables are refused
+-- A version that the fault names is not an earlier one. The fault is not `AlreadyThere`.
 abbrev pub IsOfNumber : MigrateFault → Type 0
 IsOfNumber Unavailable = ⊤
 IsOfNumber (OtherVersion version) = IsNoEarlier version
 IsOfNumber NotAnOffice = ⊤
 IsOfNumber AlreadyThere = ⊥
 
--- for a name that is taken, or for the rows, and not for the version
+-- The fault is not for the version.
 abbrev pub IsOfName : MigrateFault → Type 0
 IsOfName Unavailable = ⊤
 IsOfName (OtherVersion version) = ⊥

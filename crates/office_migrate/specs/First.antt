@@ -1,11 +1,11 @@
--- The layout of an earlier version whose tables come first.
+-- The layout of an earlier version with whose tables a schema begins.
 use Rattle.std.specs.Prelude.{ℕ, nat_le, not, Option, Some, None, if◌then◌else◌}
 use Rattle.sqlite_schema.specs.declared.schema.Schema.{Schema}
 use Rattle.office_tables.specs.declared.layouts.Layout.{Layout}
 use Rattle.office_tables.specs.declared.layouts.Layout.TheVariants.{DocumentedSecond, DocumentedFirst, EarlierFirst}
 use Rattle.office_load.specs.Front.{begins_with}
 
--- the layout of this version whose tables come first, if those of one do, whatever stands behind them
+-- the layout of this version with whose tables the schema begins, if any
 abbrev pub first_layout : ℕ → Schema → Option Layout
 first_layout version schema =
     if not (nat_le 2 version) then

@@ -13,39 +13,39 @@ use Rattle.office_state.specs.declared.office.Office.{Office}
 use Rattle.office_tables.specs.Layouts.{version_of}
 use Rattle.office_tables.specs.declared.layouts.Layout.{Layout}
 
--- nobody has a grade, and no kept list is one of grades
+-- Nobody has a grade, and no imported list is one of grades.
 pub record LacksGrades (office : Office) : Type 0 where
   pub grades : office.grades ≡ map.empty
   pub kinds : (label : Text) (kept : KeptList) → map.get office.lists label ≡ Some kept
       → kept.kind ≢ Grades
 
--- nobody leaves, and each move of an earlier round goes into a room
+-- Nobody leaves, and each recorded move goes into a room.
 pub record LacksLeavers (office : Office) : Type 0 where
   pub going : office.going ≡ map.empty
   pub arrived : (round : ℕ) (p : Text) (moved : Moved)
       → map.get (moves_of office.moves round) p ≡ Some moved → IsSome moved.to
 
--- grades came with version 2, and leavers with version 3
+-- Grades came with version 2, and leavers with version 3.
 abbrev pub IsOfVersion : ℕ → Office → Type 0
 IsOfVersion version office =
     (version < 2 → LacksGrades office) × (version < 3 → LacksLeavers office)
 
--- the versions before that of this program
+-- The version is one before that of this program.
 abbrev pub IsEarlier : ℕ → Type 0
 IsEarlier version = (version ≡ 1) ⊎ (version ≡ 2)
 
--- the layout is of such a version
+-- The layout is of such a version.
 abbrev pub IsEarlierLayout : Option Layout → Type 0
 IsEarlierLayout None = ⊥
 IsEarlierLayout (Some layout) = IsEarlier (version_of layout)
 
--- a number is no such version
+-- The number is no such version.
 abbrev pub IsNoEarlier : ℤ → Type 0
 IsNoEarlier version = (version ≢ pos 1) × (version ≢ pos 2)
 
 -- ---- the tests
 
--- whether a kept list is none of grades
+-- whether an imported list is not one of grades
 abbrev pub is_no_grades : KeptList → Bool
 is_no_grades kept = elim kept.kind [
   | Rooms ↦ true

@@ -1,4 +1,4 @@
-//! Tables of another layout, made those that this program makes, with the same office in them.
+//! Makes the tables of another layout anew in the layout of this program, with the same office in them.
 #![tactic(auto)]
 
 pub mod migrating;

@@ -1,4 +1,4 @@
-//! Tables of an earlier version are made those of this one.
+//! Migrates tables of an earlier version to the version of this program.
 ghost use Rattle.std.specs.Prelude.{◌≡◌, ◌⊎◌, false, pos, codes, Some, Err, IfErr, IfOk, IfSome, IsErrAnd, IsTrue, MatchResult, OnErr, OnOk};
 ghost use Rattle.sqlite.specs.Held.{state};
 ghost use Rattle.sqlite.specs.State.{HasCleanDisk};
@@ -32,30 +32,30 @@ use sqlite_catalog::layout::is_used;
 use sqlite_schema::schema::Schema;
 use std::alloc::Global;
 
-/// Why no tables were made anew.
+/// Why a migration failed.
 #[derive(Clone, Copy, Debug, PartialEq, Eq, Drop)]
 pub enum MigrateFault {
-    /// The database or memory did not serve, or the tables of an office do not stand in a layout that is known.
+    /// The database failed or memory ran out, or the tables of an office are not in a known layout.
     Unavailable,
-    /// The row of the round holds this version, which is no earlier one.
+    /// The row of table `round` holds this version, which is not an earlier one.
     OtherVersion(i64),
-    /// Nothing has the name of the table of the round, or the first tables are the rows of no office of an earlier version.
+    /// Nothing has the name of table `round`, or the first tables are not the rows of an office of an earlier version.
     NotAnOffice,
     /// Something has the name of a table that the earlier version lacks, and the rows are not at fault.
     AlreadyThere,
 }
 
-/// The office that tables of an earlier version hold, in tables of the version of this program from then on, with no leavers, and
-/// with no grades but those that it had. All in one transaction.
+/// Makes the tables of an earlier version anew in the version of this program, in one transaction. Returns the office that they
+/// hold: with no leavers, and with no other grades than it had.
 ///
 /// # Errors
 ///
-/// `NotAnOffice` where nothing has the name of the table of the round. Then `OtherVersion`, where its row holds another version
-/// than 1 and 2; `NotAnOffice`, where the first tables are those of a layout that is known and the rows of no office of its
-/// version, or the row of the round is absent; `AlreadyThere`, where something has the name of a table that its version lacks. Else
-/// `Unavailable`, which may come in place of each of these from the database or from memory, and where the tables stand in no
-/// layout that is known. The tables are then as they were, unless a fault shut the connection or the disk did not return what was
-/// written.
+/// `NotAnOffice` if nothing has the name of table `round`. Otherwise, if the first three tables are those of an office:
+/// `OtherVersion` if the row of table `round` holds a version other than 1 and 2; `NotAnOffice` if the first tables are those
+/// of a known layout and not the rows of an office of the version in that row, or if the row is missing; `AlreadyThere` if
+/// something has the name of a table that this version lacks. `Unavailable` otherwise: it may replace each of these if the
+/// database fails or memory runs out, and it is returned if the tables are in no known layout. On an error the tables are
+/// unchanged, unless a fault closed the connection or the disk failed to return what was written.
 pub fn migrate<S: Alter>(alloc: Global, conn: &mut Connection<S>) -> Result<Office, MigrateFault>
     requires { conn.old.in_transaction ≡ false }
     ensures outside { conn.new.in_transaction ≡ false }
@@ -122,10 +122,10 @@ pub fn migrate<S: Alter>(alloc: Global, conn: &mut Connection<S>) -> Result<Offi
     }
 }
 
-// What has to be known of what is declared, before anything is read.
+// The facts about the schema that a migration needs, taken before anything is read.
 #[derive(Clone, Copy, Drop)]
 struct Declared {
-    // Whether something has the name of the table of grades, and of that of leavers.
+    // Whether something has the name of the table of grades, and whether something has that of the table of leavers.
     grade: bool,
     going: bool,
     layout: Option<Layout>,
@@ -146,7 +146,7 @@ impl Declared {
         }
     }
 
-    // Whether something has the name of a table that tables of this version lack.
+    // Returns whether something has the name of a table that this version lacks.
     fn takes_name(&self, version: u16) -> bool
         ensures { result ≡ takes_name self.now.grade self.now.going version }
     {
@@ -154,7 +154,7 @@ impl Declared {
     }
 }
 
-// The version that the row of the round holds, which is an earlier one.
+// Reads the version in the row of table `round`, which has to be an earlier one.
 fn earlier_version<S: Alter>(conn: &mut Connection<S>) -> Result<u16, MigrateFault>
     requires { conn.old.in_transaction ≡ false }
     ensures outside { conn.new.in_transaction ≡ false }

@@ -1,4 +1,4 @@
-//! The tables of another layout are made those that this program makes.
+//! Makes the tables of another layout anew in the layout of this program.
 ghost use Rattle.std.specs.Prelude.{◌≡◌, false, None, Some, IfOk, IsTrue, OnErr, OnOk};
 ghost use Rattle.std.specs.Option.{IfSome};
 ghost use Rattle.sqlite.specs.Held.{state};
@@ -24,9 +24,9 @@ use office_tables::refilling::renew_tables;
 use sqlite::{Alter, Connection, Error, ErrorCode, Transaction};
 use std::alloc::Global;
 
-/// The lawful office that the tables of this layout hold, where it may be one of their version, in tables as this program makes
-/// them from then on; none where they hold no such office, and then they stay as they were. All in one transaction. The rows
-/// are read twice: to test them, and to write them again.
+/// Makes the tables of this layout anew in the layout of this program, in one transaction. Returns the lawful office that they
+/// hold, which has to be one of their version. Returns `None`, and changes nothing, if they hold no such office. Reads the rows
+/// twice: to test them, and to write them again.
 pub fn renewed_office<S: Alter>(
     alloc: Global,
     conn: &mut Connection<S>,
@@ -64,7 +64,7 @@ pub fn renewed_office<S: Alter>(
     Ok(Some(office))
 }
 
-// The rows are read, and written again into tables that are made anew.
+// Reads the rows, and writes them into tables that are made anew.
 fn renew_read<S: Alter>(
     alloc: Global,
     conn: &mut Connection<S>,
@@ -88,7 +88,7 @@ fn renew_read<S: Alter>(
     Ok(())
 }
 
-// All in one transaction.
+// Does all of this in one transaction.
 fn renew<S: Alter>(
     alloc: Global,
     conn: &mut Connection<S>,
@@ -113,7 +113,7 @@ fn renew<S: Alter>(
     Ok(())
 }
 
-// The tables are made anew, with these rows.
+// Makes the tables anew, with these rows.
 fn renew_rows<S: Alter>(
     alloc: Global,
     tx: &mut Transaction<'_, S>,

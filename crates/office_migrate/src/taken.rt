@@ -22,8 +22,9 @@ use sqlite::{Alter, Connection};
 use sqlite_schema::schema::Schema;
 use std::alloc::Global;
 
-/// Why tables of this version are refused where something has the name of a table that they lack: for their rows, where the tables
-/// of a layout of that version come first and are the rows of no office of it, and else for the name. No table changes.
+/// Returns why tables of this version are refused if something has the name of a table that they lack. `NotAnOffice` if the
+/// database begins with the tables of a layout of this version and they are not the rows of an office of it; `AlreadyThere`
+/// otherwise; `Unavailable` if the database fails or memory runs out. Changes no table.
 pub fn refused_for_name<S: Alter>(
     alloc: Global,
     conn: &mut Connection<S>,
@@ -60,7 +61,7 @@ pub fn refused_for_name<S: Alter>(
     }
 }
 
-// The layout of this version whose tables come first, if those of one do, whatever stands behind them.
+// Returns the layout of this version with whose tables the schema begins, if any.
 fn first_layout(schema: &Schema, version: u16) -> Option<Layout>
     requires { IsEarlier version }
     ensures tested { result ≡ first_layout version schema.now }

@@ -9,8 +9,8 @@ ghost use Rattle.office_migrate.specs.Versions.{do_all_arrive, is_no_grades};
 use office_state::{KeptList, Office, RoundMoves};
 use room_types::ListKind;
 
-/// Whether the office may be one of this version: grades, and lists of them, came with version 2, and leavers with version 3. It
-/// takes no memory.
+/// Returns whether an office of this version may be this one. Grades and lists of them came with version 2, leavers with
+/// version 3. Does not allocate.
 pub fn is_of_version(office: &Office, version: u16) -> bool
     ensures { Decides result (IsOfVersion version office.now) }
 {
@@ -20,7 +20,7 @@ pub fn is_of_version(office: &Office, version: u16) -> bool
     version >= 3 || lacks_leavers(office)
 }
 
-// Whether nobody has a grade, and no kept list is one of grades.
+// Returns whether nobody has a grade, and no imported list is one of grades.
 fn lacks_grades(office: &Office) -> bool
     ensures { Decides result (LacksGrades office.now) }
 {
@@ -45,7 +45,7 @@ fn is_no_grades(kept: &KeptList) -> bool
     }
 }
 
-// Whether nobody leaves, and each move goes into a room.
+// Returns whether nobody leaves, and each recorded move goes into a room.
 fn lacks_leavers(office: &Office) -> bool
     ensures { Decides result (LacksLeavers office.now) }
 {

@@ -1,4 +1,4 @@
--- What is done at a desk, and what is said where there is none.
+-- Carrying out a subcommand at a desk, and what is printed if there is none.
 use Rattle.std.specs.Prelude.{◌≡◌, ◌⊎◌, ◌<◌, ℕ, true, List, [], ◌∷◌, Result, Ok, Err, length, codes}
 use Rattle.sqlite.specs.Held.{state}
 use Rattle.sqlite.specs.State.{HasCleanDisk}
@@ -25,31 +25,31 @@ use Rattle.room_types.specs.Streams.{Output}
 use Rattle.room_types.specs.Texts.{Text}
 use Rattle.room_types.specs.declared.kinds.ListKind.{ListKind}
 
--- `ok` is said where a desk was made, and else why there is none
+-- `ok` is printed if there is a desk, and otherwise why there is none
 abbrev pub TellsMade : {S : Type 0} → Result (DeskState S) DeskFault → ℕ → Output → Output → Type 0
 TellsMade (Ok desk) status out out' = Says (line_of (codes "ok" ∷ [])) 0 status out out'
 TellsMade (Err fault) status out out' = RefusesDesk fault status out out'
 
--- A front of these bytes went out. Either no write failed, or one did, and they did not all go out.
+-- A prefix of these bytes was written. Either the writer's failure flag did not change, or the writer has failed and not all
+-- bytes were written.
 pub record EndsEarly (bytes : List ℕ) (out out' : Output) : Type 0 where
   pub sent : ℕ
   pub front : PutsFront out out' sent bytes
   pub short : (out'.failed ≡ out.failed) ⊎ ((out'.failed ≡ true) × (sent < length bytes))
 
--- The whole export went out, one flush followed, and the status is 0, or 3 where the flush failed. Or it came to an early end,
--- no flush followed, and the status is 3.
+-- The export is printed like a text, with status 0. Or it stopped early, no flush followed, and the status is 3.
 abbrev pub SendsExport : List ℕ → ℕ → Output → Output → Type 0
 SendsExport bytes status out out' =
     Says bytes 0 status out out' ⊎ ((status ≡ 3) × (out'.flushes ≡ out.flushes) × EndsEarly bytes out out')
 
--- Whatever the disk did: a header and records went out, and one flush followed, as above. Or so many bytes went out, none
--- followed, and the status is 3.
+-- Whatever the disk did, a header and records are printed like a text, with status 0. Or some number of bytes was written, no
+-- flush followed, and the status is 3.
 abbrev pub EndsExport : ExportKind → ℕ → Output → Output → Type 0
 EndsExport kind status out out' =
     ((records : List Record) × Says (export_bytes (header_of kind ∷ records)) 0 status out out')
     ⊎ ((status ≡ 3) × (out'.flushes ≡ out.flushes) × (sent : ℕ) × PutsCount out out' sent)
 
--- At the desk that was found this is done, and the desk is then the new one. Or it is said why none was found.
+-- This was done at the desk that was found. Or none was found, and the reason is printed.
 abbrev pub DoneAt : {S : Type 0} → (DeskState S → DeskState S → Type 0) → Result (DeskState S) DeskFault → Result (DeskState S) DeskFault → ℕ → Output → Output → Type 0
 DoneAt IsDone (Ok old) (Ok new) status out out' = IsDone old new
 DoneAt IsDone (Err fault) (Err same) status out out' = (same ≡ fault) × RefusesDesk fault status out out'
@@ -57,16 +57,16 @@ DoneAt IsDone (Ok old) (Err fault) status out out' = ⊥
 DoneAt IsDone (Err fault) (Ok new) status out out' = ⊥
 
 module _ {S : Type 0} (g : Ghosts S) where
-  -- The desk hears the words as a line, and is then the new one. Where the disk returned what was written, the office that
-  -- the desk stood for has done the line, and the desk stands for the office after it.
+  -- The desk handles the words as a line. If the disk returned what was written to it, the office that the desk represents
+  -- handled them, and the desk represents the office after it.
   pub record HearsWords (old new : DeskState S) (words : List Text) (status : ℕ) (out out' : Output) : Type 0 where
     pub follows : Follows (state g old.conn) (state g new.conn)
     pub heard : DoesWords (HandlesAt g) old words status new out out'
     pub done : HasCleanDisk (state g new.conn) → (office : Office) → StandsFor g old office
         → (next : Office) × DoesWords HandlesLawfully office words status next out out' × StandsFor g new next
 
-  -- The list of a path comes in at the desk, which is then the new one. Where the disk returned what was written, it has come in
-  -- at the office that the desk stood for, and the desk stands for the office after it.
+  -- The desk imports the list at a path. If the disk returned what was written to it, the office that the desk represents
+  -- imported it, and the desk represents the office after it.
   pub record ImportsDesk {L : Type 0} (shelf : Shelf L) (lists : L) (old : DeskState S) (lists' : L) (new : DeskState S) (kind : ListKind) (label path : Text) (status : ℕ) (out out' : Output)
       : Type 0 where
     pub follows : Follows (state g old.conn) (state g new.conn)
@@ -74,28 +74,28 @@ module _ {S : Type 0} (g : Ghosts S) where
     pub done : HasCleanDisk (state g new.conn) → (office : Office) → StandsFor g old office
         → (next : Office) × ImportsPath HandlesLawfully shelf lists office kind label path status lists' next out out' × StandsFor g new next
 
-  -- The desk writes the export, and is then the new one. Where the disk returned what was written, it is the export of the
-  -- office that the desk stood for, and the desk stands for that office still.
+  -- The desk writes the export. If the disk returned what was written to it, it is the export of the office that the desk
+  -- represents, and the desk still represents that office.
   pub record ExportsDesk (old new : DeskState S) (kind : ExportKind) (status : ℕ) (out out' : Output) : Type 0 where
     pub reads : OnlyReads (state g old.conn) (state g new.conn)
     pub told : EndsExport kind status out out'
     pub done : HasCleanDisk (state g new.conn) → (office : Office) → StandsFor g old office
         → SendsExport (export_bytes (exported kind office)) status out out' × StandsFor g new office
 
-  -- the desk that was found hears the words, or it is said why none was found
+  -- the desk that was found handles the words, or the reason why there is none is printed
   abbrev pub DoesAt : Result (DeskState S) DeskFault → Result (DeskState S) DeskFault → List Text → ℕ → Output → Output → Type 0
   DoesAt found last words status out out' = DoneAt (λ old new. HearsWords old new words status out out') found last status out out'
 
-  -- the list of a path comes in at the desk that was found, or it is said why none was found
+  -- the desk that was found imports the list at a path, or the reason why there is none is printed
   abbrev pub ImportsAt : {L : Type 0} → Shelf L → L → Result (DeskState S) DeskFault → L → Result (DeskState S) DeskFault → ListKind → Text → Text → ℕ → Output → Output → Type 0
   ImportsAt shelf lists found lists' last kind label path status out out' =
       DoneAt (λ old new. ImportsDesk shelf lists old lists' new kind label path status out out') found last status out out'
 
-  -- the desk that was found writes the export, or it is said why none was found
+  -- the desk that was found writes the export, or the reason why there is none is printed
   abbrev pub ExportsAt : Result (DeskState S) DeskFault → Result (DeskState S) DeskFault → ExportKind → ℕ → Output → Output → Type 0
   ExportsAt found last kind status out out' = DoneAt (λ old new. ExportsDesk old new kind status out out') found last status out out'
 
-  -- residents are served at the desk that was found, or it is said why none was found
+  -- the desk that was found serves residents, or the reason why there is none is printed
   abbrev pub ServesAt : {P : Type 0} → Network P → P → Result (DeskState S) DeskFault → P → Result (DeskState S) DeskFault → ℕ → ℕ → ℕ → Output → Output → Type 0
   ServesAt network ports found ports' last port count status out out' =
       DoneAt (λ old new. ServesPort g network ports old ports' new port count status out out') found last status out out'

@@ -1,4 +1,4 @@
--- What the program does with the words after its name.
+-- What the program does with its arguments.
 use Rattle.std.specs.Prelude.{◌≡◌, ℕ, ◌<◌, ◌⊎◌, List, [], ◌∷◌, Option, Some, None, length, codes}
 use Rattle.office_state.specs.Office.{empty_office}
 use Rattle.office_state.specs.declared.office.Office.{Office}
@@ -19,22 +19,23 @@ use Rattle.office_texts.specs.OutputLines.{line_of}
 use Rattle.office_program.specs.WordLines.{words_text}
 use Rattle.room_types.specs.Texts.{Text}
 
--- Words that are no line are told on standard error with status 2, and want of memory on standard output with status 3.
+-- Arguments that are not understood are reported on standard error with status 2, out of memory on standard output with
+-- status 3.
 abbrev pub Refuses : WordFault → ℕ → Output → Output → Output → Output → Type 0
 Refuses NotUnderstood status out out' error error' = Says (line_of (codes "rooms: not understood" ∷ [])) 2 status error error' × (out' ≡ out)
 Refuses OutOfMemory status out out' error error' = SaysUnavailable status out out' × (error' ≡ error)
 
--- A desk in memory, which shows the empty office at first, hears standard input and answers on standard output. Or memory is
--- wanting for the desk, and nothing is heard.
+-- A new desk in memory, which shows the empty office, rehearses the lines of standard input on standard output. Or an
+-- allocation for the desk fails, and no input is read.
 abbrev pub RehearsesAnew : ℕ → Input → Input → Output → Output → Type 0
 RehearsesAnew status input input' out out' =
     ((ending : Ending) × (office : Office) × Rehearses HandlesLawfully ending status empty_office office input input' out out')
     ⊎ (SaysUnavailable status out out' × (input' ≡ input))
 
--- Files of offices are opened and closed by this access, lists are opened from this shelf, and residents connect over this network.
+-- how office files are opened and closed, lists are opened and closed, and residents connect
 module _ {F S L P : Type 0} (access : FileAccess F S) (shelf : Shelf L) (network : Network P) where
-  -- The line is done, or the words are refused that are none. Where the line is of no office's file, none is opened; only where
-  -- it brings a list in a list is opened, and only where it is of residents a port is listened on.
+  -- The subcommand is carried out; arguments that are none are refused. An office file is opened only for a subcommand that
+  -- names one, a list only for `import`, a port only for `serve`.
   abbrev pub DoesLine : Option Line → F → L → P → ℕ → F → L → P → Input → Input → Output → Output → Output → Output → Type 0
   DoesLine (Some (makes path)) files lists ports status files' lists' ports' input input' out out' error error' =
       MakesInFile access files path status files' out out' × (error' ≡ error) × (input' ≡ input) × (lists' ≡ lists) × (ports' ≡ ports)
@@ -59,7 +60,8 @@ module _ {F S L P : Type 0} (access : FileAccess F S) (shelf : Shelf L) (network
   DoesLine None files lists ports status files' lists' ports' input input' out out' error error' =
       Refuses NotUnderstood status out out' error error' × (input' ≡ input) × (files' ≡ files) × (lists' ≡ lists) × (ports' ≡ ports)
 
-  -- What the words ask for is done. Or memory is wanting to read them; no words take none.
+  -- The subcommand of the arguments is carried out. Or an allocation for parsing them fails, which needs at least one
+  -- argument.
   abbrev pub CarriesOut : List Text → F → L → P → ℕ → F → L → P → Input → Input → Output → Output → Output → Output → Type 0
   CarriesOut words files lists ports status files' lists' ports' input input' out out' error error' =
       DoesLine (program_of words) files lists ports status files' lists' ports' input input' out out' error error'

@@ -1,4 +1,4 @@
-//! What is done at a desk, and what is said where there is none.
+//! Carries out a subcommand at a desk, or prints why there is none.
 ghost use Rattle.std.specs.Prelude.{◌≡◌, map, IsErr};
 ghost use Rattle.room_types.specs.Streams.{output_of};
 ghost use Rattle.room_types.specs.Watched.{IsFresh, StopsAtFailure};
@@ -21,7 +21,8 @@ use sqlite::Alter;
 use std::alloc::Global;
 use std::io::Write;
 
-/// Says `ok` where there is a desk over an office that was made or migrated, and else why there is none. Gives the exit status.
+/// Prints `ok` if there is a desk over an office that was made or migrated, and otherwise why there is none. Returns the
+/// exit status.
 pub fn say_made<S: Alter, W: Write>(
     alloc: Global,
     made: &Result<Desk<S>, DeskFault>,
@@ -38,8 +39,8 @@ pub fn say_made<S: Alter, W: Write>(
     }
 }
 
-/// Does the line that these words are at the desk that was found. Where none was found, that is said, and no line is heard.
-/// Gives the exit status.
+/// Handles the words as a line at the desk that was found. If none was found, prints why, and handles nothing. Returns the
+/// exit status.
 pub fn do_at<S: Alter, W: Write>(
     alloc: Global,
     found: &mut Result<Desk<S>, DeskFault>,
@@ -57,9 +58,9 @@ pub fn do_at<S: Alter, W: Write>(
     }
 }
 
-/// Lets the list of the path `list` come in, under this label, at the desk that was found. It is opened once, and closed as its
-/// import left it. Where no desk was found, that is said, and no list is opened. Where the list can't be opened or read,
-/// `unavailable` is said. Gives the exit status.
+/// Imports the list at the path `list` under this label, at the desk that was found. Opens the list once, and closes it as
+/// its import left it. If no desk was found, prints why, and opens no list. If the list can't be opened or read, prints
+/// `unavailable`. Returns the exit status.
 pub fn import_at<S: Alter, L: Lists, W: Write>(
     alloc: Global,
     found: &mut Result<Desk<S>, DeskFault>,
@@ -108,9 +109,8 @@ fn import_desk<S: Alter, L: Lists, W: Write>(
     }
 }
 
-/// Writes an export of the office at the desk that was found, and flushes. An export that comes to an early end is left as
-/// it is: its front stands, nothing more is said, and the status is 3. Where no desk was found, that is said. Gives the exit
-/// status.
+/// Writes an export of the office at the desk that was found, and flushes. An export that stops early leaves the prefix
+/// that was written, prints nothing more, and returns 3. If no desk was found, prints why. Returns the exit status.
 pub fn export_at<S: Alter, W: Write>(
     alloc: Global,
     found: &mut Result<Desk<S>, DeskFault>,
@@ -149,8 +149,8 @@ fn export_desk<S: Alter, W: Write>(
     }
 }
 
-/// Serves residents at the desk that was found, so many connections on this port. Where none was found, that is said, nobody
-/// is served, and the port is not listened on. Gives the exit status.
+/// Serves `count` connections of residents on this port, at the desk that was found. If none was found, prints why, serves
+/// nobody, and does not listen on the port. Returns the exit status.
 pub fn serve_at<S: Alter, P: Ports, W: Write>(
     alloc: Global,
     found: &mut Result<Desk<S>, DeskFault>,

@@ -1,4 +1,4 @@
-//! What the words after the program's name ask for, done over standard input, output and error.
+//! Carries out the program's arguments over standard input, output and error.
 ghost use Rattle.std.specs.Prelude.{◌≤◌, map};
 ghost use Rattle.room_types.specs.Watched.{IsFresh, StopsAtEnd, StopsAtFailure, watched_reads};
 ghost use Rattle.room_types.specs.Streams.{input_of, output_of};
@@ -30,7 +30,7 @@ use std::fs::File;
 use std::io::{Read, Write};
 use std::net::{TcpListener, TcpStream};
 
-/// Does what these words after the program's name ask for, and gives the exit status.
+/// Carries out these words, the arguments after the program's name, and returns the exit status.
 pub fn carry_out<'a, R: Read, W: Write, E: Write>(
     rt: &HostRuntime,
     words: &'a [&'a str],
@@ -65,8 +65,8 @@ pub fn carry_out<'a, R: Read, W: Write, E: Write>(
     carry_out_over(rt, words, Wary, input, output, error)
 }
 
-/// Does what these words after the program's name ask for over the system, and gives the exit status, whatever the file of an
-/// office and its log held, for which `start` stands.
+/// Carries out these words, the arguments after the program's name, over the system's files and ports, and returns the exit
+/// status. The contract holds whatever an office file and its log contain at first, which `start` stands for.
 pub fn carry_out_over<'a, S: Start, R: Read, W: Write, E: Write>(
     rt: &HostRuntime,
     words: &'a [&'a str],
@@ -114,9 +114,9 @@ pub fn carry_out_over<'a, S: Start, R: Read, W: Write, E: Write>(
     )
 }
 
-/// Does what these words after the program's name ask for, and gives the exit status, wherever files of offices and lists lie. A
-/// line over a file opens the file of its path once, is done at its desk, and closes it as that desk left it. A list is opened by
-/// `import` alone, once, and closed as its import left it.
+/// Carries out these words, the arguments after the program's name, and returns the exit status, over any office files,
+/// lists and ports. A subcommand on an office file opens it once and closes it as its desk left it. Only `import` opens a
+/// list, once, and closes it as its import left it.
 pub fn carry_out_from<
     'a,
     B: Alter,
@@ -187,7 +187,7 @@ pub fn carry_out_from<
     }
 }
 
-// Rehearses at a new desk in memory. Where memory is refused for the desk, that is printed.
+// Rehearses at a new desk in memory. If an allocation for the desk fails, prints `unavailable`.
 fn rehearse_anew<R: Read, W: Write>(
     alloc: Global,
     input: &mut Watched<R>,
@@ -208,7 +208,8 @@ fn rehearse_anew<R: Read, W: Write>(
     }
 }
 
-/// Says that the words were not understood, on standard error, or that memory was refused, on standard output. Gives the exit status.
+/// Reports that the arguments were not understood, on standard error, or that an allocation failed, on standard output.
+/// Returns the exit status.
 pub fn refuse_program_line<W: Write, E: Write>(
     fault: WordFault,
     output: &mut Watched<W>,

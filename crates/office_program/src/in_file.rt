@@ -1,5 +1,5 @@
-//! An office in the file of a path: it is made there, or brought to the version of this program, or found there to do a line, to take
-//! a list in, to be exported or to serve residents.
+//! Carries out a subcommand on an office file: makes or migrates the office, or finds it there to handle a line, import a
+//! list, be exported or serve residents.
 ghost use Rattle.std.specs.Prelude.{map};
 ghost use Rattle.room_types.specs.Streams.{output_of};
 ghost use Rattle.room_types.specs.Watched.{IsFresh, StopsAtFailure};
@@ -19,8 +19,8 @@ use sqlite::{Alter, Connection};
 use std::alloc::Global;
 use std::io::Write;
 
-/// Makes an empty office in the file of this path, and says so, or why there is none. Gives the exit status. The file is opened
-/// once, and closed as its desk left it.
+/// Makes an empty office in the file at this path, and prints `ok`, or why there is none. Returns the exit status. Opens
+/// the file once, and closes it as its desk left it.
 pub fn make_in_file<B: Alter, F: Files<B> + Closes<Connection<B>>, W: Write>(
     alloc: Global,
     files: &mut F,
@@ -39,8 +39,8 @@ pub fn make_in_file<B: Alter, F: Files<B> + Closes<Connection<B>>, W: Write>(
     status
 }
 
-/// Makes the tables of the office in the file of this path, which are of an earlier version, those of this program's, and says
-/// `ok`, or why it can't. Gives the exit status. The file is opened once, and closed as its desk left it.
+/// Migrates the tables of the office in the file at this path from an earlier version to this program's, and prints `ok`,
+/// or why it can't. Returns the exit status. Opens the file once, and closes it as its desk left it.
 pub fn migrate_in_file<B: Alter, F: Files<B> + Closes<Connection<B>>, W: Write>(
     alloc: Global,
     files: &mut F,
@@ -59,8 +59,8 @@ pub fn migrate_in_file<B: Alter, F: Files<B> + Closes<Connection<B>>, W: Write>(
     status
 }
 
-/// Lets the office in the file of this path do the line that these words are, or says why there is no office. Gives the exit
-/// status. The file is opened once, and closed as its desk left it.
+/// Lets the office in the file at this path handle the words as a line, or prints why there is no office. Returns the exit
+/// status. Opens the file once, and closes it as its desk left it.
 pub fn do_in_file<B: Alter, F: Files<B> + Closes<Connection<B>>, W: Write>(
     alloc: Global,
     files: &mut F,
@@ -80,9 +80,9 @@ pub fn do_in_file<B: Alter, F: Files<B> + Closes<Connection<B>>, W: Write>(
     status
 }
 
-/// Lets the list of the path `list` come in, under this label, at the office in the file of this path, or says why there is no
-/// office. Gives the exit status. The office's file is opened once, and closed as its desk left it; the list is opened once then,
-/// and closed as its import left it.
+/// Imports the list at the path `list` under this label into the office in the file at this path, or prints why there is no
+/// office. Returns the exit status. Opens the office's file once, and closes it as its desk left it. If there is an office,
+/// opens the list once, and closes it as its import left it.
 pub fn import_in_file<B: Alter, F: Files<B> + Closes<Connection<B>>, L: Lists, W: Write>(
     alloc: Global,
     files: &mut F,
@@ -107,8 +107,8 @@ pub fn import_in_file<B: Alter, F: Files<B> + Closes<Connection<B>>, L: Lists, W
     status
 }
 
-/// Writes an export of the office in the file of this path, or says why there is no office. Gives the exit status. The file
-/// is opened once, and closed as its desk left it.
+/// Writes an export of the office in the file at this path, or prints why there is no office. Returns the exit status.
+/// Opens the file once, and closes it as its desk left it.
 pub fn export_in_file<B: Alter, F: Files<B> + Closes<Connection<B>>, W: Write>(
     alloc: Global,
     files: &mut F,
@@ -128,8 +128,8 @@ pub fn export_in_file<B: Alter, F: Files<B> + Closes<Connection<B>>, W: Write>(
     status
 }
 
-/// Lets the office in the file of this path serve residents, so many connections on this port, or says why there is no office.
-/// Gives the exit status. The file is opened once, and closed as its desk left it.
+/// Serves `count` connections of residents on this port with the office in the file at this path, or prints why there is no
+/// office. Returns the exit status. Opens the file once, and closes it as its desk left it.
 pub fn serve_in_file<B: Alter, F: Files<B> + Closes<Connection<B>>, P: Ports, W: Write>(
     alloc: Global,
     files: &mut F,

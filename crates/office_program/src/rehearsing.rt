@@ -1,4 +1,4 @@
-//! A rehearsal at a desk: lines from a reader, answered on a writer.
+//! Rehearsing at a desk: handles lines from a reader, and writes the responses.
 ghost use Rattle.std.specs.Prelude.{◌≤◌};
 ghost use Rattle.sqlite.specs.Held.{state};
 ghost use Rattle.sqlite.specs.State.{HasCleanDisk};
@@ -20,9 +20,9 @@ use sqlite::{Alter, MemStore};
 use std::alloc::Global;
 use std::io::{Read, Write};
 
-/// Carries out each line of the input at the desk and writes its answer, as the rehearsal with any handler does. Where the
-/// disk returned what was written, the answers are those of the office that the desk stands for, and then the desk stands for the
-/// office after the lines that were handled, on every ending.
+/// Handles each line of the input at the desk and writes its response, like `rehearse` of `office_lines` with any handler.
+/// If the disk returned what was written to it, the responses are those of the office that the desk represents, and the
+/// desk represents the office after the lines that were handled, whatever the ending.
 pub fn rehearse<S: Alter, R: Read, W: Write>(
     alloc: Global,
     desk: &mut Desk<S>,
@@ -48,8 +48,8 @@ pub fn rehearse<S: Alter, R: Read, W: Write>(
     rehearse_with(alloc, desk, input, output)
 }
 
-/// The same over a database in memory, which needs no premise on a disk: the answers are those of the office that the desk shows,
-/// and then the desk shows the office after the lines that were handled.
+/// The same over a database in memory, which needs no premise about a disk: the responses are those of the office that the
+/// desk shows, and the desk shows the office after the lines that were handled.
 pub fn rehearse_in_memory<R: Read, W: Write>(
     alloc: Global,
     desk: &mut Desk<MemStore>,

@@ -1,4 +1,4 @@
--- Lemmas on rows that are read back into an office.
+-- Lemmas on reading rows back into an office.
 pub mod Filling
 pub mod Gathering
 pub mod Keys

@@ -1,4 +1,4 @@
--- Words that only the contracts of private functions use.
+-- Definitions that only contracts of private functions use.
 pub mod Filled
 pub mod Gathered
 pub mod Makes

@@ -1,4 +1,4 @@
--- People and withdrawals, with the rows of both.
+-- People with their withdrawals, and the rows of both.
 use Rattle.std.specs.Prelude.{List}
 use Rattle.office_rows.specs.Rows.{AreKeptPeople, person_rows}
 use Rattle.office_rows.specs.declared.people.People.{People}
@@ -8,6 +8,6 @@ use Rattle.office_rows.specs.declared.records.PersonRecord.{PersonRecord}
 abbrev pub people_rows : People → List PersonRecord
 people_rows p = person_rows p.people p.withdrawn
 
--- who has withdrawn is known
+-- Everybody who has withdrawn is known.
 abbrev pub AreKept : People → Type 0
 AreKept p = AreKeptPeople p.people p.withdrawn

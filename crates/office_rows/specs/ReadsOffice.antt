@@ -1,4 +1,4 @@
--- What a reader of the rows of all tables finds.
+-- What reading the rows of all tables returns.
 use Rattle.std.specs.Prelude.{◌≡◌, ℕ, ◌+◌, ◌<◌, ◌⊎◌, length, Option, Some}
 use Rattle.std.specs.Option.{IfSome}
 use Rattle.std.specs.List.Sorted.{IsPermutation}
@@ -8,7 +8,7 @@ use Rattle.office_state.specs.declared.office.Office.{Office}
 use Rattle.office_rows.specs.Tables.{Tables, rows_at}
 use Rattle.office_rows.specs.declared.records.OfficeRecords.{OfficeRecords}
 
--- the records of each table are its rows, in some order
+-- The records of each table are its rows, in some order.
 pub record AreRecordsOf (tables : Tables) (records : OfficeRecords) : Type 0 where
   pub rooms : IsPermutation tables.rooms records.rooms.items
   pub people : IsPermutation tables.people records.people.items
@@ -21,26 +21,25 @@ pub record AreRecordsOf (tables : Tables) (records : OfficeRecords) : Type 0 whe
   pub grades : IsPermutation tables.grades records.grades.items
   pub going : IsPermutation tables.going records.going.items
 
--- how many records the tables other than that of the round have
+-- the number of records in all tables but the round's
 abbrev pub count_beside_round : OfficeRecords → ℕ
 count_beside_round records =
     length records.rooms.items + length records.people.items + length records.choices.items
     + length records.words.items + length records.results.items + length records.moves.items
     + length records.lists.items + length records.grades.items + length records.going.items
 
--- the results of an office with these rows are found again: its phase has some, and every other law
--- holds
+-- The results of an office with these rows are recomputed: its phase has results, and every other invariant holds.
 pub record HaveResultsAgain (version : ℕ) (records : OfficeRecords) : Type 0 where
   pub office : Office
   pub rows : AreRecordsOf (rows_at version office) records
   pub again : AreFoundAgain office
 
--- a table other than that of the round has a record, or results are found again
+-- A table other than the round's has a record, or results are recomputed.
 abbrev pub TakesMemory : ℕ → OfficeRecords → Type 0
 TakesMemory version records = 0 < count_beside_round records ⊎ HaveResultsAgain version records
 
--- What is found is a lawful office with these rows, and the only one. Nothing is found only where no lawful office has
--- them.
+-- What is found is a lawful office with these rows. Any lawful office with these rows is what is found: so it is
+-- unique, and nothing is found only if no lawful office has them.
 pub record ReadsOffice (version : ℕ) (records : OfficeRecords) (found : Option Office) : Type 0 where
   pub told : IfSome found (λ office. IsLawful office × AreRecordsOf (rows_at version office) records)
   pub only : (office : Office) → IsLawful office → AreRecordsOf (rows_at version office) records

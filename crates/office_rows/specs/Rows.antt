@@ -22,15 +22,15 @@ person_row withdrawn e =
 abbrev pub person_rows : TextMap Person → TextMap (Unit {0}) → List PersonRecord
 person_rows people withdrawn = map (person_row withdrawn) (maps.entries people)
 
--- the row is of tables of this version
+-- The row is of tables of this version.
 abbrev pub IsOfVersion : ℕ → RoundRecord → Type 0
 IsOfVersion version round = round.version ≡ version
 
--- the one row of the round
+-- the round's row as the only one of its table
 abbrev pub only_row : RoundRecord → List RoundRecord
 only_row round = round ∷ []
 
--- the rows of a person's list, from this place on
+-- the rows of a person's list, with places from this one on
 abbrev pub choices_from : Text → ℕ → List Text → List ChoiceRecord
 choices_from person place [] = []
 choices_from person place (code ∷ codes) =
@@ -61,19 +61,19 @@ move_rows moves = flat_map round_rows (maps.entries moves)
 abbrev pub key_rows : TextMap (Unit {0}) → List Text
 key_rows keys = map (λ e. e.0) (maps.entries keys)
 
--- What rows can tell: who of the known people has withdrawn, which lists are not empty, and which rounds have moves.
+-- Which maps rows can represent: withdrawals of known people, lists that are not empty, and rounds that have moves.
 
--- who has withdrawn is known
+-- Everybody who has withdrawn is known.
 pub record AreKeptPeople (people : TextMap Person) (withdrawn : TextMap (Unit {0})) : Type 0 where
   pub withdrawers : (p : Text) → maps.contains_key withdrawn p ≡ true
       → maps.contains_key people p ≡ true
 
--- no list is empty, and each has at most forty rooms and none twice
+-- No list is empty. Each has at most forty rooms, and none twice.
 pub record AreKeptLists (lists : TextMap (List Text)) : Type 0 where
   pub none_empty : (p : Text) → maps.get lists p ≡ Some [] → ⊥
   pub chosen : (p : Text) (codes : List Text) → maps.get lists p ≡ Some codes → IsChoices codes
 
--- no round is recorded without moves
+-- No round is recorded without moves.
 pub record AreKeptMoves (moves : RoundMap RoundMoves) : Type 0 where
   pub none_empty : (round : ℕ) (kept : RoundMoves) → maps.get moves round ≡ Some kept
       → kept.by_person ≡ maps.empty → ⊥

@@ -5,7 +5,7 @@ use Rattle.office_state.specs.Office.Invariants.{IsLawful}
 use Rattle.office_state.specs.declared.office.Office.{Office}
 use Rattle.office_rows.specs.Tables.{Tables, rows_of}
 
--- each table has the same rows, in some order
+-- Each table has the same rows in both, in some order.
 pub record AreSameRows (tables others : Tables) : Type 0 where
   pub rooms : IsPermutation tables.rooms others.rooms
   pub people : IsPermutation tables.people others.people
@@ -18,7 +18,7 @@ pub record AreSameRows (tables others : Tables) : Type 0 where
   pub grades : IsPermutation tables.grades others.grades
   pub going : IsPermutation tables.going others.going
 
--- two lawful offices with the same rows are one
+-- Two lawful offices with the same rows are equal.
 abbrev pub RowsTellTheOffice : Type 0
 RowsTellTheOffice =
     (one other : Office) → IsLawful one → IsLawful other → AreSameRows (rows_of one) (rows_of other)

@@ -11,7 +11,7 @@ use Rattle.office_rows.specs.declared.records.ChoiceRecord.{ChoiceRecord}
 use Rattle.office_rows.specs.declared.records.PersonRecord.{PersonRecord}
 use Rattle.office_rows.specs.declared.records.RoundRecord.{RoundRecord}
 
--- the rows of each table, in no order
+-- the rows of each table; their order has no meaning
 pub record Tables : Type 0 where
   pub rooms : List (Text × Bool)
   pub people : List PersonRecord
@@ -24,12 +24,12 @@ pub record Tables : Type 0 where
   pub grades : List (Text × ℕ)
   pub going : List Text
 
--- the version of the tables that this program makes
+-- the version of the tables that this program creates
 abbrev pub own_version : ℕ
 own_version = 3
 
--- The rows of an office in tables of this version: one for each room, person, listed room, word, result, move and kept
--- list, for each grade but 0 and each person who leaves, and one for the round.
+-- The rows of an office in tables of this version: one for each room, person, listed room, word, result, move and
+-- imported list, for each recorded grade and each person who leaves, and one for the round.
 unfoldable pub rows_at : ℕ → Office → Tables
 rows_at version office = record {
   rooms = maps.entries office.rooms;

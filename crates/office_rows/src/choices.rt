@@ -1,4 +1,4 @@
-//! Recorded lists, from rows of a person, a place and a room.
+//! Rebuilding preference lists from rows of a person, a place and a room.
 ghost use Rattle.std.specs.Prelude.{◌≡◌, ◌<◌, IfOk, OnErr, MatchOption, length};
 ghost use Rattle.std.specs.List.Sorted.{IsPermutation, IsSorted};
 ghost use Rattle.std.specs.FinMap as map;
@@ -12,8 +12,9 @@ use room_types::grammars::PersonIds;
 use room_types::{Choices, Listing, OutOfMemory, RoomCode, Table, TypeFault};
 use std::alloc::Global;
 
-/// The lists that have these rows, in whatever order the rows come: none where no lists that an office may record have
-/// them, and else the only ones that do. It takes n log n steps.
+/// Rebuilds the preference lists that have exactly these rows, in any order. Returns `None` if no valid lists have
+/// them; otherwise the result is unique. Takes O(n log n) time. Fails only if an allocation does, and never without
+/// rows.
 pub fn read_choices(
     alloc: Global,
     rows: Vec<ChoiceRecord>,
@@ -29,7 +30,7 @@ pub fn read_choices(
     all_chosen(alloc, &lists)
 }
 
-// Ascending by person, and then by place, and then by room.
+// Sorts the rows by person, then place, then room.
 fn sort_choice_rows(rows: &mut Vec<ChoiceRecord>)
     ensures moved { IsPermutation rows.old.items rows.new.items }
     ensures ascending { IsSorted row_cmp rows.new.items }
@@ -37,7 +38,8 @@ fn sort_choice_rows(rows: &mut Vec<ChoiceRecord>)
     rows.sort_unstable();
 }
 
-// The rooms of each person, where each row has the next place of its person.
+// Collects the rooms of each person, in the order of the rows. Returns `None` if a row's place is not the number of
+// rooms collected for its person so far.
 fn gather(
     alloc: Global,
     rows: &[ChoiceRecord],
@@ -60,7 +62,7 @@ fn gather(
     Ok(Some(lists))
 }
 
-// The same lists as choices, where each is one.
+// Converts each list to choices. Returns `None` if one of them is not valid.
 fn all_chosen(
     alloc: Global,
     lists: &Table<PersonIds, Listing<RoomCode>>,
@@ -78,7 +80,7 @@ fn all_chosen(
     Ok(Some(made))
 }
 
-// These rooms as choices, where they are some.
+// Converts the codes to choices. Returns `None` if there are too many or one occurs twice.
 fn chosen(alloc: Global, codes: &[RoomCode]) -> Result<Option<Choices>, OutOfMemory>
     ensures { IfOk result (λ found. MatchOption found (IsChoices codes.now → ⊥)
         (λ choices. (choices ≡ codes.now) × IsChoices codes.now)) }
@@ -90,7 +92,7 @@ fn chosen(alloc: Global, codes: &[RoomCode]) -> Result<Option<Choices>, OutOfMem
     }
 }
 
-// A copy of each code, in order.
+// Copies the codes, in order.
 fn copied(alloc: Global, codes: &[RoomCode]) -> Result<Vec<RoomCode>, OutOfMemory>
     ensures { IfOk result (λ copies. copies.items ≡ codes.now) }
 {

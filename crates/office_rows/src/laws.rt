@@ -1,7 +1,8 @@
-//! A law of the definitions, for every office. The contract of the function is the law; the function does nothing.
+//! A theorem about the definitions, for every office. The function's contract states the theorem; the function does
+//! nothing.
 ghost use Rattle.office_rows.specs.SameRows.{RowsTellTheOffice};
 
-/// Two lawful offices with the same rows, in whatever order, are one office.
+/// Two lawful offices with the same rows, in any order, are equal.
 pub fn rows_tell_the_office()
     ensures { RowsTellTheOffice }
 {}

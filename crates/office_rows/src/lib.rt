@@ -1,5 +1,5 @@
-//! The rows of an office: records of the types that an office has, and the one office that has these rows, in whatever
-//! order they come. No definition or code here knows of a database.
+//! The rows of an office: typed records of its tables, and functions that rebuild an office from its records in any
+//! order. No definition or code here knows of a database.
 #![tactic(auto)]
 
 mod choices;

@@ -1,4 +1,4 @@
-//! The moves of all rounds, from their rows.
+//! Rebuilding the moves of all rounds from their rows.
 ghost use Rattle.std.specs.Prelude.{◌≡◌, ◌<◌, IfOk, OnErr, length, reverse};
 ghost use Rattle.std.specs.FinMap as map;
 ghost use Rattle.office_state.specs.Office.Moves.{moves_of};
@@ -10,7 +10,8 @@ use office_state::{RoundMoves, Rounds};
 use room_types::{Move, OutOfMemory};
 use std::alloc::Global;
 
-/// The moves with these rows, in whatever order the rows come: none where a person moves twice in a round.
+/// Rebuilds the moves of all rounds from their rows, in any order. Returns `None` if a person moves twice in a round;
+/// otherwise the result is unique. Fails only if an allocation does, and never without rows.
 pub fn read_moves(alloc: Global, rows: Vec<Move>) -> Result<Option<Rounds<RoundMoves>>, OutOfMemory>
     ensures reads { IfOk result (λ found. Reads AreKeptMoves move_rows rows.items found) }
     ensures memory { OnErr result (0 < length rows.items) }
@@ -18,7 +19,7 @@ pub fn read_moves(alloc: Global, rows: Vec<Move>) -> Result<Option<Rounds<RoundM
     fill_moves(alloc, rows)
 }
 
-// The moves are recorded from the last one on.
+// Records the moves from the last row to the first. Returns `None` if a person moves twice in a round.
 fn fill_moves(alloc: Global, rows: Vec<Move>) -> Result<Option<Rounds<RoundMoves>>, OutOfMemory>
     ensures fills { IfOk result (λ found. found ≡ recorded_moves map.empty (reverse rows.items)) }
     ensures memory { OnErr result (0 < length rows.items) }
@@ -34,7 +35,7 @@ fn fill_moves(alloc: Global, rows: Vec<Move>) -> Result<Option<Rounds<RoundMoves
     Ok(Some(moves))
 }
 
-// Whether a move of this person in this round is recorded.
+// Whether a move of the row's person in the row's round is recorded already.
 fn has_moved(moves: &Rounds<RoundMoves>, row: &Move) -> bool
     ensures { result ≡ map.contains_key (moves_of moves.now row.now.round) row.now.person }
 {

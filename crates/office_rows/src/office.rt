@@ -1,4 +1,4 @@
-//! An office, from the rows of all its tables.
+//! Rebuilding an office from the rows of all its tables.
 ghost use Rattle.std.specs.Prelude.{◌<◌, IfOk, OnErr};
 ghost use Rattle.office_rows.specs.Inner.Makes.{Makes};
 ghost use Rattle.office_rows.specs.ReadsOffice.{ReadsOffice, TakesMemory, count_beside_round};
@@ -13,9 +13,12 @@ use office_state::{Office, sound};
 use room_types::OutOfMemory;
 use std::alloc::Global;
 
-/// The lawful office with these rows in tables of this version, in whatever order they come: none where no lawful office
-/// has them, and else the only one that has. It takes n log n steps and those of a run of the round, and is refused only for memory. The row of
-/// the round is read without any, and none is taken where there is no other row, unless results are found again.
+/// Rebuilds the lawful office that has exactly these rows, in any order, in tables of this version. Returns `None` if
+/// there is no such office; otherwise the result is unique. Takes O(n log n) time, and that of a run of the round to
+/// recompute results.
+///
+/// Fails only if an allocation does. If no table other than the round's has a row, it allocates only to recompute
+/// results.
 pub fn read_office(
     alloc: Global,
     records: OfficeRecords,
@@ -33,7 +36,7 @@ pub fn read_office(
     Ok(Some(office))
 }
 
-// The maps with these rows, whether they are lawful or not.
+// Rebuilds an office with these rows, lawful or not. Returns `None` only if no lawful office has them.
 #[tactic(auto, unfolding(crate::specs::Tables::rows_at))]
 fn make_office(
     alloc: Global,

@@ -1,4 +1,4 @@
-//! People and withdrawals, from rows of both.
+//! Rebuilding people and withdrawals from the rows of people.
 ghost use Rattle.std.specs.Prelude.{◌≡◌, ◌<◌, IfOk, OnErr, OnOk, length, reverse};
 ghost use Rattle.office_rows.specs.Inner.Peopled.{marked, nobody, peopled};
 ghost use Rattle.office_rows.specs.People.{AreKept, people_rows};
@@ -17,7 +17,8 @@ pub struct People {
     pub withdrawn: Table<PersonIds, ()>,
 }
 
-/// The people with these rows, in whatever order the rows come: none where an identifier stands twice.
+/// Rebuilds the people and withdrawals that have exactly these rows, in any order. Returns `None` if an identifier
+/// occurs twice; otherwise the result is unique. Fails only if an allocation does, and never without rows.
 pub fn read_people(alloc: Global, rows: Vec<PersonRecord>) -> Result<Option<People>, OutOfMemory>
     ensures reads { IfOk result (λ found. Reads AreKept people_rows rows.items found) }
     ensures memory { OnErr result (0 < length rows.items) }
@@ -25,7 +26,7 @@ pub fn read_people(alloc: Global, rows: Vec<PersonRecord>) -> Result<Option<Peop
     fill_people(alloc, rows)
 }
 
-// The rows are put into the maps from the last one on.
+// Inserts the rows into the maps, from the last row to the first. Returns `None` if an identifier occurs twice.
 fn fill_people(alloc: Global, rows: Vec<PersonRecord>) -> Result<Option<People>, OutOfMemory>
     ensures fills { IfOk result (λ found. found ≡ peopled nobody (reverse rows.items)) }
     ensures memory { OnErr result (0 < length rows.items) }
@@ -43,7 +44,7 @@ fn fill_people(alloc: Global, rows: Vec<PersonRecord>) -> Result<Option<People>,
     Ok(Some(People { people, withdrawn }))
 }
 
-// Notes a person who has withdrawn from the round.
+// Marks the row's person as withdrawn, if the row says so.
 fn mark(withdrawn: &mut Table<PersonIds, ()>, row: &PersonRecord) -> Result<(), OutOfMemory>
     ensures { OnOk result (withdrawn.new ≡ marked withdrawn.old row.now) }
 {

@@ -1,4 +1,4 @@
-//! The records of the tables of an office.
+//! The records of an office's tables.
 use office_state::{Assigned, KeptList, Person};
 use room_types::{Grade, Label, Move, PersonId, Phase, RoomCode, Word};
 
@@ -11,8 +11,8 @@ pub struct PersonRecord {
     pub withdrawn: bool,
 }
 
-/// A record of a recorded list: the room that a person listed at this place, from 0. Records compare by person, and
-/// then by place, and then by room.
+/// An entry of a preference list: the room that a person listed at this place, from 0. Records compare by person, then
+/// place, then room.
 #[derive(Debug, PartialEq, Eq, PartialOrd, Ord, Drop)]
 pub struct ChoiceRecord {
     pub person: PersonId,
@@ -29,7 +29,7 @@ pub struct RoundRecord {
     pub phase: Phase,
 }
 
-/// The records of the tables of an office, those of each table in any order.
+/// The records of all tables of an office. Those of each table are in any order.
 #[derive(Drop)]
 pub struct OfficeRecords {
     /// Each room, and whether it is shut.
@@ -40,9 +40,9 @@ pub struct OfficeRecords {
     pub words: Vec<(PersonId, Word)>,
     pub results: Vec<(PersonId, Assigned)>,
     pub moves: Vec<Move>,
-    /// Each label, and the list that was handed in under it.
+    /// Each label, with the list that was imported under it.
     pub lists: Vec<(Label, KeptList)>,
-    /// Each person whose grade is not 0, and the grade.
+    /// Each person whose grade is not 0, with the grade.
     pub grades: Vec<(PersonId, Grade)>,
     /// Each person who leaves the college after the round.
     pub going: Vec<PersonId>,

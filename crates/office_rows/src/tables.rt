@@ -1,4 +1,4 @@
-//! Tables from rows of a key and a value, and sets from rows of a key.
+//! Building tables from rows of a key and a value, and sets from rows of a key.
 ghost use Rattle.std.specs.Prelude.{◌≡◌, ◌<◌, IfOk, OnErr, length, map as map_list, reverse};
 ghost use Rattle.std.specs.FinMap as map;
 ghost use Rattle.office_rows.specs.Inner.Filled.{filled, key_entry};
@@ -8,7 +8,8 @@ ghost use Rattle.office_rows.specs.Rows.{key_rows};
 use room_types::{Grammar, OutOfMemory, Table, Text};
 use std::alloc::Global;
 
-/// The map with these entries, in whatever order they come: none where a key stands twice.
+/// Builds the table that has exactly these entries, in any order. Returns `None` if a key occurs twice. Fails only if
+/// an allocation does, and never without rows.
 pub fn read_table<G: Grammar, V: Drop>(
     alloc: Global,
     rows: Vec<(Text<G>, V)>,
@@ -19,7 +20,7 @@ pub fn read_table<G: Grammar, V: Drop>(
     fill(alloc, rows)
 }
 
-// The entries are put into the map from the last one on.
+// Inserts the entries from the last to the first. Returns `None` if a key occurs twice.
 fn fill<G: Grammar, V: Drop>(
     alloc: Global,
     rows: Vec<(Text<G>, V)>,
@@ -38,7 +39,8 @@ fn fill<G: Grammar, V: Drop>(
     Ok(Some(table))
 }
 
-/// The set with these keys, in whatever order they come: none where a key stands twice.
+/// Builds the set that has exactly these keys, in any order. Returns `None` if a key occurs twice. Fails only if an
+/// allocation does, and never without rows.
 pub fn read_keys<G: Grammar>(
     alloc: Global,
     rows: Vec<Text<G>>,
@@ -49,7 +51,7 @@ pub fn read_keys<G: Grammar>(
     fill_keys(alloc, rows)
 }
 
-// The keys are put into the set from the last one on.
+// Inserts the keys from the last to the first. Returns `None` if a key occurs twice.
 fn fill_keys<G: Grammar>(
     alloc: Global,
     rows: Vec<Text<G>>,

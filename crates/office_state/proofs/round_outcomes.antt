@@ -1,4 +1,4 @@
--- Lemmas on what the trade gives in a round.
+-- Lemmas on what the exchange gives in a round.
 pub mod Apart
 pub mod Lists
 pub mod Ranks

@@ -1,4 +1,4 @@
--- Lemmas on the problem of a round, and its numbers.
+-- Lemmas on the problem of a round, and on its numbers.
 pub mod Names
 pub mod People
 pub mod Problem

@@ -1,4 +1,4 @@
--- What each change does to an office, and what holds on the way through the changes of a command.
+-- The effect of each change on an office, and what holds after each change of a command.
 use Rattle.std.specs.Prelude.{◌≡◌, ℕ, zero, suc, eqb, Bool, true, false, not, List, [], ◌∷◌, Option, None, Some}
 use Rattle.std.specs.Prelude.{if◌then◌else◌}
 use Rattle.std.specs.FinMap as map
@@ -16,7 +16,7 @@ use Rattle.office_state.specs.declared.change.Change.TheVariants.{AddMove}
 use Rattle.office_state.specs.declared.change.Change.TheVariants.{PutRound, ClearRound}
 use Rattle.office_state.specs.declared.change.Change.TheVariants.{KeepList, PutGrade, PutGoing}
 
--- a known person moves to the home
+-- the office in which a person has this home, or none; an unknown person changes nothing
 abbrev pub with_home : Office → Text → Option Text → Office
 with_home office person home = elim (map.get office.people person) [
   | None ↦ office
@@ -24,24 +24,24 @@ with_home office person home = elim (map.get office.people person) [
       record office { people = map.insert office.people person (record kept { home = home }) }
 ]
 
--- a person goes, and the grade with the person
+-- the office without a person and their grade
 abbrev pub without_person : Office → Text → Office
 without_person office person = record office {
   people = map.remove office.people person;
   grades = map.remove office.grades person;
 }
 
--- an empty list and none are the same: none is kept
+-- the lists with the list of a person; an empty list is not stored
 abbrev pub with_list : TextMap (List Text) → Text → List Text → TextMap (List Text)
 with_list lists person [] = map.remove lists person
 with_list lists person (code ∷ codes) = map.insert lists person (code ∷ codes)
 
--- grade 0 and none are the same: none is kept
+-- the grades with the grade of a person; grade 0 is not stored
 abbrev pub with_grade : TextMap ℕ → Text → ℕ → TextMap ℕ
 with_grade grades person zero = map.remove grades person
 with_grade grades person (suc grade) = map.insert grades person (suc grade)
 
--- no lists, withdrawals, words and results, and nobody who leaves the college
+-- the office without lists, withdrawals, words, results and people who leave the college
 abbrev pub without_round : Office → Office
 without_round office = record office {
   choices = map.empty;
@@ -81,8 +81,8 @@ applied office (PutGrade person grade) =
     record office { grades = with_grade office.grades person grade }
 applied office (PutGoing person) = record office { going = map.insert office.going person tt }
 
--- whether the change takes memory: what is taken out, or only set, takes none, and neither does the
--- home of somebody unknown
+-- whether the change may allocate: removals do not, and neither do the round's number and phase, or the home
+-- of an unknown person
 abbrev pub change_takes_memory : Office → Change → Bool
 change_takes_memory office (PutRoom room shut) = true
 change_takes_memory office (PutPerson person name key home) = true
@@ -99,7 +99,7 @@ change_takes_memory office (KeepList label kind bytes count) = true
 change_takes_memory office (PutGrade person grade) = not (eqb grade 0)
 change_takes_memory office (PutGoing person) = true
 
--- the changes in turn
+-- the office after the changes, one after the other
 abbrev pub applied_all : Office → List Change → Office
 applied_all office [] = office
 applied_all office (change ∷ changes) = applied_all (applied office change) changes
@@ -110,11 +110,12 @@ StaysApart office [] = HomesDiffer office
 StaysApart office (change ∷ changes) =
     HomesDiffer office × StaysApart (applied office change) changes
 
--- What a keeper of rows may rely on at each change, `first` being the office before all of them: a
--- room is known now as it was at first, who is put is new, who is put or dropped has not withdrawn,
--- and who is dropped does not leave the college, and has a grade only where known; who withdraws or
--- gets a list or a grade is known, and so is who gets a word or a result, and has none yet, and who
--- leaves the college, and did not before; a person moves once a round, and a label is new.
+-- What a store of rows may rely on at each change, `first` being the office before all changes. A room that
+-- is put is known if and only if it was known at first. A person who is put is new and has not withdrawn. A
+-- person who is dropped has not withdrawn, does not leave the college, and has a grade only if known. A
+-- person who withdraws, or gets a list or a grade, is known. A person who gets a word or a result is known
+-- and has none yet. A person who is put among those who leave is known and not yet among them. A person who
+-- moves has no move in that round yet, and a label is new.
 abbrev pub Fits : Office → Office → Change → Type 0
 Fits first office (PutRoom room shut) = knows_room office room ≡ knows_room first room
 Fits first office (PutPerson person name key home) =
@@ -142,8 +143,8 @@ AllFit first office [] = Unit {0}
 AllFit first office (change ∷ changes) =
     Fits first office change × AllFit first (applied office change) changes
 
--- The changes lead from an office to the next one, which is lawful. Homes differ on the way, and
--- each change fits.
+-- The changes lead from an office to the next one, which is lawful. Homes differ before and after each
+-- change, and each change fits.
 pub record LeadsOn (office next : Office) (changes : List Change) : Type 0 where
   pub leads : applied_all office changes ≡ next
   pub apart : StaysApart office changes

@@ -1,3 +1,3 @@
--- Words that only the contracts of private functions use.
+-- Definitions that only the contracts of private functions use.
 pub mod RoundProblem
 pub mod Soundness

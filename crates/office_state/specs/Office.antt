@@ -1,4 +1,4 @@
--- The office as finite maps, and what is read from it.
+-- The office as finite maps, and its queries.
 pub mod Invariants
 pub mod Limits
 pub mod Moves
@@ -15,7 +15,7 @@ use Rattle.office_state.specs.declared.office.Assigned.{Assigned}
 use Rattle.office_state.specs.declared.office.Office.{Office}
 use Rattle.office_state.specs.declared.office.person.Person.{Person}
 
--- nobody, no rooms, before the first round
+-- the office with nothing in it, before the first round
 abbrev pub empty_office : Office
 empty_office = record {
   rooms = map.empty;
@@ -32,7 +32,7 @@ empty_office = record {
   phase = Idle;
 }
 
--- how many entries all tables have
+-- the number of entries of all tables
 abbrev pub entry_count : Office → ℕ
 entry_count office =
     map.len office.rooms + map.len office.people + map.len office.choices
@@ -49,7 +49,7 @@ knows_person office person = map.contains_key office.people person
 abbrev pub is_shut : Office → Text → Bool
 is_shut office room = unwrap_or (map.get office.rooms room) false
 
--- what the person has, as a home or a key
+-- what a person has, as a home or a key
 abbrev pub had_by : (Person → Option Text) → TextMap Person → Text → Option Text
 had_by which people person = option_and_then which (map.get people person)
 
@@ -63,12 +63,12 @@ is_same_text None None = true
 is_same_text None (Some text) = false
 is_same_text (Some text) other = is_text other text
 
--- the first person, by identifier, that passes the test
+-- the first person, in the order of the list, who passes the test
 abbrev pub first_person : (Person → Bool) → List (Text × Person) → Option Text
 first_person test [] = None
 first_person test (e ∷ es) = if test e.1 then Some e.0 else first_person test es
 
--- the first person that has it
+-- the first person who has it, by identifier
 abbrev pub holder : (Person → Option Text) → TextMap Person → Text → Option Text
 holder which people text = first_person (λ p. is_text (which p) text) (map.entries people)
 
@@ -105,15 +105,15 @@ has_withdrawn office person = map.contains_key office.withdrawn person
 abbrev pub is_going : Office → Text → Bool
 is_going office person = map.contains_key office.going person
 
--- whether a person takes no part in the round: has withdrawn, or leaves the college
+-- whether a person has withdrawn from the round or leaves the college
 abbrev pub sits_out : Office → Text → Bool
 sits_out office person = has_withdrawn office person || is_going office person
 
--- the recorded grade; 0 where none is recorded
+-- the recorded grade, and 0 if none is recorded
 abbrev pub grade_of : Office → Text → ℕ
 grade_of office person = unwrap_or (map.get office.grades person) 0
 
--- the recorded list; the empty one where none is recorded
+-- the recorded list, and the empty list if none is recorded
 abbrev pub choices_of : Office → Text → List Text
 choices_of office person = unwrap_or (map.get office.choices person) []
 
@@ -122,12 +122,12 @@ abbrev pub recorded_result : Office → Text → Option Text
 recorded_result office person =
     option_and_then (λ (given : Assigned). given.room) (map.get office.results person)
 
--- who has neither withdrawn nor leaves the college, by identifier
+-- the people who have not withdrawn and do not leave the college, by identifier
 abbrev pub participants : Office → List Text
 participants office =
     map_list (λ e. e.0) (filter (λ e. not (sits_out office e.0)) (map.entries office.people))
 
--- who has not withdrawn, by identifier: the participants, and those who leave the college
+-- the people who have not withdrawn, by identifier: the participants, and those who leave the college
 abbrev pub people_not_withdrawn : Office → List Text
 people_not_withdrawn office =
     map_list (λ e. e.0) (filter (λ e. not (has_withdrawn office e.0)) (map.entries office.people))
@@ -141,6 +141,6 @@ abbrev pub is_over : Office → ℕ → Bool
 is_over office round =
     nat_le 1 round && nat_le round office.number && not (is_under_way office round)
 
--- whether a person sees the result
+-- whether a person may see their result
 abbrev pub is_shown : Office → Text → Bool
 is_shown office person = is_published office.phase && not (sits_out office person)

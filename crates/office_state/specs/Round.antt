@@ -1,5 +1,5 @@
--- The problem of a round: who chooses in which order, which rooms are traded, and who lists which
--- of them; and what each participant gets.
+-- The problem of a round: the participants in order, the rooms that are traded, and the lists; and what each
+-- participant gets.
 pub mod Laws
 pub mod Lists
 pub mod Settlement
@@ -19,11 +19,11 @@ use Rattle.office_state.specs.Office.{sits_out, grade_of, choices_of, participan
 use Rattle.office_state.specs.declared.office.Assigned.{Assigned}
 use Rattle.office_state.specs.declared.office.Office.{Office}
 
--- whether a person takes part: is known, and has neither withdrawn nor leaves the college
+-- whether a person takes part: is known, has not withdrawn and does not leave the college
 abbrev pub is_participant : Office → Text → Bool
 is_participant office person = knows_person office person && not (sits_out office person)
 
--- the word that a person drew
+-- the word that a person drew, and 0 if none is recorded
 abbrev pub word_of : Office → Text → ℕ
 word_of office person = unwrap_or (map.get office.words person) 0
 
@@ -37,12 +37,12 @@ lots_of office =
 unfoldable pub round_people : Office → List Text
 round_people office = drawn_order (lots_of office)
 
--- whether it is the home of somebody who has withdrawn
+-- whether a room is the home of a person who has withdrawn
 abbrev pub is_kept_back : Office → Text → Bool
 is_kept_back office room =
     list_any (λ e. has_withdrawn office e.0 && lives_in room e.1) (map.entries office.people)
 
--- the rooms that are not shut and are not the home of somebody who has withdrawn, by code
+-- the rooms that are not shut and are not the home of a person who has withdrawn, by code
 unfoldable pub round_rooms : Office → List Text
 round_rooms office =
     map_list (λ e. e.0)
@@ -52,15 +52,15 @@ round_rooms office =
 abbrev pub number_in : List Text → Text → Option ℕ
 number_in names name = position (λ other. text_eq other name) names
 
--- a list up to the own room: from there on it counts for nothing
+-- the part of a list before the own room, which alone counts in the round
 abbrev pub before_own : Option Text → List Text → List Text
 before_own home codes = before_first (is_text home) codes
 
--- where a participant lives, as a number
+-- the home of a participant, as the number of a room of the round
 abbrev pub round_home : Office → Text → Option ℕ
 round_home office person = option_and_then (number_in (round_rooms office)) (home_of office person)
 
--- what a participant's list comes to: cut before the own room, and then the rooms of the round
+-- a participant's list as it counts in the round: cut before the own room, and then the rooms of the round
 -- alone, as numbers
 abbrev pub round_list : Office → Text → List Text → List ℕ
 round_list office person codes =
@@ -95,7 +95,8 @@ round_results office =
     (map_list (λ person. (person, record { room = result_of office person }))
     (participants office))
 
--- the room that a participant would get by another list, where the order and all other lists stay
+-- the room that a participant would get with another list, in the same order and with all other lists
+-- unchanged
 unfoldable pub result_by : Office → Text → List Text → Option Text
 result_by office person codes =
     option_and_then (λ number.
@@ -103,7 +104,7 @@ result_by office person codes =
     round_room office (gets other number))
     (number_in (round_people office) person)
 
--- how the participant of a number ranks a room or nothing; a room outside the round comes last
+-- the rank that the participant of a number gives to a room or nothing; a room outside the round comes last
 abbrev pub rank_by_number : Office → ℕ → Option Text → ℕ
 rank_by_number office number None = rank (round_market office) number None
 rank_by_number office number (Some room) =
@@ -112,7 +113,7 @@ rank_by_number office number (Some room) =
     (number_in (round_rooms office) room))
     (length (list_of (round_market office) number) + 1)
 
--- how a participant ranks a room or nothing, by the recorded list as it counts in the round; for
+-- the rank that a participant gives to a room or nothing, by the recorded list as it counts in the round; for
 -- anybody else, who has no list in the round, nothing comes first, and then any room
 unfoldable pub round_rank : Office → Text → Option Text → ℕ
 round_rank office person =

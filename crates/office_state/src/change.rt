@@ -1,4 +1,4 @@
-//! The changes that commands are made of.
+//! The changes of which commands consist.
 pub mod apply;
 
 use room_types::{
@@ -8,68 +8,68 @@ use room_types::{
 /// One change of an office.
 #[derive(Drop)]
 pub enum Change {
-    /// A room is there, and is shut or not.
+    /// Adds a room, or sets whether a room is shut.
     PutRoom {
         room: RoomCode,
         shut: bool,
     },
-    /// A person is there.
+    /// Adds a person, or replaces what is stored about a person.
     PutPerson {
         person: PersonId,
         name: Name,
         key: Key,
         home: Option<RoomCode>,
     },
-    /// A known person is no longer there, and has no grade. Of an unknown person it changes nothing.
+    /// Removes a person and their grade. Does nothing if the person is unknown.
     DropPerson {
         person: PersonId,
     },
-    /// A known person has this home from then on, or none. Of an unknown person it changes nothing.
+    /// Sets or clears a person's home. Does nothing if the person is unknown.
     PutHome {
         person: PersonId,
         home: Option<RoomCode>,
     },
-    /// A person has withdrawn from the round.
+    /// Records that a person has withdrawn from the round.
     PutWithdrawn {
         person: PersonId,
     },
-    /// A person's list is this one. An empty list is not recorded.
+    /// Sets a person's list. An empty list is not stored: it removes the person's list.
     PutChoices {
         person: PersonId,
         choices: Choices,
     },
-    /// A person drew this word.
+    /// Sets the word that a person drew.
     PutWord {
         person: PersonId,
         word: Word,
     },
-    /// A person gets this room in the round, or none.
+    /// Sets a person's result in the round: a room, or none.
     PutResult {
         person: PersonId,
         room: Option<RoomCode>,
     },
-    /// A person has moved.
+    /// Records a move.
     AddMove(Move),
-    /// The round has this number and phase.
+    /// Sets the number and the phase of the round.
     PutRound {
         number: u16,
         phase: Phase,
     },
-    /// Lists, withdrawals, words and results go, and nobody leaves the college.
+    /// Removes all lists, withdrawals, words and results, and the records of who leaves the college.
     ClearRound,
-    /// A list is kept under a label, and added so many records.
+    /// Stores an imported list under a label, with the number of records that it added.
     KeepList {
         label: Label,
         kind: ListKind,
         bytes: Listing<u8>,
         count: u16,
     },
-    /// A person has this grade. Grade 0 is not recorded.
+    /// Sets a person's grade. Grade 0 is not stored: it removes the person's grade.
     PutGrade {
         person: PersonId,
         grade: Grade,
     },
-    /// A person leaves the college after the round.
+    /// Records that a person leaves the college after the round.
     PutGoing {
         person: PersonId,
     },

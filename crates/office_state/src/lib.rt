@@ -1,5 +1,5 @@
-//! The state of the office of a college's room exchange: what it keeps, the changes that are made to it, the round's
-//! problem and its results, and whether what was read is a lawful office.
+//! The state of a college's room exchange office: what it stores, the changes to it, a round's problem and results, and the
+//! test that a state is lawful.
 #![tactic(auto)]
 
 mod change;

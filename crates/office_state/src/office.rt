@@ -1,4 +1,4 @@
-//! What the office keeps.
+//! The state of the office.
 ghost use Rattle.std.specs.Prelude.{◌≡◌, ◌<◌, IfOk, IsSome, OnErr};
 ghost use Rattle.office_state.specs.Office.Invariants.{IsLawful};
 ghost use Rattle.office_state.specs.Office.{empty_office, entry_count};
@@ -18,10 +18,10 @@ use room_types::rows::copy_optional;
 use room_types::{Choices, Copied, Grade, OutOfMemory, Phase, RoomCode, Table, Word};
 use std::alloc::{AllocError, Global};
 
-/// What a participant gets in a round.
+/// The result of a participant in a round.
 #[derive(Debug, Drop)]
 pub struct Assigned {
-    /// The room, or none for no room.
+    /// The room, or `None` for no room.
     pub room: Option<RoomCode>,
 }
 
@@ -42,25 +42,25 @@ impl Copied for Assigned {
     ghost same = { λ x y h. h };
 }
 
-/// The rooms and people of a college, the round under way, the moves of earlier rounds, and the lists that came in.
+/// The rooms and people of a college, the round under way, the moves of earlier rounds, and the imported lists.
 #[derive(Drop)]
 pub struct Office {
-    /// Whether each room is shut.
+    /// Each known room, and whether it is shut.
     pub rooms: Table<RoomCodes, bool>,
     pub people: Table<PersonIds, Person>,
-    /// The rooms that a person listed, the best first. Nobody has an empty list here.
+    /// The rooms that each person listed, best first. In a lawful office no list is empty.
     pub choices: Table<PersonIds, Choices>,
     /// Who has withdrawn from the round.
     pub withdrawn: Table<PersonIds, ()>,
     /// The word that each participant drew.
     pub words: Table<PersonIds, Word>,
-    /// The room that each participant gets, or none.
+    /// The result of each participant: a room, or none.
     pub results: Table<PersonIds, Assigned>,
-    /// The moves of each round that is over. No round has an empty table here.
+    /// The recorded moves of each round. In a lawful office these rounds are over, and no table is empty.
     pub moves: Rounds<RoundMoves>,
-    /// The lists that were handed in, by label.
+    /// The imported lists, by label.
     pub lists: Table<Labels, KeptList>,
-    /// The grade of each person whose grade is not 0.
+    /// The recorded grades. In a lawful office none is 0.
     pub grades: Table<PersonIds, Grade>,
     /// Who leaves the college after the round.
     pub going: Table<PersonIds, ()>,
@@ -70,7 +70,7 @@ pub struct Office {
 }
 
 impl Office {
-    /// The office with nothing in it, before the first round.
+    /// Creates the office with nothing in it, before the first round.
     pub fn empty(alloc: Global) -> Office
         ensures empty { result ≡ empty_office }
         ensures lawful { IsLawful result }
@@ -91,7 +91,11 @@ impl Office {
         }
     }
 
-    /// An equal office. Where nothing is kept it takes no memory.
+    /// Copies the office. An office without entries is copied without an allocation.
+    ///
+    /// # Errors
+    ///
+    /// `OutOfMemory` if an allocation fails.
     pub fn copy(&self) -> Result<Office, OutOfMemory>
         ensures copy { IfOk result (λ copy. copy ≡ self.now) }
         ensures memory { OnErr result (0 < entry_count self.now) }

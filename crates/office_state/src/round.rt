@@ -1,4 +1,4 @@
-//! The round: its problem, what each participant gets, what another list would give, and who moves.
+//! The round: its problem, its results, what another list would give, and who moves.
 pub mod laws;
 mod lists;
 mod names;

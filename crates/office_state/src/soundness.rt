@@ -1,4 +1,4 @@
-//! Whether what was read is a lawful office.
+//! Whether a state is a lawful office.
 mod grades;
 mod kept;
 mod leavers;
@@ -27,9 +27,13 @@ use crate::soundness::words::are_words;
 use room_types::OutOfMemory;
 use std::alloc::Global;
 
-/// Whether the office obeys its laws, in n log n steps and those of a run of the round. It is refused for memory alone,
-/// which is taken only where keys and homes are noted, or results are found again: a fault that is seen before is
-/// always told.
+/// Returns whether the office obeys its invariants, in n log n steps and one run of the round. Allocates only to compare keys
+/// and homes, and to compute the results again. If it finds a broken invariant before it allocates, it returns `false` and
+/// cannot fail.
+///
+/// # Errors
+///
+/// `OutOfMemory` if an allocation fails.
 pub fn sound(alloc: Global, office: &Office) -> Result<bool, OutOfMemory>
     ensures lawful { IfOk result (λ lawful. Decides lawful (IsLawful office.now)) }
     ensures memory { OnErr result (TakesMemory office.now) }

@@ -1,4 +1,4 @@
--- Why no desk is made over a database whose tables are of an earlier version.
+-- Why no desk is opened over a database with tables of an earlier version.
 use Rattle.std.specs.Prelude.{◌≡◌, ◌⊎◌, false, ⊤}
 use Rattle.sqlite_schema.specs.declared.schema.Schema.{Schema}
 use Rattle.sqlite.specs.Effect.{Database}
@@ -10,15 +10,15 @@ use Rattle.office_migrate.specs.declared.migrating.MigrateFault.TheVariants as m
 use Rattle.office_store.specs.declared.desk.faults.DeskFault.{DeskFault}
 use Rattle.office_store.specs.declared.desk.faults.DeskFault.TheVariants.{Unavailable, NotAnOffice, OtherVersion, AlreadyThere}
 
--- The database may be refused for this only where it is so. It is no office where nothing has the name of the table of the
--- round, or where the tables are no office's of an earlier version.
+-- The database may be refused with this fault only for this cause. It is no office if nothing has the name of table `round`, or
+-- if the tables are not those of an office of an earlier version.
 abbrev pub MayNotMigrate : Database → DeskFault → Type 0
 MayNotMigrate db Unavailable = ⊤
 MayNotMigrate db NotAnOffice = (names_round db.schema ≡ false) ⊎ HoldsNoEarlier db
 MayNotMigrate db (OtherVersion version) = SaysVersion db version × IsNoEarlier version
 MayNotMigrate db AlreadyThere = HasNameTaken db
 
--- Whatever the disk does, what is declared may be refused for this only as a migration may refuse it.
+-- Whatever the disk does, the schema allows this fault only as it allows that of a migration.
 abbrev pub IsFaultOfMigration : Schema → DeskFault → Type 0
 IsFaultOfMigration schema Unavailable = ⊤
 IsFaultOfMigration schema NotAnOffice = IsAllowed schema migrate.NotAnOffice

@@ -1,4 +1,4 @@
--- What a statement makes of a database that declares a table, or declares one no more.
+-- The effect of statements that create or drop a table.
 use Rattle.std.specs.Prelude.{◌≡◌, ◌⊎◌, ◌≤◌, ◌<◌, ℕ, List, [], drop, take}
 use Rattle.std.specs.List.{AllByRecursion}
 use Rattle.sqlite_schema.specs.declared.schema.Schema.{Schema}
@@ -14,60 +14,62 @@ use Rattle.office_tables.specs.Tables.{HasTables, HasTablesIn}
 use Rattle.office_tables.specs.declared.layouts.Layout.{Layout}
 use Rattle.office_tables.specs.declared.layouts.Layout.TheVariants.{Own}
 
--- one more table, with no rows, and the others as they were
+-- There is one more table, without rows, and the others are unchanged.
 pub record Adds (table : Table) (old new : Database) : Type 0 where
   pub schema : new.schema ≡ created old.schema table
   pub empty : new.trees (next_tree old.schema) ≡ []
   pub others : KeepsRows old.schema.tables old.trees new.trees
 
--- Where this was declared (`before`), now this is (`after`). Some tables (`kept`) hold the rows that they held, and others
--- (`fresh`) hold none.
+-- If the schema was `before`, it is now `after`. The tables `kept` have the rows that they had, and the tables `fresh`
+-- have none.
 pub record Stands (before after : Schema) (kept fresh : List Table) (old new : State) : Type 0 where
   pub shown : HasCleanDisk new → old.now.schema ≡ before
       → (new.now.schema ≡ after) × KeepsRows kept old.now.trees new.now.trees
       × AllByRecursion (λ table. new.now.trees table.tree ≡ []) fresh
   pub mode : HasCleanDisk new → new.in_transaction ≡ old.in_transaction
 
--- Where the first so many tables of an office were declared, and no others, now so many are. The first of them (`kept`) hold
--- the rows that they held, and the others hold none.
+-- If exactly the first `before` tables of an office were declared, exactly the first `after` are now. The first `kept`
+-- of them have the rows that they had, and the others have none.
 abbrev pub FirstStand : ℕ → ℕ → ℕ → State → State → Type 0
 FirstStand before after kept =
     Stands (first_tables before) (first_tables after) (take kept office_schema.tables)
     (drop kept (take after office_schema.tables))
 
--- Where the tables of the layout were declared, and no others, now the first so many of them are, and hold the rows that they
--- held.
+-- If exactly the tables of the layout were declared, exactly the first `after` of them are now, with the rows that they
+-- had.
 abbrev pub LeftStand : Layout → ℕ → State → State → Type 0
 LeftStand layout after =
     Stands (schema_of layout) (tables_of layout after) (tables_of layout after).tables []
 
--- Of the tables of a round, which are an office's last four, some may be declared no more: some were dropped, or all were,
--- and then fewer than four made anew. The other six hold the rows that they held. Of tables that are no office's nothing is
--- said.
+-- Some tables of a round, which are the last four of an office, may be missing: some were dropped, or all were, and
+-- then fewer than four were created again. The other six have the rows that they had. Nothing is claimed of tables that
+-- are not an office's.
 abbrev pub LacksTables : State → State → Type 0
 LacksTables old new =
     ((after : ℕ) × (6 ≤ after) × (after ≤ 10) × LeftStand Own after old new)
     ⊎ ((after : ℕ) × (6 ≤ after) × (after < 10) × FirstStand 10 after 6 old new)
 
--- what is left where the tables of a round were to be dropped and made anew, and a statement was refused, or failed
+-- What is left if clearing the tables of a round fails: some of them may be missing, or the transaction is rolled back.
 abbrev pub MayLackTables : State → State → Type 0
 MayLackTables old new = IsHonest new → LacksTables old new ⊎ RollsBack old new
 
--- what is left where all but so many tables of the layout were to be dropped, and a statement was refused, or failed
+-- What is left if dropping all but the first `left` tables of the layout fails: more than these may be there, or the
+-- transaction is rolled back.
 abbrev pub DropsTooFew : Layout → ℕ → State → State → Type 0
 DropsTooFew layout left old new =
     IsHonest new
     → ((after : ℕ) × (left ≤ after) × (after ≤ table_count layout) × LeftStand layout after old new)
     ⊎ RollsBack old new
 
--- what is left where the tables from this place on were to be made, and a statement was refused, or failed
+-- What is left if creating the tables from place `first` on fails: some of them may be there, or the transaction is
+-- rolled back.
 abbrev pub MakesTooFew : ℕ → State → State → Type 0
 MakesTooFew first old new =
     IsHonest new
     → ((after : ℕ) × (first ≤ after) × (after < 10) × FirstStand first after first old new)
     ⊎ RollsBack old new
 
--- The tables of the layout that were there are now those that this program makes. Rooms, people and the round have the same
+-- The tables of the layout are replaced by those that this program creates. Rooms, people and the round have the same
 -- rows, and the other tables have none.
 pub record Rebuilds (layout : Layout) (old new : State) : Type 0 where
   pub shown : (tables : Tables) → HasCleanDisk new → HasTablesIn layout old.now tables

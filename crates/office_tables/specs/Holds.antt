@@ -7,15 +7,15 @@ use Rattle.sqlite_value.specs.declared.value.Value.TheVariants.{Int}
 use Rattle.sqlite_value.specs.Order.{Row, value_cmp}
 use Rattle.sqlite_trees.specs.Tree.{rowid}
 
--- the stored row of a record: its rowid, and then its columns
+-- the stored row of a record: its rowid, then its columns
 abbrev pub stored : {X : Type 0} → (X → Row) → ℤ × X → Row
 stored columns entry = Int entry.0 ∷ columns entry.1
 
 abbrev pub same_rowid : Row → Row → Bool
 same_rowid a b = is_eq (value_cmp (rowid a) (rowid b))
 
--- The table has a row for each of the records, under rowids that differ. In which order the records
--- are named is no matter.
+-- The table has exactly one row for each of the records, and the rowids are distinct. The order of the records does not
+-- matter.
 pub record Holds {X : Type 0} (columns : X → Row) (rows : List Row) (records : List X)
     : Type 0 where
   pub entries : List (ℤ × X)

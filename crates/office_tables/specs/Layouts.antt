@@ -1,5 +1,5 @@
--- How the tables of an office may stand in a database, which is one of a closed list: of which version they are, what is
--- declared, and in which tree each is kept therefore.
+-- The layouts that the tables of an office may have in a database, a closed list: the version of each, its schema, and
+-- so the tree of each table.
 use Rattle.std.specs.Prelude.{ℕ, Bool, true, false, List, slice_index_or}
 use Rattle.sqlite_schema.specs.declared.schema.Table.{Table}
 use Rattle.sqlite_schema.specs.declared.schema.Schema.{Schema}
@@ -24,7 +24,7 @@ table_count DocumentedSecond = 9
 table_count DocumentedFirst = 8
 table_count EarlierFirst = 8
 
--- grades came with version 2
+-- Version 2 introduced grades.
 abbrev pub has_grades : Layout → Bool
 has_grades Own = true
 has_grades Documented = true
@@ -32,7 +32,7 @@ has_grades DocumentedSecond = true
 has_grades DocumentedFirst = false
 has_grades EarlierFirst = false
 
--- leavers came with version 3
+-- Version 3 introduced leavers.
 abbrev pub has_leavers : Layout → Bool
 has_leavers Own = true
 has_leavers Documented = true
@@ -40,7 +40,7 @@ has_leavers DocumentedSecond = false
 has_leavers DocumentedFirst = false
 has_leavers EarlierFirst = false
 
--- the order in which they were made
+-- the schema in whose order the layout's tables were created
 abbrev pub order_of : Layout → Schema
 order_of Own = office_schema
 order_of Documented = documented_schema
@@ -52,11 +52,11 @@ order_of EarlierFirst = earlier_schema
 abbrev pub table_at : Layout → ℕ → Table
 table_at layout place = slice_index_or (order_of layout).tables place (room 0)
 
--- the text that drops it
+-- the statement that drops the table at this place
 abbrev pub drop_text_of : Layout → ℕ → List ℕ
 drop_text_of layout place = drop_table_text (table_at layout place).name
 
--- the first so many of its tables
+-- the schema of the first `tables` tables of the layout
 abbrev pub tables_of : Layout → ℕ → Schema
 tables_of Own tables = first_tables tables
 tables_of Documented tables = documented_tables tables
@@ -64,7 +64,7 @@ tables_of DocumentedSecond tables = documented_tables tables
 tables_of DocumentedFirst tables = documented_tables tables
 tables_of EarlierFirst tables = earlier_tables tables
 
--- its tables, and nothing else
+-- the schema of exactly the layout's tables
 abbrev pub schema_of : Layout → Schema
 schema_of Own = office_schema
 schema_of Documented = documented_schema
@@ -72,7 +72,7 @@ schema_of DocumentedSecond = documented_tables 9
 schema_of DocumentedFirst = documented_tables 8
 schema_of EarlierFirst = earlier_schema
 
--- in which tree each table behind the first three is kept
+-- the tree of each table after the first three
 pub record TableTrees : Type 0 where
   pub choices : ℕ
   pub words : ℕ
@@ -104,7 +104,7 @@ documented_trees = record {
   going = 21;
 }
 
--- where there are no grades and no leavers
+-- There are no tables of grades and leavers, and their numbers mean nothing.
 abbrev pub earlier_trees : TableTrees
 earlier_trees = record {
   choices = 16;
@@ -116,7 +116,7 @@ earlier_trees = record {
   going = 0;
 }
 
--- of a table that the layout lacks nothing is meant
+-- The number of a table that the layout lacks means nothing.
 abbrev pub trees_of : Layout → TableTrees
 trees_of Own = own_trees
 trees_of Documented = documented_trees

@@ -1,10 +1,10 @@
--- What a statement does to a database that holds rows.
+-- The effect of a statement on a database that has the tables of an office.
 use Rattle.std.specs.Prelude.{◌≡◌}
 use Rattle.sqlite.specs.State.{State, HasCleanDisk}
 use Rattle.office_rows.specs.Tables.{Tables}
 use Rattle.office_tables.specs.Tables.{HasTables}
 
--- the tables that were there before are now there as this makes them
+-- If the database had these tables, it now has them as `change` makes them.
 pub record Makes (old new : State) (change : Tables → Tables) : Type 0 where
   pub shown : (tables : Tables) → HasCleanDisk new → HasTables old.now tables
       → HasTables new.now (change tables)

@@ -1,4 +1,4 @@
--- Tables that are made anew, and filled again.
+-- Tables that are created again and filled again.
 use Rattle.std.specs.Prelude.{◌≡◌, List, [], ◌∷◌}
 use Rattle.sqlite.specs.State.{State, HasCleanDisk}
 use Rattle.office_rows.specs.ReadsOffice.{AreRecordsOf}
@@ -8,13 +8,13 @@ use Rattle.office_tables.specs.Edits.{with_version}
 use Rattle.office_tables.specs.Tables.{HasTables, HasTablesIn}
 use Rattle.office_tables.specs.declared.layouts.Layout.{Layout}
 
--- the tables with a row for each of these, added one after another
+-- the tables after a row for each of these is added, one after another
 abbrev pub with_all : {X : Type 0} → (X → Tables → Tables) → List X → Tables → Tables
 with_all with_row [] tables = tables
 with_all with_row (r ∷ rows) tables = with_all with_row rows (with_row r tables)
 
--- The tables of the layout that were there are now those that this program makes, of its version and with the same rows,
--- where these records are the rows.
+-- The tables of the layout are replaced by those that this program creates, of its version and with the same rows, if
+-- the records are these rows.
 pub record Renews (layout : Layout) (records : OfficeRecords) (old new : State) : Type 0 where
   pub shown : (tables : Tables) → HasCleanDisk new → HasTablesIn layout old.now tables
       → AreRecordsOf tables records → HasTables new.now (with_version own_version tables)

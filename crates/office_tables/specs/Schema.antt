@@ -1,5 +1,5 @@
--- The ten tables of an office: the texts that declare them, and the schemas that these make in the orders in which tables of an
--- office are known to be made. The first three stand in the same place in all of them.
+-- The ten tables of an office: the statements that create them, and the schemas that result in each order in which
+-- tables of an office are known to be created. The first three tables have the same place in all of them.
 use Rattle.std.specs.Prelude.{true, false, ℕ, pos, List, [], ◌∷◌, ◌++◌, map, codes, take, slice_index_or}
 use Rattle.std.specs.Prelude.{Option, Some, None}
 use Rattle.sqlite_value.specs.declared.keys.Collation.TheVariants.{Binary}
@@ -69,8 +69,8 @@ choice_text =
 abbrev pub going_text : List ℕ
 going_text = codes "CREATE TABLE going(person TEXT PRIMARY KEY NOT NULL REFERENCES person(id)) STRICT"
 
--- What declares the tables, in the order in which this program makes them. A table comes after those that it refers to, and
--- those of a round come last, since they are dropped and made anew.
+-- The statements that create the tables, in the order in which this program runs them. A table comes after those that
+-- it refers to. Those of a round come last, since they are dropped and created again.
 abbrev pub table_text : ℕ → List ℕ
 table_text place =
     slice_index_or
@@ -114,11 +114,11 @@ refers_to parent column place = record {
 abbrev pub equals : ℕ → ℕ → Term
 equals place n = op2 (Compare Eq Binary) (col 1 place) (lit (Int (pos n)))
 
--- one of the two tests passes
+-- At least one of the two tests passes.
 abbrev pub either : Term → Term → Term
 either = op2 Or
 
--- a number from 1 to 9, as the engine halves the list of them
+-- an integer from 1 to 9, as the engine splits the list of them in halves
 abbrev pub is_digit : ℕ → Term
 is_digit place =
     either
@@ -148,7 +148,7 @@ table_of name tree columns key primary uniques checks references = record {
   is_counted = false;
 }
 
--- the first column alone
+-- only the first column
 abbrev pub first : List ℕ
 first = 1 ∷ []
 
@@ -220,7 +220,7 @@ going tree =
 
 -- ---- the schema
 
--- what a constraint of a table is kept by
+-- the index that enforces a constraint of a table
 abbrev pub index_of : List ℕ → ℕ → ℕ → List ℕ → Index
 index_of name tree table columns = record {
   name = codes "sqlite_autoindex_" ++ name;
@@ -234,7 +234,7 @@ index_of name tree table columns = record {
 abbrev pub no_schema : Schema
 no_schema = record { tables = []; indexes = []; views = [] }
 
--- the schema that the texts make, one after another
+-- the schema that the statements create, one after another
 abbrev pub office_schema : Schema
 office_schema = record {
   tables =
@@ -251,7 +251,7 @@ office_schema = record {
   views = [];
 }
 
--- the first so many tables of an office, with their indexes: all but the tables of a round are the first six
+-- the first `tables` tables of an office, with their indexes; the first six are all but the tables of a round
 abbrev pub first_tables : ℕ → Schema
 first_tables tables = record {
   tables = take tables office_schema.tables;
@@ -261,7 +261,7 @@ first_tables tables = record {
   views = [];
 }
 
--- the same tables, made in the documented order
+-- the same tables, created in the documented order
 abbrev pub documented_schema : Schema
 documented_schema = record {
   tables =
@@ -278,7 +278,7 @@ documented_schema = record {
   views = [];
 }
 
--- the first so many of them: those of version 2 are the first nine, and those of version 1 the first eight
+-- the first `tables` of them: version 2 has the first nine, and version 1 the first eight
 abbrev pub documented_tables : ℕ → Schema
 documented_tables tables = record {
   tables = take tables documented_schema.tables;
@@ -288,7 +288,7 @@ documented_tables tables = record {
   views = [];
 }
 
--- the tables of version 1 as this program made them
+-- the tables of version 1, as this program created them
 abbrev pub earlier_schema : Schema
 earlier_schema = record {
   tables =
@@ -303,7 +303,7 @@ earlier_schema = record {
   views = [];
 }
 
--- the first so many of them
+-- the first `tables` of them
 abbrev pub earlier_tables : ℕ → Schema
 earlier_tables tables = record {
   tables = take tables earlier_schema.tables;

@@ -13,12 +13,12 @@ use Rattle.office_tables.specs.Layouts.{has_grades, has_leavers, schema_of, tree
 use Rattle.office_tables.specs.declared.layouts.Layout.{Layout}
 use Rattle.office_tables.specs.declared.layouts.Layout.TheVariants.{Own}
 
--- the table holds these records, where it is there; where it is not, there are none
+-- The table holds these records if it exists. If it does not, there are none.
 abbrev pub HoldsIf : {X : Type 0} → Bool → (X → Row) → List Row → List X → Type 0
 HoldsIf true columns rows records = Holds columns rows records
 HoldsIf false columns rows records = records ≡ []
 
--- each tree of the layout holds the records of its table
+-- Each tree of the layout holds the records of its table.
 pub record AreHeldIn (layout : Layout) (trees : Trees) (tables : Tables) : Type 0 where
   pub rooms : Holds room_columns (trees 0) tables.rooms
   pub people : Holds person_columns (trees 2) tables.people
@@ -33,16 +33,16 @@ pub record AreHeldIn (layout : Layout) (trees : Trees) (tables : Tables) : Type 
   pub going : HoldsIf (has_leavers layout) going_columns (trees (trees_of layout).going)
       tables.going
 
--- the database has the tables of the layout and no others, with these rows
+-- The database has exactly the tables of the layout, with these rows.
 pub record HasTablesIn (layout : Layout) (db : Database) (tables : Tables) : Type 0 where
   pub schema : db.schema ≡ schema_of layout
   pub rows : AreHeldIn layout db.trees tables
 
--- the tables, so laid out, are the rows of the office
+-- The tables, in this layout, hold the rows of the office.
 abbrev pub HoldsOfficeIn : Layout → Database → Office → Type 0
 HoldsOfficeIn layout db office = HasTablesIn layout db (rows_at (version_of layout) office)
 
--- ---- as this program makes them
+-- ---- in the layout that this program creates
 
 abbrev pub AreHeld : Trees → Tables → Type 0
 AreHeld = AreHeldIn Own
@@ -50,6 +50,6 @@ AreHeld = AreHeldIn Own
 abbrev pub HasTables : Database → Tables → Type 0
 HasTables = HasTablesIn Own
 
--- the tables are the rows of the office
+-- The tables hold the rows of the office.
 abbrev pub HoldsOffice : Database → Office → Type 0
 HoldsOffice = HoldsOfficeIn Own

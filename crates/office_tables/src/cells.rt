@@ -1,4 +1,4 @@
-//! Values that may be NULL.
+//! Parameters of statements that may be NULL.
 ghost use Rattle.std.specs.Prelude.{◌≡◌, pos};
 ghost use Rattle.sqlite_value.specs.declared.value.Value.TheVariants.{Int, Text};
 ghost use Rattle.sqlite.specs.Values.{bound_value, or_null};
@@ -6,7 +6,7 @@ ghost use Rattle.office_cells.specs.Cells.{text_or_null, wave_value};
 
 use room_types::{RoomCode, Wave};
 
-/// The code of the room, or none for NULL.
+/// Returns the room's code, or `None` for NULL.
 pub(crate) fn code_for_statement(room: &Option<RoomCode>) -> Option<&str>
     ensures { bound_value (or_null (λ code. Text code.now) result) ≡ text_or_null room.now }
 {
@@ -16,7 +16,7 @@ pub(crate) fn code_for_statement(room: &Option<RoomCode>) -> Option<&str>
     }
 }
 
-/// The number of the wave, or none for NULL.
+/// Returns the wave's number, or `None` for NULL: a swap has no number.
 pub(crate) fn number_of(wave: Wave) -> Option<u32>
     ensures { bound_value (or_null (λ number. Int (pos number)) result) ≡ wave_value wave }
 {

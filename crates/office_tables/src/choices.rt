@@ -1,4 +1,4 @@
-//! The table of choices: a row for each place of a recorded list.
+//! The table of choices: a row for each place of a preference list.
 ghost use Rattle.std.specs.Prelude.{◌≡◌, OnOk, OnErr};
 ghost use Rattle.sqlite.specs.Held.{state};
 ghost use Rattle.office_tables.specs.Edits.{with_choice, without_choices_of};
@@ -9,8 +9,8 @@ use crate::running::run;
 use room_types::{PersonId, RoomCode};
 use sqlite::{Alter, Error, Transaction, params};
 
-/// Adds the room at a place of a person's list, from 0. Refused where the list has this place or this room, or the
-/// person or the room is unknown.
+/// Adds the room at this place of a person's list, from 0. Fails if the list has this place or this room already, or if
+/// the person or the room is unknown.
 pub fn add_choice<S: Alter>(
     tx: &mut Transaction<'_, S>,
     person: &PersonId,
@@ -32,7 +32,7 @@ pub fn add_choice<S: Alter>(
     )
 }
 
-/// Takes a person's list out.
+/// Deletes a person's list.
 pub fn drop_choices<S: Alter>(tx: &mut Transaction<'_, S>, person: &PersonId) -> Result<(), Error>
     ensures same_reference { tx.new.conn.ghost_name ≡ tx.old.conn.ghost_name }
     ensures made { OnOk result

@@ -1,4 +1,4 @@
-//! The tables of an office are dropped, the last one first.
+//! Dropping the tables of an office, the last one first.
 ghost use Rattle.std.specs.Prelude.{◌≡◌, ◌<◌, ◌≤◌, OnOk, OnErr};
 ghost use Rattle.sqlite.specs.Held.{state};
 ghost use Rattle.office_tables.specs.Declaring.{DropsTooFew, LeftStand};
@@ -10,7 +10,7 @@ use crate::layouts::Layout;
 use crate::running::run;
 use sqlite::{Alter, Error, Transaction};
 
-/// Drops the last tables of the layout, with their rows, until so many are left.
+/// Drops the last tables of the layout, with their rows, until the given number is left.
 pub(crate) fn drop_tables_to<S: Alter>(
     tx: &mut Transaction<'_, S>,
     layout: Layout,
@@ -32,7 +32,7 @@ pub(crate) fn drop_tables_to<S: Alter>(
     Ok(())
 }
 
-// What drops the table at this place, behind the first three.
+// Returns the statement that drops the table at this place. The first three tables have none.
 fn table_drop(layout: Layout, place: usize) -> &'static str
     requires low { 3 ≤ place }
     requires high { place < table_count layout }
@@ -47,7 +47,7 @@ fn table_drop(layout: Layout, place: usize) -> &'static str
     }
 }
 
-// The same in the order in which this program makes the tables.
+// The same for the order in which this program creates the tables.
 fn own_table_drop(place: usize) -> &'static str
     requires low { 3 ≤ place }
     requires high { place < 10 }
@@ -64,7 +64,7 @@ fn own_table_drop(place: usize) -> &'static str
     }
 }
 
-// The same in the documented order.
+// The same for the documented order.
 fn documented_table_drop(place: usize) -> &'static str
     requires low { 3 ≤ place }
     requires high { place < 10 }
@@ -81,7 +81,7 @@ fn documented_table_drop(place: usize) -> &'static str
     }
 }
 
-// The same in the order in which this program made version 1.
+// The same for the order in which this program created version 1.
 fn earlier_table_drop(place: usize) -> &'static str
     requires low { 3 ≤ place }
     requires high { place < 8 }

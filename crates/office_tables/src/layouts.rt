@@ -1,11 +1,11 @@
-//! How the tables of an office may stand in a database.
+//! The layouts that the tables of an office may have in a database.
 ghost use Rattle.std.specs.Prelude.{◌≡◌};
 ghost use Rattle.office_tables.specs.Layouts.{has_grades, has_leavers, table_count, version_of};
 
-/// How the tables of an office stand in a database: of which version they are, and in which order they were made.
+/// A layout of an office's tables in a database: their version, and the order in which they were created.
 #[derive(Clone, Copy, Debug, PartialEq, Eq, Drop)]
 pub enum Layout {
-    /// Version 3, as this program makes it.
+    /// Version 3, as this program creates it.
     Own,
     /// Version 3, in the documented order.
     Documented,
@@ -13,12 +13,12 @@ pub enum Layout {
     DocumentedSecond,
     /// Version 1, in the documented order: without grades and leavers.
     DocumentedFirst,
-    /// Version 1, as this program made it.
+    /// Version 1, as this program created it.
     EarlierFirst,
 }
 
 impl Layout {
-    /// The version of the tables.
+    /// Returns the version of the tables.
     pub fn version(self) -> u16
         ensures { result ≡ version_of self }
     {
@@ -31,7 +31,7 @@ impl Layout {
         }
     }
 
-    /// How many tables there are.
+    /// Returns the number of tables.
     pub fn tables(self) -> usize
         ensures { result ≡ table_count self }
     {
@@ -44,7 +44,7 @@ impl Layout {
         }
     }
 
-    /// Whether one of them is that of grades.
+    /// Whether there is a table of grades.
     pub fn has_grades(self) -> bool
         ensures { result ≡ has_grades self }
     {
@@ -57,7 +57,7 @@ impl Layout {
         }
     }
 
-    /// Whether one of them is that of leavers.
+    /// Whether there is a table of leavers.
     pub fn has_leavers(self) -> bool
         ensures { result ≡ has_leavers self }
     {

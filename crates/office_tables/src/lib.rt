@@ -1,7 +1,8 @@
-//! The tables of an office in a database: one function a statement, inside a transaction. What a statement makes of the
-//! rows is said of typed records. A statement that is refused, or that fails, for memory or the disk, changes no row, or
-//! the whole transaction is rolled back (`undone`), and nothing is committed (`inside`). `clear_round_tables` is
-//! eight statements: where one of them fails, those before it may stand inside the transaction.
+//! The tables of an office in a database: one function for each statement, inside a transaction. Contracts give the
+//! effect of a statement on typed records. A statement that the engine refuses, or that fails for memory or the disk,
+//! changes no row, or the whole transaction is rolled back (`undone`, for an intact disk and an open connection).
+//! Nothing is committed (`inside`). `make_tables_from`, `clear_round_tables` and `renew_tables` run several statements:
+//! if one of them fails, the effects of those before it may remain inside the transaction.
 #![tactic(auto)]
 
 mod cells;

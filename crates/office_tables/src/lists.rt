@@ -1,4 +1,4 @@
-//! The table of kept lists.
+//! The table of imported lists.
 ghost use Rattle.std.specs.Prelude.{◌≡◌, OnOk, OnErr};
 ghost use Rattle.sqlite.specs.Held.{state};
 ghost use Rattle.office_state.specs.declared.office.kept_list.KeptList.{KeptList};
@@ -10,8 +10,8 @@ use crate::running::run;
 use room_types::{Label, ListKind, Listing};
 use sqlite::{Alter, Error, Transaction, params};
 
-/// Adds a list that was handed in under a label, and how many records it added. Refused where a list is kept under this
-/// label.
+/// Adds an imported list under its label, with the number of records that it added. Fails if a list is stored under
+/// this label already.
 pub fn add_list<S: Alter>(
     tx: &mut Transaction<'_, S>,
     label: &Label,

@@ -1,4 +1,4 @@
-//! The tables of an office are declared.
+//! Creating the tables of an office.
 ghost use Rattle.std.specs.Prelude.{◌≡◌, ◌<◌, ◌≤◌, OnOk, OnErr};
 ghost use Rattle.sqlite.specs.Held.{state};
 ghost use Rattle.office_tables.specs.Declaring.{FirstStand, MakesTooFew};
@@ -8,7 +8,7 @@ ghost use Rattle.office_tables.specs.Steps.{StaysInside};
 use crate::running::run;
 use sqlite::{Alter, Error, Transaction};
 
-/// Makes the tables from this place on, with no rows, where those before it stand.
+/// Creates the tables from this place on, without rows, provided that exactly those before it exist.
 pub fn make_tables_from<S: Alter>(tx: &mut Transaction<'_, S>, first: usize) -> Result<(), Error>
     requires { first ≤ 10 }
     ensures same_reference { tx.new.conn.ghost_name ≡ tx.old.conn.ghost_name }
@@ -24,8 +24,8 @@ pub fn make_tables_from<S: Alter>(tx: &mut Transaction<'_, S>, first: usize) -> 
     Ok(())
 }
 
-// What declares the table at this place. A table comes after those that it refers to, and those of a round are the last, since
-// they are dropped and made anew.
+// Returns the statement that creates the table at this place. A table comes after those that it refers to. Those of a
+// round come last, since they are dropped and created again.
 fn table_declaration(place: usize) -> &'static str
     requires { place < 10 }
     ensures { result.now ≡ table_text place }

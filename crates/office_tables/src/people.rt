@@ -10,8 +10,8 @@ use crate::running::run;
 use room_types::{Key, Name, PersonId, RoomCode};
 use sqlite::{Alter, Error, Transaction, params};
 
-/// Adds a person, who has not withdrawn. Refused where the person is there, or the key or the home is another's, or
-/// the home is no room.
+/// Adds a person, who has not withdrawn. Fails if the identifier, the key or the home is taken, or if the home is not a
+/// room.
 pub fn add_person<S: Alter>(
     tx: &mut Transaction<'_, S>,
     id: &PersonId,
@@ -39,7 +39,7 @@ pub fn add_person<S: Alter>(
     )
 }
 
-/// Takes a person out. Refused where other tables name the person.
+/// Deletes a person. Fails if other tables refer to the person.
 pub fn drop_person<S: Alter>(tx: &mut Transaction<'_, S>, id: &PersonId) -> Result<(), Error>
     ensures same_reference { tx.new.conn.ghost_name ≡ tx.old.conn.ghost_name }
     ensures made { OnOk result
@@ -52,8 +52,7 @@ pub fn drop_person<S: Alter>(tx: &mut Transaction<'_, S>, id: &PersonId) -> Resu
     run(tx, "DELETE FROM person WHERE id = ?1", params![id.as_str()])
 }
 
-/// Gives a person another home, or none. Of an unknown person it changes nothing. Refused where the home is
-/// another's, or no room.
+/// Sets or clears a person's home. Does nothing if the person is unknown. Fails if the home is taken or is not a room.
 pub fn set_home<S: Alter>(
     tx: &mut Transaction<'_, S>,
     id: &PersonId,
@@ -74,7 +73,7 @@ pub fn set_home<S: Alter>(
     )
 }
 
-/// Notes that a person has withdrawn. Of an unknown person it changes nothing.
+/// Sets a person's `withdrawn` flag. Does nothing if the person is unknown.
 pub fn set_withdrawn<S: Alter>(tx: &mut Transaction<'_, S>, id: &PersonId) -> Result<(), Error>
     ensures same_reference { tx.new.conn.ghost_name ≡ tx.old.conn.ghost_name }
     ensures made { OnOk result
@@ -91,7 +90,7 @@ pub fn set_withdrawn<S: Alter>(tx: &mut Transaction<'_, S>, id: &PersonId) -> Re
     )
 }
 
-/// Notes of everybody that they have not withdrawn.
+/// Clears everybody's `withdrawn` flag.
 pub fn clear_withdrawn<S: Alter>(tx: &mut Transaction<'_, S>) -> Result<(), Error>
     ensures same_reference { tx.new.conn.ghost_name ≡ tx.old.conn.ghost_name }
     ensures made { OnOk result

@@ -1,4 +1,4 @@
-//! Tables of another layout are made those of this program, with all their rows.
+//! Converting the tables of another layout to the one of this program, with all their rows.
 ghost use Rattle.std.specs.Prelude.{◌≡◌, IfSome, OnOk};
 ghost use Rattle.sqlite.specs.Held.{state};
 ghost use Rattle.office_rows.specs.Tables.{Tables};
@@ -24,8 +24,9 @@ use room_types::{Grade, Label, Move, PersonId, Word};
 use sqlite::{Alter, Error, ErrorCode, Transaction};
 use std::alloc::Global;
 
-/// Makes the tables of this layout those that this program makes, of its version, with all their rows, which are handed in.
-/// The tables behind the first three are made anew.
+/// Converts the tables of this layout to the layout and version that this program creates. `records` has to hold all
+/// their rows. Drops the tables after the first three, creates those of this program, fills them from `records`, and
+/// sets the version.
 pub fn renew_tables<S: Alter>(
     alloc: Global,
     tx: &mut Transaction<'_, S>,
@@ -48,7 +49,7 @@ pub fn renew_tables<S: Alter>(
     set_version(tx)
 }
 
-// The tables behind the first three are dropped, and made anew with no rows.
+// Drops the tables after the first three, and creates those of this program without rows.
 fn rebuild_tables<S: Alter>(tx: &mut Transaction<'_, S>, layout: Layout) -> Result<(), Error>
     ensures same_reference { tx.new.conn.ghost_name ≡ tx.old.conn.ghost_name }
     ensures made { OnOk result
@@ -77,9 +78,9 @@ fn refill<R: Refilled, S: Alter>(
     Ok(())
 }
 
-/// Rows of a table that is filled again.
+/// A row of a table that is filled again.
 pub trait Refilled {
-    /// The tables with one row more.
+    /// The tables with this row added.
     ghost with_row: { Self → Tables → Tables };
 
     /// Adds the row to its table.
@@ -152,7 +153,7 @@ impl Refilled for ChoiceRecord {
     }
 }
 
-// A place as a number of 32 bits.
+// Converts a place to 32 bits, if it fits.
 fn refilled_place(place: u64) -> Option<u32>
     ensures { IfSome result (λ number. number ≡ place) }
 {

@@ -10,8 +10,8 @@ use crate::running::run;
 use room_types::{PersonId, RoomCode};
 use sqlite::{Alter, Error, Transaction, params};
 
-/// Adds the room that a person gets, or none. Refused where the person has a result or is unknown, or the room is
-/// another's result or is unknown.
+/// Adds a person's result: a room or none. Fails if the person has a result already or is unknown, or if the room is
+/// somebody else's result or is unknown.
 pub fn add_result<S: Alter>(
     tx: &mut Transaction<'_, S>,
     person: &PersonId,

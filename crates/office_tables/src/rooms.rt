@@ -9,7 +9,7 @@ use crate::running::run;
 use room_types::RoomCode;
 use sqlite::{Alter, Error, Transaction, params};
 
-/// Adds a room, shut or not. Refused where the room is there.
+/// Adds a room with its `shut` flag. Fails if the room exists already.
 pub fn add_room<S: Alter>(
     tx: &mut Transaction<'_, S>,
     room: &RoomCode,
@@ -30,7 +30,7 @@ pub fn add_room<S: Alter>(
     )
 }
 
-/// Says of a room whether it is shut. Of an unknown room it changes nothing.
+/// Sets a room's `shut` flag. Does nothing if the room is unknown.
 pub fn set_shut<S: Alter>(
     tx: &mut Transaction<'_, S>,
     room: &RoomCode,

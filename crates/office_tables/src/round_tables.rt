@@ -1,4 +1,4 @@
-//! The tables of a round: its words, results, choices and leavers, which go together.
+//! The tables of a round: its words, results, choices and leavers, which are cleared together.
 ghost use Rattle.std.specs.Prelude.{◌≡◌, OnOk, OnErr};
 ghost use Rattle.sqlite.specs.Held.{state};
 ghost use Rattle.office_tables.specs.Declaring.{MayLackTables};
@@ -11,9 +11,9 @@ use crate::layouts::Layout;
 use crate::making::make_tables_from;
 use sqlite::{Alter, Error, Transaction};
 
-/// Takes all words, results, choices and leavers out. The four tables are dropped and made anew, in the places where they
-/// were: the store in memory looks at every row of a table for each that it deletes. Where it fails, some of the tables may be
-/// gone, as long as the transaction goes on.
+/// Deletes all words, results, choices and leavers. Drops the four tables and creates them again in the same places,
+/// since the store in memory scans the whole table for each row that it deletes. If this fails, some of the tables may
+/// be missing for the rest of the transaction.
 pub fn clear_round_tables<S: Alter>(tx: &mut Transaction<'_, S>) -> Result<(), Error>
     ensures same_reference { tx.new.conn.ghost_name ≡ tx.old.conn.ghost_name }
     ensures made { OnOk result

@@ -1,4 +1,4 @@
-//! One statement inside a transaction.
+//! Running one statement inside a transaction.
 ghost use Rattle.std.specs.Prelude.{◌≡◌, OnOk, OnErr};
 ghost use Rattle.sqlite.specs.Held.{state};
 ghost use Rattle.sqlite.specs.State.{HasCleanDisk};
@@ -8,7 +8,7 @@ ghost use Rattle.office_tables.specs.Steps.{Ran, IsUndone, StaysInside};
 use sqlite::types::ValueRef;
 use sqlite::{Alter, Error, Transaction};
 
-/// Runs a statement that answers no rows.
+/// Runs a statement that returns no rows.
 pub fn run<S: Alter>(
     tx: &mut Transaction<'_, S>,
     text: &str,

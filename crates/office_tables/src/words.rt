@@ -1,4 +1,4 @@
-//! The table of the words of a draw.
+//! The table of drawn words.
 ghost use Rattle.std.specs.Prelude.{◌≡◌, OnOk, OnErr};
 ghost use Rattle.sqlite.specs.Held.{state};
 ghost use Rattle.office_tables.specs.Edits.{with_word};
@@ -10,7 +10,7 @@ use room_types::{PersonId, Word};
 use sqlite::{Alter, Error, Transaction, params};
 use std::alloc::Global;
 
-/// Adds the word that a person drew. Refused where the person has one or is unknown.
+/// Adds the word that a person drew. Fails if the person has one already or is unknown.
 pub fn add_word<S: Alter>(
     alloc: Global,
     tx: &mut Transaction<'_, S>,

@@ -1,2 +1,2 @@
--- Lemmas on texts of answers.
+-- Lemmas on the texts of answers.
 pub mod Bytes

@@ -1,4 +1,4 @@
--- The drawn order, as it is printed.
+-- The lines that are printed for the drawn order.
 use Rattle.std.specs.Prelude.{ℕ, ◌+◌, ◌-◌, ◌==◌, List, [], ◌∷◌, ◌++◌, length, replicate, codes, if◌then◌else◌}
 use Rattle.std.specs.Fmt.{decimal}
 use Rattle.room_types.specs.Grades.{grade_text}
@@ -7,23 +7,23 @@ use Rattle.room_types.specs.Words.{word_text}
 use Rattle.office_core.specs.declared.reply.OrderRow.{OrderRow}
 use Rattle.office_texts.specs.OutputLines.{line_of}
 
--- the text, and spaces before it up to the width
+-- the text, padded with spaces on the left to the width
 abbrev pub right_in : ℕ → Text → Text
 right_in width text = replicate (width - length text) 32 ++ text
 
--- the grade after a space, unless it is 0
+-- ` grade ` and the grade; empty for grade 0
 abbrev pub told_grade : ℕ → Text
 told_grade grade = if grade == 0 then [] else codes " grade " ++ grade_text grade
 
--- the place right in 4, the word, the identifier and the grade
+-- the place padded to 4 columns, the word, the identifier and the grade
 abbrev pub order_line : ℕ → OrderRow → Text
 order_line place row = line_of (right_in 4 (decimal place) ∷ codes " " ∷ word_text row.word ∷ codes " " ∷ row.person ∷ told_grade row.grade ∷ [])
 
--- a line for each row, the first one at this place
+-- a line for each row; the first row has this place
 abbrev pub order_lines : ℕ → List OrderRow → Text
 order_lines place [] = []
 order_lines place (row ∷ rows) = order_line place row ++ order_lines (place + 1) rows
 
--- places from 1; without rows there are no bytes
+-- the lines of all rows, with places from 1
 abbrev pub order_text : List OrderRow → Text
 order_text rows = order_lines 1 rows

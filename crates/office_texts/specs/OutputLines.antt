@@ -1,8 +1,8 @@
--- Lines of text that are printed.
+-- Lines of text.
 use Rattle.std.specs.Prelude.{List, [], ◌∷◌, ◌++◌, codes}
 use Rattle.room_types.specs.Texts.{Text}
 
--- a line of these pieces
+-- the pieces joined, and a line feed at the end
 abbrev pub line_of : List Text → Text
 line_of [] = codes "\n"
 line_of (piece ∷ pieces) = piece ++ line_of pieces

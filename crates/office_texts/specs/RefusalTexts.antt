@@ -1,4 +1,4 @@
--- The lines of refusals.
+-- The lines that are printed for refusals.
 use Rattle.std.specs.Prelude.{[], ◌∷◌, ◌++◌, codes}
 use Rattle.std.specs.Fmt.{decimal}
 use Rattle.room_types.specs.Phases.{phase_text}
@@ -19,7 +19,7 @@ cause_text (BadField number) = codes "field " ++ decimal number
 cause_text TooMany = codes "many"
 cause_text (Denied number) = codes "refusal " ++ decimal number
 
--- the values that a refusal has, after a space
+-- the values of a refusal, after a space; empty for a refusal without values
 abbrev pub refusal_values : Refusal → Text
 refusal_values (BadPhase phase) = codes " " ++ phase_text phase
 refusal_values (UnknownRoom room) = codes " " ++ room
@@ -42,6 +42,6 @@ refusal_values NotShut = []
 refusal_values OutOfMemory = []
 refusal_values Going = []
 
--- the number, the name and the values
+-- the line of a refusal: its number, its name and its values
 abbrev pub refusal_text : Refusal → Text
 refusal_text refusal = line_of (codes "refused " ∷ decimal (number_of refusal) ∷ codes " " ∷ name_of refusal ∷ refusal_values refusal ∷ [])

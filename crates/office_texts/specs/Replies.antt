@@ -1,4 +1,4 @@
--- The lines of replies.
+-- The lines that are printed for replies.
 use Rattle.std.specs.Prelude.{ℕ, Bool, List, [], ◌∷◌, ◌++◌, ◌==◌, Option, None, Some, codes, if◌then◌else◌}
 use Rattle.std.specs.Fmt.{decimal}
 use Rattle.std.specs.List.{flat_map}
@@ -16,7 +16,7 @@ use Rattle.office_texts.specs.OrderLines.{order_text}
 abbrev pub spaced : List Text → Text
 spaced rooms = flat_map (λ room. codes " " ++ room) rooms
 
--- who has lost a home, if anybody
+-- the tenant who lost the home, if there was one
 abbrev pub displaced_text : Option Text → Text
 displaced_text None = []
 displaced_text (Some person) = codes " displaced " ++ person
@@ -24,15 +24,15 @@ displaced_text (Some person) = codes " displaced " ++ person
 abbrev pub yes_or_no : Bool → Text
 yes_or_no answer = if answer then codes "yes" else codes "no"
 
--- the room or none, or that the result is not shown
+-- the room or `none`; `hidden` if the result is not shown
 abbrev pub result_text : Standing → Text
 result_text standing = if standing.shown then or_none standing.result else codes "hidden"
 
--- how many people leave the college, where anybody does
+-- how many people leave the college; empty if nobody does
 abbrev pub going_text : ℕ → Text
 going_text going = if going == 0 then [] else codes " going " ++ decimal going
 
--- the eight lines of what a person sees
+-- the eight lines that a person sees
 abbrev pub standing_text : Standing → Text
 standing_text standing =
     line_of (codes "person " ∷ standing.person ∷ [])
@@ -44,6 +44,7 @@ standing_text standing =
     ++ line_of (codes "going " ∷ yes_or_no standing.going ∷ [])
     ++ line_of (codes "result " ∷ result_text standing ∷ [])
 
+-- the lines of a reply
 abbrev pub reply_text : Reply → Text
 reply_text reply.Done = line_of (codes "ok" ∷ [])
 reply_text (reply.Shut displaced) = line_of (codes "shut" ∷ displaced_text displaced ∷ [])

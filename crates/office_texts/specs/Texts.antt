@@ -1,4 +1,4 @@
--- What is printed for a line, and the statuses of lines.
+-- The text and the status of a response.
 use Rattle.std.specs.Prelude.{ℕ, Bool, true, false, ⊤, [], ◌∷◌, codes}
 use Rattle.room_types.specs.Texts.{Text}
 use Rattle.office_store.specs.Requests.{AnswerAscends}
@@ -9,7 +9,7 @@ use Rattle.office_texts.specs.RefusalTexts.{refusal_text}
 use Rattle.office_texts.specs.OutputLines.{line_of}
 use Rattle.office_texts.specs.Replies.{reply_text}
 
--- what is printed
+-- the text to print for a response
 abbrev pub text_of : Said → Text
 text_of Nothing = []
 text_of (Answered (Reply reply)) = reply_text reply
@@ -17,7 +17,7 @@ text_of (Answered (Refused refusal)) = refusal_text refusal
 text_of (Answered Unavailable) = line_of (codes "unavailable" ∷ [])
 text_of NotUnderstood = line_of (codes "not understood" ∷ [])
 
--- the text is always the same, so it need not be made
+-- the text is a constant, so that no allocation is needed
 abbrev pub is_constant : Said → Bool
 is_constant Nothing = true
 is_constant (Answered (Reply reply)) = false
@@ -25,13 +25,13 @@ is_constant (Answered (Refused refusal)) = false
 is_constant (Answered Unavailable) = true
 is_constant NotUnderstood = true
 
--- the rows of the reply that is said, if there is one, ascend
+-- if the response is a reply, its rows ascend
 abbrev pub SaidAscends : Said → Type 0
 SaidAscends Nothing = ⊤
 SaidAscends (Answered answer) = AnswerAscends answer
 SaidAscends NotUnderstood = ⊤
 
--- how the line went: accepted, refused, not understood, or unavailable
+-- the status of a line: 0 for accepted or no response, 1 for refused, 2 for not understood, 3 for unavailable
 abbrev pub answer_text_status : Said → ℕ
 answer_text_status Nothing = 0
 answer_text_status (Answered (Reply reply)) = 0

@@ -1,4 +1,4 @@
-//! What is printed of an answer: its lines, and the status that they have.
+//! The text that is printed for a response to a line, and the status of the line.
 #![tactic(auto)]
 
 pub mod order_lines;

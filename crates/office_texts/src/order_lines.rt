@@ -1,4 +1,4 @@
-//! The drawn order, as it is printed.
+//! Prints the drawn order.
 ghost use Rattle.std.specs.Prelude.{◌≡◌, ◌<◌, ◌++◌, IfOk, OnErr, OnOk, length, string_bytes};
 ghost use Rattle.office_texts.specs.OrderLines.{order_line, order_text, right_in, told_grade};
 
@@ -9,7 +9,12 @@ use std::alloc::{AllocError, Global};
 /// The width of the column of places.
 const PLACE_WIDTH: usize = 4;
 
-/// The rows in their order, with places from 1. Without rows there are no bytes, and no memory is taken.
+/// Returns one line for each row, in the given order, with places counted from 1. Returns no bytes, without an allocation, if
+/// there are no rows.
+///
+/// # Errors
+///
+/// `OutOfMemory`, only if there are rows.
 #[tactic(auto, using(crate::proofs::answer_texts::Bytes::answer_texts_order_some))]
 pub fn text_of_order(alloc: Global, rows: &[OrderRow]) -> Result<String, OutOfMemory>
     ensures text { IfOk result (λ text. string_bytes text ≡ order_text rows.now) }
@@ -24,6 +29,7 @@ pub fn text_of_order(alloc: Global, rows: &[OrderRow]) -> Result<String, OutOfMe
     Ok(text)
 }
 
+// Appends the line of a row.
 fn push_order_row(
     alloc: Global,
     text: &mut String,
@@ -42,7 +48,7 @@ fn push_order_row(
     text.push_str("\n")
 }
 
-// Adds the grade, unless it is 0.
+// Appends ` grade ` and the grade, unless the grade is 0.
 fn push_told_grade(text: &mut String, grade: Grade) -> Result<(), AllocError>
     ensures { OnOk result (string_bytes text.new ≡ string_bytes text.old ++ told_grade grade) }
 {
@@ -52,7 +58,7 @@ fn push_told_grade(text: &mut String, grade: Grade) -> Result<(), AllocError>
     write!(text, " grade {grade}")
 }
 
-// Adds a text, right in its width.
+// Appends a text, padded with spaces on the left to the width.
 fn push_right(text: &mut String, cell: &str, width: usize) -> Result<(), AllocError>
     ensures { OnOk result
         (string_bytes text.new ≡ string_bytes text.old ++ right_in width cell.now) }

@@ -1,4 +1,4 @@
-//! The lines of refusals.
+//! Prints refusals.
 ghost use Rattle.std.specs.Prelude.{◌≡◌, ◌++◌, IfOk, OnOk, string_bytes};
 ghost use Rattle.office_texts.specs.RefusalTexts.{cause_text, refusal_text, refusal_values};
 
@@ -7,7 +7,11 @@ use office_lists::Cause;
 use room_types::OutOfMemory;
 use std::alloc::{AllocError, Global};
 
-/// The line of a refusal: its number, its name, and the values that it has.
+/// Returns the line of a refusal: its number, its name and its values.
+///
+/// # Errors
+///
+/// `OutOfMemory` if an allocation fails.
 pub fn text_of_refusal(alloc: Global, refusal: &Refusal) -> Result<String, OutOfMemory>
     ensures { IfOk result (λ text. string_bytes text ≡ refusal_text refusal.now) }
 {
@@ -19,7 +23,7 @@ pub fn text_of_refusal(alloc: Global, refusal: &Refusal) -> Result<String, OutOf
     Ok(text)
 }
 
-// Adds the values that the refusal has, after a space.
+// Appends the values of the refusal, if it has any, after a space.
 fn push_refused_values(text: &mut String, refusal: &Refusal) -> Result<(), AllocError>
     ensures { OnOk result
         (string_bytes text.new ≡ string_bytes text.old ++ refusal_values refusal.now) }
@@ -50,7 +54,7 @@ fn push_refused_values(text: &mut String, refusal: &Refusal) -> Result<(), Alloc
     }
 }
 
-// Adds what is wrong with a record of a list.
+// Appends what is wrong with a record of a list.
 fn push_cause(text: &mut String, cause: Cause) -> Result<(), AllocError>
     ensures { OnOk result
         (string_bytes text.new ≡ string_bytes text.old ++ cause_text cause) }

@@ -1,4 +1,4 @@
-//! The lines of replies.
+//! Prints replies.
 ghost use Rattle.std.specs.Prelude.{◌≡◌, ◌<◌, ◌++◌, [], ◌∷◌, IfOk, OnErr, OnOk, length, string_bytes};
 ghost use Rattle.office_core.specs.Replies.{RowsAscend};
 ghost use Rattle.office_texts.specs.OutputLines.{line_of};
@@ -11,8 +11,11 @@ use office_lists::{move_day_text, or_none, people_text, results_text, rooms_text
 use room_types::{OutOfMemory, PersonId, Phase, RoomCode};
 use std::alloc::{AllocError, Global};
 
-/// The lines of a reply, whose rows ascend, as `answer` and `decide` give them. Where they have no bytes, no memory is
-/// taken.
+/// Returns the lines of a reply. Its rows must ascend, as those that `answer` and `decide` return do.
+///
+/// # Errors
+///
+/// `OutOfMemory`, only if the lines have bytes.
 pub fn text_of_reply(alloc: Global, reply: &Reply) -> Result<String, OutOfMemory>
     requires ascending { RowsAscend reply.now }
     ensures text { IfOk result (λ text. string_bytes text ≡ reply_text reply.now) }
@@ -93,7 +96,7 @@ fn text_of_round(
     Ok(text)
 }
 
-// Adds how many people leave the college, where anybody does.
+// Appends how many people leave the college, if anybody does.
 fn push_going(text: &mut String, going: usize) -> Result<(), AllocError>
     ensures { OnOk result (string_bytes text.new ≡ string_bytes text.old ++ going_text going) }
 {
@@ -103,7 +106,7 @@ fn push_going(text: &mut String, going: usize) -> Result<(), AllocError>
     write!(text, " going {going}")
 }
 
-// The eight lines of what a person sees.
+// Returns the eight lines that a person sees.
 fn text_of_standing(alloc: Global, standing: &Standing) -> Result<String, OutOfMemory>
     ensures { IfOk result (λ text. string_bytes text ≡ standing_text standing.now) }
 {
@@ -127,7 +130,7 @@ fn reply_yes_or_no(answer: bool) -> &'static str
     if answer { "yes" } else { "no" }
 }
 
-// The room or none, or that the result is not shown.
+// Returns the room or `none`, or `hidden` if the result is not shown.
 fn shown_result(standing: &Standing) -> &str
     ensures { result.now ≡ result_text standing.now }
 {
@@ -138,7 +141,7 @@ fn shown_result(standing: &Standing) -> &str
     }
 }
 
-// Adds a line of a heading and a value.
+// Appends a line of a heading and a value.
 fn push_line(text: &mut String, heading: &str, value: &str) -> Result<(), AllocError>
     ensures { OnOk result
         (string_bytes text.new ≡ string_bytes text.old ++ line_of (heading.now ∷ value.now ∷ [])) }
@@ -148,7 +151,7 @@ fn push_line(text: &mut String, heading: &str, value: &str) -> Result<(), AllocE
     text.push_str("\n")
 }
 
-// Adds a line of a heading and room codes, each after a space.
+// Appends a line of a heading and room codes, each after a space.
 fn push_rooms(text: &mut String, heading: &str, rooms: &[RoomCode]) -> Result<(), AllocError>
     ensures { OnOk result
         (string_bytes text.new

@@ -1,13 +1,13 @@
-//! What is said of a line.
+//! The response to an input line.
 use office_store::Answer;
 
-/// What is said of a line.
+/// The response to an input line.
 #[derive(Drop)]
 pub enum Said {
-    /// Nothing, of a comment or a line without words.
+    /// No response: the line is a comment or has no words.
     Nothing,
     /// The answer to a request.
     Answered(Answer),
-    /// That the line is not understood.
+    /// The line is not understood.
     NotUnderstood,
 }

@@ -1,4 +1,4 @@
-//! What is said of lines, and the statuses of lines.
+//! The text and the status of a response.
 ghost use Rattle.std.specs.Prelude.{◌≡◌, ◌<◌, IfOk, OnErr, false, length};
 ghost use Rattle.std.specs.Cow.{cow_str_bytes};
 ghost use Rattle.office_texts.specs.Texts.{text_of as text-of, answer_text_status as status-of, SaidAscends, is_constant};
@@ -11,21 +11,26 @@ use room_types::OutOfMemory;
 use std::alloc::Global;
 use std::borrow::CowStr;
 
-/// The status of a reply.
+/// The status of a line whose request was accepted, or that has no response.
 pub const ACCEPTED: u8 = 0;
 
-/// The status of a refusal.
+/// The status of a line whose request was refused.
 pub const REFUSED: u8 = 1;
 
 /// The status of a line that is not understood.
 pub const NOT_UNDERSTOOD: u8 = 2;
 
-/// The status where memory or a device failed.
+/// The status of a line that failed for lack of memory or because of a device.
 pub const UNAVAILABLE: u8 = 3;
 
-/// The lines that are printed, where the rows of a reply ascend, as handlers give them. The texts that the desk is unavailable and
-/// that a line is not understood are lent and take no memory, so that want of memory can be told without any; nor does a text
-/// without bytes.
+/// Returns the text to print for a response. The rows of a reply must ascend, as those that handlers return do.
+///
+/// The texts `unavailable` and `not understood` are constants and are borrowed, so that the program can report that it is out of
+/// memory without an allocation.
+///
+/// # Errors
+///
+/// `OutOfMemory`, only if the text is not a constant and has bytes.
 pub fn text_of(alloc: Global, said: &Said) -> Result<CowStr<'static, Global>, OutOfMemory>
     requires ascending { SaidAscends said.now }
     ensures text { IfOk result (λ text. cow_str_bytes text ≡ text-of said.now) }
@@ -43,7 +48,7 @@ pub fn text_of(alloc: Global, said: &Said) -> Result<CowStr<'static, Global>, Ou
     }
 }
 
-/// The status of the line.
+/// Returns the status of the line that got this response.
 pub fn answer_text_status(said: &Said) -> u8
     ensures { result ≡ status-of said.now }
 {

@@ -1,4 +1,4 @@
--- What a line says.
+-- How a line is parsed.
 use Rattle.std.specs.Prelude.{ℕ, Bool, true, false, ◌&&◌, not, List, length, filter, Option, Some, None, ◌==◌, nat_lt, slice_index, if◌then◌else◌}
 use Rattle.std.specs.List.{slice_split, list_all}
 use Rattle.std.specs.Str.{is_utf8}
@@ -16,41 +16,42 @@ is_space byte = byte == 32
 abbrev pub has_bytes : Text → Bool
 has_bytes text = not (length text == 0)
 
--- what stands between spaces, without what is empty
+-- the words: the parts between spaces that are not empty
 abbrev pub words_of : Text → List Text
 words_of text = filter has_bytes (slice_split is_space text)
 
--- a comment begins with `#`
+-- the line is a comment: it begins with `#`
 abbrev pub is_comment : List ℕ → Bool
 is_comment line = nat_lt 0 (length line) && slice_index line 0 == 35
 
--- there is no word
+-- the text is empty or only spaces
 abbrev pub is_blank : List ℕ → Bool
 is_blank text = list_all is_space text
 
--- a request, or not understood
+-- the parsed line for a request, or for none
 abbrev pub asked : Option Request → Sentence
 asked (Some request) = Asks request
 asked None = Unclear
 
+-- the parsed line of words
 abbrev pub sentence_of_words : List Text → Sentence
 sentence_of_words words = asked (request_of words)
 
--- what a line says that is no comment, without the carriage return at its end
+-- the parsed line of a text that is no comment, without the carriage return at its end
 unfoldable pub sentence_of_text : List ℕ → Sentence
 sentence_of_text text = if is_blank text then Silent else if is_utf8 text then sentence_of_words (words_of text) else Unclear
 
--- what a line says; one carriage return at its end is dropped
+-- the parsed line; one carriage return at its end is dropped
 unfoldable pub sentence_of : List ℕ → Sentence
 sentence_of line = if is_comment line then Silent else sentence_of_text (strip_carriage_return line)
 
--- the line is text, and its first word is that of a request
+-- the line is UTF-8, and its first word is that of a request
 unfoldable pub begins_request : List ℕ → Bool
 begins_request line =
     let text = strip_carriage_return line in
     is_utf8 text && names_request (words_of text)
 
--- nothing is answered
+-- the line gets no response
 abbrev pub is_silent : Sentence → Bool
 is_silent Silent = true
 is_silent (Asks request) = false

@@ -1,20 +1,20 @@
--- How words are read.
+-- How words are parsed.
 use Rattle.std.specs.Prelude.{◌≡◌, ⊤, Bool, true, Option, Some, None, Result, Ok, Err}
 use Rattle.office_words.specs.declared.word_fault.WordFault.{WordFault}
 use Rattle.office_words.specs.declared.word_fault.WordFault.TheVariants.{NotUnderstood, OutOfMemory}
 
--- What was read is seen as what the words mean. They were not understood where they mean nothing. At which words memory may
--- be wanting is said by each function's own clause.
+-- A result of parsing words with this meaning: a value whose view is the meaning, or `NotUnderstood` if there is no meaning, or
+-- `OutOfMemory`, which each function's own clause restricts.
 abbrev pub UnderstandsAs : {X Y : Type 0} → (X → Y) → Option Y → Result X WordFault → Type 0
 UnderstandsAs view meaning (Ok x) = meaning ≡ Some (view x)
 UnderstandsAs view meaning (Err NotUnderstood) = meaning ≡ None
 UnderstandsAs view meaning (Err OutOfMemory) = ⊤
 
--- what was read is what the words mean
+-- a result of parsing words with this meaning: the meaning itself, or an error as above
 abbrev pub Understands : {X : Type 0} → Option X → Result X WordFault → Type 0
 Understands meaning result = UnderstandsAs (λ x. x) meaning result
 
--- memory is wanting only where it is taken
+-- the result is `OutOfMemory` only if the flag holds
 abbrev pub WantsMemoryOnlyIf : {X : Type 0} → Bool → Result X WordFault → Type 0
 WantsMemoryOnlyIf takes (Ok x) = ⊤
 WantsMemoryOnlyIf takes (Err NotUnderstood) = ⊤

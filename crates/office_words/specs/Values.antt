@@ -1,4 +1,4 @@
--- The values that words are.
+-- The values of a request, as words.
 use Rattle.std.specs.Prelude.{ℕ, Bool, ◌&&◌, List, [], ◌∷◌, length, Option, Some, None, codes, if◌then◌else◌, option_and_then, is_none}
 use Rattle.std.specs.Char.{is_ascii_digit}
 use Rattle.std.specs.Int.{is_in_range}
@@ -8,43 +8,45 @@ use Rattle.room_types.specs.Choices.{choices_fault}
 use Rattle.room_types.specs.Grammars.{is_room_code}
 use Rattle.room_types.specs.Texts.{Text}
 
--- the word, where it is in the grammar
+-- the word, if it is in the grammar
 abbrev pub in_grammar : (Text → Bool) → Text → Option Text
 in_grammar is_text word = if is_text word then Some word else None
 
--- the only word, where it is in the grammar
+-- the only word, if there is exactly one and it is in the grammar
 abbrev pub only : (Text → Bool) → List Text → Option Text
 only is_text (word ∷ []) = in_grammar is_text word
 only is_text _ = None
 
--- words joined by one space
+-- the words, joined by one space
 abbrev pub joined : List Text → Text
 joined words = join_by (λ word. word) (codes " ") words
 
--- one value before others, where all are there
+-- the value followed by the others, if both are there
 abbrev pub before : {X : Type 0} → Option X → Option (List X) → Option (List X)
 before (Some value) (Some others) = Some (value ∷ others)
 before _ _ = None
 
--- what the words are, where each is something
+-- the meanings of the words, if each has one
 abbrev pub all_of : {X : Type 0} → (Text → Option X) → List Text → Option (List X)
 all_of meaning [] = Some []
 all_of meaning (word ∷ words) = before (meaning word) (all_of meaning words)
 
--- the codes that the words are, where each is one
+-- the words, if each is a room code
 abbrev pub codes_of : List Text → Option (List Text)
 codes_of words = all_of (in_grammar is_room_code) words
 
--- the codes, where they are a list: not too many, and none twice
+-- the codes, if they are a valid list: not too many, and none twice
 abbrev pub as_choices : List Text → Option (List Text)
 as_choices codes = if is_none (choices_fault codes) then Some codes else None
 
+-- the list of room codes in the words, if they are a valid one
 abbrev pub choices_in : List Text → Option (List Text)
 choices_in words = option_and_then as_choices (codes_of words)
 
--- 1 to 4 decimal digits
+-- the word is 1 to 4 decimal digits
 abbrev pub is_round_number_word : Text → Bool
 is_round_number_word word = is_in_range 1 4 (length word) && list_all is_ascii_digit word
 
+-- the number of a round that the word writes
 abbrev pub round_number : Text → Option ℕ
 round_number word = if is_round_number_word word then Some (digits_value 10 word) else None

@@ -5,7 +5,7 @@ use Rattle.room_types.specs.Texts.{Text}
 use Rattle.office_words.specs.declared.verbs.Verb.{Verb}
 use Rattle.office_words.specs.declared.verbs.Verb.TheVariants as verb
 
--- what a first word asks for, if it is the first word of a request
+-- the kind of request that a first word names, if it names one
 abbrev pub verb_of : Text → Option Verb
 verb_of word =
     if bytes_eq word (codes "room") then Some verb.Room

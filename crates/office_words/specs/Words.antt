@@ -1,4 +1,4 @@
--- The request that the words of a line are.
+-- How the words of a line are parsed into a request.
 use Rattle.std.specs.Prelude.{Bool, false, ◌&&◌, List, [], ◌∷◌, length, ◌==◌, nat_le, Option, Some, None, is_some, option_and_then, option_map}
 use Rattle.room_types.specs.Grades.{grade_of}
 use Rattle.room_types.specs.Grammars.{is_key, is_name, is_person_id, is_room_code}
@@ -17,7 +17,7 @@ use Rattle.office_store.specs.declared.requests.Request.TheVariants.{Office, Ask
 abbrev pub add_room : List Text → Option Request
 add_room words = option_map (λ room. Office (AddRoom room)) (only is_room_code words)
 
--- `person ID KEY NAME..`, without home; the rest of the words is the name
+-- `person ID KEY NAME..`, without a home; the words after the key are the name
 abbrev pub add_person : List Text → Option Request
 add_person (person ∷ key ∷ name) =
     option_and_then (λ id. option_and_then (λ k.
@@ -38,7 +38,7 @@ leave words = option_map (λ person. Office (Leave person)) (only is_person_id w
 abbrev pub remove : List Text → Option Request
 remove words = option_map (λ person. Office (Remove person)) (only is_person_id words)
 
--- `grade ID G`, G being one decimal digit
+-- `grade ID G`, where G is one decimal digit
 abbrev pub set_grade : List Text → Option Request
 set_grade (person ∷ grade ∷ []) = option_and_then (λ id. option_map (λ value. Office (SetGrade id value)) (grade_of grade)) (in_grammar is_person_id person)
 set_grade _ = None
@@ -51,7 +51,7 @@ shut words = option_map (λ room. Office (Shut room)) (only is_room_code words)
 abbrev pub reopen : List Text → Option Request
 reopen words = option_map (λ room. Office (Reopen room)) (only is_room_code words)
 
--- `choose ID CODE..`, no code or more
+-- `choose ID CODE..`, with zero or more codes
 abbrev pub set_choices : List Text → Option Request
 set_choices (person ∷ rooms) = option_and_then (λ id. option_map (λ choices. Office (SetChoices id choices)) (choices_in rooms)) (in_grammar is_person_id person)
 set_choices [] = None
@@ -64,11 +64,11 @@ withdraw words = option_map (λ person. Office (Withdraw person)) (only is_perso
 abbrev pub going : List Text → Option Request
 going words = option_map (λ person. Office (Going person)) (only is_person_id words)
 
--- `draw WORD..`, no word or more
+-- `draw WORD..`, with zero or more lottery numbers
 abbrev pub draw : List Text → Option Request
 draw words = option_map (λ drawn. Office (Draw drawn)) (all_of word_of words)
 
--- `moves N`, N being 1 to 4 decimal digits
+-- `moves N`, where N is 1 to 4 decimal digits
 abbrev pub ask_moves : List Text → Option Request
 ask_moves (round ∷ []) = option_map (λ number. Ask (Moves number)) (round_number round)
 ask_moves _ = None
@@ -77,17 +77,17 @@ ask_moves _ = None
 abbrev pub ask_me : List Text → Option Request
 ask_me words = option_map (λ key. Ask (Me key)) (only is_key words)
 
--- `whatif ID CODE..`, no code or more
+-- `whatif ID CODE..`, with zero or more codes
 abbrev pub ask_what_if : List Text → Option Request
 ask_what_if (person ∷ rooms) = option_and_then (λ id. option_map (λ choices. Ask (WhatIf id choices)) (choices_in rooms)) (in_grammar is_person_id person)
 ask_what_if [] = None
 
--- a word after which none may stand
+-- the request, if no words follow its first one
 abbrev pub alone : Request → List Text → Option Request
 alone request [] = Some request
 alone request (word ∷ rest) = None
 
--- the request of the words after a first one
+-- the request of a kind with these words after the first one
 abbrev pub request_after_word : Verb → List Text → Option Request
 request_after_word verb.Room rest = add_room rest
 request_after_word verb.Person rest = add_person rest
@@ -116,17 +116,17 @@ request_after_word verb.Moves rest = ask_moves rest
 request_after_word verb.Me rest = ask_me rest
 request_after_word verb.WhatIf rest = ask_what_if rest
 
--- the first word is in the grammar
+-- there is a first word, and it is in the grammar
 abbrev pub first_in : (Text → Bool) → List Text → Bool
 first_in is_text [] = false
 first_in is_text (word ∷ rest) = is_text word
 
--- a word of a draw
+-- the word is a lottery number
 abbrev pub is_drawn_word : Text → Bool
 is_drawn_word word = is_some (word_of word)
 
--- Memory is taken for the words after a first one. Values are copied, from the first on, up to one that is out of its grammar,
--- and only where there are as many as the request has. Nothing is copied of a number or a grade, or where no word may stand.
+-- Whether parsing the words after the first one allocates. It does if the number of words fits the request and the first value is
+-- in its grammar; requests without values, and `moves`, never allocate.
 abbrev pub copies : Verb → List Text → Bool
 copies verb.Room rest = is_some (add_room rest)
 copies verb.Person rest = nat_le 3 (length rest) && first_in is_person_id rest
@@ -155,12 +155,12 @@ copies verb.Moves rest = false
 copies verb.Me rest = is_some (ask_me rest)
 copies verb.WhatIf rest = first_in is_person_id rest
 
--- memory is taken to read a verb, if there is one, with the words after it
+-- whether parsing the words after the first one allocates; it does not if the first word names no request
 abbrev pub takes_memory_after : Option Verb → List Text → Bool
 takes_memory_after None rest = false
 takes_memory_after (Some verb) rest = copies verb rest
 
--- memory is taken to read the words as a request
+-- whether parsing the words as a request allocates
 abbrev pub takes_memory : List Text → Bool
 takes_memory [] = false
 takes_memory (first ∷ rest) = takes_memory_after (verb_of first) rest
@@ -170,7 +170,7 @@ abbrev pub request_of : List Text → Option Request
 request_of [] = None
 request_of (first ∷ rest) = option_and_then (λ verb. request_after_word verb rest) (verb_of first)
 
--- the first word is that of a request
+-- there is a first word, and it is that of a request
 abbrev pub names_request : List Text → Bool
 names_request [] = false
 names_request (first ∷ rest) = is_some (verb_of first)

@@ -1,4 +1,4 @@
-//! What a line means: its words, and the request that they are.
+//! Parses a line of input into a request.
 #![tactic(auto)]
 
 pub mod sentences;

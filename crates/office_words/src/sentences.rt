@@ -1,4 +1,4 @@
-//! What a line says.
+//! Parses a line.
 ghost use Rattle.std.specs.Prelude.{◌≡◌, ◌&&◌, IfOk, OnErr, false, map, true};
 ghost use Rattle.std.specs.Str.{is_utf8};
 ghost use Rattle.std.specs.Str.Lines.{strip_carriage_return};
@@ -12,18 +12,22 @@ use office_store::Request;
 use room_types::OutOfMemory;
 use std::alloc::{AllocError, Global};
 
-/// What a line says.
+/// A parsed line.
 #[derive(Drop)]
 pub enum Sentence {
     /// The line is a comment or has no words.
     Silent,
     /// The line is a request.
     Asks(Request),
-    /// The line is not understood.
+    /// The line is none of these: it is not UTF-8, or its words are not a request.
     Unclear,
 }
 
-/// What a line says. Memory is taken only where the line is text whose first word is that of a request.
+/// Parses a line. Drops one carriage return at its end.
+///
+/// # Errors
+///
+/// `OutOfMemory`, only if the line is UTF-8 and its first word is that of a request.
 #[tactic(auto, unfolding(crate::specs::Sentences::sentence_of, crate::specs::Sentences::begins_request))]
 pub fn read_line(alloc: Global, line: &[u8]) -> Result<Sentence, OutOfMemory>
     ensures says { IfOk result (λ sentence. sentence ≡ sentence_of line.now) }
@@ -36,6 +40,7 @@ pub fn read_line(alloc: Global, line: &[u8]) -> Result<Sentence, OutOfMemory>
     read_text(alloc, request_words_without_return(line))
 }
 
+// Drops one carriage return at the end of the line.
 fn request_words_without_return(line: &[u8]) -> &[u8]
     ensures { result.now ≡ strip_carriage_return line.now }
 {
@@ -45,6 +50,7 @@ fn request_words_without_return(line: &[u8]) -> &[u8]
     line
 }
 
+// Parses a line that is no comment, without the carriage return at its end.
 #[tactic(auto, unfolding(crate::specs::Sentences::sentence_of_text))]
 fn read_text(alloc: Global, text: &[u8]) -> Result<Sentence, OutOfMemory>
     ensures says { IfOk result (λ sentence. sentence ≡ sentence_of_text text.now) }
@@ -60,13 +66,14 @@ fn read_text(alloc: Global, text: &[u8]) -> Result<Sentence, OutOfMemory>
     }
 }
 
+// Returns whether the text is empty or only spaces.
 fn is_blank_request_text(text: &[u8]) -> bool
     ensures { result ≡ is_blank text.now }
 {
     text.iter().all(|b| *b == b' ')
 }
 
-// The first word is looked at before memory is taken for all words.
+// Parses UTF-8 text. Checks the first word before it allocates the list of words.
 fn read_request(alloc: Global, text: &str) -> Result<Sentence, OutOfMemory>
     ensures says { IfOk result (λ sentence. sentence ≡ sentence_of_words (words_of text.now)) }
     ensures named { OnErr result (names_request (words_of text.now) ≡ true) }
@@ -78,7 +85,7 @@ fn read_request(alloc: Global, text: &str) -> Result<Sentence, OutOfMemory>
     read_request_words(alloc, &words)
 }
 
-// Whether the first word is that of a request.
+// Returns whether the first word is that of a request.
 fn names_request(text: &str) -> bool
     ensures { result ≡ names_request (words_of text.now) }
 {
@@ -88,6 +95,7 @@ fn names_request(text: &str) -> bool
     }
 }
 
+// Splits the text at spaces into words that are not empty.
 fn cut_at_spaces(alloc: Global, text: &str) -> Result<Vec<&str>, AllocError>
     ensures { IfOk result (λ words. map (λ word. word.now) words.items ≡ words_of text.now) }
 {

@@ -1,4 +1,4 @@
-//! The values that words are.
+//! Parses the values of a request.
 ghost use Rattle.std.specs.Prelude.{◌≡◌, false, is_some, length, map};
 ghost use Rattle.std.specs.Char.{is_ascii_digit};
 ghost use Rattle.std.specs.Int.{is_in_range};
@@ -14,10 +14,14 @@ use crate::word_fault::WordFault;
 use room_types::{Choices, Grade, Grammar, Listing, Name, RoomCode, Text, TypeFault, Word};
 use std::alloc::Global;
 
-/// How many digits the number of a round has at most.
+/// The greatest number of digits in the number of a round.
 pub const ROUND_DIGITS: usize = 4;
 
-/// The value that a word is in its grammar. Memory is taken for such a word alone.
+/// Parses a word of the grammar `G`.
+///
+/// # Errors
+///
+/// `NotUnderstood` if the word is not in the grammar; `OutOfMemory` only if it is.
 pub(crate) fn request_value_of<G: Grammar>(alloc: Global, word: &str) -> Result<Text<G>, WordFault>
     ensures understands { Understands (in_grammar G.is_text word.now) result }
     ensures memory { WantsMemoryOnlyIf (G.is_text word.now) result }
@@ -29,7 +33,11 @@ pub(crate) fn request_value_of<G: Grammar>(alloc: Global, word: &str) -> Result<
     }
 }
 
-/// The value that the only word is in its grammar. Memory is taken for such a word alone.
+/// Parses the only word, which must be of the grammar `G`.
+///
+/// # Errors
+///
+/// `NotUnderstood` if there is not exactly one word, or it is not in the grammar; `OutOfMemory` only if there is one and it is.
 pub(crate) fn only_value_in_words<G: Grammar>(
     alloc: Global,
     words: &[&str],
@@ -45,7 +53,11 @@ pub(crate) fn only_value_in_words<G: Grammar>(
     }
 }
 
-/// The name that the words are, joined by one space.
+/// Parses a name: the words, joined by one space.
+///
+/// # Errors
+///
+/// `NotUnderstood` if the joined words are not a name; `OutOfMemory` if an allocation fails.
 pub(crate) fn name_of(alloc: Global, words: &[&str]) -> Result<Name, WordFault>
     ensures { Understands (in_grammar is_name (joined (map (λ word. word.now) words.now))) result }
 {
@@ -53,7 +65,11 @@ pub(crate) fn name_of(alloc: Global, words: &[&str]) -> Result<Name, WordFault>
     request_value_of(alloc, name.as_str())
 }
 
-/// The list of rooms that the words are.
+/// Parses a list of room codes, one from each word.
+///
+/// # Errors
+///
+/// `NotUnderstood` if a word is not a room code, a code repeats or there are too many; `OutOfMemory` if an allocation fails.
 pub(crate) fn request_choices_of(alloc: Global, words: &[&str]) -> Result<Choices, WordFault>
     ensures { Understands (choices_in (map (λ word. word.now) words.now)) result }
 {
@@ -65,6 +81,7 @@ pub(crate) fn request_choices_of(alloc: Global, words: &[&str]) -> Result<Choice
     }
 }
 
+// Parses a room code from each word.
 fn all_codes(alloc: Global, words: &[&str]) -> Result<Vec<RoomCode>, WordFault>
     ensures { UnderstandsAs (λ codes. codes.items) (codes_of (map (λ word. word.now) words.now))
         result }
@@ -76,7 +93,11 @@ fn all_codes(alloc: Global, words: &[&str]) -> Result<Vec<RoomCode>, WordFault>
     Ok(codes)
 }
 
-/// The words of a draw that the words are. Memory is taken once the first of them is one.
+/// Parses the lottery numbers of a draw, one from each word.
+///
+/// # Errors
+///
+/// `NotUnderstood` if a word is not a lottery number; `OutOfMemory` only if the first word is one.
 pub(crate) fn drawn_words(alloc: Global, words: &[&str]) -> Result<Listing<Word>, WordFault>
     ensures understands { Understands (all_of word_of (map (λ word. word.now) words.now)) result }
     ensures memory { WantsMemoryOnlyIf
@@ -89,6 +110,7 @@ pub(crate) fn drawn_words(alloc: Global, words: &[&str]) -> Result<Listing<Word>
     Ok(Listing::new(drawn))
 }
 
+// Parses a lottery number. Does not allocate.
 fn drawn_request_word(word: &str) -> Result<Word, WordFault>
     ensures understands { Understands (word_of word.now) result }
     ensures memory { WantsMemoryOnlyIf false result }
@@ -99,7 +121,11 @@ fn drawn_request_word(word: &str) -> Result<Word, WordFault>
     }
 }
 
-/// The grade that a word of one digit is. It takes no memory.
+/// Parses a grade, which is one digit. Does not allocate.
+///
+/// # Errors
+///
+/// `NotUnderstood` if the word is not a grade.
 pub(crate) fn grade_word_of(word: &str) -> Result<Grade, WordFault>
     ensures understands { Understands (grade_of word.now) result }
     ensures memory { WantsMemoryOnlyIf false result }
@@ -110,7 +136,11 @@ pub(crate) fn grade_word_of(word: &str) -> Result<Grade, WordFault>
     }
 }
 
-/// The number of a round that a word of digits is. It takes no memory.
+/// Parses the number of a round, which is 1 to 4 digits. Does not allocate.
+///
+/// # Errors
+///
+/// `NotUnderstood` if the word is not 1 to 4 digits.
 pub(crate) fn round_of(word: &str) -> Result<u16, WordFault>
     ensures understands { Understands (round_number word.now) result }
     ensures memory { WantsMemoryOnlyIf false result }
@@ -124,7 +154,7 @@ pub(crate) fn round_of(word: &str) -> Result<u16, WordFault>
     }
 }
 
-// Whether a word is 1 to 4 decimal digits.
+// Returns whether a word is 1 to 4 decimal digits.
 fn is_round_number_word(word: &str) -> bool
     ensures { result ≡ is_round_number_word word.now }
 {

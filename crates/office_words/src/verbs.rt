@@ -2,7 +2,7 @@
 ghost use Rattle.std.specs.Prelude.{◌≡◌};
 ghost use Rattle.office_words.specs.Verbs.{verb_of};
 
-/// What the first word of a line asks for.
+/// The kind of request that the first word of a line names.
 #[derive(Clone, Copy, Debug, PartialEq, Eq, Drop)]
 pub enum Verb {
     Room,
@@ -33,7 +33,7 @@ pub enum Verb {
     WhatIf,
 }
 
-/// What this first word asks for, if it is the first word of a request.
+/// Returns the kind of request that a first word names, or `None` if it names none.
 pub fn verb_of(word: &str) -> Option<Verb>
     ensures { result ≡ verb_of word.now }
 {

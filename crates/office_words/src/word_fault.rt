@@ -1,14 +1,14 @@
-//! Why words are not what they should be.
+//! Errors of parsing words.
 ghost use Rattle.std.specs.Prelude.{◌≡◌};
 
 use std::alloc::{AllocError, AllocFailed};
 
-/// Why words are not what they should be.
+/// Why words were not parsed.
 #[derive(Clone, Copy, Debug, PartialEq, Eq, Drop)]
 pub enum WordFault {
     /// The words have no meaning.
     NotUnderstood,
-    /// Memory was refused.
+    /// An allocation failed.
     OutOfMemory,
 }
 

@@ -1,4 +1,4 @@
-//! The request that the words of a line are.
+//! Parses the words of a line into a request.
 ghost use Rattle.std.specs.Prelude.{false, map};
 ghost use Rattle.office_words.specs.Understanding.{Understands, WantsMemoryOnlyIf};
 ghost use Rattle.office_words.specs.Words.{add_person, add_room, alone, ask_me, ask_moves, ask_what_if, draw, going, leave, remove, reopen, request_after_word, request_of, set_choices, set_grade, set_home, shut, withdraw};
@@ -15,8 +15,12 @@ use office_core::{Command, Query};
 use office_store::Request;
 use std::alloc::Global;
 
-/// The request that the words of a line are. `NotUnderstood` is answered exactly where they are none. Memory is wanting
-/// only where it is taken: for copies of values, from the first on, where there are as many as the request has.
+/// Parses the words of a line into a request.
+///
+/// # Errors
+///
+/// `NotUnderstood`, only if the words are not a request. `OutOfMemory`, only if the number of words fits the request and the
+/// first value is in its grammar; never for requests without values and for `moves`.
 pub fn words_to_command(alloc: Global, words: &[&str]) -> Result<Request, WordFault>
     ensures understands { Understands (request_of (map (λ word. word.now) words.now)) result }
     ensures memory { WantsMemoryOnlyIf (takes_memory (map (λ word. word.now) words.now)) result }
@@ -30,7 +34,7 @@ pub fn words_to_command(alloc: Global, words: &[&str]) -> Result<Request, WordFa
     }
 }
 
-// The request of the words after a first word.
+// Parses the words after the first one.
 fn request_after_word(alloc: Global, verb: Verb, rest: &[&str]) -> Result<Request, WordFault>
     ensures understands { Understands
         (request_after_word verb (map (λ word. word.now) rest.now)) result }
@@ -75,7 +79,7 @@ fn words_to_add_room(alloc: Global, words: &[&str]) -> Result<Request, WordFault
     Ok(Request::Office(Command::AddRoom { room }))
 }
 
-// The rest of the words, joined by one space, is the name.
+// The words after the key, joined by one space, are the name.
 fn words_to_add_person(alloc: Global, words: &[&str]) -> Result<Request, WordFault>
     ensures understands { Understands (add_person (map (λ word. word.now) words.now)) result }
     ensures memory { WantsMemoryOnlyIf (copies verb.Person (map (λ word. word.now) words.now))
@@ -242,7 +246,7 @@ fn words_to_ask_what_if(alloc: Global, words: &[&str]) -> Result<Request, WordFa
     }
 }
 
-// The request of a word after which none may stand.
+// Returns the request if no words follow its first one.
 fn request_alone(words: &[&str], request: Request) -> Result<Request, WordFault>
     ensures understands { Understands (alone request (map (λ word. word.now) words.now)) result }
     ensures memory { WantsMemoryOnlyIf false result }

@@ -1,4 +1,4 @@
--- Lemmas on conversations with residents.
+-- Lemmas about serving one connection.
 pub mod AtDesk
 pub mod Carried
 pub mod Streams

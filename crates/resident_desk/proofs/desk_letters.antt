@@ -1,2 +1,2 @@
--- Lemmas on letters.
+-- Lemmas about prepared responses.
 pub mod Letters

@@ -1,2 +1,2 @@
--- Lemmas on what a resident is served.
+-- Lemmas about what a response depends on.
 pub mod Replies

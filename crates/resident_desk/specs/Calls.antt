@@ -1,5 +1,5 @@
--- What a stream went through in a conversation, call by call. Each call is one of the relations `reads`, `writes` and `flushes` of
--- the trait `Stream`.
+-- The calls that serving a connection makes on its stream. Each call is one of the relations `reads`, `writes` and
+-- `flushes` of the trait `Stream`.
 use Rattle.std.specs.Prelude.{◌≡◌, ◌⊎◌, ℕ, zero, suc, ◌+◌, ◌<◌, ◌≤◌, List, [], ◌++◌, length, take, drop, Ok, Err}
 use Rattle.std.specs.declared.io.Error.{Error}
 use Rattle.room_types.specs.declared.stream.Stream.{Ghosts as Calls}
@@ -8,7 +8,7 @@ use Rattle.resident_desk.specs.declared.served.Served.{Served}
 use Rattle.resident_desk.specs.declared.served.Served.TheVariants.{Answered, ReadFault, Silent, WriteFault}
 
 module _ {T : Type 0} (calls : Calls T) where
-  -- The bytes so far ask for more, and one read gave at least one byte more.
+  -- The bytes so far need more, and one read returned at least one byte.
   pub record ReadsOnce (before bytes : List ℕ) (old new : T) : Type 0 where
     pub buffer_before : List ℕ
     pub buffer : List ℕ
@@ -19,57 +19,57 @@ module _ {T : Type 0} (calls : Calls T) where
     pub within : count ≤ length buffer
     pub joined : bytes ≡ before ++ take count buffer
 
-  -- so many reads, one after the other, gave these bytes
+  -- this number of reads, one after another, returned these bytes
   abbrev pub ReadsEach : ℕ → List ℕ → T → T → Type 0
   ReadsEach zero bytes old new = (bytes ≡ []) × (new ≡ old)
   ReadsEach (suc times) bytes old new =
       (before : List ℕ) × (between : T) × ReadsEach times before old between × ReadsOnce before bytes between new
 
-  -- reads, one after the other, gave these bytes
+  -- some number of reads, one after another, returned these bytes
   abbrev pub Reads : List ℕ → T → T → Type 0
   Reads bytes old new = (times : ℕ) × ReadsEach times bytes old new
 
-  -- one read, with room for at least one byte, found the end
+  -- one read into a nonempty buffer found the end
   abbrev pub FindsEnd : T → T → Type 0
   FindsEnd old new =
       (buffer_before : List ℕ) × (buffer : List ℕ) × (0 < length buffer) × calls.reads old buffer_before buffer (Ok 0) new
 
-  -- one read, with room for at least one byte, failed
+  -- one read into a nonempty buffer failed
   abbrev pub FailsToRead : T → T → Type 0
   FailsToRead old new =
       (buffer_before : List ℕ) × (buffer : List ℕ) × (error : Error) × (0 < length buffer)
       × calls.reads old buffer_before buffer (Err error) new
 
-  -- Reads gave these bytes. Where they ask for more, one read more found the end.
+  -- The reads returned these bytes. If the bytes need more, one further read found the end.
   abbrev pub ReadsAll : List ℕ → Asked → T → T → Type 0
   ReadsAll bytes more old new = (between : T) × Reads bytes old between × FindsEnd between new
   ReadsAll bytes asked old new = Reads bytes old new
 
-  -- one write of all that was left of the text took at least one byte of it
+  -- one write of all the remaining text took at least one byte of it
   pub record WritesOnce (text : List ℕ) (before sent : ℕ) (old new : T) : Type 0 where
     pub count : ℕ
     pub called : calls.writes old (drop before text) (Ok count) new
     pub some : 0 < count
     pub sum : sent ≡ before + count
 
-  -- so many writes, one after the other, took so many bytes of the text
+  -- this number of writes, one after another, took the first `sent` bytes of the text
   abbrev pub WritesEach : List ℕ → ℕ → ℕ → T → T → Type 0
   WritesEach text zero sent old new = (sent ≡ 0) × (new ≡ old)
   WritesEach text (suc times) sent old new =
       (before : ℕ) × (between : T) × WritesEach text times before old between × WritesOnce text before sent between new
 
-  -- writes, one after the other, took so many bytes of the text
+  -- some number of writes, one after another, took the first `sent` bytes of the text
   abbrev pub Writes : List ℕ → ℕ → T → T → Type 0
   Writes text sent old new = (times : ℕ) × WritesEach text times sent old new
 
-  -- Writes took so many bytes of the text, and not all. Then one write of what was left failed, or took none.
+  -- The writes took the first `sent` bytes of the text, but not all. Then one write of the rest failed or took none.
   abbrev pub FailsToWrite : List ℕ → ℕ → T → T → Type 0
   FailsToWrite text sent old new =
       (between : T) × (sent < length text) × Writes text sent old between
       × (calls.writes between (drop sent text) (Ok 0) new
       ⊎ ((error : Error) × calls.writes between (drop sent text) (Err error) new))
 
-  -- Writes took the whole text, and then one flush succeeded. Or a write failed, or that flush.
+  -- The writes took the whole text, and one flush succeeded. Or a write failed, or that flush did.
   abbrev pub Sends : Served → List ℕ → T → T → Type 0
   Sends (Answered status) text old new = (between : T) × Writes text (length text) old between × calls.flushes between (Ok tt) new
   Sends (WriteFault sent) text old new =

@@ -1,4 +1,4 @@
--- A conversation with a resident over a stream, by how it ended.
+-- Serving one connection, by how it ends.
 use Rattle.std.specs.Prelude.{◌≡◌, ◌⊎◌, ℕ, ◌+◌, ◌<◌, ◌≤◌, Bool}
 use Rattle.std.specs.Prelude.{true, false, if◌then◌else◌, List, [], length, take, Option, OnSome}
 use Rattle.std.specs.Io.KnownBytes.{Consumes, IsAtEnd, Keeps}
@@ -15,11 +15,11 @@ use Rattle.resident_desk.specs.Serving.{Answers}
 use Rattle.resident_desk.specs.declared.served.Served.{Served}
 use Rattle.resident_desk.specs.declared.served.Served.TheVariants.{Answered, ReadFault, Silent, WriteFault}
 
--- how many bytes of a connection are looked at, and how often it is read at most
+-- the greatest number of bytes read from a connection, and of reads
 abbrev pub connection_limit : ℕ
 connection_limit = 9216
 
--- a stream: itself, as a reader, as a writer, and whether a read has found its end
+-- a stream: its state, its input, its output, and whether a read has found its end
 pub record Connection (T : Type 0) : Type 0 where
   pub stream : T
   pub input : Input
@@ -41,15 +41,15 @@ pub record IsUntouched (before after : Output) : Type 0 where
   pub flushes : after.flushes ≡ before.flushes
   pub pending : after.pending ≡ before.pending
 
--- All bytes went out and were flushed, once, and nothing failed.
+-- All bytes were written, one flush followed, and nothing failed.
 pub record IsDelivered (bytes : List ℕ) (before after : Output) : Type 0 where
   pub written : Puts before after bytes
   pub flushed : after.flushes ≡ counted before.flushes 1
   pub clear : after.pending ≡ false
   pub well : after.failed ≡ false
 
--- The stream failed. So many of the bytes went out, and it was not flushed; or all of them, and they wait for the flush that
--- was tried.
+-- The stream failed. Either fewer than all bytes were written, exactly the first `sent`, and nothing was flushed. Or all
+-- were written, and the one flush that followed failed, so they are still pending.
 abbrev pub IsCut : ℕ → List ℕ → Output → Output → Type 0
 IsCut sent bytes before after =
     (after.failed ≡ true)
@@ -57,7 +57,7 @@ IsCut sent bytes before after =
     ⊎ ((sent ≡ length bytes) × Puts before after bytes × (after.flushes ≡ counted before.flushes 1)
     × (0 < sent → after.pending ≡ true)))
 
--- The bytes of an answer of this status went out, or a front of them.
+-- The bytes of a response with this status were written, or a prefix of them.
 abbrev pub Delivers : Served → ℕ → List ℕ → Output → Output → Type 0
 Delivers (Answered told) status bytes before after = (told ≡ status) × IsDelivered bytes before after
 Delivers (WriteFault sent) status bytes before after = IsCut sent bytes before after
@@ -65,16 +65,16 @@ Delivers Silent status bytes before after = ⊥
 Delivers ReadFault status bytes before after = ⊥
 
 module _ {T H : Type 0} (calls : Calls T) (handles : H → Request → DeskAnswer → H → Type 0) where
-  -- What was asked has an answer, and its bytes went out, or a front of them, by writes of the stream and a flush.
+  -- A response to the parsed bytes was written, or a prefix of it, by writes and a flush of the stream.
   pub record Responds (asked : Asked) (old new : H) (served : Served) (before after : Output) (first last : T) : Type 0 where
     pub answer : Answer
     pub answers : Answers handles asked old answer new
     pub delivers : Delivers served answer.status (bytes_of answer) before after
     pub sends : Sends calls served (bytes_of answer) first last
 
-  -- These bytes were read, by at most one read a byte, and what they ask was answered. Where they ask for more, one read more
-  -- may have been, and the stream had ended after at least one byte. Else no read has found its end. The reads led to the
-  -- stream between, and the writes and the flush from there.
+  -- These bytes were read, with at most one read for each, and the response to them was written. If they need more, one
+  -- further read may have been made, and the stream had ended after at least one byte; otherwise no read found its end. The
+  -- reads led to the stream `between`, and the writes and the flush continued from there.
   pub record Replies (old new : H) (served : Served) (before after : Connection T) : Type 0 where
     pub bytes : List ℕ
     pub asked : Asked
@@ -89,7 +89,7 @@ module _ {T H : Type 0} (calls : Calls T) (handles : H → Request → DeskAnswe
         × OnSome before.input.remaining (IsAtEnd after.input.remaining)
     pub responds : Responds asked old new served before.output after.output between after.stream
 
-  -- The stream had ended before any byte, as one read has found.
+  -- The stream had ended before any byte, as one read found.
   pub record IsSilent (old new : H) (before after : Connection T) : Type 0 where
     pub called : FindsEnd calls before.stream after.stream
     pub read : Consumes before.input.remaining after.input.remaining []
@@ -99,7 +99,7 @@ module _ {T H : Type 0} (calls : Calls T) (handles : H → Request → DeskAnswe
     pub untouched : IsUntouched before.output after.output
     pub same : new ≡ old
 
-  -- The bytes that were read ask for more, and a read failed.
+  -- The bytes read need more, and a read failed.
   pub record CannotRead (old new : H) (before after : Connection T) : Type 0 where
     pub bytes : List ℕ
     pub between : T
@@ -113,7 +113,7 @@ module _ {T H : Type 0} (calls : Calls T) (handles : H → Request → DeskAnswe
     pub untouched : IsUntouched before.output after.output
     pub same : new ≡ old
 
-  -- by how it ended
+  -- serving one connection, by how it ended
   abbrev pub Converses : Served → H → H → Connection T → Connection T → Type 0
   Converses (Answered status) old new before after = Replies old new (Answered status) before after
   Converses Silent old new before after = IsSilent old new before after

@@ -1,4 +1,4 @@
--- The answers that are due to a resident, by what the desk has answered.
+-- The responses that are due to a resident, given the desk's answer.
 use Rattle.std.specs.Prelude.{ℕ, List, codes}
 use Rattle.serde_json.specs.Written.{compact_text}
 use Rattle.room_types.specs.declared.fault.TypeFault.{TypeFault}
@@ -13,30 +13,30 @@ use Rattle.resident_http.specs.Answers.{Answer}
 use Rattle.resident_http.specs.Bodies.{rooms_data, standing_data}
 use Rattle.resident_http.specs.Faults.{fault_answer, name_of, success_answer}
 
--- the answer of the faults with this status, which have one name
+-- the error response for a status with a single error name
 abbrev pub one_fault : ℕ → Answer
 one_fault status = fault_answer status (name_of status)
 
--- the answer where memory was refused, or the desk did not serve
+-- the response if an allocation failed or the desk was unavailable
 abbrev pub unavailable_answer : Answer
 unavailable_answer = fault_answer 503 (codes "Unavailable")
 
--- the answer that tells a resident's own record
+-- the response with a resident's own record
 abbrev pub standing_answer : Standing → Answer
 standing_answer standing = success_answer (compact_text (standing_data standing))
 
--- the answer that tells the rooms
+-- the response with the rooms
 abbrev pub rooms_answer : List RoomRow → Answer
 rooms_answer rows = success_answer (compact_text (rooms_data rows))
 
--- the answer to a body that is no list of choices
+-- the response to a body that is not a preference list
 abbrev pub list_fault : TypeFault → Answer
 list_fault fault.BadValue = one_fault 400
 list_fault fault.OutOfMemory = unavailable_answer
 list_fault fault.TooManyChoices = fault_answer 422 (codes "TooManyChoices")
 list_fault (fault.RoomRepeated room) = fault_answer 422 (codes "RoomRepeated")
 
--- the answer to a resident's command that the office refuses; no other refusals can come
+-- The response to a resident's command that the office refuses. A command of theirs gets no other refusals.
 abbrev pub refusal_answer : Refusal → Answer
 refusal_answer (refusal.BadPhase phase) = fault_answer 409 (codes "BadPhase")
 refusal_answer refusal.Withdrawn = fault_answer 409 (codes "Withdrawn")
@@ -45,7 +45,7 @@ refusal_answer (refusal.UnknownRoom room) = fault_answer 422 (codes "UnknownRoom
 refusal_answer (refusal.RoomShut room) = fault_answer 422 (codes "RoomShut")
 refusal_answer _ = unavailable_answer
 
--- the answer to a resident's command that the desk has answered so; success has this body
+-- the response to a resident's command, given the desk's answer and the body of the success response
 abbrev pub command_answer : List ℕ → DeskAnswer → Answer
 command_answer body (desk.Reply reply) = success_answer body
 command_answer body (desk.Refused cause) = refusal_answer cause

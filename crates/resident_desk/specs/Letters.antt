@@ -1,4 +1,4 @@
--- Answers whose bytes are ready, for inner contracts alone.
+-- Responses whose bytes are ready, for inner contracts.
 use Rattle.std.specs.Prelude.{◌≡◌, ℕ, List, Result, Ok, Err, codes}
 use Rattle.resident_http.specs.Answers.{Answer, bytes_of}
 use Rattle.resident_http.specs.Faults.{fault_answer, success_answer}
@@ -7,17 +7,17 @@ use Rattle.resident_desk.specs.declared.drafts.Drafts.{Drafts}
 use Rattle.resident_desk.specs.declared.letters.Letter.{Letter}
 use Rattle.resident_desk.specs.declared.letters.NoLetter.{NoLetter}
 
--- the bytes are those of this answer
+-- the status and the bytes are those of this response
 pub record IsLetter (letter : Letter) (answer : Answer) : Type 0 where
   pub status : letter.status ≡ answer.status
   pub bytes : letter.bytes.items ≡ bytes_of answer
 
--- It is the letter of such an answer. Without a letter it is the answer that memory is wanting.
+-- The prepared response has this property. Without one, 503 `Unavailable` has it.
 abbrev pub WithAnswer : Result Letter NoLetter → (Answer → Type 0) → Type 0
 WithAnswer (Ok letter) P = (answer : Answer) × IsLetter letter answer × P answer
 WithAnswer (Err none) P = P unavailable_answer
 
--- the letters of all answers that a command can get, where success has this body
+-- the responses to all answers that a command can get, with this body for success
 pub record AreDrafts (drafts : Drafts) (body : List ℕ) : Type 0 where
   pub success : IsLetter drafts.success (success_answer body)
   pub bad_phase : IsLetter drafts.bad_phase (fault_answer 409 (codes "BadPhase"))

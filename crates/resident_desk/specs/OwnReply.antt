@@ -1,4 +1,4 @@
--- What a resident's answers depend on.
+-- What a response to a resident depends on.
 use Rattle.std.specs.Prelude.{◌≡◌, ℕ, true, List, Some}
 use Rattle.std.specs.FinMap as map
 use Rattle.room_types.specs.Texts.{Text}
@@ -10,8 +10,8 @@ use Rattle.resident_http.specs.Answers.{Answer}
 use Rattle.resident_http.specs.Asks.{Asks, ask}
 use Rattle.resident_desk.specs.Serving.{Serves}
 
--- What a resident can learn of this person is the same: the name, the key and the home, the list, whether the person has
--- withdrawn or leaves the college, and, once it is published, the result. The grade may differ.
+-- Two offices agree on what this person can learn about themselves: name, key, home, preference list, whether they have
+-- withdrawn or leave the college, and, once it is published, the result. The grade may differ.
 pub record AgreeOnPerson (a b : Office) (person : Text) : Type 0 where
   pub record_of : map.get a.people person ≡ map.get b.people person
   pub choices : choices_of a person ≡ choices_of b person
@@ -24,8 +24,8 @@ pub record AgreeOnKey (a b : Office) (key : Text) : Type 0 where
   pub whose : owner a key ≡ owner b key
   pub person : (person : Text) → owner a key ≡ Some person → AgreeOnPerson a b person
 
--- The rooms, which of them are occupied, the round and its phase are the same, and so is what can be learned of the person
--- to whom the key of a request belongs that the bytes ask.
+-- The offices agree on the rooms, which of them are occupied, and the round and its phase. If the bytes are a request with
+-- a key, they agree on that key.
 pub record AgreeFor (bytes : List ℕ) (a b : Office) : Type 0 where
   pub rooms : a.rooms ≡ b.rooms
   pub occupied : (room : Text) → is_taken a room ≡ is_taken b room
@@ -34,13 +34,13 @@ pub record AgreeFor (bytes : List ℕ) (a b : Office) : Type 0 where
   pub own : (method path key body : List ℕ) (used : ℕ) → Asks bytes (ask method path (Some key) body used)
       → AgreeOnKey a b key
 
--- offices that agree on these serve the same answers
+-- offices that agree serve the same responses
 abbrev pub RepliesByOwnRecord : Type 0
 RepliesByOwnRecord =
     (a b : Office) (bytes : List ℕ) (answer : Answer) (next : Office) → AgreeFor bytes a b
     → Serves Handles bytes a answer next → (other : Office) × Serves Handles bytes b answer other
 
--- where 503 is served, the office stays
+-- a response with status 503 leaves the office unchanged
 abbrev pub KeepsWhereUnavailable : Type 0
 KeepsWhereUnavailable =
     (office next : Office) (bytes : List ℕ) (answer : Answer) → Serves Handles bytes office answer next

@@ -1,4 +1,4 @@
-//! What was asked, put to whoever handles requests, and answered.
+//! Finds the response to a request: routes it, authenticates the resident, and asks the desk.
 ghost use Rattle.std.specs.Prelude.{◌≡◌, option_map};
 ghost use Rattle.resident_http.specs.Asks.{HasEarlyStatus, seen};
 ghost use Rattle.resident_http.specs.Bodies.{choices_of_body};
@@ -22,7 +22,8 @@ use resident_http::{
 use room_types::{Key, Listing, PersonId, RoomRow, TypeFault};
 use std::alloc::Global;
 
-/// The letter to what was asked. Where more bytes are asked for, no more come.
+/// Returns the response to the parsed bytes of a connection. If they need more bytes, no more will come: the response is
+/// 400.
 pub fn answer_ask<H: Handler>(
     alloc: Global,
     handler: &mut H,
@@ -47,7 +48,7 @@ pub fn answer_ask<H: Handler>(
     }
 }
 
-// The letter to a request: its path counts first, then its method, then its key.
+// The response to a request. It reports an unknown path first, then a wrong method, then a missing key.
 fn answer_request<H: Handler>(
     alloc: Global,
     handler: &mut H,
@@ -66,7 +67,7 @@ fn answer_request<H: Handler>(
     answer_routed_resident(alloc, handler, routed, body)
 }
 
-// The letter to what is wanted by a path, a method and a key.
+// The response to a routed request.
 fn answer_routed_resident<H: Handler>(
     alloc: Global,
     handler: &mut H,
@@ -86,7 +87,7 @@ fn answer_routed_resident<H: Handler>(
     }
 }
 
-// The letter to whoever has this key: the desk is asked first whose it is.
+// The response to a request with a key. Asks the desk first whose key it is.
 fn admit_resident<H: Handler>(
     alloc: Global,
     handler: &mut H,
@@ -99,7 +100,7 @@ fn admit_resident<H: Handler>(
         Admits H.handles route key.now body.now handler.old answer handler.new) }
     ensures ready { H.is_ready handler.new }
 {
-    // A key that a request hands in is in its grammar, so that only memory can be refused.
+    // The key of a request is in its grammar, so only an allocation can fail.
     let Ok(key) = Key::read(alloc, key) else {
         return Err(NoLetter);
     };
@@ -107,7 +108,7 @@ fn admit_resident<H: Handler>(
     greet_resident(alloc, handler, route, &me, body)
 }
 
-// The letter, once the desk has told whose the key is.
+// The response after the desk's answer to whose the key is: 403 if it is nobody's.
 fn greet_resident<H: Handler>(
     alloc: Global,
     handler: &mut H,
@@ -129,7 +130,7 @@ fn greet_resident<H: Handler>(
     }
 }
 
-// The letter to the owner of the key.
+// The response to the owner of the key, by route.
 fn answer_resident<H: Handler>(
     alloc: Global,
     handler: &mut H,
@@ -150,14 +151,14 @@ fn answer_resident<H: Handler>(
     }
 }
 
-// The letter that tells the person's own record.
+// The response with the person's own record.
 fn answer_standing(alloc: Global, standing: &Standing) -> Result<Letter, NoLetter>
     ensures { WithAnswer result (IsDue (standing_answer standing.now)) }
 {
     success_letter(alloc, standing_body(alloc, standing)?)
 }
 
-// The letter that tells the rooms.
+// The response with the rooms, which the desk lists.
 fn answer_resident_rooms<H: Handler>(alloc: Global, handler: &mut H) -> Result<Letter, NoLetter>
     requires ready { H.is_ready handler.old }
     ensures answers { WithAnswer result (λ answer.
@@ -170,14 +171,14 @@ fn answer_resident_rooms<H: Handler>(alloc: Global, handler: &mut H) -> Result<L
     }
 }
 
-// The letter that tells these rows.
+// The response with these rows.
 fn rooms_letter(alloc: Global, rows: &[RoomRow]) -> Result<Letter, NoLetter>
     ensures { WithAnswer result (IsDue (rooms_answer rows.now)) }
 {
     success_letter(alloc, rooms_body(alloc, rows)?)
 }
 
-// The letter to a withdrawal from the round.
+// The response to a withdrawal from the round.
 fn withdraw_resident<H: Handler>(
     alloc: Global,
     handler: &mut H,
@@ -193,7 +194,7 @@ fn withdraw_resident<H: Handler>(
     carry_out_for_resident(alloc, handler, Command::Withdraw { person }, body)
 }
 
-// The letter to a list that is handed in.
+// The response to a preference list.
 fn record_resident_choices<H: Handler>(
     alloc: Global,
     handler: &mut H,
@@ -220,7 +221,7 @@ fn record_resident_choices<H: Handler>(
     }
 }
 
-// The letter to a body that is no list.
+// The response to a body that is not a preference list.
 fn list_fault_letter(alloc: Global, fault: &TypeFault) -> Result<Letter, NoLetter>
     ensures { WithAnswer result (IsDue (list_fault fault.now)) }
 {
@@ -236,7 +237,7 @@ fn list_fault_letter(alloc: Global, fault: &TypeFault) -> Result<Letter, NoLette
     }
 }
 
-// Hands a command to the desk, once each of its answers is made.
+// Prepares every response that the command can get, passes it to the desk, and selects the response to the desk's answer.
 fn carry_out_for_resident<H: Handler>(
     alloc: Global,
     handler: &mut H,

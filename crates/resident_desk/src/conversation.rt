@@ -1,4 +1,4 @@
-//! One conversation: a request is read from a stream, and answered on it.
+//! Serves one connection: reads a request from a stream and writes the response.
 ghost use Rattle.std.specs.Prelude.{◌≡◌, ◌≤◌, false};
 ghost use Rattle.std.specs.Io.KnownBytes.{Keeps};
 ghost use Rattle.room_types.specs.Streams.{output_of};
@@ -17,13 +17,13 @@ use resident_http::{AskState, UNAVAILABLE, read_ask};
 use room_types::{Stream, Watched};
 use std::alloc::Global;
 
-/// How many bytes of a connection are looked at: those of the longest head and the longest body.
+/// The greatest number of bytes read from a connection: the longest head and the longest body.
 pub const CONNECTION_LIMIT: usize = 9_216;
 
-/// Reads one request from the stream, lets it be handled, and writes its answer with one flush after it. It reads until
-/// the request is whole, refused, or the stream has ended, each time into what is left of a fixed space, and takes no
-/// memory for it. Memory that is refused is answered with 503, and then nothing has changed. Nothing is asked of the stream
-/// once it has failed, and nothing is read once it has ended. The stream goes through these reads, writes and this flush alone.
+/// Reads one request from the stream, passes it to the handler, and writes the response, with one flush after it. Reads
+/// until the request is complete or refused, or the stream ends, into the rest of a fixed buffer, without allocating. If an
+/// allocation for the response fails, the response is 503, and no command was handled. Does not use the stream after a
+/// failure, nor read after its end. The stream sees only these reads, these writes and this flush.
 pub fn converse<H: Handler, T: Stream>(
     alloc: Global,
     handler: &mut H,
@@ -57,7 +57,7 @@ pub fn converse<H: Handler, T: Stream>(
     }
 }
 
-// Answers what was asked; where more bytes are asked for, no more come.
+// Writes the response to the parsed bytes. If they need more bytes, no more will come.
 fn respond<H: Handler, T: Stream>(
     alloc: Global,
     handler: &mut H,

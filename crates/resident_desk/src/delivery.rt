@@ -1,4 +1,4 @@
-//! The bytes of an answer, written to a stream.
+//! Writing the bytes of a response to a stream.
 ghost use Rattle.std.specs.Prelude.{◌≡◌, ◌<◌, length, take, IfErr, OnErr, OnOk, true, false};
 ghost use Rattle.std.specs.Io.KnownBytes.{Keeps};
 ghost use Rattle.room_types.specs.Streams.{Puts, output_of};
@@ -11,7 +11,7 @@ use crate::served::Served;
 use http::StatusCode;
 use room_types::{Stream, Watched};
 
-/// Writes the whole answer, and flushes.
+/// Writes the whole response, and flushes.
 pub fn deliver<T: Stream>(stream: &mut Watched<T>, status: StatusCode, text: &[u8]) -> Served
     requires { watched_failed stream.old ≡ false }
     ensures delivers { Delivers result status text.now
@@ -33,7 +33,8 @@ pub fn deliver<T: Stream>(stream: &mut Watched<T>, status: StatusCode, text: &[u
     }
 }
 
-// Writes the whole text, or says how many bytes of it went out before a write failed. A write that takes none has failed.
+// Writes the whole text, or returns the number of bytes written before a write failed. A write that takes no bytes counts
+// as failed.
 fn send_all<T: Stream>(stream: &mut Watched<T>, text: &[u8]) -> Result<(), usize>
     requires { watched_failed stream.old ≡ false }
     ensures sent { OnOk result (Puts
@@ -55,7 +56,7 @@ fn send_all<T: Stream>(stream: &mut Watched<T>, text: &[u8]) -> Result<(), usize
     ensures ended { watched_ended stream.new ≡ watched_ended stream.old }
     ensures wasted { watched_wasted stream.new ≡ watched_wasted stream.old }
 {
-    // Once it was read, the count is known to fit.
+    // Reading the counter makes its bound known to the prover.
     let _taken = stream.taken();
     let mut sent = 0;
     while sent < text.len() {

@@ -1,4 +1,4 @@
-//! The answers that a command can get, made before it is handed to the desk.
+//! The responses that a command can get, prepared before the desk handles it.
 ghost use Rattle.resident_desk.specs.Dues.{command_answer};
 ghost use Rattle.resident_desk.specs.Letters.{AreDrafts, WithAnswer};
 
@@ -9,8 +9,8 @@ use office_store::Answer;
 use room_types::Listing;
 use std::alloc::Global;
 
-/// A letter for each answer that a resident's command can get. They are made before the command is handed over, so that
-/// no memory is wanted for its answer once it stands.
+/// A response for each answer that a resident's command can get. They are prepared before the desk handles the command, so
+/// that nothing has to be allocated once it has taken effect.
 #[derive(Drop)]
 pub struct Drafts {
     pub success: Letter,
@@ -24,7 +24,7 @@ pub struct Drafts {
 impl Drafts {
     ghost use Rattle.std.specs.Prelude.{◌≡◌, ℕ, IfOk, List};
 
-    /// The letters, where success has this body.
+    /// Prepares the responses, with this body for success.
     pub fn new(alloc: Global, body: Listing<u8>) -> Result<Drafts, NoLetter>
         ensures { IfOk result (λ drafts. AreDrafts drafts body) }
     {
@@ -38,7 +38,7 @@ impl Drafts {
         })
     }
 
-    /// The letter that goes with the desk's answer.
+    /// Returns the response to the desk's answer.
     pub fn letter_for(self, answer: &Answer) -> Result<Letter, NoLetter>
         ensures { (body : List ℕ) → AreDrafts self body
             → WithAnswer result (λ due. due ≡ command_answer body answer.now) }

@@ -1,4 +1,4 @@
-//! Answers whose bytes are made.
+//! Responses whose bytes are ready.
 ghost use Rattle.std.specs.Prelude.{◌≡◌, ◌==◌, IfOk, true, false};
 ghost use Rattle.resident_http.specs.Faults.{fault_answer, is_one_fault, names_fault};
 ghost use Rattle.resident_http.specs.Faults.{success_answer, wrong_method_answer};
@@ -10,14 +10,14 @@ use resident_http::{HttpAnswer, Method, answer_bytes, http_fault_name};
 use room_types::{Listing, OutOfMemory};
 use std::alloc::Global;
 
-/// The bytes of an answer, with its status.
+/// The bytes of a response, with its status.
 #[derive(Debug, Drop)]
 pub struct Letter {
     pub status: StatusCode,
     pub bytes: Vec<u8>,
 }
 
-/// Memory was refused, or the desk did not serve: the answer that needs no memory takes the place of a letter.
+/// An allocation failed, or the desk was unavailable: the constant 503 response takes the place of a prepared one.
 #[derive(Clone, Copy, Debug, PartialEq, Eq)]
 pub struct NoLetter;
 
@@ -27,7 +27,7 @@ impl From<OutOfMemory> for NoLetter {
     }
 }
 
-/// The letter of this answer.
+/// Prepares this response.
 fn letter_of(alloc: Global, answer: HttpAnswer) -> Result<Letter, NoLetter>
     ensures { IfOk result (λ letter. IsLetter letter answer) }
 {
@@ -38,14 +38,14 @@ fn letter_of(alloc: Global, answer: HttpAnswer) -> Result<Letter, NoLetter>
     })
 }
 
-/// The letter that all is well, with this body.
+/// Prepares the success response with this body.
 pub fn success_letter(alloc: Global, body: Listing<u8>) -> Result<Letter, NoLetter>
     ensures { IfOk result (λ letter. IsLetter letter (success_answer body)) }
 {
     letter_of(alloc, HttpAnswer::success(body))
 }
 
-/// The letter of a fault of this name, which goes with the status.
+/// Prepares the error response with this status and error name.
 pub fn fault_letter(alloc: Global, status: StatusCode, name: &str) -> Result<Letter, NoLetter>
     requires named { names_fault status name.now ≡ true }
     ensures { IfOk result (λ letter. IsLetter letter (fault_answer status name.now)) }
@@ -54,7 +54,7 @@ pub fn fault_letter(alloc: Global, status: StatusCode, name: &str) -> Result<Let
     letter_of(alloc, answer)
 }
 
-/// The letter of the faults with this status, which have one name.
+/// Prepares the error response for a status with a single error name.
 pub fn one_fault_letter(alloc: Global, status: StatusCode) -> Result<Letter, NoLetter>
     requires without_allow { (status == 405) ≡ false }
     requires one { is_one_fault status ≡ true }
@@ -63,7 +63,7 @@ pub fn one_fault_letter(alloc: Global, status: StatusCode) -> Result<Letter, NoL
     fault_letter(alloc, status, http_fault_name(status))
 }
 
-/// The letter that names the method to use.
+/// Prepares the response that names the method to use.
 pub fn wrong_method_letter(alloc: Global, allow: Method) -> Result<Letter, NoLetter>
     ensures { IfOk result (λ letter. IsLetter letter (wrong_method_answer allow)) }
 {

@@ -1,4 +1,4 @@
-//! The conversation with a resident: one request is read from a connection, handled at the desk, and answered.
+//! Serves one resident: reads a request from a connection, lets the desk handle it, and writes the response.
 #![tactic(auto)]
 
 mod answering;

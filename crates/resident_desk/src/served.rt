@@ -1,21 +1,22 @@
-//! How a conversation ended.
+//! How serving a connection ended.
 use http::StatusCode;
 
-/// How a conversation ended.
+/// How serving a connection ended.
 #[derive(Clone, Copy, Debug, PartialEq, Eq)]
 pub enum Served {
-    /// An answer of this status was written whole, and flushed.
+    /// A response with this status was written completely and flushed.
     Answered {
-        /// The status of the answer.
+        /// The status of the response.
         status: StatusCode,
     },
     /// The stream ended before any byte. Nothing was written, and nothing changed.
     Silent,
     /// A read failed. Nothing was written, and nothing changed.
     ReadFault,
-    /// The stream failed after so many bytes of the answer, or at the flush after all of them. What was done stands.
+    /// A write failed after `sent` bytes of the response, or the flush failed after all of them. A command that was
+    /// accepted stays in effect.
     WriteFault {
-        /// How many bytes of the answer went out.
+        /// The number of bytes of the response that were written.
         sent: usize,
     },
 }

@@ -1,4 +1,4 @@
-//! A conversation with a resident, at the desk.
+//! Serving one resident at a desk.
 ghost use Rattle.std.specs.Prelude.{◌≤◌};
 ghost use Rattle.sqlite.specs.Held.{state};
 ghost use Rattle.sqlite.specs.State.{HasCleanDisk};
@@ -17,9 +17,9 @@ use room_types::{Stream, Watched};
 use sqlite::{Alter, MemStore};
 use std::alloc::Global;
 
-/// Serves one resident: reads one request, has it handled at the desk, and writes its answer, as `converse` does. Where
-/// the disk returned what was written, the answer is what the office that the desk stands for serves to the bytes that were
-/// read, and then the desk stands for the office after it, also where the answer could not be written.
+/// Serves one resident: reads one request, lets the desk handle it, and writes the response, as `converse` does. If the
+/// disk returned what was written to it, the response is one that the office represented by the desk serves to the bytes
+/// read, and the desk represents the office after it, even if the response could not be written.
 pub fn serve_one<S: Alter, T: Stream>(
     alloc: Global,
     desk: &mut Desk<S>,
@@ -42,8 +42,8 @@ pub fn serve_one<S: Alter, T: Stream>(
     converse(alloc, desk, stream)
 }
 
-/// The same over a database in memory, where nothing has to be said of a disk: the answer is what the office that the desk
-/// shows serves to the bytes that were read, and then the desk shows the office after it.
+/// The same over a database in memory, which needs no premise about a disk: the response is one that the office shown by
+/// the desk serves to the bytes read, and the desk shows the office after it.
 pub fn serve_one_in_memory<T: Stream>(
     alloc: Global,
     desk: &mut Desk<MemStore>,

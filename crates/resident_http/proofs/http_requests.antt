@@ -1,4 +1,4 @@
--- Lemmas on the bytes of a request.
+-- Lemmas about the bytes of a request.
 pub mod Continuations
 pub mod Fields
 pub mod Keys

@@ -1,3 +1,3 @@
--- Lemmas on routes.
+-- Lemmas about routes.
 pub mod Found
 pub mod Literal

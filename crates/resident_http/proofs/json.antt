@@ -1,4 +1,4 @@
--- Lemmas on bodies in JSON.
+-- Lemmas about bodies in JSON.
 pub mod Bodies
 pub mod CodeLists
 pub mod Floats

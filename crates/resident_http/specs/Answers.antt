@@ -1,11 +1,11 @@
--- Answers over HTTP, and their bytes (RFC 9110, section 15; RFC 9112, sections 4 and 5).
+-- HTTP responses and their bytes (RFC 9110, section 15; RFC 9112, sections 4 and 5).
 use Rattle.std.specs.Prelude.{◌≡◌, ℕ, Bool, true, ◌==◌, List, [], ◌∷◌, ◌++◌, length, codes, decimal, if◌then◌else◌}
 use Rattle.std.specs.Prelude.{Option, None, Some, is_some}
 use Rattle.std.specs.List.{concat, list_any}
 use Rattle.resident_http.specs.declared.method.Method.{Method}
 use Rattle.resident_http.specs.declared.method.Method.TheVariants as method
 
--- the status, the method to use in place of a wrong one, and the body
+-- a response: its status, the method to use instead of a wrong one, and the body
 pub record Answer : Type 0 where
   pub status : ℕ
   pub allow : Option Method
@@ -16,17 +16,17 @@ method_text method.Get = codes "GET"
 method_text method.Put = codes "PUT"
 method_text method.Post = codes "POST"
 
--- a status that requests are answered with
+-- a status that responses have
 abbrev pub is_answered : ℕ → Bool
 is_answered status =
     list_any (λ known. known == status) (200 ∷ 400 ∷ 403 ∷ 404 ∷ 405 ∷ 409 ∷ 413 ∷ 417 ∷ 422 ∷ 501 ∷ 503 ∷ [])
 
--- the status is one of these, and a method is named with 405 alone
+-- the status is one of these, and `allow` is present exactly with 405
 pub record IsAnswer (answer : Answer) : Type 0 where
   pub answered : is_answered answer.status ≡ true
   pub allow : is_some answer.allow ≡ (answer.status == 405)
 
--- the phrase that goes with the status
+-- the reason phrase of the status
 abbrev pub reason_of : ℕ → List ℕ
 reason_of status =
     if status == 200 then codes "OK"
@@ -44,7 +44,7 @@ reason_of status =
 abbrev pub line_end : List ℕ
 line_end = codes "\r\n"
 
--- the field that names the method to use, if there is one
+-- the field `Allow`, if a method is given
 abbrev pub allow_line : Option Method → List ℕ
 allow_line None = []
 allow_line (Some method) = concat (codes "Allow: " ∷ method_text method ∷ line_end ∷ [])
@@ -62,6 +62,6 @@ head_of status allow body_length =
     ∷ []
     )
 
--- the bytes of an answer
+-- the bytes of a response
 abbrev pub bytes_of : Answer → List ℕ
 bytes_of answer = head_of answer.status answer.allow (length answer.body) ++ answer.body

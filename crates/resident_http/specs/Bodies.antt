@@ -1,4 +1,4 @@
--- The JSON of requests and of answers (RFC 8259), each member in the order in which it is written.
+-- The JSON of requests and responses (RFC 8259), with each member in the order in which it is written.
 use Rattle.std.specs.Prelude.{ℕ, true, List, [], ◌∷◌, map, codes, Option, Some, None, option_and_then, if◌then◌else◌}
 use Rattle.std.specs.Prelude.{Result, Ok, Err}
 use Rattle.std.specs.Option.{option_map}
@@ -18,7 +18,7 @@ use Rattle.room_types.specs.declared.fault.TypeFault.TheVariants.{BadValue}
 use Rattle.room_types.specs.declared.rows.RoomRow.{RoomRow}
 use Rattle.office_core.specs.declared.reply.Standing.{Standing}
 
--- ---- what is answered
+-- ---- responses
 
 abbrev pub text_array : List Text → Data
 text_array texts = array (items_of (map string texts))
@@ -27,11 +27,11 @@ abbrev pub text_or_null : Option Text → Data
 text_or_null None = null
 text_or_null (Some text) = string text
 
--- the list that is recorded
+-- the recorded preference list
 abbrev pub choices_data : List Text → Data
 choices_data choices = object (member (codes "choices") (text_array choices) no_members)
 
--- what a resident sees of their own record
+-- a resident's own record
 abbrev pub standing_data : Standing → Data
 standing_data standing =
     object (member (codes "choices") (text_array standing.choices)
@@ -45,7 +45,7 @@ standing_data standing =
     (member (codes "shown") (boolean standing.shown)
     (member (codes "withdrawn") (boolean standing.withdrawn) no_members))))))))))
 
--- a room and its state, without who lives there
+-- a room and its state, without its occupant
 abbrev pub room_data : RoomRow → Data
 room_data row =
     object (member (codes "room") (string row.room) (member (codes "state") (string (state_text row.state)) no_members))
@@ -57,30 +57,30 @@ rooms_data rows = array (items_of (map room_data rows))
 abbrev pub withdrawn_data : Data
 withdrawn_data = object (member (codes "withdrawn") (boolean true) no_members)
 
--- the name of a fault
+-- the name of an error
 abbrev pub fault_data : Text → Data
 fault_data name = object (member (codes "error") (string name) no_members)
 
--- ---- what is asked
+-- ---- requests
 
--- the value that the bytes spell
+-- the JSON value of the bytes, if they are one in UTF-8
 abbrev pub json_of : List ℕ → Option Data
 json_of bytes = if is_utf8 bytes then read bytes else None
 
--- the room code that a value tells
+-- the room code in a value
 abbrev pub code_in : Data → Option Text
 code_in value = option_and_then (λ text. if is_room_code text then Some text else None) (as_str value)
 
--- a code before others, where there are some
+-- a code in front of others, if there are any
 abbrev pub code_before : Text → Option (List Text) → Option (List Text)
 code_before code others = option_map (λ codes. code ∷ codes) others
 
--- the room codes of an array's items, where each tells one
+-- the room codes of an array's items, if each item is one
 abbrev pub codes_in : Items → Option (List Text)
 codes_in no_items = Some []
 codes_in (item value items) = option_and_then (λ code. code_before code (codes_in items)) (code_in value)
 
--- the room codes of a body, where it is an array of them
+-- the room codes of a body, if it is an array of them
 abbrev pub codes_of_body : List ℕ → Option (List Text)
 codes_of_body body = option_and_then codes_in (option_and_then as_array (json_of body))
 
@@ -89,11 +89,11 @@ abbrev pub unless_fault : List Text → Option TypeFault → Result (List Text) 
 unless_fault codes None = Ok codes
 unless_fault codes (Some fault) = Err fault
 
--- these codes as a list of choices, or why they are none
+-- these codes as a preference list, or why they are not one
 abbrev pub choices_from : Option (List Text) → Result (List Text) TypeFault
 choices_from None = Err BadValue
 choices_from (Some codes) = unless_fault codes (choices_fault codes)
 
--- the choices that a body asks to record, or its fault
+-- the preference list in the body of a request, or its fault
 abbrev pub choices_of_body : List ℕ → Result (List Text) TypeFault
 choices_of_body body = choices_from (codes_of_body body)

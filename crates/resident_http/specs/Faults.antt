@@ -1,4 +1,4 @@
--- Answers that all is well, and answers of faults.
+-- Success responses and error responses.
 use Rattle.std.specs.Prelude.{ℕ, Bool, List, [], ◌∷◌, codes, if◌then◌else◌, ◌==◌, None, Some}
 use Rattle.std.specs.List.{list_any}
 use Rattle.serde_json.specs.Written.{compact_text}
@@ -7,12 +7,12 @@ use Rattle.resident_http.specs.Answers.{Answer}
 use Rattle.resident_http.specs.Bodies.{fault_data}
 use Rattle.resident_http.specs.declared.method.Method.{Method}
 
--- a status whose faults all have one name
+-- a status with a single error name
 abbrev pub is_one_fault : ℕ → Bool
 is_one_fault status =
     list_any (λ known. known == status) (400 ∷ 403 ∷ 404 ∷ 405 ∷ 413 ∷ 417 ∷ 501 ∷ 503 ∷ [])
 
--- the name of the faults with this status
+-- the error name of such a status
 abbrev pub name_of : ℕ → Text
 name_of status =
     if status == 400 then codes "BadRequest"
@@ -24,7 +24,7 @@ name_of status =
     else if status == 501 then codes "NotImplemented"
     else codes "Unavailable"
 
--- the names of the faults with this status; 405 has none here, since its answer names a method besides
+-- The error names of a status. 405 has none here, because its response also names a method.
 abbrev pub fault_names : ℕ → List Text
 fault_names status =
     if status == 405 then []
@@ -33,7 +33,7 @@ fault_names status =
     else if is_one_fault status then name_of status ∷ []
     else []
 
--- the name goes with the status
+-- the name is an error name of the status
 abbrev pub names_fault : ℕ → Text → Bool
 names_fault status name = list_any (text_eq name) (fault_names status)
 

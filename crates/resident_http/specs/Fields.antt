@@ -5,11 +5,11 @@ use Rattle.std.specs.Char.{is_ascii_digit}
 use Rattle.std.specs.Str.{str_eq_ignore_ascii_case}
 use Rattle.std.specs.Str.Parse.{digits_value}
 
--- a name and the value, without the white space around it
+-- a field's name, and its value without the white space around it
 abbrev pub NamedValue : Type 0
 NamedValue = List ℕ × List ℕ
 
--- the values of the fields of this name, in whatever case it is written
+-- the values of the fields with this name, whose case does not matter
 abbrev pub values_of : List ℕ → List NamedValue → List (List ℕ)
 values_of name fields = map (λ field. field.1) (filter (λ field. str_eq_ignore_ascii_case field.0 name) fields)
 
@@ -17,6 +17,6 @@ values_of name fields = map (λ field. field.1) (filter (λ field. str_eq_ignore
 abbrev pub is_decimal : List ℕ → Bool
 is_decimal text = nat_lt 0 (length text) && list_all is_ascii_digit text
 
--- the number that decimal digits spell
+-- the number in decimal digits
 abbrev pub number_of : List ℕ → ℕ
 number_of text = digits_value 10 text

@@ -1,10 +1,10 @@
--- What the search for the fields of one name has found, for inner contracts alone.
+-- The result of searching the fields of one name, for inner contracts.
 use Rattle.std.specs.Prelude.{◌≡◌, ℕ, ◌≤◌, List, [], ◌∷◌, length}
 use Rattle.httparse.specs.Spans.{span_bytes, IsWithin}
 use Rattle.resident_http.specs.declared.fields.Found.{Found}
 use Rattle.resident_http.specs.declared.fields.Found.TheVariants as found
 
--- these are the values
+-- the search found exactly these values
 abbrev pub Tells : List ℕ → Found → List (List ℕ) → Type 0
 Tells buf found.Nothing values = values ≡ []
 Tells buf (found.One span) values = IsWithin (length buf) span × (values ≡ span_bytes buf span ∷ [])

@@ -1,11 +1,11 @@
--- The routes of the router, for inner contracts alone.
+-- The rows of the router, for inner contracts.
 use Rattle.std.specs.Prelude.{ℕ, List, [], ◌∷◌, codes}
 use Rattle.matchit.specs.Rows.{RowsOf}
 use Rattle.matchit.specs.Router.{RouteOf}
 use Rattle.resident_http.specs.declared.routes.Route.{Route}
 use Rattle.resident_http.specs.declared.routes.Route.TheVariants as route
 
--- a path without parameters
+-- the row of a path without parameters
 abbrev pub plain_route : List ℕ → Route → List ℕ × RouteOf Route
 plain_route path route = (path, record { pattern = path; text = path; names = []; value = route })
 

@@ -1,4 +1,4 @@
--- The paths that residents ask by, the method of each, and what a request asks for.
+-- The paths of requests, the method of each, and what a request wants.
 use Rattle.std.specs.Prelude.{ℕ, List, codes, if◌then◌else◌, Option, Some, None}
 use Rattle.std.specs.Str.{bytes_eq}
 use Rattle.room_types.specs.Texts.{Text}
@@ -10,7 +10,7 @@ use Rattle.resident_http.specs.declared.routes.Route.TheVariants as route
 use Rattle.resident_http.specs.declared.routes.Routed.{Routed}
 use Rattle.resident_http.specs.declared.routes.Routed.TheVariants as routed
 
--- what the path stands for, if for anything
+-- the route of a path, if it has one
 abbrev pub route_of : Text → Option Route
 route_of path =
     if bytes_eq (codes "/me/choices") path then Some route.Choices
@@ -25,7 +25,7 @@ method_of route.Withdrawal = Post
 method_of route.Standing = Get
 method_of route.Rooms = Get
 
--- what is asked for without where it lies in memory
+-- `Routed` without places in memory
 pub data Wanted : Type 0 where
   unknown : Wanted
   wrong_method : (allow : Method) → Wanted
@@ -46,7 +46,7 @@ abbrev pub with_method : List ℕ → Option Text → Route → Wanted
 with_method method key route =
     if bytes_eq method (method_text (method_of route)) then with_key route key else wrong_method (method_of route)
 
--- what a request asks for: first the path counts, then its method, then the key
+-- What a request wants. An unknown path is reported first, then a wrong method, then a missing key.
 abbrev pub wanted_of : List ℕ → Text → Option Text → Wanted
 wanted_of method path key = on_route (route_of path)
   where

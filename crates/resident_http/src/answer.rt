@@ -1,4 +1,4 @@
-//! Answers, and their bytes.
+//! HTTP responses and their bytes.
 ghost use Rattle.std.specs.Prelude.{◌≡◌, ◌++◌, IfOk, OnOk, string_bytes, true};
 ghost use Rattle.resident_http.specs.Answers.{allow_line, bytes_of, head_of, is_answered, reason_of};
 
@@ -8,13 +8,13 @@ use room_types::{Listing, OutOfMemory};
 use std::alloc::{AllocError, Global};
 use std::marker::Model;
 
-/// An answer over HTTP: the status, which is one of those that residents are answered with; the method to use in
-/// place of a wrong one, which goes with 405 alone; and the body, which the head tells to be JSON.
+/// An HTTP response. Its status is one of those that `is_answered` lists; `allow` is present exactly with 405; the body is
+/// JSON.
 #[derive(Debug, Drop)]
 pub struct HttpAnswer {
     /// The status.
     pub status: StatusCode,
-    /// The method to use in place of a wrong one.
+    /// The method to use instead of a wrong one.
     pub allow: Option<Method>,
     /// The bytes of the body.
     pub body: Listing<u8>,
@@ -31,7 +31,7 @@ impl Model for HttpAnswer {
         IsAnswer (record { status = a.status; allow = a.allow; body = a.body }) };
 }
 
-/// The bytes of the answer with status 503, which can be given where memory was refused.
+/// The bytes of the response with status 503, for use when an allocation fails.
 pub const UNAVAILABLE: &[u8] = b"HTTP/1.1 503 Service Unavailable\r\n\
     Content-Type: application/json\r\n\
     Content-Length: 23\r\n\
@@ -39,11 +39,11 @@ pub const UNAVAILABLE: &[u8] = b"HTTP/1.1 503 Service Unavailable\r\n\
     \r\n\
     {\"error\":\"Unavailable\"}";
 
-/// The bytes of an answer: its head, the fields in a fixed order, and its body.
+/// Returns the bytes of a response: its head, with the fields in a fixed order, and its body.
 ///
 /// # Errors
 ///
-/// `OutOfMemory` where memory for the bytes is refused.
+/// `OutOfMemory` if an allocation fails.
 pub fn answer_bytes(alloc: Global, answer: &HttpAnswer) -> Result<Vec<u8>, OutOfMemory>
     ensures { IfOk result (λ bytes. bytes.items ≡ bytes_of answer.now) }
 {
@@ -73,7 +73,7 @@ fn head_text(
     Ok(text)
 }
 
-// Adds the field that names the method to use, if there is one.
+// Appends the field `Allow`, if a method is given.
 fn push_allow(text: &mut String, allow: Option<Method>) -> Result<(), AllocError>
     ensures { OnOk result (string_bytes text.new ≡ string_bytes text.old ++ allow_line allow) }
 {
@@ -85,7 +85,7 @@ fn push_allow(text: &mut String, allow: Option<Method>) -> Result<(), AllocError
     Ok(())
 }
 
-// The phrase that goes with the status, which is one that residents are answered with.
+// The reason phrase of the status.
 fn reason(status: StatusCode) -> &'static str
     requires { is_answered status ≡ true }
     ensures { result.now ≡ reason_of status }
@@ -102,7 +102,7 @@ fn reason(status: StatusCode) -> &'static str
         422 => "Unprocessable Entity",
         501 => "Not Implemented",
         503 => "Service Unavailable",
-        // A status may be any number from 100 to 999, which asks for this arm; that no other comes is proved.
+        // A status may be any number from 100 to 999, so the match needs this arm. The contract proves it unreachable.
         _ => unreachable!(),
     }
 }

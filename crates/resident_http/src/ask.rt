@@ -1,4 +1,4 @@
-//! What the bytes of a connection ask.
+//! Parsing a request from the bytes of a connection.
 ghost use Rattle.std.specs.Prelude.{◌≡◌, ◌<◌, ◌∷◌, [], ◌≤◌, ◌++◌, ◌+◌, codes, drop, length, map, option_map, IfOk};
 ghost use Rattle.std.specs.Prelude.{IfErr, IsUtf8, true};
 ghost use Rattle.std.specs.List.{All};
@@ -15,51 +15,54 @@ use httparse::spans::{EMPTY_HEADER_SPAN, HeaderSpan, RequestSpans, parse_request
 use room_types::Grammar;
 use room_types::grammars::Keys;
 
-/// How many bytes a head may have.
+/// The greatest number of bytes of a head.
 pub const HEAD_LIMIT: usize = 8_192;
 
-/// How many fields a head may have.
+/// The greatest number of fields of a head.
 pub const FIELD_LIMIT: usize = 64;
 
-/// How many bytes a body may have.
+/// The greatest number of bytes of a body.
 pub const BODY_LIMIT: u16 = 1_024;
 
-/// What the bytes of a connection ask. What is lent is part of these bytes.
+/// The request in the bytes of a connection, as far as they have been read. It borrows from these bytes.
 #[derive(Clone, Copy, Debug)]
 pub enum AskState<'b> {
-    /// More bytes are to come: the request is not whole.
+    /// The request is incomplete: more bytes are needed.
     More,
-    /// A whole request.
+    /// A complete request.
     Ask {
-        /// The method, as it stands in the request.
+        /// The method, as written in the request.
         method: &'b [u8],
-        /// The target up to its first question mark; it is not decoded.
+        /// The target up to its first question mark, not decoded.
         path: &'b str,
-        /// The resident's key, where there is exactly one field `Room-Key` and it is in the grammar of `Key`.
+        /// The resident's key, if there is exactly one field `Room-Key` and its value is in the grammar of `Key`.
         key: Option<&'b str>,
-        /// As many bytes after the head as its field `Content-Length` tells; none where there is no such field.
+        /// The bytes after the head, as many as the field `Content-Length` says; empty without that field.
         body: &'b [u8],
-        /// How many bytes the head and the body have.
+        /// The length of the head and the body, in bytes.
         used: usize,
     },
     /// The bytes are refused with this status.
     Fault(StatusCode),
 }
 
-/// What the bytes ask, by the head at their front and as many bytes after it as the head says. The first fault of the
-/// profile counts: a head that is none of HTTP/1.0 or HTTP/1.1, or has more than `HEAD_LIMIT` bytes or `FIELD_LIMIT`
-/// fields, or a field `Host` too many or, in HTTP/1.1, too few (400); a field `Expect` (417); a field
-/// `Transfer-Encoding` (501); a field `Content-Length` too many or not in decimal digits (400), or above `BODY_LIMIT`
-/// (413). What a head is, is `httparse`'s grammar as it is by default: a line, for one, may end with a line feed alone.
-/// Bytes after the body are ignored. Of fewer than `HEAD_LIMIT` bytes without a whole head, where none can come, 400 is
-/// sure but in two cases: where they begin more than `FIELD_LIMIT` fields, or end within the target, more may be asked
-/// for in its place. It takes no memory.
+/// Parses the head at the start of the bytes, and as many bytes after it as the head announces. Ignores the bytes after the
+/// body. Does not allocate.
+///
+/// The first fault of this list counts: a head that is not HTTP/1.0 or HTTP/1.1, is longer than `HEAD_LIMIT`, has more than
+/// `FIELD_LIMIT` fields, more than one field `Host`, or none in HTTP/1.1 (400); a field `Expect` (417); a field
+/// `Transfer-Encoding` (501); more than one field `Content-Length`, or one that is not decimal digits (400) or is above
+/// `BODY_LIMIT` (413). The grammar of a head is `httparse`'s default one: a line, for example, may end with a line feed
+/// alone.
+///
+/// If fewer than `HEAD_LIMIT` bytes can't become a head, the result is 400, with two exceptions: if the bytes begin more
+/// than `FIELD_LIMIT` fields, or end within the target, it may be `More` instead.
 pub fn read_ask(bytes: &[u8]) -> AskState<'_>
     ensures asks { Asks bytes.now (seen result) }
-    // The status of a fault that is found here is 400, 413, 417 or 501.
+    // A fault that is found here has status 400, 413, 417 or 501.
     ensures early { HasEarlyStatus (seen result) }
 
-    // More is asked of few bytes alone, so that a reader needs room for no more.
+    // Only fewer bytes than this need more, so a reader needs no larger buffer.
     ensures few { is_more (seen result) ≡ true → length bytes.now < 9216 }
 {
     let mut headers = [EMPTY_HEADER_SPAN; FIELD_LIMIT];
@@ -84,7 +87,7 @@ fn first_bytes(bytes: &[u8]) -> &[u8]
     &bytes[..HEAD_LIMIT]
 }
 
-// What a whole head and the bytes after it ask.
+// The request of a complete head and the bytes after it.
 #[tactic(auto, unfolding(crate::specs::Asks::asked_of))]
 fn read_head<'b>(
     window: &'b [u8],
@@ -126,7 +129,7 @@ fn read_head<'b>(
     }
 }
 
-// Whether there is more than one field Host, or none in HTTP/1.1.
+// Whether there is more than one field `Host`, or none in HTTP/1.1.
 fn has_bad_host(window: &[u8], headers: &[HeaderSpan], minor: u8) -> bool
     requires { All (IsHeaderWithin (length window.now)) headers.now }
     ensures { let fields = map (header_bytes window.now) headers.now in
@@ -150,7 +153,7 @@ fn has_head_field(window: &[u8], headers: &[HeaderSpan], name: &[u8]) -> bool
     }
 }
 
-// The key of the resident, where there is exactly one and it is in its grammar.
+// The resident's key, if there is exactly one such field and its value is in the grammar of keys.
 fn room_key_header<'b>(window: &'b [u8], headers: &[HeaderSpan]) -> Option<&'b str>
     requires { All (IsHeaderWithin (length window.now)) headers.now }
     ensures { let fields = map (header_bytes window.now) headers.now in
@@ -163,7 +166,7 @@ fn room_key_header<'b>(window: &'b [u8], headers: &[HeaderSpan]) -> Option<&'b s
     }
 }
 
-// The length of the body, which is 0 where none is told.
+// The length of the body, 0 without a field `Content-Length`.
 fn body_length(window: &[u8], headers: &[HeaderSpan]) -> Result<usize, StatusCode>
     requires { All (IsHeaderWithin (length window.now)) headers.now }
     ensures value { let fields = map (header_bytes window.now) headers.now in
@@ -178,7 +181,7 @@ fn body_length(window: &[u8], headers: &[HeaderSpan]) -> Result<usize, StatusCod
     }
 }
 
-// The length that the value of a field tells.
+// The length in the value of a field.
 fn body_length_in(text: &[u8]) -> Result<usize, StatusCode>
     ensures value { result ≡ length_of (text.now ∷ []) }
     ensures early { IfErr result (λ status. is_early_status status ≡ true) }
@@ -194,7 +197,7 @@ fn body_length_in(text: &[u8]) -> Result<usize, StatusCode>
     Ok(length)
 }
 
-// The value, where it is a key.
+// The value, if it is in the grammar of keys.
 fn key_text(value: &[u8]) -> Option<&str>
     ensures { option_map (λ k. k.now) result ≡ key_of (value.now ∷ []) }
 {

@@ -1,4 +1,4 @@
-//! The bodies of answers, in JSON.
+//! The bodies of responses, in JSON.
 ghost use Rattle.std.specs.Prelude.{◌≡◌, IfOk, false};
 ghost use Rattle.serde_json.specs.Data.{string};
 ghost use Rattle.serde_json.specs.View.{view};
@@ -11,11 +11,11 @@ use room_types::{Listing, OutOfMemory, RoomCode, RoomRow};
 use serde_json::{Value, json};
 use std::alloc::{AllocError, Global};
 
-/// The body that tells which list is recorded.
+/// Returns the body with a recorded preference list.
 ///
 /// # Errors
 ///
-/// `OutOfMemory` where memory is refused, as in each function of this module.
+/// `OutOfMemory` if an allocation fails, as for each function of this module.
 pub fn choices_body(alloc: Global, choices: &[RoomCode]) -> Result<Listing<u8>, OutOfMemory>
     ensures { IfOk result (λ body. body ≡ compact_text (choices_data choices.now)) }
 {
@@ -23,7 +23,7 @@ pub fn choices_body(alloc: Global, choices: &[RoomCode]) -> Result<Listing<u8>, 
     written_json(alloc, &value)
 }
 
-/// The body that tells a resident's own record.
+/// Returns the body with a resident's own record.
 pub fn standing_body(alloc: Global, standing: &Standing) -> Result<Listing<u8>, OutOfMemory>
     ensures { IfOk result (λ body. body ≡ compact_text (standing_data standing.now)) }
 {
@@ -31,7 +31,7 @@ pub fn standing_body(alloc: Global, standing: &Standing) -> Result<Listing<u8>, 
     written_json(alloc, &value)
 }
 
-/// The body that tells the rooms and their states, in the order of the rows.
+/// Returns the body with the rooms and their states, in the order of the rows.
 pub fn rooms_body(alloc: Global, rows: &[RoomRow]) -> Result<Listing<u8>, OutOfMemory>
     ensures { IfOk result (λ body. body ≡ compact_text (rooms_data rows.now)) }
 {
@@ -39,7 +39,7 @@ pub fn rooms_body(alloc: Global, rows: &[RoomRow]) -> Result<Listing<u8>, OutOfM
     written_json(alloc, &value)
 }
 
-/// The body that tells that the person has withdrawn.
+/// Returns the body that confirms a withdrawal.
 pub fn withdrawn_body(alloc: Global) -> Result<Listing<u8>, OutOfMemory>
     ensures { IfOk result (λ body. body ≡ compact_text withdrawn_data) }
 {
@@ -47,7 +47,7 @@ pub fn withdrawn_body(alloc: Global) -> Result<Listing<u8>, OutOfMemory>
     written_json(alloc, &value)
 }
 
-/// The body that tells the name of a fault.
+/// Returns the body with the name of an error.
 pub fn fault_body(alloc: Global, name: &str) -> Result<Listing<u8>, OutOfMemory>
     ensures { IfOk result (λ body. body ≡ compact_text (fault_data name.now)) }
 {
@@ -55,7 +55,7 @@ pub fn fault_body(alloc: Global, name: &str) -> Result<Listing<u8>, OutOfMemory>
     written_json(alloc, &value)
 }
 
-// The value as it is written, compact.
+// The compact text of the value.
 fn written_json(alloc: Global, value: &Value) -> Result<Listing<u8>, OutOfMemory>
     requires { has_float (view value.now) ≡ false }
     ensures { IfOk result (λ body. body ≡ compact_text (view value.now)) }

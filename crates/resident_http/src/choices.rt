@@ -1,4 +1,4 @@
-//! The list of rooms in the body of a request.
+//! The preference list in the body of a request.
 ghost use Rattle.std.specs.Prelude.{◌≡◌, ◌<◌, ◌⊎◌, ◌++◌, ◌∷◌, [], IfOk, IfErr, OnOk, Ok, Err, Some, None, length};
 ghost use Rattle.serde_json.specs.View.{items_view, view};
 ghost use Rattle.resident_http.specs.Bodies.{choices_of_body, code_in, codes_in, json_of};
@@ -7,12 +7,12 @@ use room_types::{Choices, OutOfMemory, RoomCode, TypeFault};
 use serde_json::Value;
 use std::alloc::Global;
 
-/// The list that a body asks to record: a JSON array of texts that are room codes, the best first.
+/// Parses the preference list in the body of a request: a JSON array of room codes, the best first.
 ///
 /// # Errors
 ///
-/// `BadValue` where the body is no such array; `TooManyChoices` or `RoomRepeated` where the codes are no list of
-/// choices; `OutOfMemory` where memory is refused, which is taken only where the body is not empty.
+/// `BadValue` if the body is not such an array; `TooManyChoices` or `RoomRepeated` if the codes are not a valid list;
+/// `OutOfMemory` if an allocation fails, which happens only for a body that is not empty.
 pub fn choices_of_body(alloc: Global, body: &[u8]) -> Result<Choices, TypeFault>
     ensures value { IfOk result (λ choices. choices_of_body body.now ≡ Ok choices) }
     ensures fault { IfErr result (λ fault.
@@ -27,7 +27,7 @@ pub fn choices_of_body(alloc: Global, body: &[u8]) -> Result<Choices, TypeFault>
     Choices::read(codes)
 }
 
-// The value that the bytes spell.
+// The JSON value of the bytes.
 fn json_value(alloc: Global, bytes: &[u8]) -> Result<Value, TypeFault>
     ensures value { IfOk result (λ value. json_of bytes.now ≡ Some (view value)) }
     ensures fault { IfErr result (λ fault.
@@ -62,7 +62,7 @@ fn push_json_code(codes: &mut Vec<RoomCode>, code: RoomCode) -> Result<(), OutOf
     Ok(())
 }
 
-// The room code that a value tells.
+// The room code in a value.
 fn json_room_code(alloc: Global, value: &Value) -> Result<RoomCode, TypeFault>
     ensures code { IfOk result (λ code. code_in (view value.now) ≡ Some code) }
     ensures fault { IfErr result (λ fault. (fault ≡ TypeFault.OutOfMemory)

@@ -1,4 +1,4 @@
-//! The answers that all is well, and those of faults.
+//! Success responses and error responses.
 ghost use Rattle.std.specs.Prelude.{◌≡◌, IfOk, true};
 ghost use Rattle.resident_http.specs.Faults.{fault_answer, is_one_fault, name_of, names_fault};
 ghost use Rattle.resident_http.specs.Faults.{success_answer, wrong_method_answer};
@@ -11,7 +11,7 @@ use room_types::{Listing, OutOfMemory};
 use std::alloc::Global;
 
 impl HttpAnswer {
-    /// The answer that all is well, with this body.
+    /// The response with status 200 and this body.
     pub fn success(body: Listing<u8>) -> Self
         ensures { result ≡ success_answer body }
     {
@@ -22,12 +22,12 @@ impl HttpAnswer {
         }
     }
 
-    /// The answer of a fault, whose body tells its name. The name goes with the status, which is so neither 200, which is
-    /// no fault, nor 405, whose answer is `wrong_method`.
+    /// Returns an error response, whose body contains the name of the error. The name has to be one of the status. 200 and
+    /// 405 have none: 200 is no error, and the response of 405 is `wrong_method`.
     ///
     /// # Errors
     ///
-    /// `OutOfMemory` where memory for the body is refused.
+    /// `OutOfMemory` if an allocation for the body fails.
     pub fn fault(alloc: Global, status: StatusCode, name: &str) -> Result<Self, OutOfMemory>
         requires named { names_fault status name.now ≡ true }
         ensures { IfOk result (λ answer. answer ≡ fault_answer status name.now) }
@@ -40,11 +40,11 @@ impl HttpAnswer {
         })
     }
 
-    /// The answer to a wrong method, which names the one to use.
+    /// Returns the response to a wrong method, which names the method to use.
     ///
     /// # Errors
     ///
-    /// `OutOfMemory` where memory for the body is refused.
+    /// `OutOfMemory` if an allocation for the body fails.
     pub fn wrong_method(alloc: Global, allow: Method) -> Result<Self, OutOfMemory>
         ensures { IfOk result (λ answer. answer ≡ wrong_method_answer allow) }
     {
@@ -57,7 +57,7 @@ impl HttpAnswer {
     }
 }
 
-/// The name of the faults with this status, where they have one name: it is none of 200, 409 and 422.
+/// Returns the error name of a status that has a single one, so neither 200, 409 nor 422.
 pub fn http_fault_name(status: StatusCode) -> &'static str
     requires { is_one_fault status ≡ true }
     ensures { result.now ≡ name_of status }
@@ -71,7 +71,7 @@ pub fn http_fault_name(status: StatusCode) -> &'static str
         417 => "ExpectationFailed",
         501 => "NotImplemented",
         503 => "Unavailable",
-        // A status may be any number from 100 to 999, which asks for this arm; that no other comes is proved.
+        // A status may be any number from 100 to 999, so the match needs this arm. The contract proves it unreachable.
         _ => unreachable!(),
     }
 }

@@ -9,16 +9,16 @@ ghost use Rattle.resident_http.specs.Found.{Tells};
 
 use httparse::spans::{HeaderSpan, Span};
 
-/// The fields of one name.
+/// The result of searching for fields of one name.
 #[derive(Clone, Copy, Debug, PartialEq, Eq, Drop)]
 pub enum Found {
     Nothing,
-    /// One field, whose value stands there.
+    /// One field, whose value is at this span.
     One(Span),
     Several,
 }
 
-/// The fields of this name, in whatever case it is written.
+/// Searches for the fields of this name, whose case does not matter.
 pub fn find_fields(buf: &[u8], headers: &[HeaderSpan], name: &[u8]) -> Found
     requires { All (IsHeaderWithin (length buf.now)) headers.now }
     ensures { Tells buf.now result (values_of name.now (map (header_bytes buf.now) headers.now)) }
@@ -30,7 +30,7 @@ pub fn find_fields(buf: &[u8], headers: &[HeaderSpan], name: &[u8]) -> Found
     found
 }
 
-// What is found once this field is looked at too.
+// The result after one more field.
 fn with_head_field(buf: &[u8], found: Found, header: HeaderSpan, name: &[u8]) -> Found
     requires { IsHeaderWithin (length buf.now) header }
     ensures { (values : List (List ℕ)) → Tells buf.now found values
@@ -61,7 +61,7 @@ fn has_digits_alone(text: &[u8]) -> bool
     text.iter().all(|b| b.is_ascii_digit())
 }
 
-/// The number that the digits spell, or `most` where it is greater.
+/// Returns the number of the digits, or `most` if it is greater.
 pub fn number_up_to(text: &[u8], most: u16) -> usize
     requires { list_all is_ascii_digit text.now ≡ true }
     ensures { result ≡ min (number_of text.now) most }

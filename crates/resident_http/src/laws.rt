@@ -1,4 +1,4 @@
-//! Laws of the definitions: each is the contract of a function that does nothing.
+//! Theorems about the definitions: each is the contract of a function that does nothing.
 ghost use Rattle.std.specs.Prelude.{◌≡◌, ◌++◌, List, ℕ, codes, true, false};
 ghost use Rattle.httparse.specs.Grammar.{EndsInTarget};
 ghost use Rattle.resident_http.specs.Answers.{bytes_of};
@@ -7,14 +7,14 @@ ghost use Rattle.resident_http.specs.Asks.{Asked, Asks, BeginsTooManyFields, fau
 
 use crate::answer::UNAVAILABLE;
 
-/// The constant answer is that of want of memory, to the byte.
+/// `UNAVAILABLE` has exactly the bytes of the error response 503 `Unavailable`.
 pub fn unavailable_is_an_answer()
     ensures { UNAVAILABLE.now ≡ bytes_of (fault_answer 503 (codes "Unavailable")) }
 {}
 
-/// However the bytes of a connection are cut into pieces, a request that is found in the bytes so far stays the
-/// request, whatever bytes follow. So does a fault, but for too many fields and for one that is found while the target
-/// is still being read; and after any fault no request comes.
+/// It does not matter how the bytes of a connection are split into chunks: a request found in the bytes so far remains the
+/// result whatever bytes follow. So does a fault, except for too many fields and for one found while the target is
+/// incomplete. After any fault, no request follows.
 pub fn findings_stay()
     ensures request { (bytes next : List ℕ) (asked later : Asked)
         → Asks bytes asked → is_request asked ≡ true

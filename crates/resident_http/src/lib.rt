@@ -1,4 +1,4 @@
-//! Residents' requests over HTTP: what the bytes of a connection ask, and the bytes of an answer.
+//! Residents' requests over HTTP: parses the bytes of a connection, and builds the bytes of a response.
 #![tactic(auto)]
 
 pub mod answer;

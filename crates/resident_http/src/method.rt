@@ -4,19 +4,19 @@ ghost use Rattle.resident_http.specs.Answers.{method_text};
 
 use std::fmt;
 
-/// A method by which a path is asked.
+/// A method that a path takes.
 #[derive(Clone, Copy, Debug, PartialEq, Eq, Drop)]
 pub enum Method {
-    /// Something is asked for.
+    /// Reads the rooms or the resident's own record.
     Get,
-    /// A list is handed in.
+    /// Hands in a preference list.
     Put,
-    /// Somebody withdraws.
+    /// Withdraws from the round.
     Post,
 }
 
 impl Method {
-    /// The method as it stands in a request.
+    /// The method, as written in a request.
     pub fn as_str(self) -> &'static str
         ensures { result.now ≡ method_text self }
     {

@@ -1,4 +1,4 @@
-//! The paths that residents ask by.
+//! The paths of requests.
 ghost use Rattle.std.specs.Prelude.{◌≡◌, IfOk, option_map};
 ghost use Rattle.resident_http.specs.RouteRows.{route_rows};
 ghost use Rattle.resident_http.specs.Routes.{method_of, route_of, seen_wanted, wanted_of, with_method};
@@ -8,10 +8,10 @@ use matchit::{InsertError, Router};
 use room_types::OutOfMemory;
 use std::alloc::Global;
 
-/// What a path stands for.
+/// The resource at a path.
 #[derive(Clone, Copy, Debug, PartialEq, Eq, Drop)]
 pub enum Route {
-    /// `/me/choices`: the resident's list.
+    /// `/me/choices`: the resident's preference list.
     Choices,
     /// `/me/withdraw`: the resident's withdrawal from the round.
     Withdrawal,
@@ -22,7 +22,7 @@ pub enum Route {
 }
 
 impl Route {
-    /// The method by which the path is asked.
+    /// The only method that the path takes.
     pub fn method(self) -> Method
         ensures { result ≡ method_of self }
     {
@@ -34,32 +34,32 @@ impl Route {
     }
 }
 
-/// What a request asks for, or why it asks for nothing.
+/// The route and the key of a request, or why it has none.
 #[derive(Clone, Copy, Debug)]
 pub enum Routed<'b> {
-    /// No path of this name.
+    /// There is no such path.
     Unknown,
-    /// The path is asked by another method.
+    /// The path takes another method.
     WrongMethod {
         /// The method to use.
         allow: Method,
     },
-    /// No key was handed in. The request has no field `Room-Key`, or several, or one whose value is no key.
+    /// The request has no valid key: no field `Room-Key`, several, or one whose value is not in the grammar of keys.
     Forbidden,
-    /// The path stands for something, and a key was handed in.
+    /// The path has a route, and the request has a key.
     To {
-        /// What the path stands for.
+        /// The route of the path.
         route: Route,
-        /// The key, as it was handed in.
+        /// The key, as written in the request.
         key: &'b str,
     },
 }
 
-/// What a request of this method, path and key asks for: the path counts first, then its method, then the key.
+/// Routes a request by its path, method and key. Reports an unknown path first, then a wrong method, then a missing key.
 ///
 /// # Errors
 ///
-/// `OutOfMemory` where memory for the router is refused.
+/// `OutOfMemory` if an allocation for the router fails.
 pub fn route_request<'b>(
     alloc: Global,
     method: &[u8],
@@ -75,7 +75,7 @@ pub fn route_request<'b>(
     Ok(route_with_method(method, key, route))
 }
 
-// What is asked for by a path that is known.
+// Routes a request whose path is known.
 fn route_with_method<'b>(method: &[u8], key: Option<&'b str>, route: Route) -> Routed<'b>
     ensures { seen_wanted result ≡ with_method method.now (option_map (λ k. k.now) key.entry) route }
 {
@@ -89,7 +89,7 @@ fn route_with_method<'b>(method: &[u8], key: Option<&'b str>, route: Route) -> R
     }
 }
 
-// What the path stands for.
+// The route of the path.
 fn route_of(alloc: Global, path: &str) -> Result<Option<Route>, OutOfMemory>
     ensures { IfOk result (λ route. route ≡ route_of path.now) }
 {
@@ -97,7 +97,7 @@ fn route_of(alloc: Global, path: &str) -> Result<Option<Route>, OutOfMemory>
     Ok(find(&router, path))
 }
 
-// What the router finds for the path.
+// The route that the router finds for the path.
 fn find(router: &Router<Route>, path: &str) -> Option<Route>
     requires { router.now ≡ route_rows }
     ensures { result ≡ route_of path.now }
@@ -108,7 +108,7 @@ fn find(router: &Router<Route>, path: &str) -> Option<Route>
     }
 }
 
-// The router of the paths. They differ and have no parameters, so that only memory can be refused.
+// The router of the paths. The paths differ and have no parameters, so only an allocation can fail.
 fn router(alloc: Global) -> Result<Router<Route>, OutOfMemory>
     ensures { IfOk result (λ router. router ≡ route_rows) }
 {

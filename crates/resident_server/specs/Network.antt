@@ -5,9 +5,9 @@ use Rattle.room_types.specs.Streams.{Output}
 use Rattle.room_types.specs.declared.stream.Stream.{Ghosts as Calls}
 use Rattle.room_types.specs.declared.watched.Watched.{Watched}
 
--- What ports, sockets and connections do. Listening on a port gives a socket or fails, and a socket is closed; a socket accepts
--- connections and closes them, each after some output. Each relates a state to the next. Of a connection, the bytes that are left
--- to read and those that were written, where they are known, and what its calls do.
+-- How ports, sockets and connections behave. Listening on a port returns a socket or fails; a socket can be closed. A
+-- socket accepts and closes connections, each after some output. Each of these is a relation between a state and the next.
+-- For a connection: its calls, the bytes that remain to be read, and those that were written, where they are known.
 pub record Network (P : Type 0) : Type 1 where
   pub Socket : Type 0
   pub Stream : Type 0
@@ -20,7 +20,7 @@ pub record Network (P : Type 0) : Type 1 where
   pub fails : P → ℕ → P → Type 0
   pub stops : P → Socket → P → Type 0
 
--- the same, from the ghost members of the traits `Ports` and `Listener`
+-- the network that the ghost members of the traits `Ports` and `Listener` define
 abbrev pub network_of : {P L T : Type 0} → (T → List ℕ → List ℕ → Result ℕ Error → T → Type 0) → (T → List ℕ → Result ℕ Error → T → Type 0) → (T → Result ⊤ Error → T → Type 0)
     → (T → Option (List ℕ)) → (T → Option (List ℕ)) → (L → Output → Option (Watched T) → L → Type 0) → (L → Output → Watched T → L → Type 0)
     → (P → ℕ → L → P → Type 0) → (P → ℕ → P → Type 0) → (P → L → P → Type 0) → Network P

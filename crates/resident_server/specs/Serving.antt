@@ -1,4 +1,4 @@
--- Residents who are served, one connection after the other.
+-- Serving residents, one connection after another.
 use Rattle.std.specs.Prelude.{◌≡◌, ◌⊎◌, ◌≤◌, ℕ, zero, suc, List, Option, Some, None}
 use Rattle.sqlite.specs.Held.{state}
 use Rattle.sqlite.specs.State.{HasCleanDisk}
@@ -19,8 +19,8 @@ use Rattle.room_types.specs.declared.stream.Stream.{Ghosts as Calls}
 use Rattle.room_types.specs.declared.watched.Watched.{Watched}
 
 module _ {S : Type 0} (g : Ghosts S) where
-  -- A conversation at a desk. Where the disk returned what was written, the office that the desk stood for has had it, and the
-  -- desk stands for the office after it.
+  -- A connection served at a desk. If the disk returned what was written to it, the office that the desk represents served
+  -- the connection too, and the desk represents the office after it.
   pub record Talks {T : Type 0} (calls : Calls T) (old new : DeskState S) (before after : Connection T) : Type 0 where
     pub served : Served
     pub follows : Follows (state g old.conn) (state g new.conn)
@@ -29,7 +29,7 @@ module _ {S : Type 0} (g : Ghosts S) where
         → (next : Office) × Converses calls Handles served office next before after × StandsFor g new next
 
   module _ {L T : Type 0} (calls : Calls T) (remaining contents : T → Option (List ℕ)) (accepts : L → Output → Option (Watched T) → L → Type 0) (closes : L → Output → Watched T → L → Type 0) (said : Output) where
-    -- A connection was accepted, unused; it had its conversation, and was closed before more was said. No call of it was wasted.
+    -- An unused connection was accepted, served, and closed before anything more was printed. None of its calls was wasted.
     pub record Serves (listener : L) (old : DeskState S) (listener' : L) (new : DeskState S) : Type 0 where
       pub between : L
       pub before : Watched T
@@ -41,21 +41,21 @@ module _ {S : Type 0} (g : Ghosts S) where
       pub no_wasted : StopsAtEnd before after
       pub closed : closes between said after listener'
 
-    -- A connection was asked for: one was served, or none could be accepted and nothing happened.
+    -- One accept: the connection was served, or none could be accepted and nothing else happened.
     abbrev pub MeetsOne : L → DeskState S → L → DeskState S → Type 0
     MeetsOne listener old listener' new =
         Serves listener old listener' new ⊎ (accepts listener said None listener' × (new ≡ old))
 
-    -- so many, one after the other
+    -- this number of accepts, one after another
     unfoldable pub MeetsEach : L → DeskState S → ℕ → L → DeskState S → Type 0
     MeetsEach listener old zero listener' new = (listener' ≡ listener) × (new ≡ old)
     MeetsEach listener old (suc count) listener' new =
         (middle : L) × (between : DeskState S) × MeetsEach listener old count middle between × MeetsOne middle between listener' new
 
   module _ {L T : Type 0} (calls : Calls T) (remaining contents : T → Option (List ℕ)) (accepts : L → Output → Option (Watched T) → L → Type 0) (closes : L → Output → Watched T → L → Type 0) where
-    -- It was said on which port the server listens, and flushed; then each connection was met, with nothing more said until the
-    -- last one was closed; then it was said how many they were. Or memory was wanting for what is said, or it could not be said
-    -- that the server listens; then no connection was asked for.
+    -- The line with the listening port was printed and flushed. Then this number of connections was accepted and served,
+    -- with nothing printed until the last one was closed; then their number was printed. Or an allocation for the two lines
+    -- failed, or the first line could not be printed: then no connection was accepted.
     abbrev pub ServesAll : L → DeskState S → L → DeskState S → ℕ → ℕ → ℕ → Output → Output → Type 0
     ServesAll listener old listener' new port count status out out' =
         ((said : Output) × Says (listening_text port) 0 0 out said × MeetsEach calls remaining contents accepts closes said listener old count listener' new
@@ -63,7 +63,7 @@ module _ {S : Type 0} (g : Ghosts S) where
         ⊎ ((listener' ≡ listener) × (new ≡ old) × (status ≡ 3) × Says (listening_text port) 0 status out out')
         ⊎ ((listener' ≡ listener) × (new ≡ old) × SaysUnavailable status out out')
 
-  -- The port is listened on, residents are served on that socket, and it is closed. Or listening on the port failed.
+  -- A socket listens on the port, residents are served on it, and it is closed. Or listening on the port failed.
   abbrev pub ServesPort : {P : Type 0} → Network P → P → DeskState S → P → DeskState S → ℕ → ℕ → ℕ → Output → Output → Type 0
   ServesPort {P} network ports old ports' new port count status out out' =
       ((listener : network.Socket) × (listener' : network.Socket) × (between : P) × network.listens ports port listener between

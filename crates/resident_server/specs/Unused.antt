@@ -1,4 +1,4 @@
--- A connection of which nothing was asked.
+-- A connection before its first call.
 use Rattle.std.specs.Prelude.{◌≡◌, false}
 use Rattle.room_types.specs.Watched.{watched_ended, watched_failed, watched_flushes, watched_wasted, watched_pending, watched_reads, watched_taken}
 use Rattle.room_types.specs.declared.watched.Watched.{Watched}

@@ -1,4 +1,4 @@
-//! Ports and listeners: where residents' connections come from, and how they are closed.
+//! Ports and listeners: they accept residents' connections and close them.
 ghost use Rattle.std.specs.Prelude.{⊤};
 ghost use Rattle.room_types.specs.Streams.{output_of};
 
@@ -7,7 +7,7 @@ use room_types::{Stream, Watched};
 use std::io::Write;
 use std::net::{Ipv4Addr, SocketAddr, TcpListener, TcpStream};
 
-/// A listening socket. Each call is a relation between its states; generic code can show one only by that call.
+/// A listening socket. Each call is a relation between its states; generic code can establish one only by making that call.
 pub trait Listener {
     ghost use Rattle.std.specs.Prelude.{IfSome, Option, ⊤};
     ghost use Rattle.resident_server.specs.Unused.{IsUnused};
@@ -16,19 +16,20 @@ pub trait Listener {
 
     type Stream: Stream + Drop;
 
-    /// After this output was written, an accept returned this connection, or none, and led from the one state to the other.
+    /// From the first state, with this output written before, accepting returned this connection or none, and led to the
+    /// second state.
     ghost accepts: { Self → Output → Option (Watched Self.Stream) → Self → Type 0 } = { λ _ _ _ _. ⊤ };
 
-    /// After this output was written, closing this connection led from the one state to the other.
+    /// From the first state, with this output written before, closing this connection led to the second state.
     ghost closes: { Self → Output → Watched Self.Stream → Self → Type 0 } = { λ _ _ _ _. ⊤ };
 
-    /// The next connection, for which it may wait, or none where one could not be accepted. It is watched from the start, and
-    /// not yet used. The output is what was written before.
+    /// Waits for the next connection and returns it, or `None` if it could not be accepted. The connection is `Watched`
+    /// from the start, and unused. `said` is the output written before.
     fn accept<W: Write>(&mut self, said: &Watched<W>) -> Option<Watched<Self::Stream>>
         ensures accepts { accepts self.old (output_of W.contents said.now) result self.new }
         ensures unused { IfSome result IsUnused };
 
-    /// Closes a connection. The output is what was written before.
+    /// Closes a connection. `said` is the output written before.
     fn close<W: Write>(&mut self, connection: Watched<Self::Stream>, said: &Watched<W>)
         ensures { closes self.old (output_of W.contents said.now) connection self.new };
 }
@@ -50,27 +51,27 @@ impl Listener for TcpListener {
     }
 }
 
-/// The ports that residents connect to. Each call is a relation between the states of the ports; generic code can show one only by
-/// that call.
+/// The ports that residents connect to. Each call is a relation between the states of the ports; generic code can establish
+/// one only by making that call.
 pub trait Ports {
     ghost use Rattle.std.specs.Prelude.{ℕ, IfOk, OnErr, ⊤};
 
     type Socket: Listener;
 
-    /// Listening on this port gave this socket and led from the one state to the other.
+    /// Listening on this port returned this socket and led from the first state to the second.
     ghost listens: { Self → ℕ → Self.Socket → Self → Type 0 } = { λ _ _ _ _. ⊤ };
 
-    /// Listening on this port failed and led from the one state to the other.
+    /// Listening on this port failed and led from the first state to the second.
     ghost fails: { Self → ℕ → Self → Type 0 } = { λ _ _ _. ⊤ };
 
-    /// Closing this socket led from the one state to the other.
+    /// Closing this socket led from the first state to the second.
     ghost stops: { Self → Self.Socket → Self → Type 0 } = { λ _ _ _. ⊤ };
 
     /// Listens on a port.
     ///
     /// # Errors
     ///
-    /// `Unavailable` where the port can't be listened on.
+    /// `Unavailable` if it can't listen on the port.
     fn listen(&mut self, port: u16) -> Result<Self::Socket, Unavailable>
         ensures listening { IfOk result (λ socket. listens self.old port socket self.new) }
         ensures failed { OnErr result (fails self.old port self.new) };
@@ -80,15 +81,15 @@ pub trait Ports {
         ensures { stops self.old socket self.new };
 }
 
-/// The ports of 127.0.0.1, which no other machine reaches. It alone has the runtime, so that code which is generic in the ports
-/// reaches no others.
+/// The ports of 127.0.0.1, which no other machine can reach. Only this type holds the runtime, so code that is generic in
+/// the ports can't reach others.
 #[derive(Drop)]
 pub struct Loopback<'a> {
     rt: &'a HostRuntime,
 }
 
 impl<'a> Loopback<'a> {
-    /// The ports of 127.0.0.1, none of which is listened on.
+    /// The ports of 127.0.0.1, listening on none.
     pub fn new(rt: &'a HostRuntime) -> Self {
         Loopback { rt }
     }

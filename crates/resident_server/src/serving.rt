@@ -1,4 +1,4 @@
-//! Connections are met one after the other, and a resident is served on each.
+//! Accepts connections one after another and serves a resident on each.
 ghost use Rattle.std.specs.Prelude.{◌≡◌, IfOk, string_bytes};
 ghost use Rattle.room_types.specs.Streams.{output_of};
 ghost use Rattle.room_types.specs.Watched.{StopsAtFailure};
@@ -16,8 +16,8 @@ use sqlite::Alter;
 use std::alloc::{AllocError, Global};
 use std::io::Write;
 
-/// Listens on this port, serves residents as `serve_listener` does, and lets the listener go. Where the port can't be listened
-/// on, `unavailable` is said. Gives the exit status.
+/// Listens on this port, serves residents as `serve_listener` does, and closes the listener. If it can't listen on the
+/// port, it prints `unavailable`. Returns the exit status.
 pub fn serve_port<S: Alter, P: Ports, W: Write>(
     alloc: Global,
     desk: &mut Desk<S>,
@@ -45,9 +45,9 @@ pub fn serve_port<S: Alter, P: Ports, W: Write>(
     }
 }
 
-/// Says `listening on 127.0.0.1:PORT`, meets so many connections one after the other, and says `served COUNT` once the last of
-/// them is closed. Both lines are made first, so that memory is wanting before anybody is served or not at all. Where the first
-/// line can't be said, no connection is asked for. Gives the exit status.
+/// Prints `listening on 127.0.0.1:PORT`, accepts and serves `count` connections one after another, and prints `served
+/// COUNT` once the last one is closed. Both lines are allocated first, so an allocation for them fails before anybody is
+/// served or not at all. If the first line can't be printed, it accepts no connection. Returns the exit status.
 pub fn serve_listener<S: Alter, L: Listener, W: Write>(
     alloc: Global,
     desk: &mut Desk<S>,
@@ -71,8 +71,8 @@ pub fn serve_listener<S: Alter, L: Listener, W: Write>(
     say(output, lines.served.as_str(), ACCEPTED)
 }
 
-/// Meets so many connections one after the other, and serves the resident on each. A connection that could not be accepted
-/// counts. What was said is on the output.
+/// Accepts `count` connections one after another, and serves a resident on each. A connection that could not be accepted
+/// counts. `said` is the output written before.
 pub fn serve_each<S: Alter, L: Listener, W: Write>(
     alloc: Global,
     desk: &mut Desk<S>,
@@ -88,7 +88,7 @@ pub fn serve_each<S: Alter, L: Listener, W: Write>(
     }
 }
 
-// Meets one connection: the resident is served on it, if it could be accepted.
+// Accepts one connection and, if that succeeds, serves a resident on it and closes it.
 fn meet_one<S: Alter, L: Listener, W: Write>(
     alloc: Global,
     desk: &mut Desk<S>,
@@ -106,7 +106,7 @@ fn meet_one<S: Alter, L: Listener, W: Write>(
     listener.close(connection, said);
 }
 
-// What is said before and after.
+// The lines printed before and after.
 #[derive(Drop)]
 struct Lines {
     listening: String,

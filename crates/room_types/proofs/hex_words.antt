@@ -1,3 +1,3 @@
--- Lemmas on words of a draw, written in hexadecimal.
+-- Lemmas on the words of a draw in hexadecimal.
 pub mod Digits
 pub mod Words

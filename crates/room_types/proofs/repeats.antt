@@ -1,2 +1,2 @@
--- Lemmas on lists that name a room twice.
+-- Lemmas on lists that repeat a room.
 pub mod Repeats

@@ -1,2 +1,2 @@
--- Lemmas on the bytes that a watched device took and gave.
+-- Lemmas on the bytes that a monitored device reads and writes.
 pub mod Streams

@@ -5,29 +5,29 @@ use Rattle.std.specs.declared.cmp.Ordering.{Ordering}
 use Rattle.std.specs.Ordering.{is_gt}
 use Rattle.room_types.specs.Texts.{Text, text_cmp}
 
--- the same items, none below the one before it, and those that tie in the order in which they stood
+-- a stable sort: the same items, none below the one before it, and items that tie in their old order
 pub record IsArrangement {X : Type 0} (cmp : X → X → Ordering)
     (items arranged : List X) : Type 0 where
   pub same_items : IsPermutation items arranged
   pub ascends : IsSorted cmp arranged
   pub ties_stay : IsStable cmp items arranged
 
--- the item among items that ascend, after those that are below it
+-- inserts an item into a list that ascends, behind all items at the head that are below it
 abbrev pub placed : {X : Type 0} → (X → X → Ordering) → X → List X → List X
 placed cmp item [] = item ∷ []
 placed cmp item (first ∷ rest) =
     if is_gt (cmp item first) then first ∷ placed cmp item rest else item ∷ first ∷ rest
 
--- the items, each put in its place
+-- the items, sorted by insertion
 abbrev pub ascending : {X : Type 0} → (X → X → Ordering) → List X → List X
 ascending cmp [] = []
 ascending cmp (item ∷ items) = placed cmp item (ascending cmp items)
 
--- items have one arrangement, and it is the one that is computed
+-- items have exactly one arrangement, the one that `ascending` computes
 pub record HasOneArrangement {X : Type 0} (cmp : X → X → Ordering) (items : List X) : Type 0 where
   pub some : IsArrangement cmp items (ascending cmp items)
   pub one : (arranged : List X) → IsArrangement cmp items arranged → arranged ≡ ascending cmp items
 
--- the keys of the items ascend, and no two are the same
+-- the keys of the items strictly ascend
 abbrev pub AscendsBy : {X : Type 0} → (X → Text) → List X → Type 0
 AscendsBy key items = IsStrictlySortedBy text_cmp (map key items)

@@ -1,4 +1,4 @@
--- Lists of rooms, the best first.
+-- Preference lists: rooms, the best first.
 use Rattle.std.specs.Prelude.{◌≡◌, ◌≤◌, ℕ, List, [], length, nat_lt, Option, None, Some, if◌then◌else◌}
 use Rattle.std.specs.Option.{option_map}
 use Rattle.room_types.specs.Repeats.{first_repeated}
@@ -6,20 +6,20 @@ use Rattle.room_types.specs.Texts.{Text}
 use Rattle.room_types.specs.declared.fault.TypeFault.{TypeFault}
 use Rattle.room_types.specs.declared.fault.TypeFault.TheVariants.{TooManyChoices, RoomRepeated}
 
--- how many rooms a list may have
+-- how many rooms a list may have at most
 abbrev pub choice_limit : ℕ
 choice_limit = 40
 
--- not too many, and none twice
+-- at most `choice_limit` rooms, and none twice
 abbrev pub IsChoices : List Text → Type 0
 IsChoices codes = (length codes ≤ choice_limit) × (first_repeated [] codes ≡ None)
 
--- what a list is refused for
+-- why a list is refused: for too many rooms, or else for the first room that repeats one before it
 abbrev pub choices_fault : List Text → Option TypeFault
 choices_fault codes =
     if nat_lt choice_limit (length codes) then Some TooManyChoices
     else option_map (λ code. RoomRepeated code) (first_repeated [] codes)
 
--- a list is refused for a room that stands twice
+-- the list is refused for a room that it repeats
 abbrev pub RepeatsRoom : List Text → Type 0
 RepeatsRoom codes = (room : Text) × (choices_fault codes ≡ Some (RoomRepeated room))

@@ -1,4 +1,4 @@
--- What is printed of a fault.
+-- The texts of errors.
 use Rattle.std.specs.Prelude.{ℕ, List, codes}
 
 abbrev pub want_of_memory_text : List ℕ

@@ -1,17 +1,17 @@
--- What is seen of the readers and writers that are lent.
+-- What contracts see of borrowed readers and writers.
 use Rattle.std.specs.Prelude.{◌≡◌, ℕ, zero, suc, Bool, List, length, Option}
 use Rattle.std.specs.Io.KnownBytes.{Appends}
 use Rattle.room_types.specs.Watched.{watched_inner, watched_failed, watched_reads, watched_taken, watched_flushes, watched_pending, counted}
 use Rattle.room_types.specs.declared.watched.Watched.{Watched}
 
--- a reader: the bytes it has left, if it tells them, whether a call of it failed, and how often it was read
+-- a reader: the bytes left in it, if its type models them, whether a call failed, and the number of reads
 pub record Input : Type 0 where
   pub remaining : Option (List ℕ)
   pub failed : Bool
   pub reads : ℕ
 
--- a writer: the bytes it holds, if it tells them, whether a call of it failed, how many bytes it took, how often it was flushed,
--- and whether it took bytes since a flush last succeeded
+-- a writer: the bytes in it, if its type models them, whether a call failed, the number of bytes taken and of flushes, and
+-- whether it took bytes since a flush last succeeded
 pub record Output : Type 0 where
   pub contents : Option (List ℕ)
   pub failed : Bool
@@ -31,12 +31,12 @@ output_of contents w = record {
   pending = watched_pending w;
 }
 
--- the count of bytes after n more, up to the greatest number that fits
+-- the count after n more bytes, saturating at 2^64 - 1; no bytes leave it as it is
 abbrev pub count_after : ℕ → ℕ → ℕ
 count_after count zero = count
 count_after count (suc n) = counted count (suc n)
 
--- exactly these bytes went out
+-- exactly these bytes were appended, if the writer's type models its bytes, and `taken` counts them
 pub record Puts (before after : Output) (bytes : List ℕ) : Type 0 where
   pub written : Appends before.contents after.contents bytes
   pub taken : after.taken ≡ count_after before.taken (length bytes)

@@ -1,5 +1,6 @@
--- A watched reader or writer counts its reads, its flushes and the bytes it took. It remembers a failure, the end of its
--- input, and a wasted call. Its calls say that each is one call of the device (`Source`, `Sink`, `Stream`).
+-- A monitored reader or writer counts its reads, its flushes and the bytes that it took. It records a failure, the end of its
+-- input, a wasted call, and whether bytes wait for a flush. The contracts of its methods say that each is one call of the
+-- device (`Source`, `Sink`, `Stream`).
 use Rattle.std.specs.Prelude.{◌≡◌, ℕ, ◌+◌, ◌-◌, ◌^◌, min, Bool, true, false}
 use Rattle.std.specs.Prelude.{Result, Ok, Err, List, length, nat_lt, ◌&&◌, ◌==◌}
 use Rattle.room_types.specs.declared.watched.Watched.{Watched}
@@ -8,27 +9,27 @@ use Rattle.room_types.specs.declared.watched.Watched.{Watched}
 abbrev pub watched_inner : {T : Type 0} → Watched T → T
 watched_inner w = w.inner
 
--- whether it answered a failure
+-- whether a call failed
 abbrev pub watched_failed : {T : Type 0} → Watched T → Bool
 watched_failed w = w.failed
 
--- how often it was read, up to the greatest number that fits
+-- the number of reads, saturating at 2^64 - 1
 abbrev pub watched_reads : {T : Type 0} → Watched T → ℕ
 watched_reads w = w.reads
 
--- how many bytes it took, up to the greatest number that fits
+-- the number of bytes taken, saturating at 2^64 - 1
 abbrev pub watched_taken : {T : Type 0} → Watched T → ℕ
 watched_taken w = w.taken
 
--- how often it was flushed, up to the greatest number that fits
+-- the number of flushes, saturating at 2^64 - 1
 abbrev pub watched_flushes : {T : Type 0} → Watched T → ℕ
 watched_flushes w = w.flushes
 
--- whether it took bytes since the last flush that succeeded
+-- whether it took bytes since a flush last succeeded
 abbrev pub watched_pending : {T : Type 0} → Watched T → Bool
 watched_pending w = w.pending
 
--- whether a read found the end
+-- whether a read found the end of the input
 abbrev pub watched_ended : {T : Type 0} → Watched T → Bool
 watched_ended w = w.ended
 
@@ -36,7 +37,7 @@ watched_ended w = w.ended
 abbrev pub watched_wasted : {T : Type 0} → Watched T → Bool
 watched_wasted w = w.wasted
 
--- a count after n more
+-- a count after n more, saturating at 2^64 - 1
 abbrev pub counted : ℕ → ℕ → ℕ
 counted count n = min (count + n) (2 ^ 64 - 1)
 
@@ -45,12 +46,12 @@ abbrev pub is_failure : {A E : Type 0} → Result A E → Bool
 is_failure (Ok x) = false
 is_failure (Err e) = true
 
--- the write failed, or took none of at least one byte
+-- the write failed, or took nothing of a buffer that is not empty
 abbrev pub is_failed_write : {E : Type 0} → List ℕ → Result ℕ E → Bool
 is_failed_write buf (Ok n) = nat_lt 0 (length buf) && n == 0
 is_failed_write buf (Err e) = true
 
--- the count of bytes after a write
+-- the number of bytes taken, after a write
 abbrev pub taken_after : {E : Type 0} → ℕ → Result ℕ E → ℕ
 taken_after taken (Ok n) = counted taken n
 taken_after taken (Err e) = taken
@@ -60,7 +61,7 @@ abbrev pub has_taken : {E : Type 0} → Result ℕ E → Bool
 has_taken (Ok n) = nat_lt 0 n
 has_taken (Err e) = false
 
--- the read found the end: it gave nothing, though there was room
+-- the read found the end: it returned 0, although its buffer is not empty
 abbrev pub is_end : {E : Type 0} → List ℕ → Result ℕ E → Bool
 is_end buf (Ok n) = nat_lt 0 (length buf) && n == 0
 is_end buf (Err e) = false
@@ -69,16 +70,17 @@ is_end buf (Err e) = false
 abbrev pub has_no_room : List ℕ → Bool
 has_no_room buf = length buf == 0
 
--- No call of a writer that had not failed was wasted: none came after a failure, and no write had an empty buffer.
+-- Unless the writer had already failed, its `wasted` flag is unchanged. So where the flag was false, no call came after a
+-- failure, and no write had an empty buffer.
 abbrev pub StopsAtFailure : {T : Type 0} → Watched T → Watched T → Type 0
 StopsAtFailure old new = watched_failed old ≡ false → watched_wasted new ≡ watched_wasted old
 
--- No call of a reader that had met neither a failure nor its end was wasted: none came after them, and no read had an empty
--- buffer.
+-- Unless the reader had already failed or ended, its `wasted` flag is unchanged. So where the flag was false, no call came
+-- after a failure or after the end, and no read had an empty buffer.
 abbrev pub StopsAtEnd : {T : Type 0} → Watched T → Watched T → Type 0
 StopsAtEnd old new = watched_failed old ≡ false → watched_ended old ≡ false → watched_wasted new ≡ watched_wasted old
 
--- It neither failed nor was read, and so has not ended.
+-- nothing has failed, nothing was read, and no read found the end
 pub record IsFresh {T : Type 0} (w : Watched T) : Type 0 where
   pub failed : w.failed ≡ false
   pub reads : w.reads ≡ 0

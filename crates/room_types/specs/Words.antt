@@ -1,30 +1,30 @@
--- Words, as sixteen hexadecimal digits.
+-- Words: 64-bit numbers as sixteen hexadecimal digits.
 use Rattle.std.specs.Prelude.{ℕ, ◌+◌, ◌*◌, ◌-◌, ◌++◌, eqb, false, List, [], ◌∷◌, length, replicate}
 use Rattle.std.specs.Prelude.{Option, None, Some, if◌then◌else◌}
 use Rattle.std.specs.Int.{is_in_range}
 use Rattle.std.specs.Fmt.{digits}
 
--- how many digits a word has
+-- the number of digits of a word
 abbrev pub word_digits : ℕ
 word_digits = 16
 
--- the value of a digit of either case
+-- the value of a hexadecimal digit, in either case
 abbrev pub hex_digit : ℕ → Option ℕ
 hex_digit byte =
     if is_in_range 48 57 byte then Some (byte - 48)
     else (if is_in_range 97 102 byte then Some (byte - 87)
     else (if is_in_range 65 70 byte then Some (byte - 55) else None))
 
--- the value of the digits after those of `value`
+-- the number that these digits spell, when they continue `value`
 abbrev pub hex_value : ℕ → List ℕ → Option ℕ
 hex_value value [] = Some value
 hex_value value (byte ∷ bytes) =
     elim (hex_digit byte) [ None ↦ None | Some digit ↦ hex_value (value * 16 + digit) bytes ]
 
--- the word of exactly sixteen digits
+-- the word that exactly sixteen digits spell
 abbrev pub word_of : List ℕ → Option ℕ
 word_of text = if eqb (length text) word_digits then hex_value 0 text else None
 
--- the digits of a word in lower case, with zeros before them up to sixteen
+-- a word as sixteen digits in lower case, padded with zeros
 abbrev pub word_text : ℕ → List ℕ
 word_text word = replicate (word_digits - length (digits 16 false word)) 48 ++ digits 16 false word

@@ -1,4 +1,4 @@
-//! Lists of rooms, the best first.
+//! Preference lists: rooms, the best first.
 ghost use Rattle.std.specs.Prelude.{◌≡◌, None, Some, ◌⊎◌, MatchResult, IfOk, OnErr, [], ◌<◌, length};
 ghost use Rattle.std.specs.Option.{option_copied};
 ghost use Rattle.room_types.specs.Repeats.{first_repeated};
@@ -10,10 +10,10 @@ use crate::table::Copied;
 use std::alloc::{AllocError, Global};
 use std::marker::Model;
 
-/// How many rooms a list may have.
+/// The greatest number of rooms on a list.
 pub const CHOICE_LIMIT: usize = 40;
 
-/// The rooms that a person lists, the best first: at most `CHOICE_LIMIT`, all different.
+/// A person's preference list: rooms, the best first, at most `CHOICE_LIMIT` and all different.
 #[derive(Debug, Drop)]
 pub struct Choices {
     codes: Vec<RoomCode>,
@@ -31,9 +31,12 @@ impl Model for Choices {
 }
 
 impl Choices {
-    /// The list of these rooms: `TooManyChoices` where there are more than `CHOICE_LIMIT`, and else
-    /// `RoomRepeated` with the first code that also stands before its place. Memory is taken for a copy of that
-    /// code alone.
+    /// Makes the list of these rooms. Allocates only to copy a repeated code.
+    ///
+    /// # Errors
+    ///
+    /// `TooManyChoices` if there are more than `CHOICE_LIMIT` rooms; otherwise `RoomRepeated` with the first code that also
+    /// occurs before its place, or `OutOfMemory` if that code cannot be copied.
     pub fn read(codes: Vec<RoomCode>) -> Result<Choices, TypeFault>
         ensures { MatchResult result
             (λ value. (value ≡ codes.items) × (choices_fault codes.items ≡ None))
@@ -52,7 +55,7 @@ impl Choices {
         Ok(Choices { codes })
     }
 
-    /// An equal list. The empty one takes no memory.
+    /// Copies the list. Does not allocate if it is empty.
     pub fn copy(&self) -> Result<Self, OutOfMemory>
         ensures copy { IfOk result (λ copy. copy ≡ self.now) }
         ensures memory { OnErr result (0 < length self.now) }
@@ -61,7 +64,7 @@ impl Choices {
         Ok(Choices { codes: copy })
     }
 
-    /// The rooms, the best first.
+    /// Returns the rooms, the best first.
     pub fn as_slice(&self) -> &[RoomCode]
         ensures rooms { result.now ≡ self.now }
         ensures choices { IsChoices self.now }
@@ -73,7 +76,7 @@ impl Choices {
 impl Clone for Choices {
     ghost is_clone = { λ x y. y ≡ x };
 
-    // The empty list takes no memory.
+    // An empty list does not allocate.
     fn clone(&self) -> Result<Self, AllocError>
         ensures copy { IfOk result (λ copy. copy ≡ self.now) }
         ensures memory { OnErr result (0 < length self.now) }
@@ -87,7 +90,7 @@ impl Copied for Choices {
     ghost same = { λ x y h. h };
 }
 
-// The first code that also stands before its place. A list is short, so each place looks back over it.
+// Returns the first code that also occurs before its place. Takes quadratic time: lists are short.
 fn first_repeated(codes: &[RoomCode]) -> Option<&RoomCode>
     ensures { option_copied result ≡ first_repeated [] codes.now }
 {
@@ -99,7 +102,7 @@ fn first_repeated(codes: &[RoomCode]) -> Option<&RoomCode>
     None
 }
 
-// A copy of each code, in order. No codes take no memory.
+// Copies the codes, in order. Does not allocate if there are none.
 fn copied(alloc: Global, codes: &[RoomCode]) -> Result<Vec<RoomCode>, AllocError>
     ensures copies { IfOk result (λ copies. copies.items ≡ codes.now) }
     ensures memory { OnErr result (0 < length codes.now) }

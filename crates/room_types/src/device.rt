@@ -1,4 +1,4 @@
-//! Devices that are read and written, with a word for each call of them.
+//! Readers and writers whose single calls contracts can name.
 ghost use Rattle.std.specs.Prelude.{ℕ, List, Result, ⊤};
 ghost use Rattle.std.specs.Io.{ReadsAtMost, WritesAtMost};
 ghost use Rattle.std.specs.Io.KnownBytes.{Keeps, ReadConsumes, WriteAppends};
@@ -6,13 +6,13 @@ ghost use Rattle.std.specs.declared.io.Error.{Error};
 
 use std::io::{Read, Result, Write};
 
-/// A reader each of whose reads is a relation between its states. `Read` has no word for that it was called; generic code can
-/// show `reads` only by one call.
+/// A reader that relates the states before and after each read. The contract of `Read` cannot say that a read was made;
+/// generic code can establish `reads` only by one call of `read_once`.
 pub trait Source: Read {
-    /// One read of a buffer that held the first bytes left the second in it, had this result, and led from the one state to the other.
+    /// One read, given the buffer before and after it, returned this result and led from the first state to the last.
     ghost reads: { Self → List ℕ → List ℕ → Result ℕ Error → Self → Type 0 };
 
-    /// `read`, once.
+    /// Calls `read` once.
     fn read_once(&mut self, buf: &mut [u8]) -> Result<usize>
         ensures bound { ReadsAtMost result buf.new }
         ensures bytes { ReadConsumes (Self.remaining self.old) (Self.remaining self.new) result
@@ -28,23 +28,23 @@ impl<R: Read> Source for R {
     }
 }
 
-/// A writer each of whose writes and flushes is a relation between its states. `Write` has no word for that it was called;
-/// generic code can show `writes` and `flushes` only by one call.
+/// A writer that relates the states before and after each write and each flush. The contract of `Write` cannot say that a
+/// call was made; generic code can establish `writes` and `flushes` only by one call of `write_once` or `flush_once`.
 pub trait Sink: Write {
-    /// One write of these bytes had this result and led from the one state to the other.
+    /// One write of these bytes returned this result and led from the first state to the last.
     ghost writes: { Self → List ℕ → Result ℕ Error → Self → Type 0 };
 
-    /// One flush had this result and led from the one state to the other.
+    /// One flush returned this result and led from the first state to the last.
     ghost flushes: { Self → Result ⊤ Error → Self → Type 0 };
 
-    /// `write`, once.
+    /// Calls `write` once.
     fn write_once(&mut self, buf: &[u8]) -> Result<usize>
         ensures bound { WritesAtMost result buf.now }
         ensures bytes { WriteAppends (Self.contents self.old) (Self.contents self.new) result
             buf.now }
         ensures called { writes self.old buf.now result self.new };
 
-    /// `flush`, once.
+    /// Calls `flush` once.
     fn flush_once(&mut self) -> Result<()>
         ensures bytes { Keeps (Self.contents self.old) (Self.contents self.new) }
         ensures called { flushes self.old result self.new };

@@ -1,4 +1,4 @@
-//! Why a value was not made.
+//! Errors of the small types.
 ghost use Rattle.std.specs.Prelude.{◌≡◌, Some};
 ghost use Rattle.room_types.specs.Faults.{want_of_memory_text};
 
@@ -7,7 +7,7 @@ use std::alloc::{AllocError, AllocFailed};
 use std::error::Error;
 use std::fmt;
 
-/// Memory was asked for and refused. Whatever was lent for writing is as before.
+/// An allocation failed. Arguments that were borrowed mutably are unchanged, unless the call says otherwise.
 #[derive(Clone, Copy, Debug, PartialEq, Eq)]
 pub struct OutOfMemory {}
 
@@ -33,16 +33,16 @@ impl fmt::Display for OutOfMemory {
 
 impl Error for OutOfMemory {}
 
-/// Why a text, a word or a list of rooms was not read.
+/// Why a text, a word, a grade or a list of rooms could not be read.
 #[derive(Debug, PartialEq, Eq, Drop)]
 pub enum TypeFault {
     /// The text is not in the grammar of its type.
     BadValue,
-    /// Memory was refused.
+    /// An allocation failed.
     OutOfMemory,
-    /// A list has more rooms than `CHOICE_LIMIT`.
+    /// The list has more rooms than `CHOICE_LIMIT`.
     TooManyChoices,
-    /// The first room of a list that also stands before its place.
+    /// The first room of the list that also occurs before its place.
     RoomRepeated(RoomCode),
 }
 

@@ -1,4 +1,4 @@
-//! Grades, by which the office lets some people stand before others in the drawn order.
+//! Grades: priority classes in the drawn order.
 ghost use Rattle.std.specs.Prelude.{◌≡◌, ◌≤◌, None, Some, IfSome, MatchOption, MatchResult};
 ghost use Rattle.std.specs.Bool.{Decides};
 ghost use Rattle.room_types.specs.Grades.{grade_limit, grade_of, grade_text};
@@ -11,7 +11,7 @@ use std::marker::Model;
 /// The greatest grade.
 pub const GRADE_LIMIT: u8 = 9;
 
-/// A grade from 0 to `GRADE_LIMIT`. A smaller one stands earlier in the drawn order. It is compared by value.
+/// A grade from 0 to `GRADE_LIMIT`. People with a smaller grade come earlier in the drawn order. Grades compare by value.
 #[derive(Clone, Copy, Debug, PartialEq, Eq, PartialOrd, Ord)]
 pub struct Grade {
     value: u8,
@@ -31,14 +31,14 @@ impl Model for Grade {
 }
 
 impl Grade {
-    /// Grade 0, which everybody has to whom the office gives no other.
+    /// Returns grade 0, which a person has unless the office sets another.
     pub fn first() -> Grade
         ensures { result ≡ 0 }
     {
         Grade { value: 0 }
     }
 
-    /// The grade of this value, or none above `GRADE_LIMIT`.
+    /// Returns the grade of this value, or `None` above `GRADE_LIMIT`.
     pub fn new(value: u8) -> Option<Grade>
         ensures { MatchOption result (¬ (value ≤ grade_limit)) (λ grade. grade ≡ value) }
     {
@@ -49,7 +49,11 @@ impl Grade {
         }
     }
 
-    /// The grade of exactly one decimal digit, and `BadValue` for any other text. It takes no memory.
+    /// Parses a grade of exactly one decimal digit. Does not allocate.
+    ///
+    /// # Errors
+    ///
+    /// `BadValue` for any other text.
     pub fn read(text: &str) -> Result<Grade, TypeFault>
         ensures { MatchResult result (λ grade. grade_of text.now ≡ Some grade)
             (λ fault. (fault ≡ TypeFault.BadValue) × (grade_of text.now ≡ None)) }
@@ -62,7 +66,7 @@ impl Grade {
         }
     }
 
-    /// The number itself.
+    /// Returns the grade as a number.
     pub fn value(self) -> u8
         ensures value { result ≡ self }
         ensures within { result ≤ grade_limit }
@@ -70,7 +74,7 @@ impl Grade {
         self.value
     }
 
-    /// Whether it is grade 0.
+    /// Returns whether this is grade 0.
     pub fn is_first(self) -> bool
         ensures { Decides result (self ≡ 0) }
     {
@@ -82,7 +86,7 @@ impl Copied for Grade {
     ghost same = { λ x y h. h };
 }
 
-/// One decimal digit.
+/// Prints one decimal digit.
 impl fmt::Display for Grade {
     ghost output = { λ grade. Some (grade_text grade) };
 

@@ -16,16 +16,16 @@ pub type RoomCode = Text<RoomCodes>;
 /// The identifier of a person.
 pub type PersonId = Text<PersonIds>;
 
-/// The key by which a person's own requests are known: the office gives it out, and it is kept secret.
+/// The secret key by which the program knows a person's own requests. The office gives it out.
 pub type Key = Text<Keys>;
 
-/// The label under which the office imports a list, once.
+/// The label of an imported list. The office imports a list once under its label.
 pub type Label = Text<Labels>;
 
-/// A person's name, as it is shown.
+/// A person's name, as it is printed.
 pub type Name = Text<Names>;
 
-/// The grammar of room codes: 1 to 8 of A-Z, 0-9 and hyphens, the first no hyphen.
+/// The grammar of room codes: 1 to 8 of A-Z, 0-9 and hyphens, not beginning with a hyphen.
 #[derive(Drop)]
 pub struct RoomCodes {}
 
@@ -37,12 +37,12 @@ pub struct PersonIds {}
 #[derive(Drop)]
 pub struct Keys {}
 
-/// The grammar of labels: 1 to 32 of a-z, 0-9 and hyphens, the first no hyphen.
+/// The grammar of labels: 1 to 32 of a-z, 0-9 and hyphens, not beginning with a hyphen.
 #[derive(Drop)]
 pub struct Labels {}
 
-/// The grammar of names: 1 to 60 bytes of UTF-8 without control characters (U+0000 to U+001F, U+007F to U+009F),
-/// a space at an end, or two spaces in a row.
+/// The grammar of names: 1 to 60 bytes of UTF-8 without control characters (U+0000 to U+001F, U+007F to U+009F), without a
+/// space at either end, and without two spaces in a row.
 #[derive(Drop)]
 pub struct Names {}
 
@@ -86,14 +86,14 @@ impl Grammar for Names {
     }
 }
 
-// Whether a text has so many bytes.
+// Returns whether the length of a text, in bytes, is from `least` to `most`.
 fn has_length(text: &str, least: usize, most: usize) -> bool
     ensures { result ≡ is_in_range least most (length text.now) }
 {
     least <= text.len() && text.len() <= most
 }
 
-// Whether a text begins with no hyphen.
+// Returns whether a text does not begin with a hyphen.
 fn starts_plainly(text: &str) -> bool
     ensures { result ≡ starts_plainly text.now }
 {
@@ -131,7 +131,7 @@ fn has_label_bytes(text: &str) -> bool
     text.as_bytes().iter().all(|b| b.is_ascii_lowercase() || b.is_ascii_digit() || *b == b'-')
 }
 
-// Whether a text has no space at an end and no two in a row.
+// Returns whether a text is not empty and has no space at either end and no two in a row.
 fn is_spaced(text: &str) -> bool
     ensures { result ≡ is_spaced true text.now }
 {

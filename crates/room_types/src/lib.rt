@@ -1,4 +1,4 @@
-//! The small types of a college's room exchange: texts, words, grades, lists of rooms, maps, and streams that are watched.
+//! The small types of a college's room exchange: texts, words, grades, preference lists, maps, and monitored streams.
 #![tactic(auto)]
 
 pub mod choices;

@@ -1,4 +1,4 @@
-//! Moves from one room to another after a round.
+//! Moves of people after a round.
 ghost use Rattle.std.specs.Prelude.{◌≡◌, IfOk};
 
 use crate::fault::OutOfMemory;
@@ -10,28 +10,28 @@ use std::alloc::AllocError;
 /// When a move takes place on the day of moving.
 #[derive(Clone, Copy, Debug, PartialEq, Eq, Drop)]
 pub enum Wave {
-    /// The movers pass their rooms round in a circle, so that none can be the first.
+    /// A swap: people move in a cycle, each into the room that the next one leaves, so that nobody can move first.
     Swap,
-    /// Wave 0 leaves the college. The first wave moves into rooms that nobody leaves, or that wave 0 has left, and each
-    /// further one into rooms that the wave before has left.
+    /// A numbered wave. Wave 0 leaves the college. Wave 1 moves into rooms that nobody leaves or that wave 0 leaves, and
+    /// each later wave into rooms that the wave before it leaves.
     Nth(u16),
 }
 
-/// That a person has moved after a round.
+/// A person's move after a round.
 #[derive(Debug, Drop)]
 pub struct Move {
     /// The number of the round, from 1.
     pub round: u16,
     pub person: PersonId,
-    /// The old room, or none for a newcomer.
+    /// The old room, or `None` for a newcomer.
     pub from: Option<RoomCode>,
-    /// The new room, or none for somebody who leaves the college.
+    /// The new room, or `None` for a person who leaves the college.
     pub to: Option<RoomCode>,
     pub wave: Wave,
 }
 
 impl Move {
-    /// An equal move.
+    /// Copies the move.
     pub fn copy(&self) -> Result<Move, OutOfMemory>
         ensures { IfOk result (λ copy. copy ≡ self.now) }
     {

@@ -1,28 +1,28 @@
-//! How far a round has come.
+//! The phases of a round.
 ghost use Rattle.std.specs.Prelude.{◌≡◌, Some};
 ghost use Rattle.room_types.specs.Phases.{phase_text};
 
 use std::fmt;
 
-/// How far a round has come. The phases follow one another in this order, and then `Idle` comes again.
+/// The phase of a round. Phases follow one another in this order, and `Idle` comes after `Published`.
 #[derive(Clone, Copy, Debug, PartialEq, Eq, Drop)]
 pub enum Phase {
     /// No round is under way.
     Idle,
-    /// People list rooms, or withdraw.
+    /// People hand in lists of rooms, or withdraw.
     Opened,
     /// The lists are final, and the participants are known.
     Closed,
-    /// Each participant has a word, and so a place in the order.
+    /// Each participant has a word, and so a place in the drawn order.
     Drawn,
-    /// The results are there, and only the office sees them.
+    /// The results are computed, and only the office sees them.
     Ran,
-    /// Each participant sees their result.
+    /// Each participant sees their own result.
     Published,
 }
 
 impl Phase {
-    /// The phase as it is printed.
+    /// Returns the phase as it is printed.
     pub fn as_str(self) -> &'static str
         ensures { result.now ≡ phase_text self }
     {

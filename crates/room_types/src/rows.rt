@@ -1,4 +1,4 @@
-//! The rows of replies and tables.
+//! The rows of replies, text tables and exports.
 ghost use Rattle.std.specs.Prelude.{◌≡◌, IfOk, IsSome, OnErr, Some};
 ghost use Rattle.room_types.specs.Rows.{state_text};
 
@@ -20,7 +20,7 @@ pub enum State {
 }
 
 impl State {
-    /// The state as it is printed.
+    /// Returns the state as it is printed.
     pub fn as_str(self) -> &'static str
         ensures { result.now ≡ state_text self }
     {
@@ -40,7 +40,7 @@ impl fmt::Display for State {
     }
 }
 
-/// A room, whether it is in use, and who lives there.
+/// A room with its state and its tenant.
 #[derive(Debug, Drop)]
 pub struct RoomRow {
     pub room: RoomCode,
@@ -48,7 +48,7 @@ pub struct RoomRow {
     pub tenant: Option<PersonId>,
 }
 
-/// A person, without the key.
+/// A person with their home, without the key.
 #[derive(Debug, Drop)]
 pub struct PersonRow {
     pub person: PersonId,
@@ -63,15 +63,15 @@ pub struct GradeRow {
     pub grade: Grade,
 }
 
-/// What a participant of a round gets.
+/// A participant's result in a round.
 #[derive(Debug, Drop)]
 pub struct ResultRow {
     pub person: PersonId,
-    /// The room, or none for no room.
+    /// The room that the participant gets, or `None`.
     pub room: Option<RoomCode>,
 }
 
-/// A copy of a text, where there is one. None takes no memory.
+/// Copies a text, if there is one. Does not allocate for `None`.
 pub fn copy_optional<G: Grammar>(text: &Option<Text<G>>) -> Result<Option<Text<G>>, AllocError>
     ensures copy { IfOk result (λ copy. copy ≡ text.now) }
     ensures memory { OnErr result (IsSome text.now) }

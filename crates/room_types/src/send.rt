@@ -1,4 +1,4 @@
-//! A text, sent to a watched writer.
+//! Writing a whole text to a monitored writer.
 ghost use Rattle.std.specs.Prelude.{◌≡◌, ◌<◌, length, take, OnOk, OnErr, true, IfErr};
 ghost use Rattle.room_types.specs.Watched.{watched_failed, watched_flushes, StopsAtFailure};
 ghost use Rattle.room_types.specs.Streams.{Puts, output_of};
@@ -6,7 +6,12 @@ ghost use Rattle.room_types.specs.Streams.{Puts, output_of};
 use crate::watched::Watched;
 use std::io::Write;
 
-/// Writes the whole text, or says how many bytes of it went out before a write failed. A write that takes none has failed.
+/// Writes the whole text. Does not flush.
+///
+/// # Errors
+///
+/// The number of bytes that were written before a write failed, or took nothing. It is less than the length of the text,
+/// and nothing is written after that.
 pub fn send<W: Write>(output: &mut Watched<W>, text: &[u8]) -> Result<(), usize>
     ensures sent { OnOk result
         (Puts (output_of W.contents output.old) (output_of W.contents output.new) text.now) }
@@ -19,7 +24,7 @@ pub fn send<W: Write>(output: &mut Watched<W>, text: &[u8]) -> Result<(), usize>
     ensures flushes { watched_flushes output.new ≡ watched_flushes output.old }
     ensures stops { StopsAtFailure output.old output.new }
 {
-    // Once it was read, the count is known to fit.
+    // Reading the count tells the prover that it fits in 64 bits.
     let _taken = output.taken();
     let mut sent = 0;
     while sent < text.len() {

@@ -1,4 +1,4 @@
-//! Streams that are read and written, where neither disturbs the other.
+//! Streams whose reads do not disturb their writes, nor the writes their reads.
 ghost use Rattle.std.specs.Prelude.{◌≡◌, ℕ, List, Result, ⊤};
 ghost use Rattle.std.specs.Io.{ReadsAtMost, WritesAtMost};
 ghost use Rattle.std.specs.Io.KnownBytes.{Keeps, ReadConsumes, WriteAppends};
@@ -8,19 +8,20 @@ use crate::device::{Sink, Source};
 use std::io::{Read, Result, Write};
 use std::net::TcpStream;
 
-/// A reader and writer in one. `Read` alone says nothing of what was written, and `Write` nothing of what is left to read; here a
-/// read keeps the one and a write the other. As with `Source` and `Sink`, each call is a relation between the states of the stream.
+/// A reader and a writer in one. The contract of `Read` says nothing about the bytes written, and that of `Write` nothing
+/// about the bytes left to read. Here a read keeps the former, and a write or a flush the latter. As in `Source` and
+/// `Sink`, each call relates the states of the stream before and after it.
 pub trait Stream: Read + Write {
-    /// One read of a buffer that held the first bytes left the second in it, had this result, and led from the one state to the other.
+    /// One read, given the buffer before and after it, returned this result and led from the first state to the last.
     ghost reads: { Self → List ℕ → List ℕ → Result ℕ Error → Self → Type 0 };
 
-    /// One write of these bytes had this result and led from the one state to the other.
+    /// One write of these bytes returned this result and led from the first state to the last.
     ghost writes: { Self → List ℕ → Result ℕ Error → Self → Type 0 };
 
-    /// One flush had this result and led from the one state to the other.
+    /// One flush returned this result and led from the first state to the last.
     ghost flushes: { Self → Result ⊤ Error → Self → Type 0 };
 
-    /// `read`, which keeps what was written.
+    /// Calls `read`, which leaves the bytes written unchanged.
     fn read_some(&mut self, buf: &mut [u8]) -> Result<usize>
         ensures bound { ReadsAtMost result buf.new }
         ensures bytes { ReadConsumes (Self.remaining self.old) (Self.remaining self.new) result
@@ -28,7 +29,7 @@ pub trait Stream: Read + Write {
         ensures kept { Keeps (Self.contents self.old) (Self.contents self.new) }
         ensures called { reads self.old buf.old buf.new result self.new };
 
-    /// `write`, which keeps what is left to read.
+    /// Calls `write`, which leaves the bytes left to read unchanged.
     fn write_some(&mut self, buf: &[u8]) -> Result<usize>
         ensures bound { WritesAtMost result buf.now }
         ensures bytes { WriteAppends (Self.contents self.old) (Self.contents self.new) result
@@ -36,7 +37,7 @@ pub trait Stream: Read + Write {
         ensures kept { Keeps (Self.remaining self.old) (Self.remaining self.new) }
         ensures called { writes self.old buf.now result self.new };
 
-    /// `flush`, which keeps what was written and what is left to read.
+    /// Calls `flush`, which leaves the bytes written and the bytes left to read unchanged.
     fn flush_all(&mut self) -> Result<()>
         ensures bytes { Keeps (Self.contents self.old) (Self.contents self.new) }
         ensures kept { Keeps (Self.remaining self.old) (Self.remaining self.new) }
@@ -63,7 +64,7 @@ impl Stream for TcpStream {
     }
 }
 
-/// A stream of a reader and a writer, side by side.
+/// A stream that joins a reader and a writer.
 #[derive(Drop)]
 pub struct Pair<R, W> {
     pub reader: R,

@@ -1,4 +1,4 @@
-//! Maps from texts of one grammar.
+//! Maps whose keys are texts of one grammar.
 ghost use Rattle.std.specs.Prelude.{◌≡◌, None, OnOk, OnErr, IfOk, List, ℕ, ◌<◌, ◌^◌};
 ghost use Rattle.std.specs.Option.{option_copied};
 ghost use Rattle.std.specs.FinMap as map;
@@ -12,7 +12,7 @@ use std::collections::BTreeMap;
 use std::collections::btree_map::Iter;
 use std::marker::Model;
 
-/// Values whose clones are equal to them, which `Clone` alone does not say.
+/// Types whose clones are equal to the original, which `Clone` alone does not promise.
 pub trait Copied: Clone {
     ghost same: { (x y : Self) → Self.is_clone x y → y ≡ x };
 }
@@ -25,7 +25,7 @@ impl Copied for () {
     ghost same = { λ x y h. h };
 }
 
-/// A map from texts of the grammar G. Contracts see it as a finite map; look-ups are logarithmic.
+/// A map from texts of the grammar G. Contracts see it as a finite map. A look-up takes logarithmic time.
 #[derive(Drop)]
 pub struct Table<G: Grammar, V> {
     alloc: Global,
@@ -45,7 +45,7 @@ impl<G: Grammar, V> Model for Table<G, V> {
 }
 
 impl<G: Grammar, V> Table<G, V> {
-    /// The map with no entries.
+    /// Makes an empty map. Does not allocate.
     pub fn new(alloc: Global) -> Self
         ensures { result ≡ map.empty }
     {
@@ -55,28 +55,28 @@ impl<G: Grammar, V> Table<G, V> {
         }
     }
 
-    /// The value of the key, where it has one.
+    /// Returns the value of the key, if the map contains it.
     pub fn get(&self, key: &Text<G>) -> Option<&V>
         ensures { option_copied result ≡ map.get self.now key.now }
     {
         self.tree.get(key)
     }
 
-    /// Whether the key has a value.
+    /// Returns whether the map contains the key.
     pub fn contains_key(&self, key: &Text<G>) -> bool
         ensures { result ≡ map.contains_key self.now key.now }
     {
         self.get(key).is_some()
     }
 
-    /// How many keys have a value.
+    /// Returns the number of keys.
     pub fn len(&self) -> usize
         ensures { result ≡ map.len self.now }
     {
         self.tree.len()
     }
 
-    /// The entries, by ascending key, in linear time.
+    /// Iterates over the entries by ascending key, in linear time.
     pub fn iter(&self) -> Iter<'_, Text<G>, V>
         ensures rest { result ≡ map.entries self.now }
         ensures runs { ShowsInOrder (deref_pair {K = List ℕ} {X = V}) }
@@ -88,8 +88,11 @@ impl<G: Grammar, V> Table<G, V> {
 }
 
 impl<G: Grammar, V: Drop> Table<G, V> {
-    /// Gives the key this value in place of any other. Memory is taken for a new key alone; where it is refused the
-    /// map is as before.
+    /// Sets the key's value and drops any old one. Allocates only for a new key.
+    ///
+    /// # Errors
+    ///
+    /// `OutOfMemory` if the allocation fails. The key is then not in the map, and the map is unchanged.
     pub fn insert(&mut self, key: Text<G>, value: V) -> Result<(), OutOfMemory>
         ensures ok { OnOk result (self.new ≡ map.insert self.old key value) }
         ensures err { OnErr result (self.new ≡ self.old) }
@@ -99,14 +102,14 @@ impl<G: Grammar, V: Drop> Table<G, V> {
         Ok(())
     }
 
-    /// Takes the key and its value out, if it is there.
+    /// Removes the key and its value, if the map contains it.
     pub fn remove(&mut self, key: &Text<G>)
         ensures { self.new ≡ map.remove self.old key.now }
     {
         let _ = self.tree.remove(key);
     }
 
-    /// Takes the key and its value out, and gives the value, if it is there.
+    /// Removes the key and returns its value, if the map contains it.
     pub fn take(&mut self, key: &Text<G>) -> Option<V>
         ensures value { result ≡ map.get self.old key.now }
         ensures gone { self.new ≡ map.remove self.old key.now }
@@ -114,7 +117,7 @@ impl<G: Grammar, V: Drop> Table<G, V> {
         self.tree.remove(key)
     }
 
-    /// Takes out all entries.
+    /// Removes all entries.
     pub fn clear(&mut self)
         ensures { self.new ≡ map.empty }
     {
@@ -123,7 +126,7 @@ impl<G: Grammar, V: Drop> Table<G, V> {
 }
 
 impl<G: Grammar, V: Copied> Table<G, V> {
-    /// An equal map. The empty one takes no memory.
+    /// Copies the map. Does not allocate if it is empty.
     pub fn copy(&self) -> Result<Self, OutOfMemory>
         ensures copy { IfOk result (λ copy. copy ≡ self.now) }
         ensures memory { OnErr result (0 < map.len self.now) }

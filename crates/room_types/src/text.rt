@@ -1,4 +1,4 @@
-//! Texts of one grammar each.
+//! Types of texts, each with a grammar.
 ghost use Rattle.std.specs.Prelude.{◌≡◌, List, ℕ, Bool, true, false, IfOk, IfErr, ◌⊎◌, refl, Some};
 ghost use Rattle.std.specs.Cmp.Lexicographic.{nat_list_cmp_total, nat_list_eq_equiv, texts_po, texts_ties};
 ghost use Rattle.std.specs.Cmp.{partial_equiv_from_equiv};
@@ -10,16 +10,16 @@ use std::cmp::Ordering;
 use std::fmt;
 use std::marker::{Model, PhantomData};
 
-/// Which texts a type has.
+/// The grammar of a type of texts.
 pub trait Grammar {
     ghost is_text: { List ℕ → Bool };
 
-    /// Whether the text is in the grammar. It takes no memory.
+    /// Returns whether the text is in the grammar. Does not allocate.
     fn is_text(text: &str) -> bool
         ensures { result ≡ is_text text.now };
 }
 
-/// A text of the grammar G. Contracts see it as its bytes, and it is compared by them.
+/// A text of the grammar G. Contracts see it as its bytes, and texts compare by their bytes.
 #[derive(Drop)]
 pub struct Text<G: Grammar> {
     text: String,
@@ -38,8 +38,11 @@ impl<G: Grammar> Model for Text<G> {
 }
 
 impl<G: Grammar> Text<G> {
-    /// The value that this text spells, and `BadValue` where the text is not in the grammar. Memory is taken for
-    /// a text of the grammar alone.
+    /// Makes the value of this text. Allocates only if the text is in the grammar.
+    ///
+    /// # Errors
+    ///
+    /// `BadValue` if the text is not in the grammar, and `OutOfMemory` if the allocation fails.
     pub fn read(alloc: Global, text: &str) -> Result<Self, TypeFault>
         ensures value { IfOk result (λ value. value ≡ text.now) }
         ensures in_grammar { IfOk result (λ _. G.is_text text.now ≡ true) }
@@ -57,7 +60,7 @@ impl<G: Grammar> Text<G> {
         })
     }
 
-    /// The text itself, which is in the grammar.
+    /// Returns the text, which is in the grammar.
     pub fn as_str(&self) -> &str
         ensures text { result.now ≡ self.now }
         ensures in_grammar { G.is_text self.now ≡ true }
@@ -65,7 +68,7 @@ impl<G: Grammar> Text<G> {
         self.text.as_str()
     }
 
-    /// An equal value.
+    /// Copies the text.
     pub fn copy(&self) -> Result<Self, OutOfMemory>
         ensures { IfOk result (λ copy. copy ≡ self.now) }
     {
@@ -86,7 +89,7 @@ impl<G: Grammar> Clone for Text<G> {
     }
 }
 
-/// As it is displayed.
+/// Prints the same as `Display`.
 impl<G: Grammar> fmt::Debug for Text<G> {
     ghost debug_output = { λ text. Some text };
 

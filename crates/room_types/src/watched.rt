@@ -1,4 +1,4 @@
-//! A reader or writer that counts its reads, its flushes and the bytes that it took. It remembers a failure, the end of its
+//! A reader or writer that counts its reads, its flushes and the bytes that it took. It records a failure, the end of its
 //! input, a wasted call, and whether bytes wait for a flush.
 ghost use Rattle.std.specs.Prelude.{◌≡◌, ◌&&◌, ◌||◌, false};
 ghost use Rattle.std.specs.Io.{ReadsAtMost, WritesAtMost};
@@ -12,9 +12,9 @@ mod streams;
 use crate::device::{Sink, Source};
 use std::io::{Read, Result, Write};
 
-/// A reader or writer, with whether it failed, how often it was read and flushed, how many bytes it took, whether it took any
-/// since a flush last succeeded, whether a read found its end, and whether a call was wasted. It passes each call on once, with
-/// the whole buffer, and returns what the device returned. It takes no memory.
+/// A monitored reader or writer. It records whether a call failed, how many reads and flushes were made, how many bytes it
+/// took, whether it took any since a flush last succeeded, whether a read found the end, and whether a call was wasted.
+/// Each call passes the whole buffer to the device once and returns what the device returned. It does not allocate.
 #[derive(Drop)]
 pub struct Watched<T> {
     inner: T,
@@ -28,7 +28,7 @@ pub struct Watched<T> {
 }
 
 impl<T> Watched<T> {
-    /// Nothing has failed, and nothing was read, written or flushed.
+    /// Wraps a reader or writer: nothing has failed, and nothing was read, written or flushed.
     pub fn new(inner: T) -> Self
         ensures inner { watched_inner result ≡ inner }
         ensures failed { watched_failed result ≡ false }
@@ -51,56 +51,57 @@ impl<T> Watched<T> {
         }
     }
 
-    /// Whether a call was answered by a failure, or a write took none of at least one byte.
+    /// Returns whether a call failed, or a write took nothing of a buffer that was not empty.
     pub fn failed(&self) -> bool
         ensures { result ≡ watched_failed self.now }
     {
         self.failed
     }
 
-    /// How often it was read, by `read` or `read_some`. It stays at the greatest number.
+    /// Returns the number of reads by `read` and `read_some`. It saturates.
     pub fn reads(&self) -> u64
         ensures { result ≡ watched_reads self.now }
     {
         self.reads
     }
 
-    /// How many bytes were written. It stays at the greatest number.
+    /// Returns the number of bytes taken. It saturates.
     pub fn taken(&self) -> u64
         ensures { result ≡ watched_taken self.now }
     {
         self.taken
     }
 
-    /// How often it was flushed, by `flush` or `flush_all`. It stays at the greatest number.
+    /// Returns the number of flushes by `flush` and `flush_all`. It saturates.
     pub fn flushes(&self) -> u64
         ensures { result ≡ watched_flushes self.now }
     {
         self.flushes
     }
 
-    /// Whether bytes were taken since the last flush that succeeded, or since the start where none did.
+    /// Returns whether bytes were taken since a flush last succeeded, or since the start if none did.
     pub fn pending(&self) -> bool
         ensures { result ≡ watched_pending self.now }
     {
         self.pending
     }
 
-    /// Whether a read gave no byte, though its buffer had room.
+    /// Returns whether a read returned 0 although its buffer was not empty.
     pub fn ended(&self) -> bool
         ensures { result ≡ watched_ended self.now }
     {
         self.ended
     }
 
-    /// Whether a call was wasted: made after a failure, a read after the end, or a read or a write with an empty buffer.
+    /// Returns whether a call was wasted: made after a failure, a read after the end, or a read or a write with an empty
+    /// buffer.
     pub fn wasted(&self) -> bool
         ensures { result ≡ watched_wasted self.now }
     {
         self.wasted
     }
 
-    /// The reader or writer inside.
+    /// Returns the reader or writer inside.
     pub fn into_inner(self) -> T
         ensures { result ≡ watched_inner self }
     {

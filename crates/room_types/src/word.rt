@@ -1,4 +1,4 @@
-//! The words of a draw.
+//! The words of a draw: 64-bit lottery numbers.
 ghost use Rattle.std.specs.Prelude.{◌≡◌, Some, None, MatchResult, IfSome, ◌<◌, ◌≤◌, length};
 ghost use Rattle.room_types.specs.Words.{word_of, word_text, hex_digit, hex_value};
 
@@ -7,10 +7,10 @@ use crate::table::Copied;
 use std::fmt;
 use std::marker::Model;
 
-/// How many hexadecimal digits a word has.
+/// The number of hexadecimal digits of a word.
 pub const WORD_DIGITS: usize = 16;
 
-/// A word of 64 bits, as one is drawn for each participant. It is compared by value.
+/// A 64-bit lottery number, drawn for each participant of a round. Words compare by value.
 #[derive(Clone, Copy, Debug, PartialEq, Eq, PartialOrd, Ord)]
 pub struct Word {
     value: u64,
@@ -27,15 +27,18 @@ impl Model for Word {
 }
 
 impl Word {
-    /// The word of this value.
+    /// Makes the word of this value.
     pub fn new(value: u64) -> Word
         ensures { result ≡ value }
     {
         Word { value }
     }
 
-    /// The word of exactly `WORD_DIGITS` hexadecimal digits of either case, and `BadValue` for any other text. It takes
-    /// no memory.
+    /// Parses a word of exactly `WORD_DIGITS` hexadecimal digits, in either case. Does not allocate.
+    ///
+    /// # Errors
+    ///
+    /// `BadValue` for any other text.
     pub fn read(text: &str) -> Result<Word, TypeFault>
         ensures { MatchResult result (λ word. word_of text.now ≡ Some word)
             (λ fault. (fault ≡ TypeFault.BadValue) × (word_of text.now ≡ None)) }
@@ -49,7 +52,7 @@ impl Word {
         }
     }
 
-    /// The number itself.
+    /// Returns the word as a number.
     pub fn value(self) -> u64
         ensures { result ≡ self }
     {
@@ -61,7 +64,7 @@ impl Copied for Word {
     ghost same = { λ x y h. h };
 }
 
-/// Sixteen hexadecimal digits in lower case.
+/// Prints sixteen hexadecimal digits in lower case.
 impl fmt::Display for Word {
     ghost output = { λ word. Some (word_text word) };
 

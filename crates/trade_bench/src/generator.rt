@@ -1,4 +1,4 @@
-//! Numbers drawn by a fixed seed.
+//! Pseudorandom numbers from a fixed seed.
 ghost use Rattle.std.specs.Prelude.{◌<◌};
 
 /// SplitMix64 (Steele, Lea and Flood 2014).
@@ -6,7 +6,7 @@ ghost use Rattle.std.specs.Prelude.{◌<◌};
 pub struct Generator(u64);
 
 impl Generator {
-    /// The generator that starts from this seed.
+    /// Makes the generator with this seed.
     pub fn new(seed: u64) -> Self {
         Generator(seed)
     }
@@ -18,7 +18,7 @@ impl Generator {
         second ^ (second >> 31)
     }
 
-    /// A number below the bound.
+    /// Returns a number below the bound.
     pub fn below(&mut self, bound: usize) -> usize
         requires { 0 < bound }
         ensures { result < bound }

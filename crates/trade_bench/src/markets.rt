@@ -1,4 +1,4 @@
-//! The markets that are run. `bench/line` draws them by the same steps.
+//! The markets of the benchmark. `bench/line` draws them by the same steps.
 ghost use Rattle.std.specs.Prelude.{◌<◌, length};
 
 use crate::generator::Generator;
@@ -22,18 +22,18 @@ const KINDS: [(Kind, &'static [usize]); 5] = [
     (Kind::Chain, &[1]),
 ];
 
-/// Who lives where, and what is listed.
+/// Who has a home, and what people list.
 #[derive(Clone, Copy)]
 pub enum Kind {
-    /// Everybody lives somewhere, and lists rooms of their own.
+    /// Everybody has a home and a list of their own.
     AllTenants,
-    /// Each person lives somewhere with a chance of a half, and lists rooms of their own.
+    /// Each person has a home with probability one half, and a list of their own.
     HalfTenants,
-    /// Nobody lives anywhere, and each person lists rooms of their own.
+    /// Nobody has a home, and each person has a list of their own.
     NoTenants,
-    /// Nobody lives anywhere, and all list the same rooms.
+    /// Nobody has a home, and all have the same list.
     OneList,
-    /// Each tenant lists the room of the next, and the last lists a vacant room.
+    /// Each tenant lists the home of the next, and the last lists a vacant room.
     Chain,
 }
 
@@ -49,7 +49,7 @@ impl fmt::Display for Kind {
     }
 }
 
-/// How many people there are, how many rooms each lists, and the kind of market.
+/// The number of people, the length of their lists, and the kind of market.
 #[derive(Clone, Copy)]
 pub struct Shape {
     pub people: usize,
@@ -57,7 +57,7 @@ pub struct Shape {
     pub kind: Kind,
 }
 
-/// All shapes that are run, the smallest first.
+/// Returns all shapes of the benchmark, the smallest first.
 pub fn shapes(alloc: Global) -> Result<Vec<Shape>, AllocError> {
     let mut shapes = Vec::new(alloc);
     for people in SIZES {
@@ -75,7 +75,7 @@ pub fn shapes(alloc: Global) -> Result<Vec<Shape>, AllocError> {
 }
 
 impl Shape {
-    /// The market of this shape, always the same.
+    /// Makes the market of this shape, always the same.
     pub fn problem(&self, alloc: Global) -> Result<Problem, TradeFault> {
         match self.kind {
             Kind::AllTenants => self.drawn(alloc, 10),
@@ -86,7 +86,7 @@ impl Shape {
         }
     }
 
-    // Of ten people so many live somewhere, on average, and each lists rooms of their own.
+    // Draws a market in which each person has a home with probability `tenths` in ten, and a list of their own.
     fn drawn(&self, alloc: Global, tenths: usize) -> Result<Problem, TradeFault> {
         let mut generator = Generator::new(SEED);
         let mut rooms = shuffled(alloc, self.people, &mut generator)?;
@@ -127,7 +127,7 @@ impl Shape {
     }
 }
 
-// All numbers below the count.
+// Returns all numbers below `count`, ascending.
 fn numbers(alloc: Global, count: usize) -> Result<Vec<usize>, AllocError> {
     let mut numbers = Vec::new(alloc);
     for number in 0..count {
@@ -136,7 +136,7 @@ fn numbers(alloc: Global, count: usize) -> Result<Vec<usize>, AllocError> {
     Ok(numbers)
 }
 
-// All numbers below the count, in a drawn order.
+// Returns all numbers below `count`, in random order.
 fn shuffled(
     alloc: Global,
     count: usize,
@@ -149,7 +149,7 @@ fn shuffled(
     Ok(rooms)
 }
 
-// Of ten people so many live somewhere, on average, each in the room at their own place.
+// Gives each person, with probability `tenths` in ten, the room at the person's own index as home.
 fn drawn_homes(
     alloc: Global,
     rooms: &[usize],
@@ -168,7 +168,7 @@ fn drawn_homes(
     Ok(homes)
 }
 
-// Puts a room that stands at this place or behind it at this place.
+// Swaps a random room at or after this place into this place.
 fn swap_on(rooms: &mut [usize], place: usize, generator: &mut Generator)
     requires { place < length rooms.old }
 {
@@ -176,7 +176,7 @@ fn swap_on(rooms: &mut [usize], place: usize, generator: &mut Generator)
     rooms.swap(place, other);
 }
 
-// So many different rooms that are not the home, where there are so many.
+// Draws `listed` different rooms other than the home, or all of them if there are fewer. Reorders `rooms`.
 fn list_without(
     alloc: Global,
     home: Option<usize>,

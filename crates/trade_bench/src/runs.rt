@@ -1,4 +1,4 @@
-//! Runs of one market.
+//! Runs and measurements of one market.
 use std::alloc::Global;
 use std::time::Instant;
 use trade_line::bench::Bench;
@@ -9,17 +9,17 @@ use trade_line::outcome::Outcome;
 use trade_line::problem::Problem;
 use trade_line::trade::run;
 
-// People and runs of one measurement, multiplied.
+// The number of people times the number of runs of one measurement.
 const TURNS: usize = 50_000;
 
-/// One run, with the memory that it takes.
+/// Runs the mechanism once. This includes allocating its line and its bench.
 pub fn once(alloc: Global, problem: &Problem) -> Result<Outcome, OutOfMemory> {
     let line = LinkedLine::whole(alloc, problem.people())?;
     let bench = Bench::new(alloc, problem)?;
     Ok(run(problem, line, bench))
 }
 
-/// A number that tells the rooms of one run from those of another.
+/// Returns a checksum of who got which room.
 pub fn check(problem: &Problem, outcome: &Outcome) -> u64 {
     let mut sum: u64 = 0;
     for person in 0..problem.people() {
@@ -32,7 +32,7 @@ pub fn check(problem: &Problem, outcome: &Outcome) -> u64 {
     sum
 }
 
-/// Nanoseconds a run.
+/// Measures the average nanoseconds of a run.
 pub fn time(rt: &HostRuntime, problem: &Problem) -> anyhow::Result<u128> {
     let repeats = (TURNS / problem.people().max(1)).max(1);
     let start = Instant::now(rt)?;

@@ -1,4 +1,4 @@
--- Lemmas on markets that are handed in, and on worked ones.
+-- Lemmas on markets that a caller hands in, and on worked examples.
 pub mod Drafts
 pub mod Flat
 pub mod Worked

@@ -1,4 +1,4 @@
--- Lemmas on what an outcome is worth to people: ranks, other lists, groups, the strict core.
+-- Lemmas on how good an outcome is for people: ranks, other lists, groups, the strict core.
 pub mod Core
 pub mod Given
 pub mod Groups

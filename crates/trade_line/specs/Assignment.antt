@@ -1,5 +1,5 @@
--- What an assignment is, and when it is individually rational and Pareto efficient. It is a
--- function from people to rooms or nothing.
+-- Assignments: functions from people to a room or nothing, and when they are individually rational and Pareto
+-- efficient.
 use Rattle.std.specs.Prelude.{◌≡◌, ℕ, ◌<◌, ◌≤◌, Option, Some, None, List, slice_index_or}
 use Rattle.trade_line.specs.Market.{Market, floor}
 use Rattle.trade_line.specs.Rank.{rank}
@@ -17,7 +17,7 @@ given_in rooms p = slice_index_or rooms p None
 abbrev pub IsIndividuallyRational : Market → (ℕ → Option ℕ) → Type 0
 IsIndividuallyRational m f = (p : ℕ) → p < m.people → rank m p (f p) ≤ rank m p (floor m p)
 
--- an assignment at which nobody is worse off is the same assignment
+-- each assignment at which nobody is worse off is the same assignment
 abbrev pub IsEfficient : Market → (ℕ → Option ℕ) → Type 0
 IsEfficient m f =
     (a : ℕ → Option ℕ) → IsAssignment m a

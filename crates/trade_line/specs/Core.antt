@@ -1,6 +1,6 @@
--- The strict core among tenants: no group of them gains by trading their own homes apart from all
--- others (Shapley and Scarf 1974). Where no room is vacant it is one assignment (Roth and
--- Postlewaite 1977, where everybody is a tenant; here there may be newcomers too).
+-- The strict core among tenants: no group of them gains by trading their own homes apart from all others
+-- (Shapley and Scarf 1974). If no room is vacant, it is one assignment (Roth and Postlewaite 1977, where
+-- everybody is a tenant; here there may be newcomers too).
 use Rattle.std.specs.Prelude.{◌≡◌, ℕ, ◌<◌, ◌≤◌, Bool, true, Option, Some}
 use Rattle.trade_line.specs.Market.{Market, home}
 use Rattle.trade_line.specs.Rank.{rank}
@@ -12,7 +12,7 @@ abbrev pub HasNoVacantRoom : Market → Type 0
 HasNoVacantRoom m =
     (r : ℕ) → r < m.rooms → (t : ℕ) × (t < m.people) × (home m t ≡ Some r)
 
--- at no trade apart of a group, at which none of it loses, does somebody in it gain
+-- whenever a group trades apart and none of it loses, none of it gains
 abbrev pub IsInStrictCore : Market → (ℕ → Option ℕ) → Type 0
 IsInStrictCore m f =
     (group : ℕ → Bool) (a : ℕ → Option ℕ) → TradesApart m group a
@@ -27,7 +27,7 @@ pub record IsOnlyInStrictCore (m : Market) (g : ℕ → Option ℕ) : Type 0 whe
       (f : ℕ → Option ℕ) → IsAssignment m f → IsInStrictCore m f
       → (p : ℕ) → p < m.people → f p ≡ g p
 
--- tenants who at g get one another's homes, and rank no other room above what they get
+-- tenants who get one another's homes by g, and rank no room outside the group above what they get
 pub record IsSelfContained (m : Market) (g : ℕ → Option ℕ) (group : ℕ → Bool) : Type 0 where
   pub apart : TradesApart m group g
   pub above :
@@ -41,7 +41,7 @@ KeepsSelfContained m g =
     → (f : ℕ → Option ℕ) → IsAssignment m f → IsInStrictCore m f
     → (p : ℕ) → group p ≡ true → f p ≡ g p
 
--- an assignment is in the strict core exactly where no group has a better trade apart
+-- an assignment is in the strict core if and only if no group has a better trade apart
 pub record IsStrictCoreByTradesApart (m : Market) : Type 0 where
   pub core : (f : ℕ → Option ℕ) → HasNoBetterTradeApart m f → IsInStrictCore m f
   pub apart : (f : ℕ → Option ℕ) → IsInStrictCore m f → HasNoBetterTradeApart m f

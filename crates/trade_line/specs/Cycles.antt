@@ -1,11 +1,11 @@
--- Cycles of a stage: what stays of them while others leave, and when people who wish for one
--- another's homes are one.
+-- Cycles of a stage: how they stay as they are while others leave, and when people who wish for one another's
+-- homes are a cycle.
 use Rattle.std.specs.Prelude.{◌≡◌, ℕ, ◌<◌, Bool, true, false, List, [], ◌∷◌, Some}
 use Rattle.trade_line.specs.Market.{Market, home, tenant}
 use Rattle.trade_line.specs.Member.{among}
 use Rattle.trade_line.specs.TopTradingCycles.{Stage, wish, first, successor, on_cycle, leave}
 
--- whoever remains is a person of the market
+-- everybody who remains is a person of the market
 abbrev pub IsStageOf : Market → Stage → Type 0
 IsStageOf m s = (p : ℕ) → s.people p ≡ true → p < m.people
 
@@ -14,8 +14,8 @@ pub record AreCycles (m : Market) (s : Stage) (group : ℕ → Bool) : Type 0 wh
   pub each : (p : ℕ) → group p ≡ true → on_cycle m s p ≡ true
   pub closed : (p : ℕ) → group p ≡ true → group (successor m s p) ≡ true
 
--- when the group leaves with the rooms that it wishes for, everybody else who is on a cycle has the
--- same wish, points to the same person, and is on a cycle still
+-- when the group leaves with the rooms that it wishes for, everybody else who is on a cycle has the same
+-- wish, points to the same person, and is still on a cycle
 pub record LeavesOtherCycles (m : Market) (s : Stage) (group : ℕ → Bool) : Type 0 where
   pub wishes :
       (p : ℕ) → on_cycle m s p ≡ true → group p ≡ false
@@ -49,8 +49,8 @@ pub record IsLoop (m : Market) (s : Stage) (p : ℕ) (others : List ℕ) : Type 
   pub remain : AllRemain s (p ∷ others)
   pub wishes : WishOnTo m s p others room
 
--- people who remain, each of whom wishes for the home of the next, and the last for a room whose
--- tenant, if it has one, does not remain; the first of them is the first of all who remain
+-- people who remain, each of whom wishes for the home of the next, and the last for a room whose tenant, if
+-- any, does not remain; the first of them is the first of all who remain
 pub record IsChain (m : Market) (s : Stage) (p : ℕ) (others : List ℕ) : Type 0 where
   pub room : ℕ
   pub free : (t : ℕ) → tenant m room ≡ Some t → s.people t ≡ false

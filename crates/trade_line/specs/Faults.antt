@@ -1,4 +1,4 @@
--- What is printed of a fault.
+-- The text of each fault.
 use Rattle.std.specs.Prelude.{ℕ, List, codes}
 use Rattle.trade_line.specs.declared.fault.TradeFault.{TradeFault}
 use Rattle.trade_line.specs.declared.fault.TradeFault.TheVariants.{BadIndex, HomeShared, ListRepeats, OwnRoomListed, OutOfMemory}

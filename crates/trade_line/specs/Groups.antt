@@ -12,22 +12,22 @@ abbrev pub OthersKeep : Market → (ℕ → Bool) → List (List ℕ) → Type 0
 OthersKeep m group lists =
     (q : ℕ) → q < m.people → group q ≡ false → list_of (with_lists m lists) q ≡ list_of m q
 
--- none in the group loses: by their own recorded list, nobody in it ranks what they get by the
--- other lists below what they get by the recorded ones
+-- none in the group loses: by their own recorded list, nobody in it ranks what they get with the other lists
+-- below what they get with the recorded ones
 abbrev pub NoneLoses : Market → (ℕ → Bool) → List (List ℕ) → Type 0
 NoneLoses m group lists =
     (q : ℕ) → q < m.people → group q ≡ true
     → rank m q (gets (with_lists m lists) q) ≤ rank m q (gets m q)
 
--- where a group hands in other lists and none in it loses, everybody, in the group or not, gets
--- the same: so nobody in it gains without a loss to another in it
+-- if a group hands in other lists and none in it loses, everybody, in the group or not, gets the same: so
+-- nobody in it gains without a loss to another in it
 abbrev pub IsGroupStrategyproof : Market → Type 0
 IsGroupStrategyproof m =
     (group : ℕ → Bool) (lists : List (List ℕ)) → IsMarket (with_lists m lists)
     → OthersKeep m group lists → NoneLoses m group lists
     → (p : ℕ) → p < m.people → gets (with_lists m lists) p ≡ gets m p
 
--- whoever gets the same by another list leaves everybody with the same
+-- if a person gets the same with another list, then so does everybody else
 abbrev pub IsNonbossy : Market → Type 0
 IsNonbossy m =
     (p : ℕ) (l : List ℕ) → p < m.people → IsMarket (with_list m p l)

@@ -1,7 +1,7 @@
--- A line of people, as a list: the front first.
+-- A line of people, as a list with the front first.
 use Rattle.std.specs.Prelude.{ℕ, Bool, true, Option, Some, None, List, [], ◌∷◌, ◌==◌, false, not, filter}
 
--- the front of a line
+-- the first person of a line
 abbrev pub front_of : List ℕ → Option ℕ
 front_of [] = None
 front_of (x ∷ xs) = Some x

@@ -1,7 +1,6 @@
--- A problem of room exchange, seen as a market (Shapley and Scarf 1974; Abdulkadiroglu and Sönmez
--- 1999): people in priority order,
--- rooms, who lives where, and which rooms each person lists, the best first.
--- People are the numbers below `people`, the first in priority being 0. Rooms are the numbers below `rooms`.
+-- A problem of room exchange, as a market (Shapley and Scarf 1974; Abdulkadiroglu and Sönmez 1999): people in
+-- priority order, rooms, who lives where, and which rooms each person lists, best first. People are the
+-- numbers below `people`, and 0 is the first in priority. Rooms are the numbers below `rooms`.
 use Rattle.std.specs.Prelude.{◌≡◌, ℕ, ◌<◌, Bool, Option, Some, None, List, [], length, ◌==◌, slice_index_or, false, All, AllPairs, ◌≢◌, is_some}
 use Rattle.trade_line.specs.Below.{first_below, count_below}
 
@@ -15,15 +14,15 @@ pub record Market : Type 0 where
 abbrev pub home : Market → ℕ → Option ℕ
 home m p = slice_index_or m.homes p None
 
--- what p has anyway: the own home, or nothing
+-- the floor of p: the own home, or nothing
 abbrev pub floor : Market → ℕ → Option ℕ
 floor m p = home m p
 
--- the rooms that p lists, the best first
+-- the rooms that p lists, best first
 abbrev pub list_of : Market → ℕ → List ℕ
 list_of m p = slice_index_or m.lists p []
 
--- whether it is the room r
+-- whether it is room r
 abbrev pub is_room : ℕ → Option ℕ → Bool
 is_room r None = false
 is_room r (Some x) = x == r
@@ -40,7 +39,7 @@ is_tenant m p = is_some (home m p)
 abbrev pub tenant_count : Market → ℕ
 tenant_count m = count_below m.people (is_tenant m)
 
--- there is a home and a list for each person, and every number in them is a room of the market
+-- there is one home entry and one list for each person, and every number in them is a room of the market
 pub record IsIndexed (m : Market) : Type 0 where
   pub homes_len : length m.homes ≡ m.people
   pub lists_len : length m.lists ≡ m.people

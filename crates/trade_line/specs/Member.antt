@@ -6,7 +6,7 @@ use Rattle.std.specs.Prelude.{◌≡◌, ℕ, Bool, List, [], ◌∷◌, ◌==�
 abbrev pub among : List ℕ → ℕ → Bool
 among xs p = list_any (λ x. x == p) xs
 
--- each person is there once
+-- no number is in the list twice
 abbrev pub Once : List ℕ → Type 0
 Once [] = Unit {0}
 Once (x ∷ xs) = (among xs x ≡ false) × Once xs

@@ -1,5 +1,5 @@
--- The market in which people hand in other lists, and that no one person gains by it
--- (strategyproofness: Roth 1982; Abdulkadiroglu and Sönmez 1999).
+-- The market with other lists, and that no one person gains by another list (strategyproofness: Roth 1982;
+-- Abdulkadiroglu and Sönmez 1999).
 use Rattle.std.specs.Prelude.{◌≡◌, ◌≢◌, ℕ, ◌<◌, ◌≤◌, List, Some, All, AllPairs, slice_set}
 use Rattle.trade_line.specs.Market.{Market, IsMarket, home}
 use Rattle.trade_line.specs.Rank.{rank}
@@ -16,7 +16,7 @@ with_lists m lists =
 abbrev pub with_list : Market → ℕ → List ℕ → Market
 with_list m p l = with_lists m (slice_set m.lists p l)
 
--- there is a person p, and the list has rooms of the market
+-- p is a person of the market, and each entry of the list is a room of it
 abbrev pub IsListIndexed : Market → ℕ → List ℕ → Type 0
 IsListIndexed m p l = (p < m.people) × All (λ r. r < m.rooms) l
 
@@ -28,8 +28,8 @@ LacksOwn m p l = (r : ℕ) → home m p ≡ Some r → All (λ x. x ≢ r) l
 abbrev pub IsListFor : Market → ℕ → List ℕ → Type 0
 IsListFor m p l = IsListIndexed m p l × AllPairs ◌≢◌ l × LacksOwn m p l
 
--- the fault is the first rule that the person or the list breaks; want of memory may come wherever
--- no index is at fault
+-- the fault is the first rule that the person or the list breaks; if no index is at fault, the fault may be
+-- out of memory instead
 abbrev pub IsFirstListFault : Market → ℕ → List ℕ → TradeFault → Type 0
 IsFirstListFault m p l BadIndex = ¬ IsListIndexed m p l
 IsFirstListFault m p l HomeShared = ⊥
@@ -38,8 +38,7 @@ IsFirstListFault m p l OwnRoomListed =
     IsListIndexed m p l × AllPairs ◌≢◌ l × ¬ LacksOwn m p l
 IsFirstListFault m p l OutOfMemory = IsListIndexed m p l
 
--- nobody gets a room by another list that they rank, by their own list, above the one that they
--- get by it
+-- by handing in another list, nobody gets a room that their own list ranks above the one that it gets them
 abbrev pub IsStrategyproof : Market → Type 0
 IsStrategyproof m =
     (p : ℕ) (l : List ℕ) → p < m.people → IsMarket (with_list m p l)

@@ -1,7 +1,7 @@
--- What a run answers.
+-- The result of a run.
 use Rattle.std.specs.Prelude.{ℕ, Option, List}
 
--- what a run gives: the room of each person, and how many asks and looks it took
+-- the result of a run: the room of each person, and the numbers of asks and looks
 pub record Given : Type 0 where
   pub rooms : List (Option ℕ)
   pub asks : ℕ

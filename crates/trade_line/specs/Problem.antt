@@ -1,16 +1,16 @@
--- The market that a program hands in, and why it is refused.
+-- The market that the arguments of `Problem::new` describe, and why it is refused.
 use Rattle.std.specs.Prelude.{ℕ, List, Option, Vec, map}
 use Rattle.std.specs.Global.{Global}
 use Rattle.trade_line.specs.Market.{Market, IsIndexed, HomesDiffer, ListsAreStrict, OwnUnlisted}
 use Rattle.trade_line.specs.declared.fault.TradeFault.{TradeFault}
 use Rattle.trade_line.specs.declared.fault.TradeFault.TheVariants.{BadIndex, HomeShared, ListRepeats, OwnRoomListed, OutOfMemory}
 
--- the market that these numbers and vectors tell
+-- the market of these numbers and vectors
 abbrev pub market_of : ℕ → ℕ → List (Option ℕ) → List (Vec ℕ Global) → Market
 market_of people rooms homes lists = record { people = people; rooms = rooms; homes = homes; lists = map (λ list. list.items) lists }
 
--- the fault is the first rule that the market breaks; want of memory may come at any market in
--- which no index is at fault
+-- the fault is the first rule that the market breaks; if no index is at fault, the fault may be out of memory
+-- instead
 abbrev pub IsFirstFault : Market → TradeFault → Type 0
 IsFirstFault m BadIndex = ¬ IsIndexed m
 IsFirstFault m HomeShared = IsIndexed m × ¬ HomesDiffer m

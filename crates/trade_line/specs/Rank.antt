@@ -3,7 +3,7 @@ use Rattle.std.specs.Prelude.{ℕ, suc, ◌+◌, cond, Option, Some, None, List,
 use Rattle.trade_line.specs.Market.{Market, home, list_of, is_room}
 use Rattle.trade_line.specs.Member.{among}
 
--- the place of x in the list, from 0, and the length where it is not there
+-- the place of x in the list, from 0, and the list's length if x is not in it
 abbrev pub place : ℕ → List ℕ → ℕ
 place x [] = 0
 place x (y ∷ ys) = cond (y == x) 0 (suc (place x ys))

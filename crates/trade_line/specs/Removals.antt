@@ -1,11 +1,11 @@
--- Top trading cycles one removal at a time: whole cycles leave, one group after the other, until
--- nobody remains.
+-- Top trading cycles one removal at a time: whole cycles leave, one group after the other, until nobody
+-- remains.
 use Rattle.std.specs.Prelude.{◌≡◌, ℕ, Bool, true, false, Option}
 use Rattle.trade_line.specs.Cycles.{AreCycles}
 use Rattle.trade_line.specs.Market.{Market}
 use Rattle.trade_line.specs.TopTradingCycles.{Stage, wish, leave}
 
--- f gives everybody who remains what such a series of removals gives: whoever leaves gets the wish
+-- f gives everybody who remains what such a series of removals gives: those who leave get their wish
 pub data IsGivenByRemovals (m : Market) (f : ℕ → Option ℕ) : Stage → Type 0 where
   over : {s : Stage} → ((p : ℕ) → s.people p ≡ false) → IsGivenByRemovals m f s
   remove : {s : Stage} (group : ℕ → Bool) → AreCycles m s group

@@ -1,6 +1,5 @@
--- Top trading cycles in simultaneous steps (Shapley and Scarf 1974, who name David Gale; with
--- vacant rooms and newcomers
--- Abdulkadiroglu and Sönmez 1999).
+-- Top trading cycles in simultaneous steps (Shapley and Scarf 1974, who name David Gale; with vacant rooms
+-- and newcomers Abdulkadiroglu and Sönmez 1999).
 use Rattle.std.specs.List.{range_with_len}
 use Rattle.std.specs.Option.{unwrap_or}
 use Rattle.std.specs.Prelude.{ℕ, suc, Bool, cond, Option, Some, None, List, ◌==◌, not, zero, ◌&&◌, nat_lt, find, map}
@@ -13,7 +12,7 @@ pub record Stage : Type 0 where
   pub people : ℕ → Bool
   pub rooms : ℕ → Bool
 
--- all of them
+-- the first stage, at which all people and rooms remain
 unfoldable pub start : Market → Stage
 start m = record { people = λ p. nat_lt p m.people; rooms = λ r. nat_lt r m.rooms }
 
@@ -21,20 +20,20 @@ start m = record { people = λ p. nat_lt p m.people; rooms = λ r. nat_lt r m.ro
 unfoldable pub wish : Market → Stage → ℕ → Option ℕ
 wish m s p = or_else (find s.rooms (list_of m p)) (floor m p)
 
--- the first remaining person, and 0 where nobody remains
+-- the first remaining person, and 0 if nobody remains
 unfoldable pub first : Market → Stage → ℕ
 first m s = unwrap_or (first_below m.people s.people) 0
 
--- the tenant where the tenant remains, or else the first remaining person
+-- the tenant if the tenant remains, or else the first remaining person
 abbrev pub tenant_or_first : Market → Stage → Option ℕ → ℕ
 tenant_or_first m s None = first m s
 tenant_or_first m s (Some t) = cond (s.people t) t (first m s)
 
--- to whom a room points
+-- the person to whom a room points
 unfoldable pub holder : Market → Stage → ℕ → ℕ
 holder m s r = tenant_or_first m s (tenant m r)
 
--- to whom a wish of p points: nothing, as a wish of p, points to p
+-- the person to whom a wish of p points; the wish for nothing points to p
 abbrev pub target : Market → Stage → ℕ → Option ℕ → ℕ
 target m s p None = p
 target m s p (Some r) = holder m s r
@@ -46,7 +45,7 @@ successor m s p = target m s p (wish m s p)
 abbrev pub remaining_count : Market → Stage → ℕ
 remaining_count m s = count_below m.people s.people
 
--- p remains, and comes back to p after 1 to `remaining_count` successors
+-- p remains, and is reached from p by 1 to `remaining_count` successors
 unfoldable pub on_cycle : Market → Stage → ℕ → Bool
 on_cycle m s p = s.people p
     && some_below (remaining_count m s) (λ k. iterate (successor m s) (suc k) p == p)

@@ -4,14 +4,14 @@ use Rattle.std.specs.Prelude.{◌≡◌, ℕ, ◌<◌, ◌≤◌, Bool, true, Op
 use Rattle.trade_line.specs.Market.{Market, home}
 use Rattle.trade_line.specs.Rank.{rank}
 
--- a group of tenants that hand out their own homes among themselves
+-- a group of tenants who hand out their own homes among themselves
 pub record TradesApart (m : Market) (group : ℕ → Bool) (a : ℕ → Option ℕ) : Type 0 where
   pub people : (p : ℕ) → group p ≡ true → p < m.people
   pub tenants : (p : ℕ) → group p ≡ true → (h : ℕ) × (home m p ≡ Some h)
   pub own : (p : ℕ) → group p ≡ true → (q : ℕ) × (group q ≡ true) × (a p ≡ home m q)
   pub differ : (p q : ℕ) → group p ≡ true → group q ≡ true → a p ≡ a q → p ≡ q
 
--- no such group does better: where none of it is worse off, all get the same
+-- no such group does better: if none of it is worse off, all get the same
 abbrev pub HasNoBetterTradeApart : Market → (ℕ → Option ℕ) → Type 0
 HasNoBetterTradeApart m f =
     (group : ℕ → Bool) (a : ℕ → Option ℕ) → TradesApart m group a

@@ -1,4 +1,4 @@
-//! The memory of a run, taken before it begins.
+//! The memory of a run, allocated before the run begins.
 ghost use Rattle.std.specs.Prelude.{◌≡◌, ◌<◌, ◌+◌, length, IfOk, OnErr};
 ghost use Rattle.trade_line.specs.Size.{Size, size_of};
 ghost use Rattle.trade_line.specs.Inner.Fresh.{IsFresh};
@@ -9,7 +9,7 @@ use crate::progress::Progress;
 use std::alloc::Global;
 use std::marker::Model;
 
-/// All the memory that a run of so many people and rooms takes.
+/// All the memory that a run needs, for a given number of people and of rooms.
 #[derive(Drop)]
 pub struct Bench {
     asked: Vec<bool>,
@@ -31,8 +31,11 @@ impl Model for Bench {
 }
 
 impl Bench {
-    /// The bench for a run of the problem, or that the memory for it was refused. With no people and no rooms it takes
-    /// none.
+    /// Allocates the bench for a run of the problem. With no people and no rooms it does not allocate.
+    ///
+    /// # Errors
+    ///
+    /// `OutOfMemory` if an allocation fails.
     pub fn new(alloc: Global, problem: &Problem) -> Result<Self, OutOfMemory>
         ensures bench { IfOk result (λ b. b ≡ size_of problem.now) }
         ensures memory { OnErr result (0 < problem.now.people + problem.now.rooms) }
@@ -55,7 +58,7 @@ impl Bench {
         })
     }
 
-    // The same memory, as what a run knows before its first turn, with each cursor at the start of its list.
+    // Converts the bench into the state of a run before its first turn, and the cursors, each at the start of its list.
     pub(crate) fn into_progress(self) -> (Progress, Vec<usize>)
         ensures fresh { IsFresh result.0.asked.items result.0.remaining.items result.0.given.items
             result.1.items }

@@ -1,4 +1,4 @@
-//! A problem as it is handed in: its faults are still to be looked for.
+//! A problem as the caller hands it in, not yet checked.
 ghost use Rattle.std.specs.Prelude.{◌≡◌, ◌≢◌, ◌<◌, ◌↔◌, ◌⊎◌, ℕ, All, AllPairs, IsTrue, IfOk, IfErr};
 ghost use Rattle.std.specs.Prelude.{IfSome, OnOk, length, slice_index_or};
 ghost use Rattle.trade_line.specs.Market.{IsIndexed, HomesDiffer, ListsAreStrict, OwnUnlisted};
@@ -10,7 +10,7 @@ use crate::fault::TradeFault;
 use crate::out_of_memory::OutOfMemory;
 use std::alloc::Global;
 
-// How many people and rooms there are, where each person lives, and what each person lists.
+// The arguments of `Problem::new`: the numbers of people and rooms, and each person's home and list.
 #[derive(Drop)]
 pub(crate) struct Draft {
     pub(crate) order_len: usize,
@@ -19,7 +19,7 @@ pub(crate) struct Draft {
     pub(crate) lists: Vec<Vec<usize>>,
 }
 
-// Whether each home is below the number of rooms.
+// Returns whether each home is below `room_count`.
 fn are_draft_homes_known(homes: &[Option<usize>], room_count: usize) -> bool
     ensures { IsTrue result ↔ All (λ home. IfSome home (λ room. room < room_count)) homes.now }
 {
@@ -29,14 +29,14 @@ fn are_draft_homes_known(homes: &[Option<usize>], room_count: usize) -> bool
     })
 }
 
-// Whether each room of the list is below the number of rooms.
+// Returns whether each room of the list is below `room_count`.
 pub(crate) fn is_draft_list_known(list: &[usize], room_count: usize) -> bool
     ensures { IsTrue result ↔ All (λ room. room < room_count) list.now }
 {
     list.iter().all(|room| *room < room_count)
 }
 
-// Whether this holds of each list.
+// Returns whether each room of each list is below `room_count`.
 fn are_draft_lists_known(lists: &[Vec<usize>], room_count: usize) -> bool
     ensures { IsTrue result ↔ All (λ list. All (λ room. room < room_count) list.items) lists.now }
 {
@@ -45,7 +45,8 @@ fn are_draft_lists_known(lists: &[Vec<usize>], room_count: usize) -> bool
         .all(|list| is_draft_list_known(list, room_count))
 }
 
-// Whether the list has no room twice. The last person who listed each room stands in `last`, and becomes this one.
+// Returns whether the list has no room twice. `last` has the last person who listed each room; the entries of the rooms read
+// are set to `person`.
 pub(crate) fn is_distinct(list: &[usize], person: usize, last: &mut [usize]) -> bool
     requires known { All (λ room. room < length last.old) list.now }
     requires unmarked { All (λ other. other ≢ person) last.old }
@@ -62,7 +63,7 @@ pub(crate) fn is_distinct(list: &[usize], person: usize, last: &mut [usize]) -> 
     true
 }
 
-// Whether the list lacks the home.
+// Returns whether the home, if any, is not on the list.
 pub(crate) fn lacks(list: &[usize], home: Option<usize>) -> bool
     ensures { IsTrue result ↔ ((r : ℕ) → home ≡ Some r → All (λ room. room ≢ r) list.now) }
 {
@@ -73,7 +74,7 @@ pub(crate) fn lacks(list: &[usize], home: Option<usize>) -> bool
 }
 
 impl Draft {
-    // Whether there is one home entry and one list for each person, and each room is below the number of rooms.
+    // Returns whether there is one home entry and one list for each person, and each room is below the number of rooms.
     pub(crate) fn is_indexed(&self) -> bool
         ensures { IsTrue result ↔ IsIndexed (drafted self.now) }
     {
@@ -84,7 +85,7 @@ impl Draft {
             && are_draft_lists_known(&self.lists, self.room_count)
     }
 
-    // Who lives in each room.
+    // Returns the tenant of each room, or the fault that two people have the same home.
     pub(crate) fn tenants(&self, alloc: Global) -> Result<Vec<Option<usize>>, TradeFault>
         requires { IsIndexed (drafted self.now) }
         ensures tenants { IfOk result (λ tenants. IsTenants (drafted self.now) tenants.items) }
@@ -103,7 +104,7 @@ impl Draft {
         Ok(tenants)
     }
 
-    // Whether each list is strict: it has no room twice.
+    // Returns whether each list is strict, that is, has no room twice.
     pub(crate) fn are_lists_strict(&self, alloc: Global) -> Result<bool, OutOfMemory>
         requires { IsIndexed (drafted self.now) }
         ensures { IfOk result (λ strict. IsTrue strict ↔ ListsAreStrict (drafted self.now)) }
@@ -118,7 +119,7 @@ impl Draft {
         Ok(true)
     }
 
-    // Whether nobody lists their own home.
+    // Returns whether nobody lists their own home.
     pub(crate) fn is_own_unlisted(&self) -> bool
         requires { IsIndexed (drafted self.now) }
         ensures { IsTrue result ↔ OwnUnlisted (drafted self.now) }

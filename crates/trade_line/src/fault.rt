@@ -1,4 +1,4 @@
-//! Why a problem, or a list that is tried in one, is refused.
+//! Why a problem, or another list for a problem, is refused.
 ghost use Rattle.std.specs.Prelude.{◌≡◌, Some};
 ghost use Rattle.trade_line.specs.Faults.{fault_text};
 ghost use Rattle.trade_line.specs.declared.fault.TradeFault.TheVariants.{OutOfMemory};
@@ -8,12 +8,11 @@ use std::alloc::{AllocError, AllocFailed};
 use std::error::Error;
 use std::fmt;
 
-/// The refusals, in the order in which they are looked for. That memory was refused may be told wherever no index is at
-/// fault, in place of any later one.
+/// Why a problem or a list is refused, in the order of the checks. If no index is at fault, `OutOfMemory` may come in place
+/// of any other fault.
 #[derive(Clone, Copy, Debug, PartialEq, Eq)]
 pub enum TradeFault {
-    /// A vector is not as long as there are people, a room is not below the number of rooms, or a person not below the
-    /// number of people.
+    /// The length of a vector is not the number of people, or a room or a person is out of range.
     BadIndex,
     /// Two people have the same home.
     HomeShared,
@@ -21,7 +20,7 @@ pub enum TradeFault {
     ListRepeats,
     /// A person lists their own home.
     OwnRoomListed,
-    /// The memory that the call needs was refused.
+    /// An allocation failed.
     OutOfMemory,
 }
 

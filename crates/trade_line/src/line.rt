@@ -1,4 +1,4 @@
-//! The line of people who wait for their turn.
+//! The line: the queue of people who wait for their turn.
 ghost use Rattle.std.specs.Prelude.{◌≡◌, ℕ, ◌<◌, List, ◌∷◌, IfOk, OnErr, IsTrue, false};
 ghost use Rattle.std.specs.List.{range_with_len};
 ghost use Rattle.trade_line.specs.Member.{among};
@@ -8,46 +8,50 @@ use crate::out_of_memory::OutOfMemory;
 use std::alloc::Global;
 use std::marker::Model;
 
-/// The people who wait for their turn, as a list, the front first. Only `whole` takes memory. `run` is proved over every such
-/// line.
+/// The queue of people who wait for their turn, as a list with the front first. Only `whole` allocates. The contract of `run`
+/// holds for every implementation.
 pub trait Line: Drop {
     ghost people: { Self → List ℕ };
 
-    /// All people below `count`, in ascending order, or that the memory for them was refused.
+    /// Creates the line of the people below `count`, in ascending order.
+    ///
+    /// # Errors
+    ///
+    /// `OutOfMemory` if an allocation fails.
     fn whole(alloc: Global, count: usize) -> Result<Self, OutOfMemory>
         ensures { IfOk result (λ line. people line ≡ range_with_len 0 count) };
 
-    /// The first person of the line.
+    /// Returns the first person, or `None` if the line is empty.
     fn front(&self) -> Option<usize>
         ensures { result ≡ front_of (people self.now) };
 
-    /// Whether the person is in the line.
+    /// Returns whether the person is in the line.
     fn holds(&self, person: usize) -> bool
         ensures { result ≡ among (people self.now) person };
 
-    /// Whether nobody is left.
+    /// Returns whether the line is empty.
     fn is_empty(&self) -> bool
         ensures { result ≡ is_none_left (people self.now) };
 
-    /// Puts a person of the line before all others, who keep their order.
+    /// Moves a person of the line to the front. The others keep their order.
     fn bring_to_front(&mut self, person: usize)
         requires { IsTrue (among (people self.old) person) }
         ensures { people self.new ≡ person ∷ without person (people self.old) };
 
-    /// Takes the first person out of the line, which is not empty.
+    /// Removes the first person from the line, which must not be empty.
     fn drop_front(&mut self)
         requires { is_none_left (people self.old) ≡ false }
         ensures { people self.new ≡ tail_of (people self.old) };
 
-    /// Takes a person out of the line, wherever they stand.
+    /// Removes a person of the line from any position. The others keep their order.
     fn drop_member(&mut self, person: usize)
         requires { IsTrue (among (people self.old) person) }
         ensures { people self.new ≡ without person (people self.old) };
 }
 
-/// A line kept in one vector, the front first. `holds`, `bring_to_front`, `drop_front` and `drop_member` take time linear in
-/// its length, so a run over it takes time quadratic in people: `LinkedLine` is the line to run over, and this one, plainer,
-/// stands beside it in tests.
+/// A line in one vector, the front first. `holds`, `bring_to_front`, `drop_front` and `drop_member` take time linear in its
+/// length, so a run over it takes time quadratic in people. Use `LinkedLine` for runs; tests compare it with this simpler
+/// line.
 #[derive(Drop)]
 pub struct VecLine {
     order: Vec<usize>,
@@ -62,7 +66,7 @@ impl Model for VecLine {
 impl Line for VecLine {
     ghost people = { λ line. line };
 
-    // A line of nobody takes no memory.
+    // An empty line does not allocate.
     fn whole(alloc: Global, count: usize) -> Result<Self, OutOfMemory>
         ensures line { IfOk result (λ line. line ≡ range_with_len 0 count) }
         ensures memory { OnErr result (0 < count) }
@@ -88,7 +92,7 @@ impl Line for VecLine {
 
     fn bring_to_front(&mut self, person: usize) {
         self.order.retain(|other| *other != person);
-        // It takes no memory: the place that the person had is free.
+        // The insertion does not allocate: the entry just removed left room for it.
         let _ = self.order.insert(0, person);
     }
 

@@ -1,4 +1,4 @@
-//! A line whose calls take constant time.
+//! A line as a linked list, whose calls other than `whole` take constant time.
 ghost use Rattle.std.specs.Prelude.{ℕ, List};
 ghost use Rattle.trade_line.specs.Inner.Links.{IsLinkedRing, linked_people};
 
@@ -7,12 +7,12 @@ use crate::out_of_memory::OutOfMemory;
 use std::alloc::Global;
 use std::marker::Model;
 
-/// A line kept as a doubly linked list: by number, two vectors have the person behind and the person before each. `whole`
-/// takes time and memory linear in its count, and all other calls take constant time and no memory.
+/// A line as a doubly linked list. Two vectors have, for each person, the next and the previous one. `whole` takes time and
+/// memory linear in `count`; all other calls take constant time and do not allocate.
 #[derive(Drop)]
 pub struct LinkedLine {
-    // The number after all people is a sentinel: it stands behind the last and before the first, so that the ends of the line
-    // are no special cases. These two vectors have one entry more than there are people, for it.
+    // The number after those of all people is a sentinel: it follows the last person and precedes the first, so the ends of
+    // the line are no special cases. Both vectors have one more entry, for the sentinel.
     next: Vec<usize>,
     previous: Vec<usize>,
     waits: Vec<bool>,
@@ -31,7 +31,7 @@ impl Line for LinkedLine {
     ghost people = { λ line. line };
 
     fn whole(alloc: Global, count: usize) -> Result<Self, OutOfMemory> {
-        // This comes first: where there is memory for it, `count + 1` is in range.
+        // This comes first: if this allocation succeeds, `count + 1` is in range.
         let waits = vec![in alloc; true; count]?;
         let mut next = Vec::with_capacity(alloc, waits.len() + 1)?;
         let mut previous = Vec::with_capacity(alloc, waits.len() + 1)?;

@@ -1,4 +1,4 @@
-//! Lists of numbers, in one vector.
+//! Lists of numbers, stored in one vector.
 ghost use Rattle.std.specs.Prelude.{◌≡◌, ℕ, ◌<◌, List, [], IfOk, length, map, slice_index_or, slice_set};
 ghost use Rattle.trade_line.specs.Inner.Flat.{AreFlat, pieces};
 
@@ -6,11 +6,11 @@ use crate::out_of_memory::OutOfMemory;
 use std::alloc::Global;
 use std::marker::Model;
 
-// Lists, one after the other in one vector, so that there is no pointer to follow for each.
+// Lists, one after the other in one vector, so that no list has a pointer of its own to follow.
 #[derive(Drop)]
 pub(crate) struct Lists {
     entries: Vec<usize>,
-    // Where each list begins, and then where the last ends.
+    // The start of each list, and then the end of the last.
     starts: Vec<usize>,
 }
 
@@ -24,7 +24,7 @@ impl Model for Lists {
 }
 
 impl Lists {
-    // The same lists in memory of their own.
+    // Copies the lists.
     pub(crate) fn copied(alloc: Global, lists: &[Vec<usize>]) -> Result<Self, OutOfMemory>
         ensures { IfOk result (λ copied. copied ≡ map (λ list. list.items) lists.now) }
     {
@@ -38,7 +38,7 @@ impl Lists {
         Ok(Lists { entries, starts })
     }
 
-    // One of the lists.
+    // Returns the list of a person.
     pub(crate) fn list(&self, person: usize) -> &[usize]
         requires { person < length self.now }
         ensures { result.now ≡ slice_index_or self.now person [] }
@@ -46,14 +46,14 @@ impl Lists {
         &self.entries[self.starts[person]..self.starts[person + 1]]
     }
 
-    // How many lists there are.
+    // Returns the number of lists.
     pub(crate) fn len(&self) -> usize
         ensures { result ≡ length self.now }
     {
         self.starts.len() - 1
     }
 
-    // The same lists but for one, in memory of their own.
+    // Copies the lists, with `list` in place of the person's.
     pub(crate) fn with_list(
         &self,
         alloc: Global,

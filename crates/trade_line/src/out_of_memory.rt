@@ -1,4 +1,4 @@
-//! Want of memory.
+//! The error of a failed allocation.
 ghost use Rattle.std.specs.Prelude.{Some};
 ghost use Rattle.trade_line.specs.Faults.{want_of_memory_text};
 
@@ -6,7 +6,7 @@ use std::alloc::{AllocError, AllocFailed};
 use std::error::Error;
 use std::fmt;
 
-/// The memory that a call needs was refused.
+/// An allocation failed.
 #[derive(Clone, Copy, Debug, PartialEq, Eq)]
 pub struct OutOfMemory;
 

@@ -1,10 +1,10 @@
-//! Who gets which room.
+//! The result of a run.
 ghost use Rattle.std.specs.Prelude.{◌≡◌, ◌<◌, slice_index_or, None};
 ghost use Rattle.trade_line.specs.Outcome.{Given};
 
 use std::marker::Model;
 
-/// What a run gives: the room of each person, and how many asks and looks it took.
+/// The result of a run: the room of each person, and the numbers of asks and looks.
 #[derive(Drop)]
 pub struct Outcome {
     given: Vec<Option<usize>>,
@@ -27,7 +27,7 @@ impl Outcome {
         Outcome { given, asks, looks }
     }
 
-    /// The room of a person, and none for a number past the people.
+    /// Returns the room of a person. `None` is no room, or a number that is not a person's.
     pub fn room_of(&self, person: usize) -> Option<usize>
         ensures { result ≡ slice_index_or self.now.rooms person None }
     {
@@ -38,15 +38,16 @@ impl Outcome {
         }
     }
 
-    /// How many turns of the person at the front the run took.
+    /// Returns the number of asks, that is, of turns of the person at the front.
     pub fn asks(&self) -> u128
         ensures { result ≡ self.now.asks }
     {
         self.asks
     }
 
-    /// How many list entries the asks read. An ask reads on from the entry that the person asked for last, that entry included,
-    /// or else from the start, up to the entry that it asks for, or else to the end of the list.
+    /// Returns the number of looks, that is, of list entries that the asks read. An ask reads from the entry that the person
+    /// asked for last, included, or else from the start of the list, up to the entry that it asks for, included, or else to
+    /// the end of the list.
     pub fn looks(&self) -> u128
         ensures { result ≡ self.now.looks }
     {

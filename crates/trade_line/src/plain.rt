@@ -1,4 +1,4 @@
-//! Top trading cycles in simultaneous steps, as the definition has them: slow and plain. Tests compare `run` with it.
+//! Top trading cycles in simultaneous steps, as in the definition: slow and simple. Tests compare `run` with it.
 ghost use Rattle.std.specs.Prelude.{◌≡◌, ◌<◌, IfOk, OnErr, Some, None, length, replicate, true, false};
 ghost use Rattle.trade_line.specs.TopTradingCycles.{wish, first, successor, remaining_count, on_cycle, step, ttc};
 ghost use Rattle.trade_line.specs.Inner.Plain.{remains, AreMarks, Gives};
@@ -15,7 +15,7 @@ struct Remaining {
     rooms: Vec<bool>,
 }
 
-// The best remaining room on the list, or else the floor.
+// Returns the best remaining room on the person's list, or else the floor.
 fn wish(problem: &Problem, stage: &Remaining, person: usize) -> Option<usize>
     requires marks { AreMarks problem.now stage.now }
     requires person { person < problem.now.people }
@@ -27,7 +27,7 @@ fn wish(problem: &Problem, stage: &Remaining, person: usize) -> Option<usize>
     }
 }
 
-// The first remaining person in priority order, and 0 where nobody remains.
+// Returns the first remaining person in priority order, or 0 if nobody remains.
 fn first(problem: &Problem, stage: &Remaining) -> usize
     requires { AreMarks problem.now stage.now }
     ensures { result ≡ first problem.now (remains stage.now) }
@@ -40,7 +40,7 @@ fn first(problem: &Problem, stage: &Remaining) -> usize
     0
 }
 
-// To whom the wish of a person points.
+// Returns the person to whom the wish of `person` points.
 fn successor(problem: &Problem, stage: &Remaining, person: usize) -> usize
     requires marks { AreMarks problem.now stage.now }
     requires remains { (remains stage.now).people person ≡ true }
@@ -56,7 +56,7 @@ fn successor(problem: &Problem, stage: &Remaining, person: usize) -> usize
     }
 }
 
-// How many people remain.
+// Counts the people who remain.
 fn count(problem: &Problem, stage: &Remaining) -> usize
     requires { AreMarks problem.now stage.now }
     ensures { result ≡ remaining_count problem.now (remains stage.now) }
@@ -70,7 +70,7 @@ fn count(problem: &Problem, stage: &Remaining) -> usize
     count
 }
 
-// Whether the person remains, and the wishes lead from the person back again.
+// Returns whether the person remains and is on a cycle: whether the wishes lead from the person back to the person.
 fn is_on_cycle(problem: &Problem, stage: &Remaining, person: usize) -> bool
     requires marks { AreMarks problem.now stage.now }
     requires person { person < problem.now.people }
@@ -89,7 +89,7 @@ fn is_on_cycle(problem: &Problem, stage: &Remaining, person: usize) -> bool
     false
 }
 
-// Everybody on a cycle gets the wish and leaves, with the room.
+// Takes one step: everybody on a cycle gets the wish and leaves, with the room.
 fn step(
     alloc: Global,
     problem: &Problem,
@@ -121,7 +121,7 @@ fn step(
     Ok(next)
 }
 
-// All people and all rooms.
+// Returns the first stage, at which all people and all rooms remain.
 fn everybody(alloc: Global, problem: &Problem) -> Result<Remaining, OutOfMemory>
     ensures people { IfOk result (λ stage. stage.people.items ≡ replicate problem.now.people true) }
     ensures rooms { IfOk result (λ stage. stage.rooms.items ≡ replicate problem.now.rooms true) }
@@ -132,16 +132,20 @@ fn everybody(alloc: Global, problem: &Problem) -> Result<Remaining, OutOfMemory>
     })
 }
 
-// Nobody has a room yet.
+// Returns a vector in which nobody has a room.
 fn nothing(alloc: Global, problem: &Problem) -> Result<Vec<Option<usize>>, OutOfMemory>
     ensures { IfOk result (λ given. given.items ≡ replicate problem.now.people None) }
 {
     Ok(vec![in alloc; None; problem.people()]?)
 }
 
-/// The room of each person, in priority order, by top trading cycles in simultaneous steps (Shapley and Scarf 1974;
-/// Abdulkadiroglu and Sönmez 1999). It takes as many steps as there are people, and each asks of everybody whether they are on
-/// a cycle: `run` gives the same rooms faster.
+/// Returns the room of each person, in priority order, by top trading cycles in simultaneous steps (Shapley and Scarf 1974;
+/// Abdulkadiroglu and Sönmez 1999). Takes as many steps as there are people, and each step finds for everybody whether they
+/// are on a cycle. `run` gives the same rooms faster. Without people, the call does not allocate.
+///
+/// # Errors
+///
+/// `OutOfMemory` if an allocation fails.
 pub fn top_trading_cycles(
     alloc: Global,
     problem: &Problem,

@@ -12,8 +12,8 @@ use crate::lists::Lists;
 use std::alloc::Global;
 use std::marker::Model;
 
-/// A problem of room exchange (Abdulkadiroglu and Sönmez 1999). People are numbers from 0 in priority order, rooms are
-/// numbers from 0.
+/// A well-formed problem of room exchange (Abdulkadiroglu and Sönmez 1999). People are numbered from 0 in priority order,
+/// rooms from 0.
 #[derive(Drop)]
 pub struct Problem {
     order_len: usize,
@@ -33,11 +33,15 @@ impl Model for Problem {
 }
 
 impl Problem {
-    /// The problem of `order_len` people and `room_count` rooms: for each person, in priority order, the room where they
-    /// live, if any, and the rooms that they list, the best first. It takes exactly the well-formed problems. Otherwise it
-    /// answers the first fault, in the order of `TradeFault`, each looked for over all people. It may answer that memory was
-    /// refused instead of any fault but `BadIndex`, for which it looks before it takes memory. It takes time linear in
-    /// people, rooms and list entries.
+    /// Creates the problem of `order_len` people and `room_count` rooms. For each person, in priority order, `homes` has the
+    /// room where they live, if any, and `lists` has the rooms that they list, best first. Takes time linear in people, rooms
+    /// and list entries.
+    ///
+    /// # Errors
+    ///
+    /// The first fault in the order of `TradeFault`, each checked over all people. Only problems that are not well formed
+    /// have a fault. `OutOfMemory` may come in place of any fault but `BadIndex`, or of success: the call checks indices
+    /// before it allocates.
     pub fn new(
         alloc: Global,
         order_len: usize,
@@ -78,7 +82,7 @@ impl Problem {
         })
     }
 
-    /// How many people there are.
+    /// Returns the number of people.
     pub fn people(&self) -> usize
         ensures count { result ≡ self.now.people }
         ensures market { IsMarket self.now }
@@ -86,14 +90,14 @@ impl Problem {
         self.order_len
     }
 
-    /// How many rooms there are.
+    /// Returns the number of rooms.
     pub fn rooms(&self) -> usize
         ensures { result ≡ self.now.rooms }
     {
         self.room_count
     }
 
-    // Where the person lives, if anywhere.
+    // Returns where the person lives, if anywhere.
     pub(crate) fn home_of(&self, person: usize) -> Option<usize>
         requires { person < self.now.people }
         ensures home { result ≡ home self.now person }
@@ -102,7 +106,7 @@ impl Problem {
         self.homes[person]
     }
 
-    // Who lives in the room, if anybody.
+    // Returns who lives in the room, if anybody.
     pub(crate) fn tenant_of(&self, room: usize) -> Option<usize>
         requires { room < self.now.rooms }
         ensures { result ≡ tenant self.now room }
@@ -110,7 +114,7 @@ impl Problem {
         self.tenants[room]
     }
 
-    // Whether the person can hand in the list.
+    // Checks that the person can hand in the list. Otherwise reports the first fault.
     fn check_problem_list(
         &self,
         alloc: Global,
@@ -134,7 +138,7 @@ impl Problem {
         Ok(())
     }
 
-    // The problem with another list of the person.
+    // Copies the problem, with `list` as the person's list.
     pub(crate) fn with_list(
         &self,
         alloc: Global,
@@ -159,7 +163,7 @@ impl Problem {
         })
     }
 
-    // The rooms that the person lists, the best first.
+    // Returns the rooms that the person lists, best first.
     pub(crate) fn list(&self, person: usize) -> &[usize]
         requires { person < self.now.people }
         ensures list { result.now ≡ list_of self.now person }

@@ -1,8 +1,8 @@
-//! What a run knows between two turns.
+//! The state of a run between two turns.
 ghost use Rattle.std.specs.Prelude.{◌≡◌, ◌<◌, slice_set, vec_len, IfSome, true};
 ghost use Rattle.trade_line.specs.Inner.Queue.{close};
 
-// Who has asked, which rooms remain, and what each person was given.
+// Who has asked, which rooms remain, and what each person got.
 #[derive(Drop)]
 pub(crate) struct Progress {
     pub(crate) asked: Vec<bool>,
@@ -11,7 +11,7 @@ pub(crate) struct Progress {
 }
 
 impl Progress {
-    // The person gets the room, or nothing, and nobody else gets that room.
+    // Gives the person the room, or nothing. The room no longer remains.
     pub(crate) fn grant(&mut self, person: usize, room: Option<usize>)
         requires person { person < vec_len self.old.given }
         requires room { IfSome room (λ r. r < vec_len self.old.remaining) }
@@ -25,7 +25,7 @@ impl Progress {
         }
     }
 
-    // The person has asked.
+    // Records that the person has asked.
     pub(crate) fn mark(&mut self, person: usize)
         requires { person < vec_len self.old.asked }
         ensures given { self.new.given.items ≡ self.old.given.items }

@@ -1,9 +1,9 @@
-//! Reading on a list.
+//! Reading a list from a given place on.
 ghost use Rattle.std.specs.Prelude.{◌≡◌, ◌+◌, ◌<◌, ◌≤◌, ◌^◌, length, find, drop, All};
 ghost use Rattle.trade_line.specs.Inner.Reads.{is_marked, reads, skipped};
 
-// What is found on a list: the first room that remains, its place or else the end of the list, and how many entries were
-// read.
+// What a read of a list finds: the first remaining room, its place, and the number of entries read. If no room remains, the
+// place is the list's end.
 #[derive(Clone, Copy)]
 pub(crate) struct Found {
     pub(crate) room: Option<usize>,
@@ -11,7 +11,7 @@ pub(crate) struct Found {
     pub(crate) looks: usize,
 }
 
-// Reads on from a place of the list, up to the first room that remains.
+// Reads the list from the place `from` up to the first remaining room.
 pub(crate) fn read_on(list: &[usize], from: usize, remaining: &[bool]) -> Found
     requires from { from ≤ length list.now }
     requires known { All (λ r. r < length remaining.now) list.now }

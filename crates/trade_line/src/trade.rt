@@ -1,4 +1,4 @@
-//! You request my house, I get your turn.
+//! The mechanism "you request my house, I get your turn".
 ghost use Rattle.std.specs.Prelude.{◌≡◌, ◌+◌, ◌≤◌, ◌<◌, ◌^◌, Some};
 ghost use Rattle.std.specs.List.{range_with_len};
 ghost use Rattle.trade_line.specs.Looks.{all_needed, all_listed};
@@ -20,8 +20,8 @@ use crate::problem::Problem;
 use crate::progress::Progress;
 use crate::reading::read_on;
 
-// The front of the line, up to the tenant, is a loop and leaves: the first gets the room, which is the home of the last, and
-// each other one gets the home of the one before in the line.
+// Closes a loop: the people from the front of the line up to `tenant` leave. The first of them gets `room`, the home of the
+// last; each other one gets the home of the person before them in the line.
 fn close_loop<L: Line>(
     problem: &Problem,
     tenant: usize,
@@ -44,7 +44,7 @@ fn close_loop<L: Line>(
     }
 }
 
-// The person at the front asks for the room.
+// Serves the person at the front, who asks for the room: grants it, brings its tenant to the front, or closes a loop.
 fn serve<L: Line>(
     problem: &Problem,
     person: usize,
@@ -76,8 +76,8 @@ fn serve<L: Line>(
     }
 }
 
-// One turn of the person at the front, and how many entries it reads. The cursor moves to the entry that the person asks for,
-// or else to the end of the list.
+// Carries out one turn of the person at the front and returns the number of list entries that it reads. The person's cursor
+// moves to the entry that they ask for, or else to the end of the list.
 fn turn<L: Line>(
     problem: &Problem,
     person: usize,
@@ -112,15 +112,18 @@ fn turn<L: Line>(
 /// Carries out the exchange by "you request my house, I get your turn" (Abdulkadiroglu and Sönmez 1999). The rooms are those
 /// of top trading cycles.
 ///
-/// The person at the front of the line asks for the best remaining room on their list, or else takes the floor: the own home,
-/// or no room. Where the tenant of that room still waits, the tenant comes to the front first, or, having asked already,
-/// closes a loop: the first in it gets the home of the last, and each other one the home of the one before in the line.
+/// The person at the front of the line asks for the best remaining room on their list, or else takes the floor: their home,
+/// or no room. If the tenant of that room still waits and has not asked, that tenant first moves to the front. If the tenant
+/// waits and has asked, the people from the front up to the tenant are a loop and leave: the first gets the home of the last,
+/// and each other one gets the home of the person before them in the line. In all other cases the person gets the room, or
+/// the floor, and leaves.
 ///
-/// Each person has a cursor on their list, which never goes back: an ask reads on from there, passes the entries that are gone
+/// Each person has a cursor on their list, which never goes back: an ask reads on from there, skips the entries that are gone
 /// and stays at the entry that it asks for.
 ///
-/// The line begins with all people in priority order, and the bench is made for as many people and rooms. A run takes no
-/// memory. Over a `LinkedLine` it takes time linear in its asks and looks, over a `VecLine` quadratic in people.
+/// The line must hold all people in priority order, and the bench must be made for as many people and rooms. A run does not
+/// allocate. Over a `LinkedLine` it takes time linear in its asks and looks; over a `VecLine` it takes time quadratic in
+/// people on top.
 pub fn run<L: Line>(problem: &Problem, line: L, bench: Bench) -> Outcome
     requires line { L.people line ≡ range_with_len 0 problem.now.people }
     requires bench { bench ≡ size_of problem.now }
@@ -136,7 +139,7 @@ pub fn run<L: Line>(problem: &Problem, line: L, bench: Bench) -> Outcome
     ensures looks_least { all_needed problem.now (given_in result.rooms) ≤ result.looks }
     ensures looks_most { result.looks ≤ result.asks + all_listed problem.now }
 {
-    // The contract of this call tells the proof that the problem is well formed.
+    // For the proof: the contract of this call states that the problem is well formed.
     let _people = problem.people();
     let mut line = line;
     let (progress, cursors) = bench.into_progress();

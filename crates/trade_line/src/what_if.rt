@@ -1,4 +1,4 @@
-//! What a person would get by another list.
+//! What a person would get with another list.
 ghost use Rattle.std.specs.Prelude.{◌≡◌, ◌≤◌, IfOk, IfErr, OnOk};
 ghost use Rattle.trade_line.specs.OtherList.{with_list, IsListFor, IsFirstListFault};
 ghost use Rattle.trade_line.specs.Rank.{rank};
@@ -12,9 +12,13 @@ use crate::problem::Problem;
 use crate::trade::run;
 use std::alloc::Global;
 
-/// The room that the person gets where they hand in this list in place of their own and all others keep theirs; by their own
-/// list it never ranks above what they get by it. The person and the list are refused for the first of their faults, as
-/// `Problem::new` would refuse them; before it has looked for `BadIndex` the call takes no memory.
+/// Returns the room that the person gets by handing in `list` instead of their own, while all others keep theirs; `None` is
+/// no room. By the person's own list, it never ranks above the room that they get with that list.
+///
+/// # Errors
+///
+/// The first fault of the person or the list, in the order of `TradeFault`. `OutOfMemory` may come in place of any fault but
+/// `BadIndex`: the call checks indices before it allocates.
 pub fn run_with_list(
     alloc: Global,
     problem: &Problem,

@@ -1,4 +1,4 @@
--- One more word of a stream.
+-- Drawing one more word from a stream.
 use Rattle.std.proofs.Common.{◌≡◌, ℕ, suc, zero, ◌+◌, ◌++◌, [], ◌∷◌, refl, ap, ◌∙◌, add-one}
 use Rattle.rand_core.specs.Stream.{Stream, next_u64}
 use Rattle.draw_order.specs.Words.{next_words, stream_after}

@@ -1,4 +1,4 @@
--- What is written keeps the form of its table.
+-- Rows that are written have the form of their table.
 use Rattle.std.proofs.Common.{ℕ, ◌<◌, ◌≤◌, ◌^◌, Bool, true, false, not, List, [], ◌∷◌, map, Option}
 use Rattle.std.proofs.Common.{cond, refl}
 use Rattle.std.specs.List.{All, AllByRecursion}
@@ -58,7 +58,7 @@ module _ {X : Type 0} (columns : X → Row) (IsRow : Row → Type 0) where
     alike_tables-formed_changed xs h =
         alike_tables-every (update_where q f xs) (alike_tables-all_changed xs (alike_tables-each xs h))
 
--- the order of rows is no matter
+-- The order of rows does not matter.
 pub alike_tables-spelled_alike : (these those : Tables) → AreSameRows these those → IsSpelled those → IsSpelled these
 alike_tables-spelled_alike these those same h = record {
   rooms = All-map-IsPermutation room_columns IsRoomRow _ _ (IsPermutation-sym _ _ same.rooms) h.rooms;

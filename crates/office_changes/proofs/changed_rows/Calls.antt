@@ -1,4 +1,4 @@
--- What the calls of each change make of the rows of an office.
+-- The effect of each change's calls on the rows of an office.
 use Rattle.std.proofs.Common.{◌≡◌, ◌≢◌, ◌<◌, ◌≤◌, ◌^◌, ℕ, zero, suc, refl, Bool, true, false, List, Option, ◌∙◌, arith}
 use Rattle.sqlite.specs.State.{State, HasCleanDisk}
 use Rattle.sqlite_value.specs.declared.value.Value.TheVariants as value
@@ -133,12 +133,12 @@ module _ (old new : State) where
       changed_rows-carries first old new _ (with_going person) (λ office fits. changed_rows-going_put office person fits.1)
       (changed_rows-turns old new _ (λ t h. alike_tables-going_spelled t h person is_id) m)
 
-  -- where the grade is 0 nothing is done
+  -- If the grade is 0, nothing is done.
   pub changed_rows-turns_none : (person : Text) (grade : ℕ) → grade ≡ 0 → Turns old old (with_grade_recorded person grade)
   changed_rows-turns_none person zero none = record { shown = λ tables clean spelled was. (was, spelled); mode = λ clean. refl }
   changed_rows-turns_none person (suc grade) none = absurd (omega (arith, none))
 
-  -- the grade is not 0
+  -- If the grade is not 0, its row is added.
   pub changed_rows-turns_grade : (person : Text) (grade : ℕ) → grade ≢ 0 → IsTextOf is_person_id (value.Text person) → grade ≤ 9
       → Makes old new (with_grade person grade) → Turns old new (with_grade_recorded person grade)
   changed_rows-turns_grade person zero some is_id low m = absurd (some refl)

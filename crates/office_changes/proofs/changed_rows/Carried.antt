@@ -1,4 +1,4 @@
--- From what statements make of the tables to what they make of the rows of an office.
+-- From the effects of statements on tables to their effects on the rows of an office.
 use Rattle.std.proofs.Common.{◌∙◌}
 use Rattle.sqlite.specs.Effect.{Database}
 use Rattle.sqlite.specs.State.{State, HasCleanDisk}
@@ -16,7 +16,7 @@ use Rattle.office_rows.specs.SameRows.{AreSameRows}
 use Rattle.office_changes.specs.Carries.{Turns, CarriesOne}
 use Rattle.office_changes.proofs.alike_tables.Spelled.{alike_tables-spelled_alike}
 
--- a database that has some tables has all that are alike
+-- A database that has some tables has all those with the same rows.
 pub changed_rows-has_alike : (db : Database) (these those : Tables) → AreSameRows these those → HasTables db those
     → HasTables db these
 changed_rows-has_alike db these those same h = record {
@@ -35,7 +35,7 @@ changed_rows-has_alike db these those same h = record {
   };
 }
 
--- a statement that keeps the forms
+-- a statement that keeps the form of rows
 pub changed_rows-turns : (old new : State) (f : Tables → Tables) → ((tables : Tables) → IsSpelled tables → IsSpelled (f tables))
     → Makes old new f → Turns old new f
 changed_rows-turns old new f keeps m = record {

@@ -1,4 +1,4 @@
--- The rows of an office after each change, by what its statements make of the rows before.
+-- The rows of an office after each change, from the effects of its statements on the rows before.
 use Rattle.std.proofs.Common.{◌≡◌, ℕ, zero, suc, ◌+◌, Bool, true, false, List, [], ◌∷◌, ◌++◌, map, map-id}
 use Rattle.std.proofs.Common.{Option, Some, None, cond}
 use Rattle.std.proofs.Common.{refl, sym, ap, ◌∙◌, subst, IsPermutation}
@@ -50,7 +50,7 @@ use Rattle.office_changes.proofs.changed_rows.Entries.{changed_rows-rows_put, ch
 use Rattle.office_changes.proofs.changed_rows.Entries.{changed_rows-row_added, changed_rows-row_put}
 use Rattle.office_changes.proofs.changed_rows.Entries.{changed_rows-row_unknown, changed_rows-row_changed}
 
--- the test of a statement tells the rows of one key
+-- The test of a statement picks the rows of one key.
 changed_rows-tells : (a b : Text) → text_eq a b ≡ eq_by_cmp text_cmp a b
 changed_rows-tells a b = sym (is_eq-slice_cmp a b)
 
@@ -95,14 +95,14 @@ module _ {X : Type 0} (m : TextMap X) (k : Text) where
 -- ---- rooms
 
 module _ (office : Office) (room : Text) (shut : Bool) where
-  -- a room that is not known
+  -- a room that is unknown
   pub changed_rows-room_added : knows_room office room ≡ false
       → AreSameRows (rows_of (applied office (PutRoom room shut))) (with_room room shut (rows_of office))
   unfolding rows_at with_room
   changed_rows-room_added new =
       alike_tables-rooms_alike (rows_of office) _ _ (changed_rows-entry_added office.rooms room shut new)
 
-  -- one that is
+  -- a room that is known
   pub changed_rows-room_shut : knows_room office room ≡ true
       → AreSameRows (rows_of (applied office (PutRoom room shut))) (with_shut room shut (rows_of office))
   unfolding rows_at with_shut
@@ -119,7 +119,7 @@ module _ (office : Office) (person : Text) where
   abbrev is_that : PersonRecord → Bool
   is_that r = text_eq r.id person
 
-  -- a person who is not known and has not withdrawn
+  -- a person who is unknown and has not withdrawn
   pub changed_rows-person_added : (name key : Text) (home : Option Text) → knows_person office person ≡ false
       → has_withdrawn office person ≡ false
       → AreSameRows (rows_of (applied office (PutPerson person name key home)))
@@ -136,7 +136,7 @@ module _ (office : Office) (person : Text) where
       (λ r. changed_rows-tells r.id person) office.people v
       (options-none_if_not_some (maps.get office.people person) new)))
 
-  -- a person who goes takes the grade along
+  -- Deleting a person deletes their grade.
   changed_rows-person_out : AreSameRows (rows_of (changes.without_person office person))
       (without_person person (without_grade_of person (rows_of office)))
   unfolding rows_at without_person without_grade_of
@@ -148,7 +148,7 @@ module _ (office : Office) (person : Text) where
       (alike_tables-grades_alike (without_person person (rows_of office)) _ _
       (IsPermutation-same _ _ (changed_rows-entry_gone office.grades person)))
 
-  -- where only known people have a grade, nobody else loses one
+  -- If only known people have a grade, nobody else loses one.
   pub changed_rows-person_gone : (maps.contains_key office.grades person ≡ true → knows_person office person ≡ true)
       → AreSameRows (rows_of (applied office (DropPerson person)))
       (without_person person (without_grade_of person (rows_of office)))
@@ -225,7 +225,7 @@ module _ (office : Office) (person : Text) where
   abbrev is_choice : ChoiceRecord → Bool
   is_choice r = text_eq r.person person
 
-  -- a person's list is replaced
+  -- A person's list is replaced.
   pub changed_rows-choices_put : (rooms : List Text)
       → AreSameRows (rows_of (applied office (PutChoices person rooms)))
       (with_choices person 0 rooms (without_choices_of person (rows_of office)))
@@ -244,17 +244,17 @@ module _ (office : Office) (person : Text) where
       office.choices (room ∷ rooms)))
       (changed_rows-choices_added person 0 (room ∷ rooms) (without_choices_of person (rows_of office)))
 
--- ---- words, results, moves and kept lists
+-- ---- words, results, moves and imported lists
 
 module _ (office : Office) (person : Text) where
-  -- somebody has a word who had none
+  -- A person without a word gets one.
   pub changed_rows-word_added : (word : ℕ) → maps.contains_key office.words person ≡ false
       → AreSameRows (rows_of (applied office (PutWord person word))) (with_word person word (rows_of office))
   unfolding rows_at with_word
   changed_rows-word_added word new =
       alike_tables-words_alike (rows_of office) _ _ (changed_rows-entry_added office.words person word new)
 
-  -- and likewise a result
+  -- A person without a result gets one.
   pub changed_rows-result_added : (room : Option Text) → maps.contains_key office.results person ≡ false
       → AreSameRows (rows_of (applied office (PutResult person room))) (with_result person room (rows_of office))
   unfolding rows_at with_result
@@ -262,7 +262,7 @@ module _ (office : Office) (person : Text) where
       alike_tables-results_alike (rows_of office) _ _
       (changed_rows-entry_added office.results person (record { room = room }) new)
 
--- somebody moves who has not moved in the round
+-- A person moves who has not moved in the round.
 pub changed_rows-move_added : (office : Office) (move : Move)
     → maps.contains_key (moves_of office.moves move.round) move.person ≡ false
     → AreSameRows (rows_of (applied office (AddMove move))) (with_move move (rows_of office))
@@ -270,7 +270,7 @@ unfolding rows_at with_move
 changed_rows-move_added office move new =
     alike_tables-moves_alike (rows_of office) _ _ (IsPermutation-sym _ _ (rows_read-rows_more office.moves move new))
 
--- a list is kept under a label that is new
+-- An imported list is stored under a new label.
 pub changed_rows-list_kept : (office : Office) (label : Text) (kind : ListKind) (bytes : List ℕ) (count : ℕ)
     → maps.contains_key office.lists label ≡ false
     → AreSameRows (rows_of (applied office (KeepList label kind bytes count)))
@@ -283,7 +283,7 @@ changed_rows-list_kept office label kind bytes count new =
 -- ---- grades and leavers
 
 module _ (office : Office) (person : Text) where
-  -- a person's grade is replaced, and grade 0 is not recorded
+  -- A person's grade is replaced, and grade 0 is not recorded.
   pub changed_rows-grade_put : (grade : ℕ)
       → AreSameRows (rows_of (applied office (PutGrade person grade)))
       (with_grade_recorded person grade (without_grade_of person (rows_of office)))
@@ -293,7 +293,7 @@ module _ (office : Office) (person : Text) where
   changed_rows-grade_put (suc grade) =
       alike_tables-grades_alike (rows_of office) _ _ (changed_rows-entry_put office.grades person (suc grade))
 
-  -- somebody leaves who did not before
+  -- A person leaves who did not before.
   pub changed_rows-going_put : is_going office person ≡ false
       → AreSameRows (rows_of (applied office (PutGoing person))) (with_going person (rows_of office))
   unfolding rows_at with_going
@@ -317,7 +317,7 @@ changed_rows-unmarked people withdrawn =
     (maps.entries people)
     ∙ sym (map-map taking_part (person_row withdrawn) (maps.entries people))
 
--- lists, withdrawals, words and results go, and nobody leaves
+-- Lists, withdrawals, words and results are deleted, and nobody leaves.
 pub changed_rows-round_cleared : (office : Office)
     → AreSameRows (rows_of (applied office ClearRound))
     (without_withdrawn (without_round_tables (rows_of office)))

@@ -1,4 +1,4 @@
--- What a change of a map makes of the rows of its entries.
+-- The effect of a change of a map on the rows of its entries.
 use Rattle.std.proofs.Common.{◌≡◌, Bool, true, false, not, List, [], ◌∷◌, ◌++◌, map, Some, None, cond}
 use Rattle.std.proofs.Common.{refl, sym, ap, ap₂, ◌∙◌, subst, T, append_assoc, IsPermutation}
 use Rattle.std.specs.List.{flat_map, AllByRecursion}
@@ -46,7 +46,7 @@ changed_rows-entries-remove {X = X} m k =
     ∙ sym (get-from_sorted text_cmp es q sorted)) in
     ap maps.entries same ∙ entries-from_sorted text_cmp es sorted
 
--- Each entry has rows that show its key. A test tells the rows of one key.
+-- Each entry has rows that contain its key. A test picks the rows of one key.
 module _ {X Row : Type 0} (rows : Text × X → List Row) (key : Row → Text)
     (keyed : (e : Text × X) → AllByRecursion (λ r. key r ≡ e.0) (rows e))
     (k : Text) (mine : Row → Bool) (tells : (r : Row) → mine r ≡ eq_by_cmp text_cmp (key r) k) where
@@ -64,13 +64,13 @@ module _ {X Row : Type 0} (rows : Text × X → List Row) (key : Row → Text)
   changed_rows-none_mine x (r ∷ rs) e h =
       (ap not (tells r ∙ ap (λ q. eq_by_cmp text_cmp q k) h.0 ∙ e), changed_rows-none_mine x rs e h.1)
 
-  -- the rows of the first entry, and what is left of those of the others
+  -- the rows of the first entry, and what remains of those of the others
   changed_rows-left_of : (e : Text × X) (es : List (Text × X))
       → delete_where mine (rows e ++ flat_map rows es)
       ≡ delete_where mine (rows e) ++ delete_where mine (flat_map rows es)
   changed_rows-left_of e es = filter-append (λ r. not (mine r)) (rows e) (flat_map rows es)
 
-  -- an entry of another key keeps its rows
+  -- An entry of another key keeps its rows.
   changed_rows-stays : (e : Text × X) (es : List (Text × X)) → eq_by_cmp text_cmp e.0 k ≡ false
       → delete_where mine (rows e ++ flat_map rows es) ≡ rows e ++ delete_where mine (flat_map rows es)
   changed_rows-stays e es differs =
@@ -78,7 +78,7 @@ module _ {X Row : Type 0} (rows : Text × X → List Row) (key : Row → Text)
       ∙ ap (λ l. l ++ delete_where mine (flat_map rows es))
       (filter_all (λ r. not (mine r)) (rows e) (changed_rows-none_mine e.0 (rows e) differs (keyed e)))
 
-  -- and one of this key loses them
+  -- An entry of this key loses them.
   changed_rows-goes : (e : Text × X) (es : List (Text × X)) → e.0 ≡ k
       → delete_where mine (rows e ++ flat_map rows es) ≡ delete_where mine (flat_map rows es)
   changed_rows-goes e es same =
@@ -86,7 +86,7 @@ module _ {X Row : Type 0} (rows : Text × X → List Row) (key : Row → Text)
       ∙ ap (λ l. l ++ delete_where mine (flat_map rows es))
       (filter_none (λ r. not (mine r)) (rows e) (changed_rows-all_mine e.0 (rows e) same (keyed e)))
 
-  -- rows of keys that come after k are not its rows
+  -- Rows of keys after `k` are not its rows.
   changed_rows-kept_later : (es : List (Text × X)) → T (below_all text_cmp k es)
       → delete_where mine (flat_map rows es) ≡ flat_map rows es
   changed_rows-kept_later [] b = refl
@@ -94,7 +94,7 @@ module _ {X Row : Type 0} (rows : Text × X → List Row) (key : Row → Text)
       changed_rows-stays e es (maps-key_after nat_list_cmp_total k e.0 (maps-less_from_test _ (maps-first_holds _ _ b)))
       ∙ ap (λ l. rows e ++ l) (changed_rows-kept_later es (maps-second_holds _ _ b))
 
-  -- an entry that is put: its rows, and those of the other keys
+  -- Inserting an entry gives its rows and those of the other keys.
   changed_rows-put-rows : (v : X) (es : List (Text × X)) → T (is_sorted text_cmp es)
       → IsPermutation (flat_map rows (put text_cmp k v es)) (rows (k, v) ++ delete_where mine (flat_map rows es))
   changed_rows-put-rows v [] s = IsPermutation-refl _
@@ -155,7 +155,7 @@ module _ {X Row : Type 0} (rows : Text × X → List Row) (key : Row → Text)
             ∙ ap (λ l. rows e ++ l) (changed_rows-kept-rows es m)
       ] refl h
 
-  -- what is put at a key: its rows, after those of the key are deleted
+  -- Inserting at a key deletes the rows of the key and adds those of the entry.
   pub changed_rows-rows_put : (m : TextMap X) (v : X)
       → IsPermutation (flat_map rows (maps.entries (maps.insert m k v)))
       (rows (k, v) ++ delete_where mine (flat_map rows (maps.entries m)))
@@ -163,17 +163,17 @@ module _ {X Row : Type 0} (rows : Text × X → List Row) (key : Row → Text)
       subst (λ es. IsPermutation (flat_map rows es) (rows (k, v) ++ delete_where mine (flat_map rows (maps.entries m))))
       (sym (entries-insert nat_list_cmp_total m k v)) (changed_rows-put-rows v (maps.entries m) (entries_sorted m))
 
-  -- what is removed at a key takes its rows with it
+  -- Removing a key removes its rows.
   pub changed_rows-rows_gone : (m : TextMap X)
       → flat_map rows (maps.entries (maps.remove m k)) ≡ delete_where mine (flat_map rows (maps.entries m))
   changed_rows-rows_gone m = ap (flat_map rows) (changed_rows-entries-remove m k) ∙ changed_rows-gone-rows (maps.entries m)
 
-  -- a key without a value has no rows
+  -- A key without a value has no rows.
   pub changed_rows-rows_kept : (m : TextMap X) → maps.get m k ≡ None
       → delete_where mine (flat_map rows (maps.entries m)) ≡ flat_map rows (maps.entries m)
   changed_rows-rows_kept m none = changed_rows-kept-rows (maps.entries m) (sym (get-entries m k) ∙ none)
 
--- Each entry has one row, which shows its key. A test tells the row of one key.
+-- Each entry has one row, which contains its key. A test picks the row of one key.
 module _ {X Row : Type 0} (row : Text × X → Row) (key : Row → Text) (keyed : (e : Text × X) → key (row e) ≡ e.0)
     (k : Text) (mine : Row → Bool) (tells : (r : Row) → mine r ≡ eq_by_cmp text_cmp (key r) k) where
   abbrev single : Text × X → List Row
@@ -257,12 +257,12 @@ module _ {X Row : Type 0} (row : Text × X → Row) (key : Row → Text) (keyed 
               (changed_rows-changed v kept es (maps-second_holds _ _ s) m to)
         ] refl h
 
-    -- the row of an unknown key is nowhere, and nothing changes
+    -- An unknown key has no row, and nothing changes.
     pub changed_rows-row_unknown : (m : TextMap X) → maps.get m k ≡ None
         → map row (maps.entries m) ≡ update_where mine f (map row (maps.entries m))
     changed_rows-row_unknown m none = sym (changed_rows-unchanged (maps.entries m) (sym (get-entries m k) ∙ none))
 
-    -- the row of a known key is changed where it is
+    -- The row of a known key is changed in place.
     pub changed_rows-row_changed : (m : TextMap X) (v kept : X) → maps.get m k ≡ Some kept → f (row (k, kept)) ≡ row (k, v)
         → map row (maps.entries (maps.insert m k v)) ≡ update_where mine f (map row (maps.entries m))
     changed_rows-row_changed m v kept known to =

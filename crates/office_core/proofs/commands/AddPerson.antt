@@ -1,4 +1,4 @@
--- An added person keeps the laws.
+-- Adding a person preserves the invariants.
 use Rattle.std.proofs.Common.{◌≡◌, [], ◌∷◌, Option, Some, None, refl}
 use Rattle.std.proofs.lemmas.Bool.{not-false}
 use Rattle.std.specs.FinMap as map

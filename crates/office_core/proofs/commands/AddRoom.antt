@@ -1,4 +1,4 @@
--- An added room keeps the laws.
+-- Adding a room preserves the invariants.
 use Rattle.std.proofs.Common.{◌≡◌, false, None, refl}
 use Rattle.std.proofs.lemmas.Bool.{not-false}
 use Rattle.room_types.specs.Texts.{Text}

@@ -1,4 +1,4 @@
--- A cancelled round keeps the laws.
+-- Cancelling preserves the invariants.
 use Rattle.std.proofs.Common.{◌≡◌, None, refl}
 use Rattle.office_state.specs.Change.{LeadsOn}
 use Rattle.office_state.specs.Office.Invariants.{IsLawful}

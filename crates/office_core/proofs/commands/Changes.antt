@@ -1,9 +1,9 @@
--- Whether a command has changes.
+-- Lists of changes that are not empty.
 use Rattle.std.proofs.Common.{◌≡◌, false, List, [], ◌∷◌, ◌++◌, refl}
 use Rattle.office_state.specs.Empty.{is_empty}
 use Rattle.office_state.specs.declared.change.Change.{Change}
 
--- where a change comes last there are changes
+-- a list of changes with this one in it is not empty
 pub commands_has_last : (changes others : List Change) (change : Change)
     → is_empty (changes ++ change ∷ others) ≡ false
 commands_has_last [] others change = refl

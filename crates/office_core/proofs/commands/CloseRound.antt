@@ -1,4 +1,4 @@
--- A closed round keeps the laws.
+-- Closing a round preserves the invariants.
 use Rattle.std.proofs.Common.{◌≡◌, None, refl}
 use Rattle.std.proofs.lemmas.Bool.{not-false}
 use Rattle.room_types.specs.declared.phase.Phase.TheVariants.{Closed}

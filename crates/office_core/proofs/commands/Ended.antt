@@ -1,4 +1,4 @@
--- An office whose round has ended keeps the laws.
+-- Ending a round preserves the invariants.
 use Rattle.std.proofs.Common.{refl}
 use Rattle.std.specs.FinMap as map
 use Rattle.room_types.specs.Texts.{TextMap}

@@ -1,4 +1,4 @@
--- Who leaves the college keeps the laws, and says so again without a change.
+-- Recording that a person leaves the college preserves the invariants, and a repeat changes nothing.
 use Rattle.std.proofs.Common.{◌≡◌, Bool, true, false, [], ◌∷◌, None, cond, refl, ap, sym}
 use Rattle.std.proofs.lemmas.Bool.{not-false}
 use Rattle.std.specs.FinMap as map

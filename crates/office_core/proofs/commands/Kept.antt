@@ -1,4 +1,4 @@
--- Commands that are accepted where there are results, and do not end the round, keep it.
+-- Once there are results, an accepted command that does not end the round keeps them.
 use Rattle.std.proofs.Common.{◌≡◌, Bool, true, false, not, List, [], ◌∷◌, Some, None, refl, ap}
 use Rattle.std.specs.Prelude.{if◌then◌else◌}
 use Rattle.std.specs.FinMap as map
@@ -17,7 +17,7 @@ use Rattle.office_core.specs.Command.Import.{checks_where, new_label_checks, may
 use Rattle.office_core.specs.declared.command.Command.{Command}
 use Rattle.office_core.specs.declared.command.Command.TheVariants as command
 
--- the phases before the run are over
+-- the phase is none of those before the run
 record IsPast (phase : Phase) : Type 0 where
   idle : is_idle phase ≡ false
   opened : is_open phase ≡ false
@@ -51,7 +51,7 @@ commands-passes (check ∷ rest) ok = by check.0 refl
 commands-stops : (may : Bool) → may ≡ false → not may ≡ false → ⊥
 commands-stops may e h = let z : not may ≡ true = ap not e in cc
 
--- and no list may come under a new label
+-- and no list may be imported under a new label
 commands-comes_too_late : (kind : ListKind) (phase : Phase) → IsPast phase → may_import kind phase ≡ false
 commands-comes_too_late Rooms phase p = p.preparing
 commands-comes_too_late People phase p = p.preparing

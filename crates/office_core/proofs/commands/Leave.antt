@@ -1,4 +1,4 @@
--- A home given up keeps the laws.
+-- Giving up a home preserves the invariants.
 use Rattle.std.proofs.Common.{◌≡◌, None, refl}
 use Rattle.std.proofs.lemmas.Bool.{not-false}
 use Rattle.room_types.specs.Texts.{Text}

@@ -1,4 +1,4 @@
--- A round that begins keeps the laws.
+-- Beginning a round preserves the invariants.
 use Rattle.std.proofs.Common.{◌≡◌, None, refl, arith}
 use Rattle.std.proofs.lemmas.Bool.{not-false}
 use Rattle.std.proofs.lemmas.Bool.{leb-false}

@@ -1,4 +1,4 @@
--- A publication keeps the laws.
+-- Publishing preserves the invariants.
 use Rattle.std.proofs.Common.{◌≡◌, None, refl, ◌∙◌, sym}
 use Rattle.std.proofs.lemmas.Bool.{not-false}
 use Rattle.room_types.specs.declared.phase.Phase.TheVariants.{Published}

@@ -1,4 +1,4 @@
--- A person who goes keeps the laws.
+-- Removing a person preserves the invariants.
 use Rattle.std.proofs.Common.{◌≡◌, false, None, refl, ap, ◌∙◌, sym, subst}
 use Rattle.std.proofs.lemmas.Bool.{not-false}
 use Rattle.std.specs.FinMap as map

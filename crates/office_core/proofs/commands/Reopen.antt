@@ -1,4 +1,4 @@
--- A reopened room keeps the laws.
+-- Reopening a room preserves the invariants.
 use Rattle.std.proofs.Common.{◌≡◌, ◌≤◌, false, None, refl, sym, subst}
 use Rattle.std.proofs.lemmas.Bool.{not-false}
 use Rattle.room_types.specs.Texts.{Text}

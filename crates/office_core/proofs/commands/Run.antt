@@ -1,4 +1,4 @@
--- A run keeps the laws.
+-- Running the exchange preserves the invariants.
 use Rattle.std.proofs.Common.{◌≡◌, Bool, true, false, cond, not, List, [], ◌∷◌, ◌++◌, T}
 use Rattle.std.proofs.Common.{map as map_list, Option, Some, None, refl, ap, ◌∙◌, sym, inl, inr}
 use Rattle.std.proofs.lemmas.Bool.{and_parts, not-false}
@@ -55,7 +55,7 @@ commands-found_later : {X : Type 0} (b : Bool) (x : X) (o : Option X) → is_som
 commands-found_later true x o e = refl
 commands-found_later false x o e = e
 
--- who is found below an entry is another person
+-- a person who is found after an entry of a sorted table is another one
 commands-found_below : {X : Type 0} (p : Text) (es : List (Text × X)) → T (below_all text_cmp p es)
     → (q : Text) → is_some (find text_cmp q es) ≡ true → eq_by_cmp text_cmp q p ≡ false
 commands-found_below p es below q found =
@@ -68,7 +68,7 @@ commands-found_below p es below q found =
       | inr other ↦ other
     ]
 
--- each of the people who get a result is known, and has none yet
+-- the changes fit if each person who gets a result is known and has none yet
 commands-results-fit : (first office : Office) (es : List (Text × Assigned)) (rest : List Change)
     → T (is_sorted text_cmp es)
     → ((q : Text) → is_some (find text_cmp q es) ≡ true

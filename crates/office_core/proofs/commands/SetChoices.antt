@@ -1,4 +1,4 @@
--- A recorded list keeps the laws.
+-- Recording a list preserves the invariants.
 use Rattle.std.proofs.Common.{◌≡◌, List, None, refl}
 use Rattle.std.proofs.lemmas.Bool.{not-false}
 use Rattle.room_types.specs.Choices.{IsChoices}

@@ -1,4 +1,4 @@
--- A grade that is given keeps the laws.
+-- Giving a grade preserves the invariants.
 use Rattle.std.proofs.Common.{◌≡◌, ℕ, None, refl}
 use Rattle.std.proofs.lemmas.Bool.{not-false}
 use Rattle.room_types.specs.Texts.{Text}

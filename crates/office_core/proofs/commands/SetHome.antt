@@ -1,4 +1,4 @@
--- A new home keeps the laws.
+-- Giving a home preserves the invariants.
 use Rattle.std.proofs.Common.{◌≡◌, Option, Some, None, refl, ap, ◌∙◌, sym}
 use Rattle.std.proofs.lemmas.Bool.{not-false}
 use Rattle.std.specs.FinMap as map

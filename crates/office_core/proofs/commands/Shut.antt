@@ -1,4 +1,4 @@
--- A shut room keeps the laws.
+-- Shutting a room preserves the invariants.
 use Rattle.std.proofs.Common.{◌≡◌, true, false, [], ◌∷◌, ◌++◌, Option, Some, None, refl, ap, ◌∙◌}
 use Rattle.std.proofs.Common.{subst}
 use Rattle.std.proofs.lemmas.Bool.{not-false}
@@ -21,7 +21,7 @@ use Rattle.office_core.specs.Refusal.Checks.{first_refusal}
 use Rattle.office_core.proofs.refusals.Checks.{refusals-none_applies}
 use Rattle.office_core.specs.Command.Shut.{checks, next, changes_of, without_tenant, leaving}
 
--- a known room that nobody lives in may be shut
+-- shutting a known room that nobody lives in preserves the invariants
 commands-shut-lawful : (office : Office) (room : Text) → IsLawful office → has_words office.phase ≡ false
     → map.contains_key office.rooms room ≡ true
     → ((q : Text) → home_of office q ≡ Some room → ⊥)
@@ -45,7 +45,7 @@ commands-shut-lawful office room l before known empty =
 abbrev after : Office → Text → Option Text → Office
 after office room o = record (without_tenant office o) { rooms = map.insert office.rooms room true }
 
--- by who the tenant is, if anybody
+-- by cases of the tenant
 commands-shut-leads_by : (office : Office) (room : Text) (o : Option Text) → IsLawful office
     → has_words office.phase ≡ false → map.contains_key office.rooms room ≡ true
     → tenant office room ≡ o → LeadsOn office (after office room o)

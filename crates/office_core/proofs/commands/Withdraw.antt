@@ -1,4 +1,4 @@
--- A withdrawal keeps the laws, and a second one is no change.
+-- Withdrawing preserves the invariants, and a repeat changes nothing.
 use Rattle.std.proofs.Common.{◌≡◌, Bool, true, false, [], ◌∷◌, Option, Some, None, cond, refl, ap}
 use Rattle.std.proofs.Common.{◌∙◌, sym, inl, inr}
 use Rattle.std.proofs.lemmas.Bool.{not-false}
@@ -34,7 +34,7 @@ commands-same_at m q k ties = elim (maps-text_cases q k) as (λ _. map.get m q �
   | inr other ↦ cc
 ]
 
--- who is in a set already adds nothing to it
+-- inserting a key that a set contains does not change it
 pub commands-put_again : (m : TextMap (Unit {0})) (k : Text) → map.contains_key m k ≡ true
     → map.insert m k tt ≡ m
 commands-put_again m k known = same_map nat_list_cmp_total maps-exact_texts (map.insert m k tt) m (λ q.

@@ -1,4 +1,4 @@
--- Words that are put, one person at a time.
+-- Recording lottery numbers, one person at a time.
 use Rattle.std.proofs.Common.{◌≡◌, ℕ, ◌+◌, ◌<◌, Bool, true, false, ◌||◌, List, [], ◌∷◌, ◌++◌}
 use Rattle.std.proofs.Common.{length, drop, get_or, refl, ap, sym, ◌∙◌, inl, inr, arith}
 use Rattle.std.proofs.lemmas.Bool.{or_right}
@@ -30,7 +30,7 @@ commands_words_put_more people words i d e h k =
     ap (λ p. words_put p (drop i words)) (drop_more people i d h)
     ∙ ap (λ w. words_put (get_or people i d ∷ drop (i + 1) people) w) (drop_more words i e k)
 
--- where the changes lead
+-- the office that the changes lead to
 pub commands-words_put-lead : (office : Office) (people : List Text) (words : List ℕ) (rest : List Change)
     → applied_all office (words_put people words ++ rest)
     ≡ applied_all (record office { words = with_words office.words people words }) rest
@@ -59,7 +59,7 @@ commands-none_again person (other ∷ others) differ =
     ap (λ b. b || list_any (eq_by_cmp text_cmp person) others) differ.0
     ∙ commands-none_again person others differ.1
 
--- who comes later is another person, where people differ
+-- if people differ, one who comes later is another person
 commands-comes_later : (person : Text) (others : List Text)
     → AllByRecursion (λ other. eq_by_cmp text_cmp person other ≡ false) others
     → (q : Text) → list_any (eq_by_cmp text_cmp q) others ≡ true → eq_by_cmp text_cmp q person ≡ false
@@ -72,7 +72,7 @@ commands-comes_later person others differ q later =
       | inr other ↦ other
     ]
 
--- each of the people who get a word is known, and has none yet
+-- the changes fit if the people differ, and each is known and has no word yet
 pub commands-words_put-fit : (first office : Office) (people : List Text) (words : List ℕ)
     (rest : List Change) → IsDistinct (eq_by_cmp text_cmp) people
     → ((q : Text) → list_any (eq_by_cmp text_cmp q) people ≡ true
@@ -101,7 +101,7 @@ commands-or_swap true false c = refl
 commands-or_swap false true c = refl
 commands-or_swap false false c = refl
 
--- who has a word then
+-- the people who have a word afterwards
 pub commands-with_words-has : (kept : TextMap ℕ) (people : List Text) (words : List ℕ) (p : Text)
     → length words ≡ length people
     → map.contains_key (with_words kept people words) p

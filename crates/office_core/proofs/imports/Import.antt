@@ -1,4 +1,4 @@
--- A list that comes in leads from a lawful office to a lawful one.
+-- An import leads from a lawful office to a lawful one.
 use Rattle.std.proofs.Common.{◌≡◌, ◌+◌, ◌≤◌, ◌++◌, ℕ, true, false, List, [], ◌∷◌, length}
 use Rattle.std.proofs.Common.{Some, None, refl, ap, ◌∙◌, sym, subst, inl, inr}
 use Rattle.std.specs.Prelude.{nat_le, nat_lt}
@@ -41,7 +41,7 @@ use Rattle.office_core.proofs.commands.SetChoices.{commands-set_choices-leads}
 use Rattle.office_core.proofs.commands.SetGrade.{commands-set_grade-leads}
 use Rattle.office_core.proofs.refusals.Checks.{refusals-none_applies}
 
--- rooms that were known are known
+-- every room that the first office knows is known
 abbrev pub Grows : Office → Office → Type 0
 Grows first office = (room : Text) → knows_room first room ≡ true → knows_room office room ≡ true
 
@@ -117,7 +117,7 @@ imports-grade_steps = record {
   phase = λ office e. refl;
 }
 
--- the changes of records, before any others, lead to the office after the records
+-- the changes of records, followed by any others, lead to the office after the records
 record Leads (command : EntryCommand) (first office : Office) (entries : List command.Entry)
     (rest : List Change) : Type 0 where
   pub leads : applied_all office (changes_by command entries ++ rest)
@@ -167,7 +167,7 @@ module _ (command : EntryCommand) (Good : command.Entry → Type 0) (steps : Ste
         phase = later.phase ∙ steps.phase office entry;
       }
 
--- what holds of all kept lists holds of them with one more
+-- what holds for all stored lists and for one more holds for all after that one is stored
 imports-all_put : (P : KeptList → Type 0) (lists : TextMap KeptList) (label : Text) (list : KeptList)
     → ((q : Text) (kept : KeptList) → map.get lists q ≡ Some kept → P kept) → P list
     → (q : Text) (kept : KeptList) → map.get (map.insert lists label list) q ≡ Some kept → P kept
@@ -192,7 +192,7 @@ imports-kept_put lists label list kept new few short counted = record {
   counted = imports-all_put (λ k. k.count ≤ record_limit) lists label list kept.counted counted;
 }
 
--- an office before the draw that keeps one more list
+-- storing a list before the draw preserves the invariants
 imports-keeping-lawful : (office : Office) (label : Text) (kind : ListKind) (bytes : List ℕ)
     → IsLawful office → is_preparing office.phase ≡ true
     → AreKept (keeping office label kind bytes).lists
@@ -256,7 +256,7 @@ imports-comes_before People office h = h
 imports-comes_before Choices office h = round_phases-open_preparing office.phase h
 imports-comes_before Grades office h = h
 
--- a list under a new label
+-- importing a list under a new label leads to a lawful office
 imports-new-leads : (office : Office) (label : Text) (kind : ListKind) (bytes : List ℕ) → IsLawful office
     → map.get office.lists label ≡ None → first_refusal (new_label_checks office kind bytes) ≡ None
     → LeadsOn office (keeping (office_with kind office bytes) label kind bytes)

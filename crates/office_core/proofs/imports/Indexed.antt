@@ -1,4 +1,4 @@
--- Keys and homes, gathered in tables.
+-- Tables of keys and homes.
 use Rattle.std.proofs.Common.{◌≡◌, Bool, true, false, ◌||◌, Option, Some, None, cond, refl, ap, ◌∙◌}
 use Rattle.std.proofs.Common.{sym, inl, inr}
 use Rattle.std.proofs.lemmas.Bool.{or_right}
@@ -17,7 +17,7 @@ use Rattle.office_state.proofs.offices.People.{offices-holder_has, offices-nobod
 use Rattle.office_state.proofs.offices.Truths.{offices-text_eq-same}
 use Rattle.office_core.specs.Inner.Tries.{HasKeys, HasHomes, IsIndexed, placed}
 
--- two tests that hold together are the same
+-- two tests that imply each other are equal
 imports-alike : (a b : Bool) → (a ≡ true → b ≡ true) → (b ≡ true → a ≡ true) → a ≡ b
 imports-alike true b to from = sym (to refl)
 imports-alike false true to from = from refl
@@ -57,7 +57,7 @@ module _ (which : Person → Option Text) where
       ap (option_and_then which) (options-none_if_not_some (map.get m k) new) in
       cc
 
-  -- who has it after one more person is put: that person, or somebody who had it
+  -- after a person is added, somebody holds a text exactly if that person does or somebody held it before
   pub imports-holder_put : (m : TextMap Person) (k : Text) (v : Person) (text : Text)
       → map.contains_key m k ≡ false
       → is_some (holder which (map.insert m k v) text)
@@ -100,7 +100,7 @@ module _ (which : Person → Option Text) where
                 ]
           ] refl
 
--- which texts are known after one more is put
+-- the texts that a table contains after an insertion
 pub imports-put_known : {X : Type 0} (m : TextMap X) (k : Text) (v : X) (q : Text)
     → map.contains_key (map.insert m k v) q ≡ (text_eq k q || map.contains_key m q)
 imports-put_known m k v q =
@@ -113,7 +113,7 @@ imports-known_or_later : (t c : Bool) (id : Text) (o : Option Text)
 imports-known_or_later true c id o = sym (or_right c true refl)
 imports-known_or_later false c id o = refl
 
--- a key that is put was the next one's
+-- inserting the next person's key does not change which keys are in the table or still to come
 pub imports-keys-put : {X : Type 0} (m : TextMap X) (k : Text) (v : X) (id q : Text) (o : Option Text)
     → (map.contains_key (map.insert m k v) q || is_some o)
     ≡ (map.contains_key m q || is_some (cond (text_eq k q) (Some id) o))
@@ -121,7 +121,7 @@ imports-keys-put m k v id q o =
     ap (λ b. b || is_some o) (imports-put_known m k v q)
     ∙ imports-known_or_later (text_eq k q) (map.contains_key m q) id o
 
--- the keys and homes with one more person
+-- a table of keys is that of the people, also after a person is added
 imports-HasKeys-put : {X : Type 0} (m : TextMap Person) (keys : TextMap X) (k : Text) (v : Person) (x : X)
     → map.contains_key m k ≡ false → HasKeys m keys
     → HasKeys (map.insert m k v) (map.insert keys v.key x)
@@ -130,6 +130,7 @@ imports-HasKeys-put m keys k v x new has key =
     ∙ ap (λ b. text_eq v.key key || b) (has key)
     ∙ sym (imports-holder_put (λ p. Some p.key) m k v key new)
 
+-- and so is a table of homes
 imports-HasHomes-put : (m : TextMap Person) (tenants : TextMap Text) (k : Text) (v : Person)
     (home : Option Text) → v.home ≡ home → map.contains_key m k ≡ false → HasHomes m tenants
     → HasHomes (map.insert m k v) (placed tenants home k)
@@ -143,7 +144,7 @@ imports-HasHomes-put m tenants k v (Some home) lives new has room =
     ∙ ap (λ o. is_text o room || is_some (holder (λ p. p.home) m room)) (sym lives)
     ∙ sym (imports-holder_put (λ p. p.home) m k v room new)
 
--- a register with one more person
+-- a register is indexed, also after a person is added
 pub imports_still_indexed : (people : TextMap Person) (keys : TextMap (Unit {0})) (tenants : TextMap Text)
     (k : Text) (v : Person)
     → map.contains_key people k ≡ false

@@ -52,7 +52,7 @@ imports_few_changes command office entries changes are few =
     ap (λ cs. length cs) are.changed ∙ length-map entries (λ entry. command.change entry) in
     subst (λ n. n ≤ record_limit) (sym same) few
 
--- as many changes as the list has records
+-- there are as many changes as records
 pub imports_as_many : (command : EntryCommand) (office : Office) (bytes : List ℕ) (changes : List Change)
     → AreAdded command office bytes changes → length changes ≡ record_count bytes
 imports_as_many command office bytes changes are =
@@ -60,7 +60,7 @@ imports_as_many command office bytes changes are =
     ∙ length-map (entries_in command bytes) (λ entry. command.change entry)
     ∙ length-map (data_records (records_of bytes)) command.form.entry
 
--- a record that is allowed leaves the refusal to those after it
+-- after a record that is not refused, the first refusal is that of the records after it
 pub imports-record_passed : (command : EntryCommand) (office : Office) (at : ℕ) (entry : command.Entry)
     (entries : List command.Entry)
     → first_refusal (command.checks office entry) ≡ None
@@ -70,7 +70,7 @@ imports-record_passed command office at entry entries none =
     ap (λ o. option_map_or (λ refusal. Some (refused.BadRecord at (Denied (number_of refusal)))) o
     (first_denied command (command.next office entry) (at + 1) entries)) none
 
--- the refusal of a list tells of a record
+-- a refusal for a record whose command is refused names the record
 imports-tells_of : (command : EntryCommand) (office : Office) (at : ℕ) (entries : List command.Entry)
     (refusal : Refusal)
     → first_denied command office at entries ≡ Some refusal → tells_of_list refusal ≡ true
@@ -88,7 +88,7 @@ imports-tells_of command office at (entry ∷ entries) refusal h =
         → tells_of_list refusal ≡ true
     told refusal other e t = let same : other ≡ refusal = cc in ap tells_of_list (sym same) ∙ t
 
--- the recorded lists do not count for what a list of choices is refused for
+-- the refusal of a list of choices does not depend on the recorded lists
 imports-choices_free : (office : Office) (lists : TextMap (List Text)) (at : ℕ) (entries : List ChoicesEntry)
     → first_denied choices_command (record office { choices = lists }) at entries
     ≡ first_denied choices_command office at entries
@@ -108,7 +108,7 @@ pub imports-choices_later : (office : Office) (at : ℕ) (entry : ChoicesEntry) 
 imports-choices_later office at entry entries =
     imports-choices_free office (with_list office.choices entry.person entry.choices) at entries
 
--- the recorded grades do not count for what a list of grades is refused for
+-- the refusal of a list of grades does not depend on the recorded grades
 imports-grades_free : (office : Office) (grades : TextMap ℕ) (at : ℕ) (entries : List GradeRow)
     → first_denied grade_command (record office { grades = grades }) at entries
     ≡ first_denied grade_command office at entries
@@ -128,7 +128,7 @@ pub imports-grades_later : (office : Office) (at : ℕ) (entry : GradeRow) (entr
 imports-grades_later office at entry entries =
     imports-grades_free office (with_grade office.grades entry.person entry.grade) at entries
 
--- a list is refused for a record, or for memory
+-- the refusal of a list names a record, or is `OutOfMemory`
 pub imports-tells_of_record : (command : EntryCommand) (office : Office) (bytes : List ℕ) (refusal : Refusal)
     → list_refusal command office bytes ≡ Some refusal
     → (refusal ≡ refused.OutOfMemory) ⊎ (tells_of_list refusal ≡ true)
@@ -156,7 +156,8 @@ imports-kind_tells People = imports-tells_of_record person_command
 imports-kind_tells Choices = imports-tells_of_record choices_command
 imports-kind_tells Grades = imports-tells_of_record grade_command
 
--- a list that may come is refused for its records, or for the memory that is taken for it
+-- if the first refusal is the wanted one, which names a record or is `OutOfMemory`, then it or `OutOfMemory` is a refusal by
+-- these checks
 imports-list_refused : (changes : List Change) (checks : List Check) (wanted : Option Refusal)
     (refusal : Refusal) → is_empty changes ≡ false → first_refusal checks ≡ wanted
     → ((r : Refusal) → wanted ≡ Some r → (r ≡ refused.OutOfMemory) ⊎ (tells_of_list r ≡ true))
@@ -174,7 +175,7 @@ imports-list_refused changes checks (Some r) refusal some first tells (inr memor
       )
     ]
 
--- the refusals of a list that may come, where there is room for it
+-- if the phase and the limits allow the import, the first refusal is that of the list
 pub imports-first_of_list : (office : Office) (kind : ListKind) (bytes : List ℕ)
     → may_import kind office.phase ≡ true → nat_le label_limit (map_len office.lists) ≡ false
     → nat_lt byte_limit (length bytes) ≡ false

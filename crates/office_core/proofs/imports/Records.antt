@@ -1,4 +1,4 @@
--- What is known of the records of a list that has no bad one.
+-- The records of a list without a bad one.
 use Rattle.std.proofs.Common.{◌≡◌, ◌+◌, ◌≤◌, ◌==◌, ℕ, Bool, true, false, not, List, [], ◌∷◌}
 use Rattle.std.proofs.Common.{length, map, nat_lt, Option, Some, None, cond, refl}
 use Rattle.std.proofs.Common.{arith}
@@ -21,7 +21,7 @@ use Rattle.office_lists.specs.declared.fault.Cause.TheVariants.{BadField, FieldC
 use Rattle.office_lists.specs.declared.fault.ListFault.TheVariants as list
 use Rattle.office_core.specs.Command.Import.{choices_command, entries_in, record_count}
 
--- every one of the list, from the first on
+-- the property holds for each element of the list
 abbrev pub Each : {A : Type 0} → (A → Type 0) → List A → Type 0
 Each P [] = Unit {0}
 Each P (x ∷ xs) = P x × Each P xs
@@ -45,7 +45,7 @@ imports-mapped_none : {A B : Type 0} (f : A → B) (o : Option A) → option_map
 imports-mapped_none f None h = refl
 imports-mapped_none f (Some x) h = cc
 
--- where none of the records is bad, each is good, and they are not too many
+-- if no record is bad, each is good, and there are not too many
 imports-goods : (cause : Record → Option Cause) (at : ℕ) (rows : List Record)
     → at ≤ record_limit + 1 → first_bad cause at rows ≡ None
     → Each (λ fields. cause fields ≡ None) rows × (length rows + at ≤ record_limit + 1)
@@ -60,7 +60,7 @@ imports-goods cause at (fields ∷ rest) low h =
     let later = imports-goods cause (at + 1) rest (omega (arith, within)) good.1 in
     ((good.0, later.0), omega (arith, later.1))
 
--- where a list has no fault, its first record is the header and none after it is bad
+-- if a list has no fault, no record after the header is bad
 imports-good_rows : {X : Type 0} (form : ListForm X) (rows : List Record) → list_fault form rows ≡ None
     → first_bad (cause_of form) 1 (data_records rows) ≡ None
 imports-good_rows form [] h = cc
@@ -77,7 +77,7 @@ pub imports-each_good : {X : Type 0} (form : ListForm X) (rows : List Record) �
 imports-each_good form rows h =
     (imports-goods (cause_of form) 1 (data_records rows) (omega arith) (imports-good_rows form rows h)).0
 
--- a list that has no bad record has few
+-- a list without a bad record has at most `record_limit` data records
 pub imports-few_records : {X : Type 0} (form : ListForm X) (bytes : List ℕ)
     → list_fault form (records_of bytes) ≡ None → record_count bytes ≤ record_limit
 imports-few_records form bytes h =
@@ -97,7 +97,7 @@ imports-no_fault : {A : Type 0} (o : Option A) → is_none o ≡ true → o ≡ 
 imports-no_fault None h = refl
 imports-no_fault (Some x) h = cc
 
--- a list of rooms without a fault may be recorded
+-- room codes without a fault are a valid list
 imports-faultless : (codes : List Text) → choices_fault codes ≡ None → IsChoices codes
 imports-faultless codes h =
     let some = imports-unless (nat_lt choice_limit (length codes)) TooManyChoices
@@ -106,7 +106,7 @@ imports-faultless codes h =
       imports-mapped_none (λ code. RoomRepeated code) (first_repeated [] codes) some.1,
     )
 
--- a record of a list of choices tells a list that may be recorded
+-- a good record of a list of choices has a valid list
 imports-recordable : (fields : Record) → cause_of choices_list fields ≡ None
     → IsChoices (codes_in (field 1 fields))
 imports-recordable fields h =
@@ -129,7 +129,7 @@ imports-each_told : (rows : List Record) → Each (λ fields. cause_of choices_l
 imports-each_told [] good = tt
 imports-each_told (fields ∷ rest) good = (imports-recordable fields good.0, imports-each_told rest good.1)
 
--- each list of a list of choices that has no bad record may be recorded
+-- each entry of a list of choices without a bad record has a valid list
 pub imports-each_recordable : (bytes : List ℕ) → list_fault choices_list (records_of bytes) ≡ None
     → Each (λ entry. IsChoices entry.choices) (entries_in choices_command bytes)
 imports-each_recordable bytes h =

@@ -1,4 +1,4 @@
--- What is known once no check refuses.
+-- What follows if no check refuses.
 use Rattle.std.proofs.Common.{◌≡◌, Bool, true, false, not, List, [], ◌∷◌, ◌++◌, Option, Some, None}
 use Rattle.std.proofs.Common.{cond, refl, ap, ◌∙◌, sym}
 use Rattle.std.specs.Option.{is_some, unwrap_or}
@@ -27,18 +27,18 @@ refusals-none_applies (check ∷ others) h =
       | false ↦ λ e. (refl, refusals-none_applies others e)
     ] h
 
--- a room that is known and not shut
+-- a room that passes its checks is recorded as not shut
 refusals-open_room : (o : Option Bool) → not (is_some o) ≡ false → unwrap_or o false ≡ false → o ≡ Some false
 refusals-open_room None known unshut = cc
 refusals-open_room (Some shut) known unshut = ap (λ b. Some b) unshut
 
--- a room that may be a home is open, and nobody has it
+-- a room that passes the checks of a home is not shut and has no tenant
 pub refusals-may_live : (office : Office) (room : Text) → NoneApplies (home_checks office room)
     → (map.get office.rooms room ≡ Some false) × (tenant office room ≡ None)
 refusals-may_live office room n =
     (refusals-open_room (map.get office.rooms room) n.0 n.1.0, options-none_if_not_some (tenant office room) n.1.1.0)
 
--- the same for a home that may be none
+-- the same for an optional home, with other checks after its own
 pub refusals-may_live_if_any : (office : Office) (home : Option Text) (others : List Check)
     → NoneApplies (home_checks_if_any office home ++ others)
     → ((room : Text) → home ≡ Some room

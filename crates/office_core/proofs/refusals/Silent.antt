@@ -1,4 +1,4 @@
--- Refusals that tell of no list.
+-- Checks whose refusals name no record of a list.
 use Rattle.std.proofs.Common.{◌≡◌, ◌⊎◌, ◌||◌, Bool, true, false, List, [], ◌∷◌, Some, None}
 use Rattle.std.proofs.Common.{Err, cond, refl, ap, ◌∙◌, sym, inl, inr}
 use Rattle.std.specs.List.{flat_map}
@@ -13,7 +13,7 @@ use Rattle.office_core.specs.declared.refusal.Refusal.{Refusal}
 use Rattle.office_core.specs.declared.refusal.Refusal.TheVariants.{OutOfMemory}
 use Rattle.office_core.specs.declared.reply.Reply.{Reply}
 
--- none of the refusals tells of a list
+-- none of the refusals names a record
 abbrev pub AreSilent : List Check → Type 0
 AreSilent [] = Unit {0}
 AreSilent (check ∷ others) = (tells_of_list check.1 ≡ false) × AreSilent others
@@ -37,8 +37,7 @@ refusals-one_of : (a b : Bool) → b ≡ false → (a || b) ≡ true → a ≡ t
 refusals-one_of true b n h = refl
 refusals-one_of false b n h = cc
 
--- a query that is refused by such a list of refusals is told the first that applies, or out of
--- memory for the room that it names
+-- if such checks refuse a query, its answer is the first refusal that applies, or `OutOfMemory` for the room that it names
 pub refusals-silent_refusal_asked : (list : List Check) (given : Reply) (refusal : Refusal) → AreSilent list
     → IsRefusal [] list refusal → Tells (told_unless (first_refusal list) given) (Err refusal)
 refusals-silent_refusal_asked list given refusal all (inl is) = inl (ap (λ o. told_unless o given) is)

@@ -1,4 +1,4 @@
--- A listing has a row for each entry of a table, and an order one for each person.
+-- Listings of empty tables and lists are empty, and those of others are not.
 use Rattle.std.proofs.Common.{◌≡◌, ◌<◌, true, false, List, [], ◌∷◌, length, eqb, map, refl, ap, sym}
 use Rattle.std.proofs.Common.{◌∙◌, arith}
 use Rattle.std.proofs.lemmas.Bool.{eqb-true}

@@ -1,4 +1,4 @@
--- The rows of what a query or a command is answered ascend.
+-- The rows of every reply ascend.
 use Rattle.std.proofs.Common.{sym, subst}
 use Rattle.std.specs.FinMap as maps
 use Rattle.std.specs.Prelude.{ℕ, List, Result, Ok, Err, IfOk, Bool, true, false, Option, None, Some, if◌then◌else◌, refl}
@@ -54,7 +54,7 @@ reply_rows-owner_ascends : (office : Office) (person : Option Text)
 reply_rows-owner_ascends office None = tt
 reply_rows-owner_ascends office (Some person) = reply_rows-person_ascends office person (maps.get office.people person)
 
--- in the reply to a query
+-- the rows of the reply to a query ascend
 reply_rows_ascend : (office : Office) (asked : Query) → IfOk (told office asked) RowsAscend
 reply_rows_ascend office query.Rooms =
     maps-rows_ascend (room_row office) (λ row. row.room) (λ e. refl) office.rooms
@@ -79,7 +79,7 @@ reply_rows-added_ascends : (kept : Option KeptList) (bytes : List ℕ)
 reply_rows-added_ascends None bytes = tt
 reply_rows-added_ascends (Some kept) bytes = tt
 
--- in the reply to a command, which has none
+-- the reply to a command has no rows
 reply_rows-reply_ascends : (office : Office) (given : Command) → RowsAscend (reply_to office given)
 reply_rows-reply_ascends office (command.AddRoom room) = tt
 reply_rows-reply_ascends office (command.AddPerson person name key home) = tt

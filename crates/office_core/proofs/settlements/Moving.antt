@@ -1,5 +1,5 @@
--- The movers in the order of the day: they are the same people, and whoever comes to a room finds it empty, but for those who
--- swap, who have left before.
+-- The moves in the order of the day. They move the same people, and each person finds the new room empty, once those who swap
+-- have left.
 use Rattle.std.proofs.Common.{◌≡◌, ℕ, zero, suc, ◌<◌, true, false, Bool, not, ◌||◌, ◌++◌, List, [], ◌∷◌, length, get_or}
 use Rattle.std.proofs.Common.{map as map_list, Option, Some, None, cond, refl, ap, ◌∙◌, sym, subst, inl, inr, ◌⊎◌, arith}
 use Rattle.std.specs.Option.{is_some, option_and_then}
@@ -30,11 +30,11 @@ use Rattle.office_state.specs.Round.Settlement.{moves_with}
 use Rattle.office_state.proofs.moving_people.Movers.{is_mover}
 use Rattle.office_core.specs.Command.Settle.{first_out, goers, swaps}
 
--- who moves, without the wave
+-- a move as a relocation, without its round and wave
 abbrev pub mover_of : Move → Mover
 mover_of move = (move.person, move.from, move.to)
 
--- ---- the same movers
+-- ---- the same people
 
 settlements-any_mover : (ms : List Move) (q : Text)
     → is_mover (map_list mover_of ms) q ≡ list_any (λ (m : Move). eq_by_cmp text_cmp q m.person) ms
@@ -49,7 +49,7 @@ settlements-is_mover-ascending ms q =
     (ascending move_cmp ms) (arranged-one_arrangement move_cmp move_days-move_total ms).some.same_items)
     ∙ sym (settlements-any_mover ms q)
 
--- those who pass a test are movers
+-- a person of one of the moves that pass a test is a person of one of all moves
 settlements-is_mover-some : (test : Move → Bool) (ms : List Move) (q : Text)
     → is_mover (map_list mover_of (filter test ms)) q ≡ true → is_mover (map_list mover_of ms) q ≡ true
 settlements-is_mover-some test [] q h = h
@@ -78,7 +78,7 @@ settlements-is_mover-append (m ∷ ms) others q =
     either true b c = refl
     either false b c = refl
 
--- those who leave before anybody arrives are movers
+-- a person who leaves before anybody arrives is a person of one of the moves
 pub settlements-is_mover-first_out : (ms : List Move) (q : Text)
     → is_mover (map_list mover_of (first_out ms)) q ≡ true → is_mover (map_list mover_of ms) q ≡ true
 settlements-is_mover-first_out ms q h =
@@ -93,7 +93,7 @@ settlements-is_mover-first_out ms q h =
     by true b f g e = f refl
     by false b f g e = g e
 
--- and who is none of them does not swap
+-- a person who does not leave before anybody arrives does not swap
 pub settlements-no_swap : (ms : List Move) (q : Text)
     → is_mover (map_list mover_of (first_out ms)) q ≡ false → is_mover (map_list mover_of (swaps ms)) q ≡ false
 settlements-no_swap ms q h =
@@ -116,7 +116,7 @@ settlements-swap_at (m ∷ ms) (suc k) d within h =
       | false ↦ there
     ]
 
--- a mover stands somewhere
+-- a person who relocates has a position in the list
 settlements-mover_at : (ms : List Mover) (q : Text) → is_mover ms q ≡ true
     → (j : ℕ) × (j < length ms) × ((d : Mover) → (get_or ms j d).0 ≡ q)
 settlements-mover_at ms q h =
@@ -127,7 +127,7 @@ settlements-mover_at ms q h =
           ∙ sym (maps-tied_text q there.1.0 there.4),
     )
 
--- ---- the moves of the movers
+-- ---- the moves of the relocations
 
 pub settlements-movers_of : (n : ℕ) (ms : List Mover) (ws : List Wave) → length ws ≡ length ms
     → map_list mover_of (moves_with n ms ws) ≡ ms
@@ -141,7 +141,7 @@ pub settlements-length-moves_with : (n : ℕ) (ms : List Mover) (ws : List Wave)
 settlements-length-moves_with n ms ws h =
     sym (length-map (moves_with n ms ws) mover_of) ∙ ap length (settlements-movers_of n ms ws h)
 
--- the move of mover k
+-- the move of relocation `k`
 abbrev move_at : ℕ → List Mover → List Wave → ℕ → Move
 move_at n ms ws k =
     let m : Mover = get_or ms k ([], None, None) in
@@ -163,17 +163,17 @@ settlements-all_moves P n ms ws many h = λ k d within.
 
 -- ---- who comes before
 
--- somebody is the person of move k, or of one before it
+-- `q` is the person of move `k`, or of one before it
 abbrev pub CameBefore : List Move → ℕ → Move → Text → Type 0
 CameBefore rows k d q =
     (q ≡ (get_or rows k d).person) ⊎ ((j : ℕ) × (j < k) × ((get_or rows j d).person ≡ q))
 
--- the room that somebody comes to is empty by then: who lives there is the person, or one of those who come before
+-- each person finds the new room empty: anyone who lives there is that person, or one who comes before
 abbrev pub FindEmpty : (Text → Option Text) → List Move → Type 0
 FindEmpty home rows = (k : ℕ) (d : Move) → k < length rows → (q room : Text)
     → (get_or rows k d).to ≡ Some room → home q ≡ Some room → CameBefore rows k d q
 
--- who lives where this move leads is its person, or the person of a move below it
+-- anyone who lives in the new room of this move is its person, or the person of a move below it
 abbrev IsCleared : (Text → Option Text) → List Move → Move → Type 0
 IsCleared home moves m = (q room : Text) → m.to ≡ Some room → home q ≡ Some room
     → (q ≡ m.person)
@@ -205,15 +205,15 @@ settlements-empty_in_order home moves h =
           ]
     ]
 
--- the move of a wave is below one of the next
+-- a move of a wave is below any move of the next wave
 settlements-next_wave : (n : ℕ) (a b : Move) → a.wave ≡ Nth n → b.wave ≡ Nth (suc n) → is_lt (move_cmp a b) ≡ true
 settlements-next_wave n a b p q =
     (λ i. is_lt (ordering_then (wave_cmp (p i) (q i)) (text_cmp a.person b.person)))
     ∙ ap (λ c. is_lt (ordering_then c (text_cmp a.person b.person)))
     (sym (nat_cmp_is n (suc n) Less (omega arith)))
 
--- `before` is where people live before the day, no two in one room, and `now` where they live once those who swap have left. A
--- mover's old room is the home, and whoever lived where a mover comes to is that mover or another.
+-- `before` gives the homes before the day, no two in one room, and `now` the homes once those who swap have left. The old room of
+-- a relocation is the person's home, and anyone who lived in its new room is its person, or relocates too.
 module _ (n : ℕ) (ms : List Mover) (differ : NewRoomsDiffer ms) (before now : Text → Option Text)
     (apart : (p q room : Text) → before p ≡ Some room → before q ≡ Some room → p ≡ q)
     (from : (k : ℕ) → k < length ms → (get_or ms k ([], None, None)).1 ≡ before (get_or ms k ([], None, None)).0)
@@ -233,7 +233,7 @@ module _ (n : ℕ) (ms : List Mover) (differ : NewRoomsDiffer ms) (before now : 
   settlements-wave_is : (k : ℕ) → k < length ms → get_or (waves_of ms) k Swap ≡ wave k
   settlements-wave_is k within = get_or-map-range_with_len wave 0 (length ms) k k Swap within (omega arith)
 
-  -- the mover who has the room that mover i comes to, if anybody has it
+  -- the relocation of the person who lives in the new room of relocation `i`, if that person relocates
   settlements-holder : (i : ℕ) (q room : Text) → i < length ms → (get_or ms i nobody).2 ≡ Some room
       → before q ≡ Some room → is_mover ms q ≡ true
       → (k : ℕ) × (k < length ms) × ((get_or ms k nobody).0 ≡ q) × (next (leavers ms) i ≡ Some k)

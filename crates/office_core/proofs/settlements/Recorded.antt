@@ -1,4 +1,4 @@
--- Moves with their waves, one by one.
+-- The moves of a settlement, one by one.
 use Rattle.std.proofs.Common.{◌≡◌, ℕ, ◌+◌, ◌<◌, List, [], ◌∷◌, ◌++◌, length, take, drop, get_or, cond, not, ap, ◌∙◌}
 use Rattle.std.specs.Option.{is_some}
 use Rattle.std.proofs.lemmas.List.{drop_more}
@@ -38,7 +38,7 @@ pub settlements_goers_more : (moves : List Move) (i : ℕ) (d : Move) → i < le
     ≡ goers (take i moves) ++ cond (not (is_some (get_or moves i d).to)) (get_or moves i d ∷ []) []
 settlements_goers_more moves i d within = filter_more (λ move. not (is_some move.to)) moves i d within
 
--- as many moves as movers
+-- there are as many moves as relocations
 pub settlements-as_many_settled : (office : Office) → length (settled_moves office) ≡ length (movers office)
 settlements-as_many_settled office =
     settlements-length-moves_with office.number (movers office) (waves_of (movers office))

@@ -1,4 +1,4 @@
--- A settlement keeps the laws.
+-- Settling preserves the invariants.
 use Rattle.std.proofs.Common.{◌≡◌, ℕ, ◌≤◌, ◌<◌, true, false, ◌&&◌, List, [], ◌∷◌, length, get_or, map as map_list}
 use Rattle.std.proofs.Common.{Some, None, cond, refl, ap, ◌∙◌, sym, subst, inl, inr, ◌⊎◌, arith}
 use Rattle.std.specs.Option.{is_some, option_and_then, option_map}
@@ -46,7 +46,7 @@ use Rattle.office_core.proofs.settlements.Settling.{settlements-left-lead, settl
 use Rattle.office_core.proofs.settlements.Settling.{settlements-arrived-apart, settlements-moves-apart, settlements-left-fit, Leads}
 use Rattle.office_core.proofs.settlements.Settling.{settlements-arrived-fit, settlements-moves-fit}
 
--- nobody has moved in a round that is under way
+-- no moves are recorded for a round that is under way
 settlements-none_yet : (office : Office) → IsLawful office → is_over office office.number ≡ false
     → (ms : List Mover) → AllByRecursion
     (λ (m : Mover). map.contains_key (moves_of office.moves office.number) m.0 ≡ false) ms
@@ -79,7 +79,7 @@ module _ (office : Office) (l : IsLawful office) (h : first_refusal (checks offi
   settlements-given : office.results ≡ round_results office
   settlements-given = l.results.given (round_phases-published_given office.phase settlements-published)
 
-  -- the settlement forgets nobody
+  -- everybody who is known is still known after settling
   settlements-still_known : (p : Text) → map.contains_key office.people p ≡ true
       → map.contains_key (settled_people office) p ≡ true
   settlements-still_known p known =
@@ -90,7 +90,7 @@ module _ (office : Office) (l : IsLawful office) (h : first_refusal (checks offi
         | Some kept ↦ λ h. refl
       ] known
 
-  -- what holds of the moves holds of them in order
+  -- what holds for all moves holds for all of them in the order of the day
   settlements-in_order : (P : Move → Type 0) → All P moves → All P order
   settlements-in_order P h = All-permutation P moves order (arranged-one_arrangement move_cmp move_days-move_total moves).some.same_items h
 
@@ -106,7 +106,7 @@ module _ (office : Office) (l : IsLawful office) (h : first_refusal (checks offi
       (λ k within. moving_people-each_mover office (λ m. m.2 ≡ recorded_result office m.0) (λ p. refl) k
       ([], None, None) within))
 
-  -- the movers in order are the movers
+  -- the moves in the order of the day move the same people
   settlements-same_movers : (q : Text) → is_mover (map_list mover_of order) q ≡ is_mover ms q
   settlements-same_movers q =
       settlements-is_mover-ascending moves q
@@ -120,7 +120,7 @@ module _ (office : Office) (l : IsLawful office) (h : first_refusal (checks offi
       (recursion_from_All (λ (m : Mover). m.2 ≡ recorded_result office m.0) ms
       (moving_people-each_mover office (λ m. m.2 ≡ recorded_result office m.0) (λ p. refl))))
 
-  -- the changes settle the people
+  -- the changes lead to the settled people
   settlements-settled : arrived_people left (map_list mover_of order) ≡ settled_people office
   settlements-settled = moving_people-people_settled office gone (map_list mover_of order)
       (λ q h. settlements-is_mover-ascending moves q ∙ settlements-is_mover-first_out moves q h) settlements-same_rooms
@@ -137,7 +137,7 @@ module _ (office : Office) (l : IsLawful office) (h : first_refusal (checks offi
   settlements-moves_lead : All (Leads (settled_people office)) moves
   settlements-moves_lead = settlements-all_moves (Leads (settled_people office)) office.number ms (waves_of ms) (move_days-as_many_waves ms) settlements-mover_leads
 
-  -- who lives where a mover comes to is that mover or another
+  -- anyone who lives in the new room of a relocation is its person, or relocates too
   known : (k : ℕ) (q room : Text) → k < length ms → (get_or ms k ([], None, None)).2 ≡ Some room
       → home_of office q ≡ Some room
       → (q ≡ (get_or ms k ([], None, None)).0) ⊎ (is_mover ms q ≡ true)

@@ -1,4 +1,4 @@
--- The changes of a settlement: where they lead, that homes differ on the way, and that they fit.
+-- The changes of a settlement: the office that they lead to, that homes differ in between, and that they fit.
 use Rattle.std.proofs.Common.{◌≡◌, ℕ, zero, suc, ◌<◌, true, false, List, [], ◌∷◌, ◌++◌, get_or}
 use Rattle.std.proofs.Common.{map as map_list, Option, Some, None, cond, refl, ap, ◌∙◌, sym, subst, inl, inr, ◌⊎◌, arith}
 use Rattle.std.specs.Option.{option_map, option_and_then}
@@ -23,7 +23,7 @@ use Rattle.office_state.proofs.moving_people.Settling.{home_in, AreFresh}
 use Rattle.office_core.specs.Command.Settle.{leaving, arriving}
 use Rattle.office_core.proofs.settlements.Moving.{mover_of, CameBefore, FindEmpty}
 
--- a move changes the people alone
+-- setting a home changes only the people
 settlements-with_home-rehomed : (office : Office) (person : Text) (home : Option Text)
     → with_home office person home ≡ record office { people = rehomed office.people person home }
 settlements-with_home-rehomed office person home =
@@ -35,7 +35,7 @@ settlements-with_home-rehomed office person home =
       | Some kept ↦ refl
     ]
 
--- where the changes lead
+-- the office that the changes lead to
 pub settlements-left-lead : (office : Office) (ms : List Move) (rest : List Change)
     → applied_all office (map_list leaving ms ++ rest)
     ≡ applied_all
@@ -63,7 +63,7 @@ settlements-moves-lead office [] rest = refl
 settlements-moves-lead office (move ∷ moves) rest =
     settlements-moves-lead (record office { moves = with_move office.moves move }) moves rest
 
--- who lives somewhere once a person has moved is that person, or lived there before
+-- anyone who lives in a room after a person has moved is that person, or lived there before
 settlements-lives_then : (people : TextMap Person) (person : Text) (home : Option Text) (q room : Text)
     → home_in (rehomed people person home) q ≡ Some room
     → ((q ≡ person) × (home ≡ Some room))
@@ -88,7 +88,7 @@ settlements-lives_then people person home q room h =
     home_at None h = cc
     home_at (Some kept) h = h
 
--- homes differ once a person has moved to a room where nobody else lives
+-- homes differ after a person has moved to a room where nobody else lives
 settlements-rehomed-differ : (people : TextMap Person) (person : Text) (home : Option Text)
     → Unshared (λ p. p.home) people
     → ((q room : Text) → home ≡ Some room → home_in people q ≡ Some room → q ≡ person)
@@ -123,11 +123,11 @@ settlements-left-apart office (move ∷ others) rest apart s =
           (settlements-rehomed-differ office.people move.person None apart (λ q room e. cc)) s),
     )
 
--- each move leads to the home that the person has among the outer people
+-- the new room of the move, if there is one, is the person's home among the outer people
 abbrev pub Leads : TextMap Person → Move → Type 0
 Leads outer move = (room : Text) → move.to ≡ Some room → home_in outer move.person ≡ Some room
 
--- once the first has come, the others find their rooms empty still
+-- after the first person has arrived, the others still find their rooms empty
 settlements-others_find_empty : (people outer : TextMap Person) (move : Move) (others : List Move)
     → Unshared (λ p. p.home) outer → All (Leads outer) (move ∷ others)
     → FindEmpty (home_in people) (move ∷ others)

@@ -1,4 +1,4 @@
--- A person is added, perhaps with a home.
+-- Adds a person, perhaps with a home.
 use Rattle.std.specs.Prelude.{not, nat_le, List, [], ◌∷◌, ◌++◌, Option}
 use Rattle.std.specs.FinMap as map
 use Rattle.room_types.specs.Texts.{Text}

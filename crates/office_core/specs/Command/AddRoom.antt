@@ -1,4 +1,4 @@
--- A room that is not shut is added.
+-- Adds a room that is not shut.
 use Rattle.std.specs.Prelude.{not, nat_le, false, List, [], ◌∷◌}
 use Rattle.std.specs.FinMap as map
 use Rattle.room_types.specs.Texts.{Text}

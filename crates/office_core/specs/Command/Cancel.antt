@@ -1,4 +1,4 @@
--- The round is given up. Its number stays used.
+-- Cancels the round. Its number is not used again.
 use Rattle.std.specs.Prelude.{not, List, [], ◌∷◌}
 use Rattle.room_types.specs.declared.phase.Phase.TheVariants.{Idle}
 use Rattle.office_state.specs.Change.{without_round}

@@ -1,4 +1,4 @@
--- The lists are final.
+-- Makes the lists final.
 use Rattle.std.specs.Prelude.{not, List, [], ◌∷◌, length}
 use Rattle.room_types.specs.declared.phase.Phase.TheVariants.{Closed}
 use Rattle.office_state.specs.Office.{participants}

@@ -1,4 +1,4 @@
--- What it is to decide a command by its refusals.
+-- The decision of a command by its checks.
 use Rattle.std.specs.Prelude.{◌≡◌, Bool, true, not, ◌||◌, List, Option, None, Some, ◌⊎◌, MatchResult}
 use Rattle.std.specs.Prelude.{Result}
 use Rattle.office_state.specs.Empty.{is_empty}
@@ -10,13 +10,13 @@ use Rattle.office_core.specs.declared.refusal.Refusal.{Refusal}
 use Rattle.office_core.specs.declared.refusal.Refusal.TheVariants.{OutOfMemory}
 use Rattle.office_core.specs.declared.reply.Reply.{Reply}
 
--- whether memory is taken: for the room that the first refusal names, for the list that was read
--- before it, and where none applies for the changes, if any
+-- whether deciding needs memory: for the room that the first refusal names, for the list that is read to find it, or, if none
+-- applies, for the changes, if there are any
 abbrev pub refusal_takes_memory : List Change → Option Refusal → Bool
 refusal_takes_memory changes None = not (is_empty changes)
 refusal_takes_memory changes (Some refusal) = names_room refusal || tells_of_list refusal
 
--- the first refusal that applies, or out of memory where memory is taken
+-- the refusal is the first that applies, or `OutOfMemory` if deciding needs memory
 abbrev pub IsRefusal : List Change → List Check → Refusal → Type 0
 IsRefusal changes checks refusal =
     (first_refusal checks ≡ Some refusal)
@@ -29,8 +29,7 @@ pub record IsDecision (checks : List Check) (reply : Reply) (changes : List Chan
   pub replied : decision.reply ≡ reply
   pub changed : decision.changes.items ≡ changes
 
--- the reply and the changes where no check refuses, and else the first refusal that applies; or out
--- of memory
+-- the result is the reply and the changes if no check refuses, else the first refusal that applies, or `OutOfMemory` as above
 abbrev pub IsDecided : List Check → Reply → List Change → Result Decision Refusal → Type 0
 IsDecided checks reply changes result =
     MatchResult result (IsDecision checks reply changes) (IsRefusal changes checks)

@@ -1,4 +1,4 @@
--- Each participant gets a word: the first word the first participant, by identifier, and so on.
+-- Gives each participant a lottery number: the first word goes to the first participant by identifier, and so on.
 use Rattle.std.specs.Prelude.{ℕ, eqb, not, List, [], ◌∷◌, ◌++◌, length, map as map_list}
 use Rattle.std.specs.List.{zip}
 use Rattle.std.specs.FinMap as map
@@ -23,7 +23,7 @@ checks office words =
       WrongWordCount (length (participants office)) (length words),
     ) ∷ []
 
--- each person gets the word at the same place
+-- each person gets the word at the same position
 abbrev pub with_words : TextMap ℕ → List Text → List ℕ → TextMap ℕ
 with_words kept people words = with_all kept (zip people words)
 

@@ -1,4 +1,4 @@
--- Somebody leaves the college after the round, and gives the room to it. Who leaves already still does.
+-- Records that somebody leaves the college after the round, which gives away the person's room. A repeat changes nothing.
 use Rattle.std.specs.Prelude.{not, ◌&&◌, List, [], ◌∷◌, if◌then◌else◌}
 use Rattle.std.specs.Option.{is_some}
 use Rattle.std.specs.FinMap as map
@@ -14,7 +14,7 @@ use Rattle.office_core.specs.declared.refusal.Refusal.TheVariants.{Withdrawn}
 use Rattle.office_core.specs.declared.reply.Reply.{Reply}
 use Rattle.office_core.specs.declared.reply.Reply.TheVariants as reply
 
--- who leaves already may say so again, also without a home
+-- a repeat is accepted also from somebody without a home
 abbrev pub checks : Office → Text → List Check
 checks office person =
     (not (is_open office.phase), BadPhase office.phase)

@@ -1,5 +1,5 @@
--- A list comes in under a label: one command for each of its records, and all of them count or none.
--- A label that is known keeps its reply, and counts for no other list.
+-- Imports a list under a label: one command for each record, and all of them take effect or none. Under a known label the same
+-- list gets the same reply without effect, and any other list is refused.
 use Rattle.std.specs.Prelude.{ℕ, ◌+◌, Bool, true, false, not, ◌&&◌, nat_le, nat_lt, List, [], ◌∷◌}
 use Rattle.std.specs.Prelude.{◌++◌, length, map as map_list, Option, None, Some}
 use Rattle.std.specs.Option.{option_map_or}
@@ -35,7 +35,7 @@ use Rattle.office_core.specs.declared.refusal.Refusal.TheVariants.{ListDiffers, 
 use Rattle.office_core.specs.declared.reply.Reply.{Reply}
 use Rattle.office_core.specs.declared.reply.Reply.TheVariants as reply
 
--- what the records of a list of one kind ask for: the command of each
+-- a kind of list: the form of its records, and the command of each
 pub record EntryCommand : Type 1 where
   pub Entry : Type 0
   pub form : ListForm Entry
@@ -43,7 +43,7 @@ pub record EntryCommand : Type 1 where
   pub next : Office → Entry → Office
   pub change : Entry → Change
 
--- to add a room
+-- a list of rooms: add a room
 abbrev pub room_command : EntryCommand
 room_command = record {
   Entry = Text;
@@ -53,7 +53,7 @@ room_command = record {
   change = λ room. PutRoom room false;
 }
 
--- to add a person
+-- a list of people: add a person
 abbrev pub person_command : EntryCommand
 person_command = record {
   Entry = PersonEntry;
@@ -63,7 +63,7 @@ person_command = record {
   change = λ e. PutPerson e.person e.name e.key e.home;
 }
 
--- to replace a person's list
+-- a list of choices: replace a person's list
 abbrev pub choices_command : EntryCommand
 choices_command = record {
   Entry = ChoicesEntry;
@@ -73,7 +73,7 @@ choices_command = record {
   change = λ e. PutChoices e.person e.choices;
 }
 
--- to give a person a grade
+-- a list of grades: give a person a grade
 abbrev pub grade_command : EntryCommand
 grade_command = record {
   Entry = GradeRow;
@@ -83,18 +83,18 @@ grade_command = record {
   change = λ e. PutGrade e.person e.grade;
 }
 
--- what the records of a list tell, in order
+-- the entries of a list, one for each data record, in order
 abbrev pub entries_in : (command : EntryCommand) → List ℕ → List command.Entry
 entries_in command bytes = map_list command.form.entry (data_records (records_of bytes))
 
--- the office after these records, one command each
+-- the office after the commands of these entries
 abbrev pub office_after : (command : EntryCommand) → Office → List command.Entry → Office
 office_after command office [] = office
 office_after command office (entry ∷ entries) =
     office_after command (command.next office entry) entries
 
--- the first of the records whose command is refused by the office as it is then; the first of these
--- records has the number `at`
+-- the refusal for the first entry whose command is refused by the office at that point; the first of the entries has the record
+-- number `at`
 abbrev pub first_denied : (command : EntryCommand) → Office → ℕ → List command.Entry → Option Refusal
 first_denied command office at [] = None
 first_denied command office at (entry ∷ entries) =
@@ -102,47 +102,47 @@ first_denied command office at (entry ∷ entries) =
     (first_refusal (command.checks office entry))
     (first_denied command (command.next office entry) (at + 1) entries)
 
--- a list that cannot be read
+-- the refusal of a list that cannot be read
 abbrev pub bad_list : ListFault → Refusal
 bad_list (list.Bad at cause) = BadRecord at cause
 bad_list list.OutOfMemory = OutOfMemory
 
--- the first bad record of the list, and where there is none the first whose command is refused
+-- the refusal of a list: for its first bad record, and if there is none for the first whose command is refused
 abbrev pub list_refusal : EntryCommand → Office → List ℕ → Option Refusal
 list_refusal command office bytes =
     option_map_or (λ fault. Some (bad_list fault)) (list_fault command.form (records_of bytes))
     (first_denied command office 1 (entries_in command bytes))
 
--- the refusal of a list of each kind
+-- the refusal of a list of this kind
 abbrev pub refusal_of : ListKind → Office → List ℕ → Option Refusal
 refusal_of Rooms = list_refusal room_command
 refusal_of People = list_refusal person_command
 refusal_of Choices = list_refusal choices_command
 refusal_of Grades = list_refusal grade_command
 
--- the office after all records
+-- the office after all records of a list of this kind
 abbrev pub office_with : ListKind → Office → List ℕ → Office
 office_with Rooms office bytes = office_after room_command office (entries_in room_command bytes)
 office_with People office bytes = office_after person_command office (entries_in person_command bytes)
 office_with Choices office bytes = office_after choices_command office (entries_in choices_command bytes)
 office_with Grades office bytes = office_after grade_command office (entries_in grade_command bytes)
 
--- the changes that records make
+-- a change for each entry
 abbrev pub changes_by : (command : EntryCommand) → List command.Entry → List Change
 changes_by command entries = map_list (λ entry. command.change entry) entries
 
--- a change for each record
+-- a change for each record of a list of this kind
 abbrev pub record_changes : ListKind → List ℕ → List Change
 record_changes Rooms bytes = changes_by room_command (entries_in room_command bytes)
 record_changes People bytes = changes_by person_command (entries_in person_command bytes)
 record_changes Choices bytes = changes_by choices_command (entries_in choices_command bytes)
 record_changes Grades bytes = changes_by grade_command (entries_in grade_command bytes)
 
--- how many records there are
+-- the number of data records
 abbrev pub record_count : List ℕ → ℕ
 record_count bytes = length (data_records (records_of bytes))
 
--- the phases in which a list of this kind may come
+-- a list of this kind may be imported in this phase
 abbrev pub may_import : ListKind → Phase → Bool
 may_import Rooms phase = is_preparing phase
 may_import People phase = is_preparing phase
@@ -156,20 +156,20 @@ is_same_kind Choices Choices = true
 is_same_kind Grades Grades = true
 is_same_kind _ _ = false
 
--- whether this is the list that is kept
+-- this is the stored list
 abbrev pub is_same_import : KeptList → ListKind → List ℕ → Bool
 is_same_import kept kind bytes = is_same_kind kept.kind kind && text_eq kept.bytes bytes
 
--- a refusal that applies, if any
+-- a check that refuses for this, if there is a refusal
 abbrev pub check_of : Option Refusal → List Check
 check_of None = []
 check_of (Some refusal) = (true, refusal) ∷ []
 
--- the refusal of a list under a label that is known
+-- the checks of a list under a known label
 abbrev pub known_label_checks : KeptList → ListKind → List ℕ → List Check
 known_label_checks kept kind bytes = (not (is_same_import kept kind bytes), ListDiffers) ∷ []
 
--- the refusals of a list under a label that is not known
+-- the checks of a list under a new label
 abbrev pub new_label_checks : Office → ListKind → List ℕ → List Check
 new_label_checks office kind bytes =
     (not (may_import kind office.phase), BadPhase office.phase)
@@ -177,12 +177,12 @@ new_label_checks office kind bytes =
     ∷ (nat_lt byte_limit (length bytes), LimitReached)
     ∷ check_of (refusal_of kind office bytes)
 
--- a change for each record, and the list kept under its label
+-- a change for each record, and one that stores the list under its label
 abbrev pub new_label_changes : Text → ListKind → List ℕ → List Change
 new_label_changes label kind bytes =
     record_changes kind bytes ++ KeepList label kind bytes (record_count bytes) ∷ []
 
--- the office that keeps the list
+-- the office with the list stored under its label
 abbrev pub keeping : Office → Text → ListKind → List ℕ → Office
 keeping office label kind bytes =
     record office {
@@ -190,7 +190,7 @@ keeping office label kind bytes =
           (record { kind = kind; bytes = bytes; count = record_count bytes });
     }
 
--- by what is kept under the label
+-- by cases of the list stored under the label
 abbrev pub checks_where : Option KeptList → Office → ListKind → List ℕ → List Check
 checks_where (Some kept) office kind bytes = known_label_checks kept kind bytes
 checks_where None office kind bytes = new_label_checks office kind bytes

@@ -1,4 +1,4 @@
--- Somebody gives the home up.
+-- Ends a tenancy: a person gives up the home.
 use Rattle.std.specs.Prelude.{not, List, [], ◌∷◌, None}
 use Rattle.std.specs.Option.{is_some}
 use Rattle.room_types.specs.Texts.{Text}

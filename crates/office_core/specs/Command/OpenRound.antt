@@ -1,4 +1,4 @@
--- A round begins.
+-- Begins a round.
 use Rattle.std.specs.Prelude.{◌+◌, not, nat_le, List, [], ◌∷◌}
 use Rattle.room_types.specs.declared.phase.Phase.TheVariants.{Opened}
 use Rattle.office_state.specs.Office.Limits.{round_limit}

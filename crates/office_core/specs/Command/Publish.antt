@@ -1,4 +1,4 @@
--- Each participant sees the result.
+-- Publishes the results: each participant sees the result.
 use Rattle.std.specs.Prelude.{not, List, [], ◌∷◌, length}
 use Rattle.room_types.specs.declared.phase.Phase.TheVariants.{Published}
 use Rattle.office_state.specs.Office.{participants}

@@ -1,4 +1,4 @@
--- A person without a home goes, and the grade with the person. Recorded moves stay.
+-- Removes a person without a home, with the person's grade. Recorded moves remain.
 use Rattle.std.specs.Prelude.{not, List, [], ◌∷◌}
 use Rattle.std.specs.Option.{is_some}
 use Rattle.room_types.specs.Texts.{Text}

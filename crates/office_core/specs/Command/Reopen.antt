@@ -1,4 +1,4 @@
--- A shut room is open again, without a tenant.
+-- Brings a shut room back into use, without a tenant.
 use Rattle.std.specs.Prelude.{not, false, List, [], ◌∷◌}
 use Rattle.std.specs.FinMap as map
 use Rattle.room_types.specs.Texts.{Text}

@@ -1,4 +1,4 @@
--- The rooms are traded.
+-- Trades the rooms.
 use Rattle.std.specs.Prelude.{not, List, [], ◌∷◌, ◌++◌, length, map}
 use Rattle.std.specs.FinMap as maps
 use Rattle.room_types.specs.Texts.{Text}

@@ -1,4 +1,4 @@
--- A list of rooms replaces the one before. An empty list and none are the same.
+-- Replaces a person's list. An empty list is the same as none.
 use Rattle.std.specs.Prelude.{not, List, [], ◌∷◌}
 use Rattle.std.specs.List.{flat_map}
 use Rattle.room_types.specs.Texts.{Text}

@@ -1,4 +1,4 @@
--- A person has a grade from then on. Grade 0 and none are the same.
+-- Gives a person a grade. Grade 0 is the same as none.
 use Rattle.std.specs.Prelude.{ℕ, not, List, [], ◌∷◌}
 use Rattle.room_types.specs.Texts.{Text}
 use Rattle.office_state.specs.Change.{with_grade}

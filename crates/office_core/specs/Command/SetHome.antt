@@ -1,4 +1,4 @@
--- Somebody without a home gets one.
+-- Gives a home to somebody who has none.
 use Rattle.std.specs.Prelude.{not, List, [], ◌∷◌, Some}
 use Rattle.std.specs.Option.{is_some}
 use Rattle.room_types.specs.Texts.{Text}

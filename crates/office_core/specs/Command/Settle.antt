@@ -1,4 +1,4 @@
--- The participants move, those who leave the college move out, the moves are recorded, and the round is over.
+-- Settles the round: participants move, those who leave the college move out, and the moves are recorded.
 use Rattle.std.specs.Prelude.{not, List, [], ◌∷◌, ◌++◌, length, None, map}
 use Rattle.std.specs.List.{filter}
 use Rattle.std.specs.Option.{is_some}
@@ -31,29 +31,29 @@ next office = record (without_round office) {
 abbrev pub reply_to : Office → Reply
 reply_to office = reply.Settled (length (movers office))
 
--- the change by which a mover leaves the old room
+-- the change by which the person of a move leaves the old room
 abbrev pub leaving : Move → Change
 leaving move = PutHome move.person None
 
--- those who swap, each of whom has a room that another of them gets
+-- the moves of those who swap
 abbrev pub swaps : List Move → List Move
 swaps = filter (λ move. is_swap move.wave)
 
--- those who move into no room
+-- the moves of those who move into no room
 abbrev pub goers : List Move → List Move
 goers = filter (λ move. not (is_some move.to))
 
--- those who leave before anybody arrives
+-- the moves of those who leave before anybody arrives
 abbrev pub first_out : List Move → List Move
 first_out moves = goers moves ++ swaps moves
 
--- the change by which a mover comes to the new room
+-- the change by which the person of a move arrives in the new room
 abbrev pub arriving : Move → Change
 arriving move = PutHome move.person move.to
 
--- those who move into no room leave first, then those who swap, and then everybody arrives, in the order of the list for the
--- day of moving: whoever lives where somebody of a later wave comes to has moved by then, so that no room is ever the home of
--- two people. Who moves into no room arrives nowhere.
+-- First those who move into no room leave, then those who swap. Then everybody arrives, in the order of the list for the day of
+-- moving: anyone who lives where somebody of a later wave arrives has moved by then, so that no room is ever the home of two
+-- people. The arrival of those who move into no room changes nothing.
 abbrev pub changes_of : Office → List Change
 changes_of office =
     map leaving (first_out (settled_moves office))

@@ -1,4 +1,4 @@
--- A room is shut, and its tenancy ends.
+-- Takes a room out of use and ends its tenancy.
 use Rattle.std.specs.Prelude.{not, true, List, [], ◌∷◌, ◌++◌, Option, None, Some}
 use Rattle.std.specs.FinMap as map
 use Rattle.room_types.specs.Texts.{Text}
@@ -18,7 +18,7 @@ checks office room =
     (not (is_preparing office.phase), BadPhase office.phase)
     ∷ room_checks office room
 
--- the tenant, if any, has no home from then on
+-- the office after the tenant, if there is one, gives up the home
 abbrev pub without_tenant : Office → Option Text → Office
 without_tenant office None = office
 without_tenant office (Some person) = with_home office person None
@@ -30,7 +30,7 @@ next office room = record (without_tenant office (tenant office room))
 abbrev pub reply_to : Office → Text → Reply
 reply_to office room = reply.Shut (tenant office room)
 
--- a tenant leaves, if there is one
+-- the change by which the tenant leaves, if there is one
 abbrev pub leaving : Option Text → List Change
 leaving None = []
 leaving (Some person) = PutHome person None ∷ []

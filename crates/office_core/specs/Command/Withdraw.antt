@@ -1,4 +1,4 @@
--- Somebody takes no part in the round. Who has withdrawn already stays so.
+-- Takes a person out of the round. A repeat changes nothing.
 use Rattle.std.specs.Prelude.{not, List, [], ◌∷◌, if◌then◌else◌}
 use Rattle.std.specs.FinMap as map
 use Rattle.room_types.specs.Texts.{Text}

@@ -1,4 +1,4 @@
--- What the functions give that try the records of a list, for their inner contracts.
+-- The results of the functions that check the records of a list one by one.
 use Rattle.std.specs.Prelude.{◌≡◌, ◌⊎◌, ℕ, List, Option, None, Some}
 use Rattle.std.specs.Prelude.{if◌then◌else◌}
 use Rattle.std.specs.Option.{is_some}
@@ -17,13 +17,12 @@ use Rattle.office_core.specs.declared.command.import.register.Register.{Register
 use Rattle.office_core.specs.declared.refusal.Refusal.{Refusal}
 use Rattle.office_core.specs.declared.refusal.Refusal.TheVariants.{BadRecord, OutOfMemory}
 
--- the refusal of the list for its record `at`, whose command is refused for this; out of memory
--- stays what it is
+-- the refusal of the list for its record `at`, whose command has this refusal; `OutOfMemory` is unchanged
 abbrev pub denial_of : ℕ → Refusal → Refusal
 denial_of at refusal =
     if is_want refusal then OutOfMemory else BadRecord at (Denied (number_of refusal))
 
--- this refusal, or out of memory
+-- the refusal is the wanted one, or `OutOfMemory`
 abbrev pub IsOrMemory : Option Refusal → Refusal → Type 0
 IsOrMemory wanted refusal = (wanted ≡ Some refusal) ⊎ (refusal ≡ OutOfMemory)
 
@@ -39,12 +38,12 @@ pub record AreAdded (command : EntryCommand) (office : Office) (bytes : List ℕ
   pub accepted : list_refusal command office bytes ≡ None
   pub changed : changes ≡ changes_by command (entries_in command bytes)
 
--- exactly the keys that somebody has
+-- the table has exactly the keys that somebody has
 abbrev pub HasKeys : {X : Type 0} → TextMap Person → TextMap X → Type 0
 HasKeys people keys =
     (key : Text) → map.contains_key keys key ≡ is_some (holder (λ p. Some p.key) people key)
 
--- exactly the rooms that are somebody's home
+-- the table has exactly the rooms that are somebody's home
 abbrev pub HasHomes : {X : Type 0} → TextMap Person → TextMap X → Type 0
 HasHomes people homes =
     (room : Text) → map.contains_key homes room ≡ is_some (holder (λ p. p.home) people room)
@@ -54,7 +53,7 @@ pub record IsIndexed (register : Register) : Type 0 where
   pub keys : HasKeys register.people register.keys
   pub homes : HasHomes register.people register.tenants
 
--- who lives in each room with one more person, where that person has a home
+-- the tenants of rooms after a person is added, who may have a home
 abbrev pub placed : TextMap Text → Option Text → Text → TextMap Text
 placed tenants None person = tenants
 placed tenants (Some room) person = map.insert tenants room person

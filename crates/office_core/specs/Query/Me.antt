@@ -1,4 +1,4 @@
--- What a person sees of the office by the key.
+-- What the owner of a key sees of the office.
 use Rattle.std.specs.Prelude.{Option, None, Some, Result, Ok, Err, if◌then◌else◌}
 use Rattle.std.specs.FinMap as map
 use Rattle.room_types.specs.Texts.{Text}
@@ -11,7 +11,7 @@ use Rattle.office_core.specs.declared.reply.Standing.{Standing}
 use Rattle.office_core.specs.declared.reply.Reply.{Reply}
 use Rattle.office_core.specs.declared.reply.Reply.TheVariants as reply
 
--- the result, hidden until it is published
+-- the person's result; none until it is shown
 abbrev pub shown_result : Office → Text → Option Text
 shown_result office person = if is_shown office person then recorded_result office person else None
 
@@ -30,16 +30,16 @@ standing_of office person kept = record {
   result = shown_result office person;
 }
 
--- of the person of this identifier, where that person is known
+-- the answer for the person with this identifier, if known
 abbrev pub told_person : Office → Text → Option Person → Result Reply Refusal
 told_person office person None = Err UnknownPerson
 told_person office person (Some kept) = Ok (reply.Me (standing_of office person kept))
 
--- of the owner of a key, where it has one
+-- the answer for the owner of a key, if it has one
 abbrev pub told_owner : Office → Option Text → Result Reply Refusal
 told_owner office None = Err UnknownPerson
 told_owner office (Some person) = told_person office person (map.get office.people person)
 
--- what the owner of the key sees
+-- the answer: what the owner of the key sees
 abbrev pub told : Office → Text → Result Reply Refusal
 told office key = told_owner office (owner office key)

@@ -1,4 +1,4 @@
--- The participants in the drawn order, each with the word and the grade.
+-- The participants in the drawn order, each with the lottery number and the grade.
 use Rattle.std.specs.Prelude.{List, Result, Ok, Err, if◌then◌else◌, map}
 use Rattle.room_types.specs.Texts.{Text}
 use Rattle.office_state.specs.Office.{grade_of}
@@ -21,6 +21,7 @@ order_row office person = record {
 abbrev pub order_rows : Office → List OrderRow
 order_rows office = map (order_row office) (round_people office)
 
+-- the order; refused before the draw
 abbrev pub told : Office → Result Reply Refusal
 told office = if has_words office.phase then Ok (reply.Order (order_rows office)) else Err
     (BadPhase office.phase)

@@ -1,4 +1,4 @@
--- What the participants get, by identifier.
+-- The results of the participants, by identifier.
 use Rattle.std.specs.Prelude.{List, Result, Ok, Err, if◌then◌else◌, map}
 use Rattle.std.specs.FinMap as maps
 use Rattle.room_types.specs.Texts.{Text}
@@ -17,6 +17,7 @@ result_row entry = record { person = entry.0; room = entry.1.room }
 abbrev pub result_rows : Office → List ResultRow
 result_rows office = map result_row (maps.entries office.results)
 
+-- the results; refused before the run
 abbrev pub told : Office → Result Reply Refusal
 told office = if has_results office.phase then Ok (reply.Results (result_rows office)) else Err
     (BadPhase office.phase)

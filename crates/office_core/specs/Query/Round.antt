@@ -1,4 +1,4 @@
--- The round's number and phase, how many people there are, how many of them have withdrawn, and how many leave the college.
+-- The number and phase of the round, and how many people there are, have withdrawn and leave the college.
 use Rattle.std.specs.Prelude.{Result, Ok}
 use Rattle.std.specs.FinMap as map
 use Rattle.office_state.specs.declared.office.Office.{Office}

@@ -1,4 +1,4 @@
--- What another list would give a participant, where the order and all other lists stay.
+-- What another list would give a participant if the order and all other lists stayed the same.
 use Rattle.std.specs.Prelude.{◌≤◌, not, List, ◌∷◌, Option, None, Some, Result, Ok, Err}
 use Rattle.std.specs.List.{flat_map}
 use Rattle.room_types.specs.Texts.{Text}
@@ -26,10 +26,12 @@ GainsNothing office person (reply.WouldGet room) =
     round_rank office person (recorded_result office person) ≤ round_rank office person room
 GainsNothing office person _ = Unit {0}
 
+-- the reply, unless there is a refusal
 abbrev pub told_unless : Option Refusal → Reply → Result Reply Refusal
 told_unless None reply = Ok reply
 told_unless (Some refusal) reply = Err refusal
 
+-- the answer: the first refusal that applies, or the room that this list would give
 abbrev pub told : Office → Text → List Text → Result Reply Refusal
 told office person choices =
     told_unless (first_refusal (checks office person choices))

@@ -1,4 +1,4 @@
--- The refusals that a command or a query may have, in their order: the first that applies counts.
+-- The checks of a command or a query, in their order. The first refusal that applies counts.
 use Rattle.std.specs.Prelude.{Bool, true, false, not, List, [], ◌∷◌, ◌++◌, Option, None, Some}
 use Rattle.std.specs.Prelude.{if◌then◌else◌}
 use Rattle.room_types.specs.Texts.{Text}
@@ -17,33 +17,33 @@ abbrev pub first_refusal : List Check → Option Refusal
 first_refusal [] = None
 first_refusal (check ∷ checks) = if check.0 then Some check.1 else first_refusal checks
 
--- a room is to be known and not shut
+-- a room must be known and not shut
 abbrev pub room_checks : Office → Text → List Check
 room_checks office room =
     (not (knows_room office room), UnknownRoom room)
     ∷ (is_shut office room, RoomShut room) ∷ []
 
--- a home is to be known, not shut and free
+-- a home must be known, not shut, and nobody's home yet
 abbrev pub home_checks : Office → Text → List Check
 home_checks office room = room_checks office room ++ (is_taken office room, RoomTaken) ∷ []
 
--- the checks of a home, where there is one
+-- the checks of a home, if there is one
 abbrev pub home_checks_if_any : Office → Option Text → List Check
 home_checks_if_any office None = []
 home_checks_if_any office (Some room) = home_checks office room
 
--- whether a refusal names a room: it holds a copy of the code
+-- the refusal names a room: it holds a copy of the code
 abbrev pub names_room : Refusal → Bool
 names_room (UnknownRoom room) = true
 names_room (RoomShut room) = true
 names_room _ = false
 
--- whether a refusal tells of a record: the list was read for it
+-- the refusal names a record of a list: the list is read to find it
 abbrev pub tells_of_list : Refusal → Bool
 tells_of_list (BadRecord at cause) = true
 tells_of_list _ = false
 
--- want of memory, which is no refusal by the office
+-- the refusal is `OutOfMemory`, which is no decision of the office
 abbrev pub is_want : Refusal → Bool
 is_want OutOfMemory = true
 is_want _ = false

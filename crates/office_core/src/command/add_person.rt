@@ -1,4 +1,4 @@
-//! A person is added, perhaps with a home.
+//! Adds a person, perhaps with a home.
 ghost use Rattle.office_core.specs.Command.Decision.{IsDecided};
 ghost use Rattle.office_core.specs.Command.AddPerson.{checks, reply_to, changes_of};
 
@@ -12,8 +12,12 @@ use room_types::rows::copy_optional;
 use room_types::{Key, Name, PersonId, RoomCode};
 use std::alloc::Global;
 
-/// Decides to add a person. Refused in turn: `BadPhase` unless idle or open; `DuplicatePerson`; `KeyInUse`; for a home
-/// `UnknownRoom`, `RoomShut` or `RoomTaken`; `LimitReached` at `PEOPLE_LIMIT` people. It goes through the people.
+/// Decides to add a person. Scans the people.
+///
+/// # Errors
+///
+/// The first that applies of: `BadPhase` unless idle or open; `DuplicatePerson`; `KeyInUse`; for a home `UnknownRoom`,
+/// `RoomShut` or `RoomTaken`; `LimitReached` at `PEOPLE_LIMIT` people. `OutOfMemory` if an allocation fails.
 pub fn add_person(
     alloc: Global,
     office: &Office,

@@ -1,4 +1,4 @@
-//! A room that is not shut is added.
+//! Adds a room that is not shut.
 ghost use Rattle.office_core.specs.Command.Decision.{IsDecided};
 ghost use Rattle.office_core.specs.Command.AddRoom.{checks, reply_to, changes_of};
 ghost use Rattle.office_core.specs.Inner.Passes.{Passes};
@@ -12,8 +12,12 @@ use room_types::grammars::RoomCodes;
 use room_types::{RoomCode, Table};
 use std::alloc::Global;
 
-/// Decides to add a room that is not shut. Refused in turn: `BadPhase` unless idle or open; `DuplicateRoom`;
-/// `LimitReached` at `ROOM_LIMIT` rooms.
+/// Decides to add a room that is not shut.
+///
+/// # Errors
+///
+/// The first that applies of: `BadPhase` unless idle or open; `DuplicateRoom`; `LimitReached` at `ROOM_LIMIT` rooms.
+/// `OutOfMemory` if an allocation fails.
 pub fn add_room(alloc: Global, office: &Office, room: &RoomCode) -> Result<Decision, Refusal>
     ensures { IsDecided (checks office.now room.now) (reply_to office.now room.now)
         (changes_of office.now room.now) result }
@@ -23,7 +27,7 @@ pub fn add_room(alloc: Global, office: &Office, room: &RoomCode) -> Result<Decis
     command_decision_with_change(alloc, Reply::Done, Change::PutRoom { room, shut: false })
 }
 
-/// Passes a room that may be added to an office with these rooms.
+/// Checks that the room may be added to the office, with `rooms` in place of the office's own.
 pub(crate) fn may_add_room(
     office: &Office,
     rooms: &Table<RoomCodes, bool>,

@@ -1,4 +1,4 @@
-//! The round is given up.
+//! Cancels the round.
 ghost use Rattle.office_core.specs.Command.Decision.{IsDecided};
 ghost use Rattle.office_core.specs.Command.Cancel.{checks, reply_to, changes_of};
 
@@ -10,8 +10,11 @@ use office_state::{Change, Office};
 use room_types::Phase;
 use std::alloc::Global;
 
-/// Decides to give the round up, whose number stays used. Refused with `BadPhase` where no round is under way, or its
-/// results are published.
+/// Decides to cancel the round. Its number is not used again.
+///
+/// # Errors
+///
+/// `BadPhase` if no round is under way or its results are published; `OutOfMemory` if an allocation fails.
 pub fn cancel(alloc: Global, office: &Office) -> Result<Decision, Refusal>
     ensures { IsDecided (checks office.now) (reply_to office.now) (changes_of office.now) result }
 {

@@ -1,4 +1,4 @@
-//! The lists are final.
+//! Makes the lists final.
 ghost use Rattle.office_core.specs.Command.Decision.{IsDecided};
 ghost use Rattle.office_core.specs.Command.CloseRound.{checks, reply_to, changes_of};
 
@@ -10,7 +10,11 @@ use office_state::{Change, Office};
 use room_types::Phase;
 use std::alloc::Global;
 
-/// Decides to make the lists final, and counts the participants. Refused with `BadPhase` unless open.
+/// Decides to make the lists final, and counts the participants.
+///
+/// # Errors
+///
+/// `BadPhase` unless open; `OutOfMemory` if an allocation fails.
 pub fn close_round(alloc: Global, office: &Office) -> Result<Decision, Refusal>
     ensures { IsDecided (checks office.now) (reply_to office.now) (changes_of office.now) result }
 {

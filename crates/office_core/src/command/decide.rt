@@ -1,4 +1,4 @@
-//! What a command leads to.
+//! Decides commands.
 ghost use Rattle.std.specs.Prelude.{IfOk, OnOk};
 ghost use Rattle.office_state.specs.Change.{LeadsOn};
 ghost use Rattle.office_state.specs.Office.Invariants.{IsLawful};
@@ -32,16 +32,15 @@ use crate::refusal::Refusal;
 use office_state::Office;
 use std::alloc::Global;
 
-/// Decides a command. It changes nothing by itself: the changes of the decision, each applied by `apply` in their
-/// order, carry the command out, and the office stays lawful.
+/// Decides a command. Changes nothing by itself: applying the changes of the decision in their order, each by `apply`, carries
+/// the command out and preserves the invariants of the office.
 ///
 /// # Errors
 ///
-/// The first refusal of the command's line that applies: `BadPhase` in another phase, and then those of the command's
-/// own file; only `Import` looks at its label before the phase. `OutOfMemory` only where memory is taken: for the code in
-/// `UnknownRoom` or `RoomShut`, for a list that is read before `BadRecord`, and for the changes of a command that is not
-/// refused. A `Withdraw` or a `Going` that is repeated and an `Import` of a list that is kept change nothing, and are always
-/// answered.
+/// The first refusal that applies: `BadPhase` in another phase, and then those that the command's own function lists; only
+/// `Import` checks its label before the phase. `OutOfMemory`, only if memory is needed: for the code in `UnknownRoom` or
+/// `RoomShut`, for a list that is read before `BadRecord`, or for the changes of a command that is not refused. A `Withdraw` or a
+/// `Going` that is repeated, and an `Import` of a list that is stored already, have no changes and never fail with `OutOfMemory`.
 pub fn decide(alloc: Global, office: &Office, command: &Command) -> Result<Decision, Refusal>
     requires { IsLawful office.now }
     ensures decides { IsDecided (checks office.now command.now) (reply_to office.now command.now)
@@ -53,7 +52,7 @@ pub fn decide(alloc: Global, office: &Office, command: &Command) -> Result<Decis
     command_decision(alloc, office, command)
 }
 
-// The command's own function.
+// Calls the command's own function.
 fn command_decision(alloc: Global, office: &Office, command: &Command) -> Result<Decision, Refusal>
     requires { IsLawful office.now }
     ensures formed { OnOk result (IsFormed command.now) }

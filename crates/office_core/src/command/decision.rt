@@ -13,7 +13,7 @@ pub struct Decision {
     pub changes: Vec<Change>,
 }
 
-/// The decision of one change.
+/// Returns the decision with this reply and one change, or `OutOfMemory`.
 pub(crate) fn command_decision_with_change(
     alloc: Global,
     reply: Reply,
@@ -27,7 +27,7 @@ pub(crate) fn command_decision_with_change(
     Ok(Decision { reply, changes })
 }
 
-/// The decision of two changes.
+/// Returns the decision with this reply and these two changes, or `OutOfMemory`.
 pub(crate) fn command_decision_with_changes(
     alloc: Global,
     reply: Reply,

@@ -1,4 +1,4 @@
-//! Each participant gets a word.
+//! Gives each participant a lottery number.
 ghost use Rattle.std.specs.Prelude.{◌≡◌, IfOk, length};
 ghost use Rattle.office_core.specs.Command.Decision.{IsDecided};
 ghost use Rattle.office_core.specs.Command.Draw.{checks, reply_to, changes_of, words_put};
@@ -11,8 +11,12 @@ use office_state::{Change, Office};
 use room_types::{OutOfMemory, PersonId, Phase, Word};
 use std::alloc::Global;
 
-/// Decides that word i goes to participant i, in ascending identifier. Refused in turn: `BadPhase` unless closed;
-/// `WrongWordCount` unless there is one word for each participant.
+/// Decides to give word i to participant i, in ascending order of identifier.
+///
+/// # Errors
+///
+/// The first that applies of: `BadPhase` unless closed; `WrongWordCount` unless there is one word for each participant.
+/// `OutOfMemory` if an allocation fails.
 #[tactic(auto, using(crate::proofs::commands::Changes::commands_has_last))]
 pub fn draw(alloc: Global, office: &Office, words: &[Word]) -> Result<Decision, Refusal>
     ensures { IsDecided (checks office.now words.now) (reply_to office.now words.now)
@@ -38,7 +42,7 @@ pub fn draw(alloc: Global, office: &Office, words: &[Word]) -> Result<Decision, 
     })
 }
 
-// A change for each word.
+// Returns a change for each word.
 #[tactic(auto, using(crate::proofs::commands::Words::commands_words_put_more))]
 fn words_put(alloc: Global, people: &[PersonId], words: &[Word]) -> Result<Vec<Change>, OutOfMemory>
     requires { length words.now ≡ length people.now }

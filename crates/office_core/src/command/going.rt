@@ -1,4 +1,4 @@
-//! Somebody leaves the college after the round.
+//! Records that somebody leaves the college after the round.
 ghost use Rattle.office_core.specs.Command.Decision.{IsDecided};
 ghost use Rattle.office_core.specs.Command.Going.{checks, reply_to, changes_of};
 
@@ -10,8 +10,13 @@ use office_state::{Change, Office};
 use room_types::PersonId;
 use std::alloc::Global;
 
-/// Decides that a person leaves the college after the round, and gives the room to it; a repeat changes nothing. Refused
-/// in turn: `BadPhase` unless open; `UnknownPerson`; `Withdrawn`; and, of somebody who does not leave already, `NoHome`.
+/// Decides to record that a person leaves the college after the round, which gives away the person's room. A repeat changes
+/// nothing.
+///
+/// # Errors
+///
+/// The first that applies of: `BadPhase` unless open; `UnknownPerson`; `Withdrawn`; `NoHome`, unless this is a repeat.
+/// `OutOfMemory` if an allocation fails; never for a repeat.
 pub fn going(alloc: Global, office: &Office, person: &PersonId) -> Result<Decision, Refusal>
     ensures { IsDecided (checks office.now person.now) (reply_to office.now person.now)
         (changes_of office.now person.now) result }

@@ -1,4 +1,4 @@
-//! A list comes in, under a label by which it may come again.
+//! Imports a list under a label. Importing it again under the same label has no effect.
 ghost use Rattle.std.specs.Prelude.{◌≡◌, ◌≤◌, IfOk, IfErr, None, length, []};
 ghost use Rattle.office_lists.specs.Records.{record_limit};
 ghost use Rattle.office_core.specs.Command.Decision.{IsDecided};
@@ -27,12 +27,17 @@ use office_state::{BYTE_LIMIT, Change, KeptList, LABEL_LIMIT, Office};
 use room_types::{Label, ListKind, Listing, Phase};
 use std::alloc::Global;
 
-/// Decides that a list comes in. Under a known label the same list has the reply that it had at first, in any phase,
-/// and its records are not read again; another is `ListDiffers`. Else it is refused in turn: `BadPhase` unless idle or
-/// open, for choices unless open; `LimitReached` at `LABEL_LIMIT` kept lists, and for more than `BYTE_LIMIT` bytes;
-/// `BadRecord` for the first bad record, and where there is none for the first whose own command is refused.
+/// Decides to import a list. If the list is already stored under its label, the reply is that of the first import, in any phase,
+/// and the records are not read again.
 ///
-/// It takes n log n steps in the records of the list, the people and the rooms, and reads the bytes once.
+/// Takes n log n steps in the records of the list, the people and the rooms, and reads the bytes once.
+///
+/// # Errors
+///
+/// Under a known label, `ListDiffers` for another list. Else the first that applies of: `BadPhase` unless idle or open, for
+/// choices unless open; `LimitReached` at `LABEL_LIMIT` stored lists, and for more than `BYTE_LIMIT` bytes; `BadRecord` for the
+/// first bad record, and if there is none for the first record whose own command is refused. `OutOfMemory` if an allocation
+/// fails; never under a known label.
 pub fn import(
     alloc: Global,
     office: &Office,
@@ -50,7 +55,7 @@ pub fn import(
     }
 }
 
-// A list under a known label.
+// Decides to import a list under a known label.
 fn import_known(
     alloc: Global,
     kept: &KeptList,
@@ -69,14 +74,14 @@ fn import_known(
     })
 }
 
-// Whether this is the list that is kept.
+// Returns whether this is the stored list.
 fn is_same_import(kept: &KeptList, kind: ListKind, bytes: &Listing<u8>) -> bool
     ensures { result ≡ is_same_import kept.now kind bytes.now }
 {
     kept.kind == kind && kept.bytes.as_slice() == bytes.as_slice()
 }
 
-// A list under a new label.
+// Decides to import a list under a new label.
 fn import_new(
     alloc: Global,
     office: &Office,
@@ -111,7 +116,7 @@ fn import_new(
     })
 }
 
-// Whether a list of this kind may come in this phase.
+// Returns whether a list of this kind may be imported in this phase.
 fn may_import(kind: ListKind, phase: Phase) -> bool
     ensures { result ≡ may_import kind phase }
 {
@@ -121,7 +126,7 @@ fn may_import(kind: ListKind, phase: Phase) -> bool
     }
 }
 
-// A change for each record of the list.
+// Returns a change for each record of the list.
 #[tactic(auto, using(crate::proofs::imports::ListChecks::imports_as_many))]
 fn import_records_added(
     alloc: Global,

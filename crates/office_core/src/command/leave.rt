@@ -1,4 +1,4 @@
-//! Somebody gives the home up.
+//! Ends a tenancy.
 ghost use Rattle.office_core.specs.Command.Decision.{IsDecided};
 ghost use Rattle.office_core.specs.Command.Leave.{checks, reply_to, changes_of};
 
@@ -10,7 +10,11 @@ use office_state::{Change, Office};
 use room_types::PersonId;
 use std::alloc::Global;
 
-/// Decides that a person has no home from then on. Refused in turn: `BadPhase` unless idle; `UnknownPerson`; `NoHome`.
+/// Decides that a person gives up the home.
+///
+/// # Errors
+///
+/// The first that applies of: `BadPhase` unless idle; `UnknownPerson`; `NoHome`. `OutOfMemory` if an allocation fails.
 pub fn leave(alloc: Global, office: &Office, person: &PersonId) -> Result<Decision, Refusal>
     ensures { IsDecided (checks office.now person.now) (reply_to office.now person.now)
         (changes_of office.now person.now) result }

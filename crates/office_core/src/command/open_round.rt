@@ -1,4 +1,4 @@
-//! A round begins.
+//! Begins a round.
 ghost use Rattle.office_core.specs.Command.Decision.{IsDecided};
 ghost use Rattle.office_core.specs.Command.OpenRound.{checks, reply_to, changes_of};
 
@@ -10,7 +10,12 @@ use office_state::{Change, Office, ROUND_LIMIT};
 use room_types::Phase;
 use std::alloc::Global;
 
-/// Decides to begin the next round. Refused in turn: `BadPhase` unless idle; `LimitReached` after round `ROUND_LIMIT`.
+/// Decides to begin the next round.
+///
+/// # Errors
+///
+/// The first that applies of: `BadPhase` unless idle; `LimitReached` after round `ROUND_LIMIT`.
+/// `OutOfMemory` if an allocation fails.
 pub fn open_round(alloc: Global, office: &Office) -> Result<Decision, Refusal>
     ensures { IsDecided (checks office.now) (reply_to office.now) (changes_of office.now) result }
 {

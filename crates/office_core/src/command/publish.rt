@@ -1,4 +1,4 @@
-//! Each participant sees the result.
+//! Publishes the results.
 ghost use Rattle.office_core.specs.Command.Decision.{IsDecided};
 ghost use Rattle.office_core.specs.Command.Publish.{checks, reply_to, changes_of};
 
@@ -10,7 +10,11 @@ use office_state::{Change, Office};
 use room_types::Phase;
 use std::alloc::Global;
 
-/// Decides to show each participant the result. Refused with `BadPhase` unless the round has run and is not published.
+/// Decides to show each participant the result.
+///
+/// # Errors
+///
+/// `BadPhase` unless the round has run and is not published; `OutOfMemory` if an allocation fails.
 pub fn publish(alloc: Global, office: &Office) -> Result<Decision, Refusal>
     ensures { IsDecided (checks office.now) (reply_to office.now) (changes_of office.now) result }
 {

@@ -1,4 +1,4 @@
-//! A person without a home goes.
+//! Removes a person without a home.
 ghost use Rattle.office_core.specs.Command.Decision.{IsDecided};
 ghost use Rattle.office_core.specs.Command.Remove.{checks, reply_to, changes_of};
 
@@ -10,8 +10,11 @@ use office_state::{Change, Office};
 use room_types::PersonId;
 use std::alloc::Global;
 
-/// Decides to forget a person who has no home, and the person's grade; recorded moves stay. Refused in turn: `BadPhase` unless idle;
-/// `UnknownPerson`; `HasHome`.
+/// Decides to remove a person who has no home, with the person's grade. Recorded moves remain.
+///
+/// # Errors
+///
+/// The first that applies of: `BadPhase` unless idle; `UnknownPerson`; `HasHome`. `OutOfMemory` if an allocation fails.
 pub fn remove(alloc: Global, office: &Office, person: &PersonId) -> Result<Decision, Refusal>
     ensures { IsDecided (checks office.now person.now) (reply_to office.now person.now)
         (changes_of office.now person.now) result }

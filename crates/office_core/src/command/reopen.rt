@@ -1,4 +1,4 @@
-//! A shut room is open again, without a tenant.
+//! Brings a shut room back into use, without a tenant.
 ghost use Rattle.office_core.specs.Command.Decision.{IsDecided};
 ghost use Rattle.office_core.specs.Command.Reopen.{checks, reply_to, changes_of};
 
@@ -10,8 +10,11 @@ use office_state::{Change, Office};
 use room_types::RoomCode;
 use std::alloc::Global;
 
-/// Decides to bring a shut room back into use. Refused in turn: `BadPhase` unless idle or open; `UnknownRoom`;
-/// `NotShut`.
+/// Decides to bring a shut room back into use.
+///
+/// # Errors
+///
+/// The first that applies of: `BadPhase` unless idle or open; `UnknownRoom`; `NotShut`. `OutOfMemory` if an allocation fails.
 pub fn reopen(alloc: Global, office: &Office, room: &RoomCode) -> Result<Decision, Refusal>
     ensures { IsDecided (checks office.now room.now) (reply_to office.now room.now)
         (changes_of office.now room.now) result }

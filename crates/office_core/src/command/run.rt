@@ -1,4 +1,4 @@
-//! The rooms are traded.
+//! Trades the rooms.
 ghost use Rattle.std.specs.Prelude.{◌≡◌, IfOk, map as map_list};
 ghost use Rattle.std.specs.FinMap as map;
 ghost use Rattle.office_state.specs.Office.Invariants.{IsLawful};
@@ -16,8 +16,12 @@ use room_types::rows::copy_optional;
 use room_types::{OutOfMemory, Phase, Table};
 use std::alloc::Global;
 
-/// Decides the exchange: each participant's result is the room of top trading cycles in the round's problem
-/// (Abdulkadiroglu and Sönmez 1999). Refused with `BadPhase` unless drawn.
+/// Decides the exchange: each participant's result is the room of top trading cycles in the round's problem (Abdulkadiroglu and
+/// Sönmez 1999).
+///
+/// # Errors
+///
+/// `BadPhase` unless drawn; `OutOfMemory` if an allocation fails.
 #[tactic(auto, using(crate::proofs::commands::Changes::commands_has_last))]
 pub fn run(alloc: Global, office: &Office) -> Result<Decision, Refusal>
     requires { IsLawful office.now }
@@ -39,7 +43,7 @@ pub fn run(alloc: Global, office: &Office) -> Result<Decision, Refusal>
     })
 }
 
-// A change for each result.
+// Returns a change for each result.
 fn results_put(
     alloc: Global,
     results: &Table<PersonIds, Assigned>,

@@ -1,4 +1,4 @@
-//! A list of rooms replaces the one before.
+//! Replaces a person's list.
 ghost use Rattle.std.specs.Prelude.{OnOk};
 ghost use Rattle.room_types.specs.Choices.{IsChoices};
 ghost use Rattle.office_core.specs.Command.Decision.{IsDecided};
@@ -14,8 +14,12 @@ use office_state::{Change, Office};
 use room_types::{Choices, PersonId};
 use std::alloc::Global;
 
-/// Decides to replace a person's list. Refused in turn: `BadPhase` unless open; `UnknownPerson`; `Withdrawn`; `Going`; for
-/// the first room that is not known or is shut `UnknownRoom` or `RoomShut`.
+/// Decides to replace a person's list.
+///
+/// # Errors
+///
+/// The first that applies of: `BadPhase` unless open; `UnknownPerson`; `Withdrawn`; `Going`; `UnknownRoom` or `RoomShut` for the
+/// first room that is not known or is shut. `OutOfMemory` if an allocation fails.
 pub fn set_choices(
     alloc: Global,
     office: &Office,
@@ -36,7 +40,7 @@ pub fn set_choices(
     command_decision_with_change(alloc, Reply::Chosen { choices }, change)
 }
 
-/// Passes a person whose list may be replaced by this one.
+/// Checks that this list may replace the person's list.
 pub(crate) fn may_choose(
     office: &Office,
     person: &PersonId,

@@ -1,4 +1,4 @@
-//! A person has a grade from then on.
+//! Gives a person a grade.
 ghost use Rattle.office_core.specs.Command.Decision.{IsDecided};
 ghost use Rattle.office_core.specs.Command.SetGrade.{checks, reply_to, changes_of};
 ghost use Rattle.office_core.specs.Inner.Passes.{Passes};
@@ -11,7 +11,11 @@ use office_state::{Change, Office};
 use room_types::{Grade, PersonId};
 use std::alloc::Global;
 
-/// Decides that a person has this grade from then on. Refused in turn: `BadPhase` unless idle or open; `UnknownPerson`.
+/// Decides to give a person this grade.
+///
+/// # Errors
+///
+/// The first that applies of: `BadPhase` unless idle or open; `UnknownPerson`. `OutOfMemory` if an allocation fails.
 pub fn set_grade(
     alloc: Global,
     office: &Office,
@@ -26,7 +30,7 @@ pub fn set_grade(
     command_decision_with_change(alloc, Reply::Done, Change::PutGrade { person, grade })
 }
 
-/// Passes a person to whom a grade may be given.
+/// Checks that the person may be given a grade.
 pub(crate) fn may_grade(office: &Office, person: &PersonId) -> Result<(), Refusal>
     ensures { Passes (checks office.now person.now) result }
 {

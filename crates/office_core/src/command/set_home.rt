@@ -1,4 +1,4 @@
-//! Somebody without a home gets one.
+//! Gives a home to somebody who has none.
 ghost use Rattle.office_core.specs.Command.Decision.{IsDecided};
 ghost use Rattle.office_core.specs.Command.SetHome.{checks, reply_to, changes_of};
 
@@ -11,8 +11,12 @@ use office_state::{Change, Office};
 use room_types::{PersonId, RoomCode};
 use std::alloc::Global;
 
-/// Decides that a person without a home moves into a room. Refused in turn: `BadPhase` unless idle; `UnknownPerson`;
-/// `HasHome`; `UnknownRoom`; `RoomShut`; `RoomTaken`. It goes through the people.
+/// Decides that a person without a home moves into a room. Scans the people.
+///
+/// # Errors
+///
+/// The first that applies of: `BadPhase` unless idle; `UnknownPerson`; `HasHome`; `UnknownRoom`; `RoomShut`; `RoomTaken`.
+/// `OutOfMemory` if an allocation fails.
 pub fn set_home(
     alloc: Global,
     office: &Office,

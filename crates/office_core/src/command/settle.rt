@@ -1,4 +1,4 @@
-//! The participants move, those who leave the college move out, the moves are recorded, and the round is over.
+//! Settles the round: participants move, those who leave the college move out, and the moves are recorded.
 ghost use Rattle.std.specs.Prelude.{◌≡◌, ◌++◌, length, IsTrue, IfOk, OnOk, map as map_list};
 ghost use Rattle.room_types.specs.declared.moves.Move.{Move};
 ghost use Rattle.office_state.specs.Office.Invariants.{IsLawful};
@@ -18,9 +18,13 @@ use room_types::rows::copy_optional;
 use room_types::{Move, OutOfMemory, Phase, Wave};
 use std::alloc::Global;
 
-/// Decides the day of moving: those who leave the college move out, those who swap leave, then everybody arrives in the new
-/// room, wave by wave, the moves are recorded, and the round is over. Refused with `BadPhase` unless published. Each mover's
-/// home is changed once, and twice where the mover leaves the college, or movers pass their rooms round in a circle.
+/// Decides the day of moving and ends the round. Those who leave the college move out, and those who swap leave their rooms.
+/// Then everybody arrives in the new room, wave by wave, and the moves are recorded. The home of each person who moves changes
+/// once, or twice if the person leaves the college or swaps.
+///
+/// # Errors
+///
+/// `BadPhase` unless published; `OutOfMemory` if an allocation fails.
 #[tactic(auto, using(crate::proofs::commands::Changes::commands_has_last))]
 pub fn settle(alloc: Global, office: &Office) -> Result<Decision, Refusal>
     requires { IsLawful office.now }
@@ -47,7 +51,7 @@ pub fn settle(alloc: Global, office: &Office) -> Result<Decision, Refusal>
     })
 }
 
-// The moves of the round, each with its wave.
+// Returns the moves of the round, each with its wave.
 fn settled_moves(alloc: Global, office: &Office) -> Result<Vec<Move>, OutOfMemory>
     requires lawful { IsLawful office.now }
     requires published { IsTrue (is_published office.now.phase) }
@@ -58,7 +62,7 @@ fn settled_moves(alloc: Global, office: &Office) -> Result<Vec<Move>, OutOfMemor
     moves_with(alloc, office.number, movers.as_slice(), waves.as_slice())
 }
 
-// The moves of these movers, with these waves.
+// Returns the moves of these relocations, with these waves.
 #[tactic(auto, using(crate::proofs::settlements::Recorded::settlements_moves_with_more))]
 fn moves_with(
     alloc: Global,
@@ -82,7 +86,7 @@ fn moves_with(
     Ok(moves)
 }
 
-// Those leave who do so before anybody arrives.
+// Appends a change for each person who leaves before anybody arrives.
 fn first_leave(changes: &mut Vec<Change>, moves: &[Move]) -> Result<(), OutOfMemory>
     ensures { OnOk result (changes.new.items ≡ changes.old.items
         ++ map_list leaving (first_out moves.now)) }
@@ -91,7 +95,7 @@ fn first_leave(changes: &mut Vec<Change>, moves: &[Move]) -> Result<(), OutOfMem
     swaps_leave(changes, moves)
 }
 
-// Those who move into no room leave.
+// Appends a change by which each person who moves into no room leaves.
 #[tactic(auto, using(crate::proofs::settlements::Recorded::settlements_goers_more))]
 fn goers_leave(changes: &mut Vec<Change>, moves: &[Move]) -> Result<(), OutOfMemory>
     ensures { OnOk result (changes.new.items ≡ changes.old.items
@@ -106,7 +110,7 @@ fn goers_leave(changes: &mut Vec<Change>, moves: &[Move]) -> Result<(), OutOfMem
     Ok(())
 }
 
-// Those who swap leave.
+// Appends a change by which each person who swaps leaves.
 #[tactic(auto, using(crate::proofs::settlements::Recorded::settlements_swaps_more))]
 fn swaps_leave(changes: &mut Vec<Change>, moves: &[Move]) -> Result<(), OutOfMemory>
     ensures { OnOk result (changes.new.items ≡ changes.old.items
@@ -121,7 +125,7 @@ fn swaps_leave(changes: &mut Vec<Change>, moves: &[Move]) -> Result<(), OutOfMem
     Ok(())
 }
 
-// Each mover comes to the new room, in the order given.
+// Appends a change by which each person arrives in the new room, in the given order.
 fn all_arrive(changes: &mut Vec<Change>, moves: &[&Move]) -> Result<(), OutOfMemory>
     ensures { OnOk result (changes.new.items ≡ changes.old.items
         ++ map_list arriving (map_list (λ moved. moved.now) moves.now)) }
@@ -134,7 +138,7 @@ fn all_arrive(changes: &mut Vec<Change>, moves: &[&Move]) -> Result<(), OutOfMem
     Ok(())
 }
 
-// Each move is recorded.
+// Appends a change that records each move.
 fn all_recorded(changes: &mut Vec<Change>, moves: &[Move]) -> Result<(), OutOfMemory>
     ensures { OnOk result (changes.new.items ≡ changes.old.items
         ++ map_list (λ (move : Move). Change.AddMove move) moves.now) }

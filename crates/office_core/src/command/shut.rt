@@ -1,4 +1,4 @@
-//! A room is shut, and its tenancy ends.
+//! Takes a room out of use and ends its tenancy.
 ghost use Rattle.office_core.specs.Command.Decision.{IsDecided};
 ghost use Rattle.office_core.specs.Command.Shut.{checks, reply_to, changes_of};
 
@@ -13,8 +13,11 @@ use office_state::{Change, Office};
 use room_types::RoomCode;
 use std::alloc::Global;
 
-/// Decides to take a room out of use; the reply names the tenant who loses the home. Refused in turn: `BadPhase` unless
-/// idle or open; `UnknownRoom`; `RoomShut`. It goes through the people.
+/// Decides to take a room out of use. The reply names the tenant who loses the home, if there is one. Scans the people.
+///
+/// # Errors
+///
+/// The first that applies of: `BadPhase` unless idle or open; `UnknownRoom`; `RoomShut`. `OutOfMemory` if an allocation fails.
 #[tactic(auto, using(crate::proofs::commands::Changes::commands_has_last))]
 pub fn shut(alloc: Global, office: &Office, room: &RoomCode) -> Result<Decision, Refusal>
     ensures { IsDecided (checks office.now room.now) (reply_to office.now room.now)

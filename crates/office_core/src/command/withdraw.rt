@@ -1,4 +1,4 @@
-//! Somebody takes no part in the round.
+//! Takes a person out of the round.
 ghost use Rattle.office_core.specs.Command.Decision.{IsDecided};
 ghost use Rattle.office_core.specs.Command.Withdraw.{checks, reply_to, changes_of};
 
@@ -10,8 +10,12 @@ use office_state::{Change, Office};
 use room_types::PersonId;
 use std::alloc::Global;
 
-/// Decides that a person, and that person's room, take no part in the round; a repeat changes nothing. Refused in turn:
-/// `BadPhase` unless open; `UnknownPerson`; `Going`.
+/// Decides to take a person, and that person's room, out of the round. A repeat changes nothing.
+///
+/// # Errors
+///
+/// The first that applies of: `BadPhase` unless open; `UnknownPerson`; `Going`. `OutOfMemory` if an allocation fails; never for a
+/// repeat.
 pub fn withdraw(alloc: Global, office: &Office, person: &PersonId) -> Result<Decision, Refusal>
     ensures { IsDecided (checks office.now person.now) (reply_to office.now person.now)
         (changes_of office.now person.now) result }

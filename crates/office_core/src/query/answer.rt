@@ -1,4 +1,4 @@
-//! What a query is answered.
+//! Answers queries.
 ghost use Rattle.std.specs.Prelude.{IfOk};
 ghost use Rattle.office_state.specs.Office.Invariants.{IsLawful};
 ghost use Rattle.office_core.specs.Query.Answer.{Tells};
@@ -19,16 +19,16 @@ use crate::reply::Reply;
 use office_state::Office;
 use std::alloc::Global;
 
-/// Answers a query, and changes nothing. The room that another list would give is never ranked above the result, by the
-/// recorded list. Rows of rooms ascend by code, and rows of people and of results by identifier.
+/// Answers a query. Changes nothing. By the recorded list, the room that another list would give is never ranked above the
+/// result. Rows of rooms ascend by code, and rows of people and of results by identifier.
 ///
 /// # Errors
 ///
-/// `BadPhase` for `Order` before the draw, and for `Results` and `WhatIf` before the run; `NoSuchRound` for the moves
-/// of a round that is not over; `UnknownPerson` for a key or an identifier that nobody has; `NotInRound` for `WhatIf`
-/// of somebody who has withdrawn or leaves the college, and for the first room on the list that is not known or is
-/// shut `UnknownRoom` or `RoomShut`. `OutOfMemory` only for the code in a refusal, and for every reply but that of
-/// `Round`, and those of `Rooms`, `People`, `Order`, `Results` and `Moves` where there are none.
+/// `BadPhase` for `Order` before the draw, and for `Results` and `WhatIf` before the run; `NoSuchRound` for the moves of a round
+/// that is not over; `UnknownPerson` for a key or an identifier that nobody has; `NotInRound` for `WhatIf` of somebody who has
+/// withdrawn or leaves the college; `UnknownRoom` or `RoomShut` for the first room on the list of `WhatIf` that is not known or
+/// is shut. `OutOfMemory`, only for the code in a refusal and for replies that need memory: all but that of `Round`, and those
+/// of `Rooms`, `People`, `Order`, `Results` and `Moves` that have no rows.
 pub fn answer(alloc: Global, office: &Office, query: &Query) -> Result<Reply, Refusal>
     requires { IsLawful office.now }
     ensures told { Tells (told office.now query.now) result }

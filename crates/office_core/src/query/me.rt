@@ -1,4 +1,4 @@
-//! What a person sees by the key.
+//! What the owner of a key sees.
 ghost use Rattle.std.specs.Prelude.{◌≡◌, IfOk};
 ghost use Rattle.office_state.specs.Office.{choices_of};
 ghost use Rattle.office_core.specs.Query.Answer.{Tells};
@@ -11,7 +11,11 @@ use room_types::rows::copy_optional;
 use room_types::{Choices, Key, OutOfMemory, PersonId, RoomCode};
 use std::alloc::Global;
 
-/// What the person of this key sees. Refused with `UnknownPerson` where nobody has the key. It goes through the people.
+/// Returns what the owner of this key sees. Scans the people.
+///
+/// # Errors
+///
+/// `UnknownPerson` if nobody has the key; `OutOfMemory` only if somebody has.
 pub fn me(alloc: Global, office: &Office, key: &Key) -> Result<Reply, Refusal>
     ensures { Tells (told office.now key.now) result }
 {
@@ -25,6 +29,7 @@ pub fn me(alloc: Global, office: &Office, key: &Key) -> Result<Reply, Refusal>
     Ok(Reply::Me(standing))
 }
 
+// Returns what this person sees.
 fn standing_of(
     alloc: Global,
     office: &Office,
@@ -47,7 +52,7 @@ fn standing_of(
     })
 }
 
-// A copy of the recorded list, or the empty one.
+// Returns a copy of the recorded list, or an empty one if none is recorded.
 fn recorded_choices(
     alloc: Global,
     office: &Office,
@@ -64,7 +69,7 @@ fn recorded_choices(
     }
 }
 
-// A copy of the result, where it is shown.
+// Returns a copy of the result if it is shown, and `None` if not.
 fn shown_result(office: &Office, person: &PersonId) -> Result<Option<RoomCode>, OutOfMemory>
     ensures { IfOk result (λ room. room ≡ shown_result office.now person.now) }
 {

@@ -11,8 +11,11 @@ use room_types::rows::copy_optional;
 use room_types::{Listing, Move, OutOfMemory};
 use std::alloc::Global;
 
-/// The moves of this round, by identifier; none of a round that was cancelled. Refused with `NoSuchRound` unless
-/// the round is over.
+/// Returns the moves of this round, by identifier. A cancelled round has none.
+///
+/// # Errors
+///
+/// `NoSuchRound` unless the round is over; `OutOfMemory` only if it is over and has moves.
 pub fn moves(alloc: Global, office: &Office, round: u16) -> Result<Reply, Refusal>
     ensures { Tells (told office.now round) result }
 {
@@ -23,6 +26,7 @@ pub fn moves(alloc: Global, office: &Office, round: u16) -> Result<Reply, Refusa
     Ok(Reply::Moves(Listing::new(rows)))
 }
 
+// Returns a row for each move of the round.
 fn move_rows(alloc: Global, office: &Office, round: u16) -> Result<Vec<Move>, OutOfMemory>
     ensures rows { IfOk result (λ rows. rows.items ≡ move_rows office.now round) }
     ensures memory { OnErr result (is_empty (move_rows office.now round) ≡ false) }

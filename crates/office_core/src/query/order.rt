@@ -11,7 +11,11 @@ use office_state::round::{round_people, round_word_of};
 use room_types::{Listing, OutOfMemory, PersonId};
 use std::alloc::Global;
 
-/// The participants in the drawn order, with their words and grades. Refused with `BadPhase` where there are no words.
+/// Returns the participants in the drawn order, with their lottery numbers and grades.
+///
+/// # Errors
+///
+/// `BadPhase` unless lottery numbers are drawn; `OutOfMemory` only if they are and there are participants.
 #[tactic(auto, using(crate::proofs::reply_rows::Listings::reply_rows_some_ordered))]
 pub fn order(alloc: Global, office: &Office) -> Result<Reply, Refusal>
     ensures { Tells (told office.now) result }
@@ -24,7 +28,7 @@ pub fn order(alloc: Global, office: &Office) -> Result<Reply, Refusal>
     Ok(Reply::Order(Listing::new(rows)))
 }
 
-// Each of the people with the word and the grade.
+// Returns a row for each of these people.
 fn order_rows(
     alloc: Global,
     office: &Office,

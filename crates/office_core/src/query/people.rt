@@ -9,7 +9,11 @@ use room_types::rows::copy_optional;
 use room_types::{Listing, PersonRow};
 use std::alloc::Global;
 
-/// The people by identifier, without their keys.
+/// Returns the people by identifier, without their keys.
+///
+/// # Errors
+///
+/// `OutOfMemory`, only if there are people.
 pub fn people(alloc: Global, office: &Office) -> Result<Reply, Refusal>
     ensures { Tells (told office.now) result }
 {

@@ -1,4 +1,4 @@
-//! What the participants get.
+//! The results of the participants.
 ghost use Rattle.std.specs.Prelude.{◌≡◌, IfOk, OnErr, false};
 ghost use Rattle.office_state.specs.Empty.{is_empty};
 ghost use Rattle.office_core.specs.Query.Answer.{Tells};
@@ -12,7 +12,11 @@ use room_types::rows::copy_optional;
 use room_types::{Listing, OutOfMemory, ResultRow};
 use std::alloc::Global;
 
-/// What each participant gets, by identifier. Refused with `BadPhase` where there are no results.
+/// Returns the result of each participant, by identifier.
+///
+/// # Errors
+///
+/// `BadPhase` unless the round has run; `OutOfMemory` only if it has and there are results.
 pub fn results(alloc: Global, office: &Office) -> Result<Reply, Refusal>
     ensures { Tells (told office.now) result }
 {
@@ -23,6 +27,7 @@ pub fn results(alloc: Global, office: &Office) -> Result<Reply, Refusal>
     Ok(Reply::Results(Listing::new(rows)))
 }
 
+// Returns a row for each result.
 fn result_rows(alloc: Global, office: &Office) -> Result<Vec<ResultRow>, OutOfMemory>
     ensures rows { IfOk result (λ rows. rows.items ≡ result_rows office.now) }
     ensures memory { OnErr result (is_empty (result_rows office.now) ≡ false) }

@@ -9,7 +9,11 @@ use office_state::{Office, copy_found_in_office};
 use room_types::{Listing, PersonId, RoomRow, State};
 use std::alloc::Global;
 
-/// The rooms by code, each with its state and tenant, in n log n steps. Where there are none it takes no memory.
+/// Returns the rooms by code, each with its state and tenant. Takes n log n steps in the rooms and the people.
+///
+/// # Errors
+///
+/// `OutOfMemory`, only if there are rooms.
 #[tactic(auto, using(crate::proofs::reply_rows::Listings::reply_rows_no_rows, crate::proofs::reply_rows::Listings::reply_rows_some_rows))]
 pub fn rooms(alloc: Global, office: &Office) -> Result<Reply, Refusal>
     ensures { Tells (told office.now) result }
@@ -32,6 +36,7 @@ pub fn rooms(alloc: Global, office: &Office) -> Result<Reply, Refusal>
     Ok(Reply::Rooms(Listing::new(rows)))
 }
 
+// Returns the state of a room.
 fn state_of(shut: bool, tenant: &Option<PersonId>) -> State
     ensures { result ≡ state_of shut tenant.now }
 {

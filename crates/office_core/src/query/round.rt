@@ -1,4 +1,4 @@
-//! The round's number and phase, with counts.
+//! The number and phase of the round, with counts.
 ghost use Rattle.std.specs.Prelude.{◌≡◌};
 ghost use Rattle.office_core.specs.Query.Round.{told};
 
@@ -6,8 +6,8 @@ use crate::refusal::Refusal;
 use crate::reply::Reply;
 use office_state::Office;
 
-/// The last round's number, the phase, how many people there are, how many have withdrawn, and how many leave the college.
-/// It takes no memory.
+/// Returns the last round's number, the phase, and how many people there are, have withdrawn and leave the college. Never fails;
+/// does not allocate.
 pub fn round(office: &Office) -> Result<Reply, Refusal>
     ensures { result ≡ told office.now }
 {

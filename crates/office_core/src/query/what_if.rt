@@ -14,9 +14,14 @@ use office_state::round::result_by;
 use room_types::{Choices, PersonId};
 use std::alloc::Global;
 
-/// The room that a participant would get by this list, the order and all other lists being the same; by the
-/// recorded list it never ranks above the result. Refused in turn: `BadPhase` where there are no results;
-/// `UnknownPerson`; `NotInRound`; for the first room that is not known or is shut `UnknownRoom` or `RoomShut`.
+/// Returns the room that a participant would get with this list if the order and all other lists stayed the same. By the
+/// recorded list, that room never ranks above the result.
+///
+/// # Errors
+///
+/// The first that applies of: `BadPhase` unless the round has run; `UnknownPerson`; `NotInRound`; `UnknownRoom` or `RoomShut` for
+/// the first room that is not known or is shut. `OutOfMemory` if an allocation fails, but never in place of a refusal that
+/// names no room.
 pub fn what_if(
     alloc: Global,
     office: &Office,
@@ -32,7 +37,7 @@ pub fn what_if(
     Ok(Reply::WouldGet(room))
 }
 
-// Whether somebody may ask what the list would give.
+// Checks that the query is allowed for this person and list.
 fn may_ask(office: &Office, person: &PersonId, choices: &Choices) -> Result<(), Refusal>
     ensures { Passes (checks office.now person.now choices.now) result }
 {

@@ -1,4 +1,5 @@
-//! What a room is refused for, as one of a list or as a home.
+//! Checks of a room on a list or as a home. Each reports the first refusal that applies; `OutOfMemory` takes the place of
+//! `UnknownRoom` or `RoomShut` if the code cannot be copied.
 ghost use Rattle.std.specs.List.{flat_map};
 ghost use Rattle.office_core.specs.Inner.Passes.{Passes};
 ghost use Rattle.office_core.specs.Refusal.Checks.{room_checks, home_checks, home_checks_if_any};
@@ -7,7 +8,11 @@ use crate::refusal::{Refusal, refusal_of_shut_room, refusal_of_unknown_room};
 use office_state::Office;
 use room_types::RoomCode;
 
-/// Passes a room that is known and not shut; else it is `UnknownRoom` or `RoomShut`.
+/// Checks that a room may be on a list: it is known and not shut.
+///
+/// # Errors
+///
+/// `UnknownRoom`; `RoomShut`.
 pub fn may_list(office: &Office, room: &RoomCode) -> Result<(), Refusal>
     ensures { Passes (room_checks office.now room.now) result }
 {
@@ -20,7 +25,11 @@ pub fn may_list(office: &Office, room: &RoomCode) -> Result<(), Refusal>
     Ok(())
 }
 
-/// Passes rooms that `may_list` passes, each of them; else it is the first refusal in their order.
+/// Checks that each of the rooms may be on a list.
+///
+/// # Errors
+///
+/// That of `may_list` for the first room that fails.
 pub fn may_list_all(office: &Office, rooms: &[RoomCode]) -> Result<(), Refusal>
     ensures { Passes (flat_map (room_checks office.now) rooms.now) result }
 {
@@ -30,7 +39,11 @@ pub fn may_list_all(office: &Office, rooms: &[RoomCode]) -> Result<(), Refusal>
     Ok(())
 }
 
-/// Passes a room that `may_list` passes and that is nobody's home; else it is `RoomTaken`. It goes through the people.
+/// Checks that a room may be given as a home: it may be on a list, and nobody lives there. Scans the people.
+///
+/// # Errors
+///
+/// Those of `may_list`; `RoomTaken`.
 pub fn may_live(office: &Office, room: &RoomCode) -> Result<(), Refusal>
     ensures { Passes (home_checks office.now room.now) result }
 {
@@ -41,7 +54,11 @@ pub fn may_live(office: &Office, room: &RoomCode) -> Result<(), Refusal>
     Ok(())
 }
 
-/// Passes no room, and a room that `may_live` passes.
+/// Checks that the room, if there is one, may be given as a home.
+///
+/// # Errors
+///
+/// Those of `may_live`.
 pub fn may_live_if_any(office: &Office, home: &Option<RoomCode>) -> Result<(), Refusal>
     ensures { Passes (home_checks_if_any office.now home.now) result }
 {

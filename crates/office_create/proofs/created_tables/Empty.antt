@@ -1,4 +1,4 @@
--- Ten tables with no rows, and then the rows of the office with nothing in it.
+-- Ten tables without rows, and then with the rows of the empty office.
 use Rattle.std.proofs.Common.{◌≡◌, ℕ, Bool, [], ◌∷◌, List, refl, sym, subst, map as list_map}
 use Rattle.std.specs.FinMap as map
 use Rattle.std.specs.List.{flat_map}
@@ -49,7 +49,7 @@ created_tables-all_empty db has none = record {
   };
 }
 
--- where nothing was declared, there are the tables now, with no rows
+-- If nothing was declared, the tables are there now, without rows.
 pub created_tables-made_empty : (old new : State) → FirstStand 0 10 0 old new → HasCleanDisk new → old.now.schema ≡ no_schema → HasTables new.now no_rows
 created_tables-made_empty old new made clean none =
     let all = made.shown clean none in
@@ -78,7 +78,7 @@ created_tables-none_of rooms people choices words results moves lists grades goi
 created_tables-no_entries : {X : Type 0} → map.entries (map.empty {X = X} {R = text_cmp}) ≡ []
 created_tables-no_entries = maps-entries-empty nat_list_cmp_total
 
--- the office with nothing in it has no rows but that of the round
+-- The empty office has no row but that of the round.
 pub created_tables-first_rows : with_first_round 0 Idle no_rows ≡ rows_of empty_office
 unfolding with_first_round rows_at
 created_tables-first_rows = created_tables-none_of (map.entries empty_office.rooms) (map.entries empty_office.people) (map.entries empty_office.choices) (map.entries empty_office.words) (map.entries empty_office.results)

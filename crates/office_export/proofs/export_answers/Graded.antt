@@ -1,4 +1,4 @@
--- Each person is joined with the grade that is recorded of the person, if one is.
+-- Each person is joined with the person's recorded grade, if any.
 use Rattle.std.proofs.Common.{◌≡◌, ℕ, ℤ, pos, Bool, true, false, ◌&&◌, List, [], ◌∷◌, ◌++◌, map, flat_map, filter, cond, Option, Some, None, option_to_list, T, refl, sym, ap, ap₂, ◌∙◌, subst, IsPermutation, Less, Equal, Greater}
 use Rattle.std.specs.declared.cmp.Ordering.{Ordering}
 use Rattle.std.specs.Cmp.Lexicographic.{nat_list_cmp_total}
@@ -34,7 +34,7 @@ meets person grade = list_all (holds ([] ∷ person ∷ grade ∷ [])) (is_their
 export_answers-grade_meets : (person : ℤ × PersonRecord) (grade : ℤ × (Bytes × ℕ)) → meets (stored person_columns person) (stored grade_columns grade) ≡ text_eq grade.1.0 person.1.id
 export_answers-grade_meets person grade = statements-same_text grade.1.0 person.1.id
 
--- what is found for a person
+-- the matches of a person
 export_answers-grades_found : (person : ℤ × PersonRecord) (grades : List (ℤ × (Bytes × ℕ)))
     → filter (meets (stored person_columns person)) (map (stored grade_columns) grades)
     ≡ map (stored grade_columns) (filter (λ (e : ℤ × (Bytes × ℕ)). text_eq e.1.0 person.1.id) grades)
@@ -71,7 +71,7 @@ export_answers-grades_shown grade grades recorded (person ∷ people) =
     ∙ export_answers-grade_shown grade person (filter (λ (e : ℤ × (Bytes × ℕ)). text_eq e.1.0 person.1.id) grades) (grade person.1.id) refl (recorded person.1.id))
     (export_answers-grades_shown grade grades recorded people)
 
--- ---- at most one grade is recorded of a person
+-- ---- a person has at most one recorded grade
 
 module _ (id : Bytes) where
   abbrev is_of : Bytes × ℕ → Bool
@@ -85,7 +85,7 @@ module _ (id : Bytes) where
       turned Equal = refl
       turned Greater = refl
 
-  -- no later one is of the same person
+  -- No later grade is of the same person.
   export_answers-no_later : (e : Bytes × ℕ) (es : List (Bytes × ℕ)) → id ≡ e.0 → AllByRecursion (λ f. text_cmp e.0 f.0 ≡ Less) es → AllByRecursion (λ f. is_of f ≡ false) es
   export_answers-no_later e [] same above = tt
   export_answers-no_later e (f ∷ es) same above = (
@@ -102,7 +102,7 @@ module _ (id : Bytes) where
       go true h more = rw (export_answers-is_of_sought e ∙ h, h, filter_none is_of es (export_answers-no_later e es (maps-tied_text id e.0 h) up.0)) refl
       go false h more = rw (export_answers-is_of_sought e ∙ h, h) more
 
--- of the rows of all grades, in whatever order, those of a person hold the grade that is recorded
+-- Among the rows of all grades, in any order, those of a person hold the person's recorded grade.
 pub export_answers-grade_recorded : (grades : TextMap ℕ) (id : Bytes) (rows : List (Bytes × ℕ)) → IsPermutation (maps.entries grades) rows
     → map (λ (e : Bytes × ℕ). e.1) (filter (λ (e : Bytes × ℕ). text_eq e.0 id) rows) ≡ option_to_list (maps.get grades id)
 export_answers-grade_recorded grades id rows same =

@@ -35,7 +35,7 @@ use Rattle.office_export.proofs.export_answers.Rising.{export_answers-entries_ri
 abbrev from : Join
 from = inner 2 (left 11 (is_theirs ∷ []) end)
 
--- the grade that is recorded of a person
+-- the recorded grade of a person
 abbrev recorded : Office → Bytes → Option ℕ
 recorded office id = maps.get office.grades id
 

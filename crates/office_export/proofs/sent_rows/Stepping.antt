@@ -35,7 +35,7 @@ use Rattle.office_export.specs.Exports.{exported}
 use Rattle.office_export.specs.Stepping.{IsAskedOf, KeepsTables, StandsOn}
 use Rattle.office_export.proofs.sent_rows.Sending.{AreSent, sent_rows-cut_counted, sent_rows-cut_front, sent_rows-cut_short, sent_rows-front_sent, sent_rows-more_sent, sent_rows-one_record, sent_rows-one_then, sent_rows-sent_counted, sent_rows-with_more, sent_rows-with_one}
 
--- ---- what is kept
+-- ---- what is unchanged
 
 pub sent_rows-keeps_unchanged : (a b : State) → IsUnchanged a b → KeepsTables a b
 sent_rows-keeps_unchanged a b h o = (h.0.was_open, λ same. (h.0.now_is, h.0.committed_is))
@@ -83,7 +83,7 @@ sent_rows-export_follows a b Commits survives was_open = record {
   closes = survives.closes;
 }
 
--- a query that did not begin only reads
+-- A query that did not begin only reads.
 pub sent_rows-reads_refused : (sql : List ℕ) (params : Row) (a b : State) (Commits : Trees → Type 0) (e : Error) → Survives a b Commits → (IsTrue a.is_open → a.now ≡ a.committed)
     → (HasCleanDisk b → FailsToQuery sql params a b e) → OnlyReads a b
 sent_rows-reads_refused sql params a b Commits e survives settled h = record {
@@ -95,7 +95,7 @@ sent_rows-never_both : (r : Result Compiled CompileError) → NeverReturns r →
 sent_rows-never_both (Ok c) never some = true≢false (sym (subst IsSome never some))
 sent_rows-never_both (Err e) never none = none
 
--- a query that began, and whose rows were read, only reads
+-- A query that began, and whose rows were read, only reads.
 pub sent_rows-reads_through : {S : Type 0} (g : Ghosts S) (sql : List ℕ) (params : Row) (a b c : Held S) (Commits : Trees → Type 0) → OnlyAsks sql
     → Survives (state g a) (state g b) Commits → (HasCleanDisk (state g b) → HasBegun g sql params a b)
     → (IsTrue (state g a).is_open → (state g a).now ≡ (state g a).committed)
@@ -120,7 +120,7 @@ sent_rows-reads_through g sql params a b c Commits asks first begun settled next
     unchanged (inl h) = h.1
     unchanged (inr h) = absurd (sent_rows-never_both (understood a.schema sql) (asks a.schema) h.0)
 
--- a query that began over the rows of an office is at its start
+-- A query that began over the rows of an office is at its start.
 pub sent_rows-asked_of : {S : Type 0} (g : Ghosts S) (text sql : List ℕ) (old now : Held S) (office : Office) → IsPlain (understood office_schema text) → sql ≡ text → StandsOn (state g old) office
     → HasBegun g sql [] old now → IsAskedOf g text now office
 sent_rows-asked_of {S} g text sql old now office plain same stands begun =
@@ -150,18 +150,18 @@ module _ {S : Type 0} (g : Ghosts S) (kind : ExportKind) (text : List ℕ) (fiel
     sent_rows-told : (rows : List Row) → Answers (state g now).now (alone asks.query) [] rows → header_of kind ∷ map fields rows ≡ exported kind office
     sent_rows-told rows h = asks.answers (state g now).now office rows (subst (λ (d : Database). HoldsOffice d office) (sym same.0.now_is) asked.holds) asked.lawful h
 
-    -- the rows so far are the first of the export
+    -- The rows so far are the first of the export.
     pub sent_rows-first_rows : (given : List Row) → HasGiven g text [] now given → (tail : List Row) × (header_of kind ∷ map fields (given ++ tail) ≡ exported kind office)
     sent_rows-first_rows given so_far =
         let read = begins_as text [] (state g now) (state g now) office_schema has (Select (alone asks.query) asks.names) asks.is asks.plain asks.unlisted given (given_begin g text [] now given so_far) in
         (read.1.0, sent_rows-told (given ++ read.1.0) (record { typed = read.0; answer = read.1.1 }))
 
-    -- once no row is to come, they are the export
+    -- Once all rows have been read, they are the export.
     pub sent_rows-all_rows : (next : Held S) (given : List Row) → HasGiven g text [] now given → Advances g now next None → header_of kind ∷ map fields given ≡ exported kind office
     sent_rows-all_rows next given so_far ends =
         sent_rows-told given (reads_as text [] (state g now) (state g next) office_schema has (Select (alone asks.query) asks.names) asks.is asks.plain asks.unlisted given (ends text [] given so_far))
 
--- the query runs on an open connection
+-- The query runs on an open connection.
 sent_rows-given_open : {S : Type 0} (g : Ghosts S) (sql : List ℕ) (params : Row) (h : Held S) (given : List Row) → HasGiven g sql params h given → IsTrue (state g h).is_open
 unfolding HasGiven
 sent_rows-given_open g sql params h given it = it.0.is_open
@@ -175,7 +175,8 @@ sent_rows-keeps_still a o = (o, λ same. (refl, refl))
 pub sent_rows-survives_still : (a : State) → Survives a a (λ _. ⊥)
 sent_rows-survives_still a = record { clean = omega arith; shield = λ s. s; counts = omega arith; limit = refl; closes = λ clean o. inl o; crash = λ clean db h. inl h }
 
--- The header and the records of some rows were sent. These are the rows that the query under way has given, and the tables are as they were.
+-- The header and the records of some rows were written. These are the rows that the running query has given, and the tables are
+-- unchanged.
 abbrev pub UnderWay : {S : Type 0} → Ghosts S → ExportKind → List ℕ → (Row → Record) → Held S → Held S → ℕ → Output → Output → Type 0
 UnderWay g kind text fields first now sent before after =
     (given : List Row) × AreSent (header_of kind ∷ map fields given) sent before after
@@ -206,7 +207,7 @@ module _ {S : Type 0} (g : Ghosts S) (kind : ExportKind) (text : List ℕ) (fiel
             unchanged_then (state g first) (state g now) (state g next) given.1 (same clean),
           )
 
-      -- one more record was sent
+      -- One more record was written.
       pub one_sent : (later : Output) → Puts after later bytes → UnderWay g kind text fields first next (sent + length bytes) before later
       one_sent later puts = (
         way.0 ++ row ∷ [],
@@ -215,7 +216,7 @@ module _ {S : Type 0} (g : Ghosts S) (kind : ExportKind) (text : List ℕ) (fiel
         next_given,
       )
 
-      -- its record is one of the export
+      -- The row's record is one of the export.
       in_export : AsksForExport kind text fields → HasCleanDisk (state g next) → (office : Office) → IsAskedOf g text first office
           → (rest : List Record) × ((header_of kind ∷ map fields way.0) ++ fields row ∷ rest ≡ exported kind office)
       in_export asks clean office asked =
@@ -223,7 +224,7 @@ module _ {S : Type 0} (g : Ghosts S) (kind : ExportKind) (text : List ℕ) (fiel
           let read = sent_rows-first_rows g kind text fields asks first next office asked given.1 (way.0 ++ row ∷ []) given.0 in
           (map fields read.0, sent_rows-one_then (header_of kind) fields way.0 read.0 row ∙ read.1)
 
-      -- a write failed within its record
+      -- A write failed within the row's record.
       pub front_cut : (later : Output) (part : ℕ) → part < length bytes → Puts after later (take part bytes) → AsksForExport kind text fields
           → HasCleanDisk (state g next) → (office : Office) → IsAskedOf g text first office → PutsFront before later (sent + part) (export_bytes (exported kind office))
       front_cut later part short puts asks clean office asked =
@@ -248,7 +249,7 @@ module _ {S : Type 0} (g : Ghosts S) (kind : ExportKind) (text : List ℕ) (fiel
     pub sent_rows-between_stopped : EndsBetween kind before after (Unavailable sent)
     sent_rows-between_stopped = (header_of kind ∷ map fields way.0, refl, way.1.written, sym way.1.size)
 
-  -- the header was sent
+  -- The header was written.
   pub sent_rows-head_sent : (first : Held S) (before after : Output) (bytes : List ℕ) → bytes ≡ record_bytes (header_of kind) → Puts before after bytes → UnderWay g kind text fields first first (length bytes) before after
   sent_rows-head_sent first before after bytes is puts = (
     [],

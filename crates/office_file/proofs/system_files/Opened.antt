@@ -1,4 +1,4 @@
--- What is said of any place of files, said of the system's, whose states tell nothing.
+-- What holds for any place of files, for the files of the system, whose states hold no information.
 use Rattle.std.specs.Prelude.{⊤}
 use Rattle.std.proofs.Common.{ℕ, List, Result, Ok, Err, IfOk, inl, inr}
 use Rattle.sqlite.specs.Held.{Held}

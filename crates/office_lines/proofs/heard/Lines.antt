@@ -1,10 +1,10 @@
--- The lines of a text, and what has come of one.
+-- How lines split at line feeds, and the unfinished line that remains.
 use Rattle.std.proofs.Common.{◌≡◌, ℕ, Bool, true, false, cond, eqb, List, [], ◌∷◌, ◌++◌, refl, sym, ap, ◌∙◌, append_assoc, append-nil}
 use Rattle.std.specs.List.{onto_first}
 use Rattle.office_lines.specs.Lines.{parts_of, front, last, ended_lines, last_part}
 use Rattle.office_lines.specs.Sessions.{ended_from, partial_from}
 
--- what has begun stands before the first part
+-- the parts, with these bytes prepended to the first one
 heard-prefixed : List ℕ → List (List ℕ) → List (List ℕ)
 heard-prefixed p [] = p ∷ []
 heard-prefixed p (x ∷ xs) = (p ++ x) ∷ xs
@@ -24,7 +24,7 @@ unfolding heard-prefixed
 heard-prefixed-nil-cond true b parts = refl
 heard-prefixed-nil-cond false b parts = heard-prefixed-nil-onto_first b parts
 
--- nothing before the first part
+-- prepending nothing changes nothing
 heard-prefixed-nil : (bs : List ℕ) → heard-prefixed [] (parts_of bs) ≡ parts_of bs
 unfolding heard-prefixed
 heard-prefixed-nil [] = refl
@@ -44,7 +44,7 @@ unfolding heard-prefixed
 heard-prefixed_parts p [] = ap (λ l. l ∷ []) (append-nil p)
 heard-prefixed_parts p (b ∷ bs) = heard-split_step (eqb b 10) p b bs (sym (heard-prefixed-nil bs) ∙ heard-prefixed_parts [] bs) (heard-prefixed_parts (p ++ b ∷ []) bs)
 
--- the parts are the lines that are ended, and what has begun
+-- the parts are the ended lines, followed by the unfinished line
 pub heard-parts_of-is : (bs : List ℕ) → parts_of bs ≡ ended_from [] bs ++ partial_from [] bs ∷ []
 heard-parts_of-is bs = sym (heard-prefixed-nil bs) ∙ heard-prefixed_parts [] bs
 
@@ -58,7 +58,7 @@ heard-last-push [] y = refl
 heard-last-push (x ∷ []) y = refl
 heard-last-push (x ∷ z ∷ xs) y = heard-last-push (z ∷ xs) y
 
--- the ended lines are those that end from nothing on
+-- the ended lines are those that `ended_from` finds with no line begun
 pub heard-ended_lines-is : (bs : List ℕ) → ended_lines bs ≡ ended_from [] bs
 heard-ended_lines-is bs = ap front (heard-parts_of-is bs) ∙ heard-front-push (ended_from [] bs) (partial_from [] bs)
 

@@ -1,4 +1,4 @@
--- What is heard of pieces of the input, one after the other.
+-- The effects of handling chunks of the input one after another.
 use Rattle.std.proofs.Common.{rules, tests, ◌≡◌, ℕ, ◌+◌, ◌<◌, ◌≤◌, Bool, true, false, eqb, max, List, [], ◌∷◌, ◌++◌, length, refl, sym, ap, ◌∙◌, subst, arith, append_assoc, append-nil, length-append, Option, inl, inr, ◌⊎◌}
 use Rattle.std.specs.Prelude.{◌^◌}
 use Rattle.std.specs.List.{list_all}
@@ -22,16 +22,16 @@ use Rattle.office_lines.proofs.heard.Lines.{heard-ended_from-append, heard-parti
 use Rattle.office_lines.proofs.rehearsals.Runs.{rehearsals-Run-append, rehearsals-greatest_status-append, rehearsals-texts_of-append, rehearsals-texts_front-within, rehearsals-texts_front-append, rehearsals-texts_front-more, rehearsals-last_is_made-append}
 use Rattle.room_types.proofs.watched_bytes.Streams.{watched_bytes-Puts-nil, watched_bytes-Puts-trans, watched_bytes-Puts-kept}
 
--- one read more than gave a byte each
+-- there is at most one more read than bytes, if each earlier read returned at least one byte
 pub heard-read_once : (reads reads' counter bytes : ℕ) → reads' ≡ counted reads 1 → reads ≡ counter → counter ≤ bytes → counter < 2 ^ 32 → reads' ≤ bytes + 1
 heard-read_once reads reads' counter bytes e c each few = omega (arith, e, c, each, few)
 
--- the line that the end of the input ends is short, where what has begun is
+-- if the unfinished line is short, so is the line that the end of the input ends
 pub heard-short_unended : (begun : List ℕ) → length begun ≤ line_limit → list_all is_short (unended begun) ≡ true
 heard-short_unended [] h = refl
 heard-short_unended (b ∷ bs) h = search (rules, tests)
 
--- a line on its own
+-- a single line is short if its length is within the limit
 heard-one_short : (line : List ℕ) → length line ≤ line_limit → list_all is_short (line ∷ []) ≡ true
 heard-one_short line h = and_from _ _ (search (rules, tests)) refl
 
@@ -47,7 +47,7 @@ heard-Suits-along (WriteFault m) a a' l l' u made made' n n' p r t q h = h ∙ p
 heard-Suits-along (NoMemory m) a a' l l' u made made' n n' p r t q h =
     (h.0 ∙ p, elim h.1 [ inl k ↦ inl (r k.1 ∙ k.0, k.1, t k.1 ∙ k.2) | inr k ↦ inr (k.0, omega (arith, k.1, q), omega (arith, k.2, q)) ])
 
--- what failed, from an earlier time on
+-- the failure flag may be compared with that of an earlier time, if it was the same then
 pub heard-OnlyWhereFailed-since : (e : Ending) (a b c : Bool) → b ≡ a → OnlyWhereFailed e b c → OnlyWhereFailed e a c
 heard-OnlyWhereFailed-since Ended a b c p q = q ∙ p
 heard-OnlyWhereFailed-since ReadFault a b c p q = q ∙ p
@@ -55,7 +55,7 @@ heard-OnlyWhereFailed-since (WriteFault n) a b c p q = q
 heard-OnlyWhereFailed-since (NoMemory n) a b c p q = q ∙ p
 
 module _ {H : Type 0} (handles : H → Request → Answer → H → Type 0) where
-  -- no bytes
+  -- handling no bytes
   pub heard-Heard-nil : (s : State H) → Heard handles s s []
   heard-Heard-nil s = record {
     answers = [];
@@ -69,7 +69,7 @@ module _ {H : Type 0} (handles : H → Request → Answer → H → Type 0) wher
     status = omega arith;
   }
 
-  -- bytes after bytes
+  -- handling bytes, then more bytes
   pub heard-Heard-append : (s t u : State H) (xs ys : List ℕ) → Heard handles s t xs → Heard handles t u ys → Heard handles s u (xs ++ ys)
   heard-Heard-append s t u xs ys p q =
       let more : ended_from t.partial_line ys ≡ ended_from (partial_from s.partial_line xs) ys = ap (λ b. ended_from b ys) p.partial_line in
@@ -88,7 +88,7 @@ module _ {H : Type 0} (handles : H → Request → Answer → H → Type 0) wher
         status = q.status ∙ ap (λ n. max n (greatest_status q.answers)) p.status ∙ omega (arith, rehearsals-greatest_status-append p.answers q.answers);
       }
 
-  -- more bytes after a halt
+  -- bytes that follow a stop change nothing
   pub heard-Halted-more : (s : State H) (e : Ending) (o : H) (out : Output) (xs ys : List ℕ) → Halted handles s e o out xs → Halted handles s e o out (xs ++ ys)
   heard-Halted-more s e o out xs ys h = record {
     heard = h.heard;
@@ -107,7 +107,7 @@ module _ {H : Type 0} (handles : H → Request → Answer → H → Type 0) wher
     suits = h.suits;
   }
 
-  -- a halt after bytes that were heard
+  -- a stop after bytes that were handled
   pub heard-Heard-Halted : (s t : State H) (e : Ending) (o : H) (out : Output) (xs ys : List ℕ) → Heard handles s t xs → Halted handles t e o out ys → Halted handles s e o out (xs ++ ys)
   heard-Heard-Halted s t e o out xs ys p q =
       let more : ended_from t.partial_line q.heard ≡ ended_from (partial_from s.partial_line xs) q.heard = ap (λ b. ended_from b q.heard) p.partial_line in
@@ -138,7 +138,7 @@ module _ {H : Type 0} (handles : H → Request → Answer → H → Type 0) wher
 
   -- ---- one byte
 
-  -- a line feed after a short line that was answered
+  -- a line feed after a short line whose response was written
   pub heard-newline_heard : (s t : State H) (b : ℕ) → b ≡ 10 → length s.partial_line ≤ line_limit → Answered handles s t → Heard handles s t (b ∷ [])
   heard-newline_heard s t b e short h =
       let text : texts_of (h.said ∷ []) ≡ text_of h.said = append-nil (text_of h.said) in
@@ -154,7 +154,7 @@ module _ {H : Type 0} (handles : H → Request → Answer → H → Type 0) wher
         status = h.status ∙ omega arith;
       })
 
-  -- a line feed after a line whose answer was not written
+  -- a line feed after a short line whose response was not written completely
   pub heard-newline_halted : (s : State H) (o : H) (out : Output) (b : ℕ) (ending : Ending) → b ≡ 10 → length s.partial_line ≤ line_limit
       → Broken handles s ending o out → Halted handles s ending o out (b ∷ [])
   heard-newline_halted s o out b ending e short h =
@@ -176,7 +176,7 @@ module _ {H : Type 0} (handles : H → Request → Answer → H → Type 0) wher
         suits = heard-Suits-along ending _ _ _ _ _ _ _ _ _ refl (λ some. omega arith) (λ some. refl) refl h.suits;
       })
 
-  -- a byte that goes on with a line
+  -- a byte that extends the unfinished line
   pub heard-longer_heard : (o : H) (out : Output) (line : List ℕ) (sent status b : ℕ) → eqb b 10 ≡ false
       → Heard handles (record { handler = o; out = out; partial_line = line; sent = sent; status = status })
       (record { handler = o; out = out; partial_line = line ++ b ∷ []; sent = sent; status = status }) (b ∷ [])
@@ -192,7 +192,7 @@ module _ {H : Type 0} (handles : H → Request → Answer → H → Type 0) wher
     status = omega arith;
   }
 
-  -- a byte that makes a line too long
+  -- a byte that makes the line too long
   pub heard-too_long : (s : State H) (b : ℕ) → eqb b 10 ≡ false → length s.partial_line ≡ line_limit → Halted handles s ReadFault s.handler s.out (b ∷ [])
   heard-too_long s b e long = record {
     heard = b ∷ [];
@@ -211,7 +211,7 @@ module _ {H : Type 0} (handles : H → Request → Answer → H → Type 0) wher
     suits = (refl, rw e (omega (arith, long, length-append s.partial_line (b ∷ []))));
   }
 
-  -- no memory for a byte that goes on with a line
+  -- out of memory for a byte that would extend the unfinished line
   pub heard-no_room : (s : State H) (b : ℕ) → eqb b 10 ≡ false → length s.partial_line < line_limit
       → Halted handles s (NoMemory s.sent) s.handler s.out (b ∷ [])
   heard-no_room s b e short =
@@ -235,7 +235,7 @@ module _ {H : Type 0} (handles : H → Request → Answer → H → Type 0) wher
 
   -- ---- the last line
 
-  -- what had come was answered
+  -- the response to the last line was written
   pub heard-Finished-answered : (s t : State H) → 0 < length s.partial_line → Answered handles s t → Finished handles s t s.out.flushes
   heard-Finished-answered s t some h =
       let text : texts_of (h.said ∷ []) ≡ text_of h.said = append-nil (text_of h.said) in
@@ -250,7 +250,7 @@ module _ {H : Type 0} (handles : H → Request → Answer → H → Type 0) wher
         status = h.status ∙ omega arith;
       }
 
-  -- the answer to what had come was not written
+  -- the response to the last line was not written completely
   pub heard-Unfinished-broken : (s : State H) (o : H) (out : Output) (ending : Ending) → 0 < length s.partial_line → length s.partial_line ≤ line_limit
       → Broken handles s ending o out → Unfinished handles s ending o out
   heard-Unfinished-broken s o out ending some short h =
@@ -268,7 +268,7 @@ module _ {H : Type 0} (handles : H → Request → Answer → H → Type 0) wher
         suits = heard-Suits-along ending _ _ _ _ _ _ _ _ _ refl (λ some. omega arith) (λ some. refl) refl h.suits;
       }
 
-  -- a flush that failed
+  -- the final flush failed
   pub heard-Finished-unflushed : (s t : State H) (out : Output) → length s.partial_line ≤ line_limit
       → Finished handles s t s.out.flushes → Keeps t.out.contents out.contents → out.taken ≡ t.out.taken → out.flushes ≡ counted t.out.flushes 1
       → Unfinished handles s (WriteFault t.sent) t.handler out
@@ -291,7 +291,7 @@ module _ {H : Type 0} (handles : H → Request → Answer → H → Type 0) wher
   pub heard-Listened-nil : (s : State H) (u : Option (List ℕ)) → Listened handles s s u u
   heard-Listened-nil s u = record { bytes = []; read = Consumes-nil u; heard = heard-Heard-nil s }
 
-  -- a piece more
+  -- one more chunk was read and handled
   pub heard-Listened-more : (s t v : State H) (u u' u'' : Option (List ℕ)) (piece : List ℕ) → Listened handles s t u u' → Consumes u' u'' piece → Heard handles t v piece
       → Listened handles s v u u''
   heard-Listened-more s t v u u' u'' piece h c k = record {
@@ -300,7 +300,7 @@ module _ {H : Type 0} (handles : H → Request → Answer → H → Type 0) wher
     heard = heard-Heard-append s t v _ _ h.heard k;
   }
 
-  -- each read gave a byte, and so did one more
+  -- if each read so far returned a byte and the next one does too, the bytes still outnumber the reads
   pub heard-Listened-longer : (s t v : State H) (u u' u'' : Option (List ℕ)) (piece : List ℕ) (h : Listened handles s t u u') (c : Consumes u' u'' piece)
       (k : Heard handles t v piece) (n : ℕ)
       → n ≤ length h.bytes → 0 < length piece → n + 1 ≤ length (heard-Listened-more s t v u u' u'' piece h c k).bytes
@@ -308,13 +308,13 @@ module _ {H : Type 0} (handles : H → Request → Answer → H → Type 0) wher
   heard-Listened-longer s t v u u' u'' piece h c k n each some =
       let longer : n + 1 ≤ length (h.bytes ++ piece) = omega (arith, each, some, length-append h.bytes piece) in longer
 
-  -- a read that gave nothing
+  -- a read returned no bytes
   pub heard-Listened-end : (s t : State H) (u u' u'' : Option (List ℕ)) (reads : ℕ) (h : Listened handles s t u u') → Consumes u' u'' []
       → reads ≤ length h.bytes + 1 → (k : Listened handles s t u u'') × (reads ≤ length k.bytes + 1)
   heard-Listened-end s t u u' u'' reads h c each =
       (record { bytes = h.bytes; read = subst (Consumes u u'') (append-nil h.bytes) (Consumes-trans _ _ _ _ _ h.read c); heard = h.heard }, each)
 
-  -- a halt within a piece
+  -- the rehearsal stopped within a chunk
   pub heard-Stopped-halted : (s t : State H) (e : Ending) (o : H) (out : Output) (u : Option (List ℕ)) (i i' : Input) (piece : List ℕ)
       (h : Listened handles s t i.remaining u) → Consumes u i'.remaining piece → Halted handles t e o out piece → length piece ≤ piece_limit
       → i'.reads ≤ length h.bytes + 1 → i'.failed ≡ i.failed → Stopped handles s e o out i i'
@@ -338,7 +338,7 @@ module _ {H : Type 0} (handles : H → Request → Answer → H → Type 0) wher
     why = inr (refl, record { after = t; heard = h.heard; handler_is = refl; out_is = refl; begun = begun; cause = inl failed });
   }
 
-  -- no more can be read
+  -- no more bytes can be read
   pub heard-Stopped-cut : (s t : State H) (i i' : Input) (h : Listened handles s t i.remaining i'.remaining) → i'.reads ≤ length h.bytes + 1
       → length t.partial_line ≤ line_limit → (i'.failed ≡ true) ⊎ ((read_limit ≤ i'.reads) × (read_limit ≤ length h.bytes)) → Stopped handles s ReadFault t.handler t.out i i'
   heard-Stopped-cut s t i i' h reads begun cause = record {

@@ -1,4 +1,4 @@
--- A line that somebody hears is heard by what they show, where each request is handled so.
+-- If each request to a concrete handler simulates one to an abstract handler, so does each line.
 use Rattle.std.proofs.Common.{ℕ, Bool, List, inl, inr, refl, sym, subst}
 use Rattle.office_store.specs.declared.requests.Answer.{Answer}
 use Rattle.office_store.specs.declared.requests.Request.{Request}

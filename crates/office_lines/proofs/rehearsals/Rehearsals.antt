@@ -1,4 +1,4 @@
--- From what was heard to what a rehearsal did.
+-- From the input that was handled to the contract of a rehearsal.
 use Rattle.std.proofs.Common.{◌≡◌, ℕ, ◌+◌, ◌<◌, ◌≤◌, false, max, List, [], ◌++◌, length, take, Option, refl, sym, ap, ◌∙◌, subst, arith, append-nil, length-append, inl, inr}
 use Rattle.std.specs.List.{list_all}
 use Rattle.std.specs.Io.KnownBytes.{Consumes, IsAtEnd}
@@ -28,7 +28,7 @@ kept handler out line sent status = record { handler = handler; out = out; parti
 abbrev pub start : {H : Type 0} → H → Output → State H
 start handler out = kept handler out [] 0 0
 
--- what is kept at first is that state
+-- a new session has that state
 pub rehearsals-is_start : {H : Type 0} (handler : H) (out : Output) (line : List ℕ) (sent status : ℕ) → line ≡ [] → sent ≡ 0 → status ≡ 0
     → kept handler out line sent status ≡ start handler out
 rehearsals-is_start handler out line sent status e f g = rw (e, f, g) refl
@@ -45,7 +45,7 @@ module _ {H : Type 0} (handles : H → Request → Answer → H → Type 0) wher
       → Stopped handles s ending o' out' i i' → Stopped handles (start o out) ending o' out' i i'
   rehearsals-Stopped-started o o' out out' s ending i i' e h = subst (λ (z : State H). Stopped handles z ending o' out' i i') e h
 
-  -- all lines, where the last one is finished
+  -- all lines are the ended ones and the unfinished one
   rehearsals-lines_of-heard : (o : H) (out : Output) (t : State H) (bs : List ℕ) → Heard handles (start o out) t bs → lines_of bs ≡ ended_from [] bs ++ unended t.partial_line
   rehearsals-lines_of-heard o out t bs h = rehearsals-lines_of-is bs ∙ ap (λ b. ended_from [] bs ++ unended b) (sym h.partial_line)
 
@@ -105,7 +105,7 @@ module _ {H : Type 0} (handles : H → Request → Answer → H → Type 0) wher
         ];
       }
 
-  -- memory was wanting for the text of the last line
+  -- out of memory for the text of the last response
   rehearsals-wants_unfinished : (o o' : H) (out out' : Output) (i i' : Input) (t : State H) (n m : ℕ) (h : Listened handles (start o out) t i.remaining i'.remaining)
       (each : i'.reads ≤ length h.bytes + 1) (end : IsAtEnd i'.remaining) (f : Unfinished handles t (NoMemory m) o' out') (e : n ≡ t.sent + f.sent)
       → let part = rehearsals-part_unfinished o o' out out' i i' t (NoMemory m) n h each end f e in WantsMemory part.heard part.lines part.answers n
@@ -152,7 +152,7 @@ module _ {H : Type 0} (handles : H → Request → Answer → H → Type 0) wher
     flushed = inl f.unflushed;
   }
 
-  -- memory was wanting within a piece
+  -- out of memory within a chunk
   rehearsals-wants_halted : (o o' : H) (out out' : Output) (i i' : Input) (n m : ℕ) (bytes : List ℕ) (r : Consumes i.remaining i'.remaining bytes)
       (each : i'.reads ≤ length bytes + 1) (f : Halted handles (start o out) (NoMemory m) o' out' bytes) (near : length f.rest < piece_limit) (e : n ≡ 0 + f.sent)
       → let part = rehearsals-part_halted o o' out out' i i' (NoMemory m) n bytes r each f near e in WantsMemory part.heard part.lines part.answers n

@@ -1,4 +1,4 @@
--- Runs one after the other.
+-- Runs of lines, one after another.
 use Rattle.std.proofs.Common.{◌≡◌, ◌≤◌, ◌<◌, ◌+◌, ℕ, Bool, true, false, inr, refl, List, [], ◌∷◌, ◌++◌, length, max, ◌∙◌, ap, subst, arith, length-append}
 use Rattle.std.proofs.lemmas.List.Concat.{flat_map-append}
 use Rattle.office_store.specs.declared.requests.Answer.{Answer}
@@ -20,7 +20,7 @@ module _ {H : Type 0} (handles : H → Request → Answer → H → Type 0) wher
   rehearsals-answers_unavailable o (Asks request) begins h e = inr (refl, refl)
   rehearsals-answers_unavailable o Unclear begins h e = (inr (e, refl), refl)
 
-  -- no memory for the words of a line
+  -- out of memory while parsing a line
   pub rehearsals-Step-unavailable : (o : H) (line : List ℕ) → is_silent (sentence_of line) ≡ false → begins_request line ≡ true
       → Step handles o line (Answered Unavailable) o
   rehearsals-Step-unavailable o line h e = rehearsals-answers_unavailable o (sentence_of line) (begins_request line) h e
@@ -38,14 +38,14 @@ rehearsals-greatest_status-append (r ∷ rs) ss = ap (max (answer_text_status r)
 pub rehearsals-texts_of-append : (rs ss : List Said) → texts_of (rs ++ ss) ≡ texts_of rs ++ texts_of ss
 rehearsals-texts_of-append rs ss = flat_map-append text_of rs ss
 
--- all texts but the last are no longer than all
+-- all texts but the last are no longer than all texts
 pub rehearsals-texts_front-within : (rs : List Said) → length (texts_of (front rs)) ≤ length (texts_of rs)
 rehearsals-texts_front-within [] = omega arith
 rehearsals-texts_front-within (r ∷ []) = omega arith
 rehearsals-texts_front-within (r ∷ q ∷ rs) =
     omega (arith, length-append (text_of r) (texts_of (front (q ∷ rs))), length-append (text_of r) (texts_of (q ∷ rs)), rehearsals-texts_front-within (q ∷ rs))
 
--- all texts but the last of two lists, where the second has bytes
+-- the length of all texts but the last of two lists, if the second list has any bytes
 pub rehearsals-texts_front-more : (rs ss : List Said) → 0 < length (texts_of ss)
     → length (texts_of (front (rs ++ ss))) ≡ length (texts_of rs) + length (texts_of (front ss))
 rehearsals-texts_front-more rs [] some = absurd (omega (arith, some))
@@ -54,14 +54,14 @@ rehearsals-texts_front-more (r ∷ []) (s ∷ ss) some = omega (arith, length-ap
 rehearsals-texts_front-more (r ∷ q ∷ rs) (s ∷ ss) some =
     omega (arith, length-append (text_of r) (texts_of (front (q ∷ rs ++ s ∷ ss))), length-append (text_of r) (texts_of (q ∷ rs)), rehearsals-texts_front-more (q ∷ rs) (s ∷ ss) some)
 
--- the last of two lists, where the second has bytes
+-- the last text of two lists is that of the second, if it has any bytes
 pub rehearsals-last_is_made-append : (rs ss : List Said) → 0 < length (texts_of ss) → last_is_made (rs ++ ss) ≡ last_is_made ss
 rehearsals-last_is_made-append rs [] some = absurd (omega (arith, some))
 rehearsals-last_is_made-append [] (s ∷ ss) some = refl
 rehearsals-last_is_made-append (r ∷ []) (s ∷ ss) some = refl
 rehearsals-last_is_made-append (r ∷ q ∷ rs) (s ∷ ss) some = rehearsals-last_is_made-append (q ∷ rs) (s ∷ ss) some
 
--- all texts but the last of two lists
+-- a bound on the length of all texts but the last of two lists
 pub rehearsals-texts_front-append : (rs ss : List Said) → length (texts_of (front (rs ++ ss))) ≤ length (texts_of rs) + length (texts_of (front ss))
 rehearsals-texts_front-append [] ss = omega arith
 rehearsals-texts_front-append (r ∷ []) [] = omega arith

@@ -1,4 +1,4 @@
--- A rehearsal over who handles requests is one over what is shown, where each request is.
+-- If each request to a concrete handler simulates one to an abstract handler, so does a rehearsal.
 use Rattle.std.proofs.Common.{ℕ, List, [], ◌∷◌, refl, sym, subst}
 use Rattle.office_store.specs.declared.requests.Answer.{Answer}
 use Rattle.office_store.specs.declared.requests.Request.{Request}
@@ -66,7 +66,7 @@ module _ {H K : Type 0} (handles : H → Request → Answer → H → Type 0) (d
     cause = h.cause;
   }
 
-  -- a rehearsal whose runs of lines are runs over what is shown
+  -- a rehearsal each of whose runs simulates a run of the abstract handler
   module _ (shows : H → K → Type 0) (old new : H) (runs : (lines : List (List ℕ)) (all : List Said) → Run handles old lines all new → (k : K) → shows old k
       → (last : K) × Run does k lines all last × shows new last) where
     pub rehearsals-rehearsal_of_runs : (ending : Ending) (status : ℕ) (i i' : Input) (o o' : Output) → Rehearses handles ending status old new i i' o o' → (k : K) → shows old k

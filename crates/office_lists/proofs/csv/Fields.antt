@@ -15,12 +15,12 @@ use Rattle.office_lists.specs.declared.fault.Cause.TheVariants.{NotText}
 abbrev pub texts : List (Bor Text) → List Text
 texts = map (λ (word : Bor Text). word.now)
 
--- what stands between the spaces of a text that is not empty
+-- a text that is not empty, split at its spaces
 pub csv-between_spaces : (text : Text) → (length text == 0) ≡ false → slice_split is_space text ≡ codes_in text
 csv-between_spaces [] some = cc some
 csv-between_spaces (byte ∷ rest) some = refl
 
--- the words before word i are the codes, and all of them are room codes
+-- the words before word i are read as these codes, and all of them are room codes
 pub record AreCodes (words : List (Bor Text)) (i : ℕ) (codes : List Text) : Type 0 where
   pub read : codes ++ texts (drop i words) ≡ texts words
   pub good : list_all is_room_code (texts (drop i words)) ≡ list_all is_room_code (texts words)
@@ -35,7 +35,7 @@ csv-no_code words i d codes low are bad =
     sym are.good ∙ ap (λ (ws : List (Bor Text)). list_all is_room_code (texts ws)) (drop-cons words i d low)
     ∙ ap (λ (b : Bool). b && list_all is_room_code (texts (drop (suc i) words))) bad
 
--- fields are text where each is in UTF-8
+-- fields that are text all pass `is_utf8`
 pub csv-all_utf8 : (fields : Record) → AllText fields → list_all is_utf8 fields ≡ true
 unfolding AllText
 csv-all_utf8 [] text = refl

@@ -27,7 +27,7 @@ csv-field_dropped [] i f e = cc
 csv-field_dropped (x ∷ fs) zero f e = let q : x ≡ f = cc in ap (λ (t : Text). t ∷ fs) q
 csv-field_dropped (x ∷ fs) (suc i) f e = csv-field_dropped fs i f e
 
--- from the field at i on, where the names and the fields before it are the same
+-- the names and the fields before index i agree, so all depends on those from i on
 abbrev pub SameFrom : List (Bor Text) → Record → ℕ → Type 0
 SameFrom names fs i = same_fields (texts names) fs ≡ same_fields (texts (drop i names)) (drop i fs)
 
@@ -62,7 +62,7 @@ csv-differs_at names fs i d f n low is same name e =
     let other : bytes_eq f (get_or names i d).now ≡ false = ap (bytes_eq f) (sym name) ∙ not-true (bytes_eq f n) e in
     sym (csv-at_field names fs i d f low (sym is) same ∙ ap (λ (b : Bool). b && same_fields (texts (drop (i + 1) names)) (drop (i + 1) fs)) other)
 
--- a field that is missing is past the end
+-- an index without a field is past the end
 pub csv-field_missing : (fs : Record) (i : ℕ) → None ≡ field_at fs i → length fs ≤ i
 unfolding field_at
 csv-field_missing [] i e = omega arith

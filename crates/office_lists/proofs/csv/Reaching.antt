@@ -1,4 +1,4 @@
--- The records that were reached, as a function of the text.
+-- The records that a reader has reached, as a function of the text.
 use Rattle.std.proofs.Common.{◌≡◌, ◌∙◌, ◌<◌, ◌≤◌, ◌+◌, ◌++◌, ℕ, zero, suc, Bool, true, false, cond, List, [], ◌∷◌, length, Option, Some, None, refl, sym, ap, subst, arith}
 use Rattle.csv.specs.Machine.{Read, next_record, step, is_end, fields_after, field_after, ends_at_end}
 use Rattle.csv.specs.Reading.{AreRecords, Reached, default_config, records, records_from, records_next}
@@ -13,7 +13,7 @@ csv-either true a o p n e here later =
     subst (λ (r : Read). length r.2 ≤ n) q here
 csv-either false a o p n e here later = later e
 
--- a record leaves no more bytes than there were
+-- reading a record leaves no more bytes than there were
 csv-at_most : (cfg : Config) (s : State) (fields : List (List ℕ)) (field xs : List ℕ) (p : Read) → next_record cfg s fields field xs ≡ Some p
     → length p.2 ≤ length xs
 unfolding next_record
@@ -26,7 +26,7 @@ csv-at_most cfg s fields field (c ∷ rest) p e =
     (csv-at_most cfg (step cfg s c).0 (fields_after (step cfg s c).1 fields field) (field_after (step cfg s c).1 c field) rest p) in
     omega arith
 
--- and fewer, where there was one
+-- reading a record leaves fewer bytes, if there was a byte
 csv-fewer : (cfg : Config) (s : State) (fields : List (List ℕ)) (field : List ℕ) (c : ℕ) (rest : List ℕ) (p : Read)
     → next_record cfg s fields field (c ∷ rest) ≡ Some p → length p.2 ≤ length rest
 unfolding next_record
@@ -36,7 +36,7 @@ csv-fewer cfg s fields field c rest p e =
     p (length rest) e (omega arith)
     (csv-at_most cfg (step cfg s c).0 (fields_after (step cfg s c).1 fields field) (field_after (step cfg s c).1 c field) rest p)
 
--- a record at the end of a text leaves nothing to read
+-- after a record at the end of a text there is no further record
 csv-last : (cfg : Config) (s : State) (fields : List (List ℕ)) (field : List ℕ) (p : Read) → next_record cfg s fields field [] ≡ Some p
     → next_record cfg p.1 [] [] p.2 ≡ None
 unfolding next_record
@@ -61,7 +61,7 @@ csv-nothing_reached cfg s xs (r ∷ rs) s2 ys e h =
     let bad : None ≡ Some h.0 = sym e ∙ h.1 in
     cc bad
 
--- the records that are reached from a state to the end of a text are those of `records_from`
+-- the records reached on the way from a state to the end of a text are those of `records_from`
 csv-reached_from : (cfg : Config) (n : ℕ) (s : State) (xs : List ℕ) (rows : List (List (List ℕ))) (s2 : State) (ys : List ℕ) → length xs < n
     → Reached cfg s xs rows s2 ys → next_record cfg s2 [] [] ys ≡ None → records_from cfg n s xs ≡ rows
 unfolding Reached records_from
@@ -80,11 +80,11 @@ csv-reached_from cfg (suc n) s (c ∷ xs) (r ∷ rs) s2 ys low h e =
     ∙ (ap (λ (t : List (List (List ℕ))). h.0.0 ∷ t) (csv-reached_from cfg n h.0.1 h.0.2 rs s2 ys (omega arith) h.3 e)
     ∙ ap (λ (t : List (List ℕ)). t ∷ rs) (sym h.2))
 
--- all the records of a text are those of `records`
+-- the records of a whole text are those of `records`
 pub csv-all_records : (xs : List ℕ) (rows : List (List (List ℕ))) → AreRecords default_config st.StartRecord xs rows → rows ≡ records default_config xs
 csv-all_records xs rows h = sym (csv-reached_from default_config (length xs + 1) st.StartRecord xs rows h.0 h.1 (omega arith) h.2 h.3)
 
--- the records of a text begin with those that are reached
+-- the records reached so far are a prefix of the records of the text
 pub csv-reached_rest : (cfg : Config) (n : ℕ) (s : State) (xs : List ℕ) (rows : List (List (List ℕ))) (s2 : State) (ys : List ℕ) → length xs < n
     → Reached cfg s xs rows s2 ys → (rest : List (List (List ℕ))) × (records_from cfg n s xs ≡ rows ++ rest)
 unfolding Reached records_from

@@ -1,4 +1,4 @@
--- What is written is read back.
+-- Reading an export gives back its records.
 use Rattle.std.proofs.Common.{◌≡◌, ◌∙◌, ◌==◌, false, ℕ, List, [], ◌∷◌, map, refl, sym}
 use Rattle.csv.specs.Machine.{next_record}
 use Rattle.csv.specs.Reading.{Reached, default_config, strip_bom}
@@ -11,7 +11,7 @@ use Rattle.office_lists.specs.declared.exports.ExportKind.{ExportKind}
 use Rattle.office_lists.specs.declared.exports.ExportKind.TheVariants.{Rooms, People, Moves, Grades}
 use Rattle.office_lists.proofs.csv.Reaching.{csv-all_records}
 
--- the records are reached one after the other
+-- a reader reaches the exported records one after the other
 csv-reached : (records : List Record)
     → Reached default_config st.StartRecord (export_bytes records) (map read_back records) st.StartRecord []
 unfolding Reached record_bytes

@@ -1,4 +1,4 @@
--- The records that a reader has given, and what a list of them is.
+-- The records that a reader has returned so far, and what they say about the list.
 use Rattle.std.proofs.Common.{◌≡◌, ◌∙◌, ◌<◌, ◌≤◌, ◌+◌, ◌++◌, ◌==◌, Bor, Bool, true, false, cond, ℕ, zero, suc, List, [], ◌∷◌, length, map, nat_lt, Option, Some, None, refl, sym, ap, arith, inl, inr, append_assoc, length-append, le-ltb}
 use Rattle.std.proofs.lemmas.Bool.{and_parts, ne_eqb}
 use Rattle.std.proofs.lemmas.List.{map-append, length-map}
@@ -26,7 +26,7 @@ use Rattle.office_lists.specs.declared.fault.RecordFault.TheVariants as one
 abbrev pub bytes_of : Bor (List ℕ) → Option (List ℕ)
 bytes_of source = Some source.now
 
--- the reader has given these records of the bytes, and gives those after them
+-- the reader has returned these records of the bytes, and returns those after them next
 pub record HasGiven (bytes : List ℕ) (given : List Record) (rdr : Reader (Bor (List ℕ))) : Type 0 where
   pub trims : rdr.trim ≡ trim.None
   pub ready : Ready rdr
@@ -49,7 +49,7 @@ csv-reader_started bytes rdr trims plain none flexible config source state = rec
   reached = (sym state, refl);
 }
 
--- one record more
+-- the reader returns one more record
 pub csv-reader_gives : (bytes : List ℕ) (given : List Record) (old new : Reader (Bor (List ℕ))) (row : Row) → HasGiven bytes given old
     → ReadRecord bytes_of old new true (fields_of row) → new.first ≡ true → is_flexible new ≡ is_flexible old
     → HasGiven bytes (given ++ fields_of row ∷ []) new
@@ -65,7 +65,7 @@ csv-reader_gives bytes given old new row has step first same =
       reached = more.2;
     }
 
--- a reader over memory that takes records of any length fails for memory alone, and not for what it reads
+-- a reader over memory that accepts records of any length stops only if an allocation fails
 pub csv-fails_for_memory : (bytes : List ℕ) (given : List Record) (old new : Reader (Bor (List ℕ))) (error : Error) → HasGiven bytes given old
     → ExplainsRead bytes_of old new false (error_kind error) → stops_reader (error_kind error) ≡ true
 csv-fails_for_memory bytes given old new error has why = by_kind (error_kind error) why
@@ -78,21 +78,21 @@ csv-fails_for_memory bytes given old new error has why = by_kind (error_kind err
     by_kind (kinds.Serialize text) why = absurd why
     by_kind (kinds.Deserialize pos err) why = absurd why
 
--- no record more
+-- the reader returns no further record, so it has returned all
 pub csv-gave_all : (bytes : List ℕ) (given : List Record) (old new : Reader (Bor (List ℕ))) → HasGiven bytes given old
     → ReadRecord bytes_of old new false [] → records_of bytes ≡ given
 unfolding records_of
 csv-gave_all bytes given old new has step =
     sym (csv-all_records (strip_bom bytes) given (old.state, has.rest, has.reached, rows-end bytes_of old new [] default_config has.rest has.config has.source step))
 
--- the records of the bytes begin with those that were given
+-- the records returned so far are a prefix of the records of the bytes
 pub csv-gave_first : (bytes : List ℕ) (given : List Record) (rdr : Reader (Bor (List ℕ))) → HasGiven bytes given rdr
     → (rest : List Record) × (records_of bytes ≡ given ++ rest)
 unfolding records_of
 csv-gave_first bytes given rdr has =
     csv-reached_rest default_config (length (strip_bom bytes) + 1) st.StartRecord (strip_bom bytes) given rdr.state has.rest (omega arith) has.reached
 
--- where the first records are good, the first bad one is among those after them
+-- if the first records are good, the first bad one is among the rest
 csv-fault_after : (cause : Record → Option Cause) (at : ℕ) (done rest : List Record) → first_bad cause at done ≡ None
     → first_bad cause at (done ++ rest) ≡ first_bad cause (at + length done) rest
 unfolding first_bad
@@ -109,7 +109,7 @@ csv-fault_after cause at (fields ∷ done) rest good =
     by_cases false (Some why) x y e = cc e
     by_cases false None x y e = (refl, e)
 
--- after good records comes one in its place with this cause, if any
+-- after good records, the next record is the first bad one if it has a cause
 csv-fault_at_next : (cause : Record → Option Cause) (done : List Record) (fields : Record) (rest : List Record) → length done < record_limit
     → first_bad cause 1 done ≡ None
     → first_bad cause 1 (done ++ fields ∷ rest) ≡ option_map_or (λ why. Some (list.Bad (length done + 1) why)) (cause fields) (first_bad cause (length done + 1 + 1) rest)
@@ -120,7 +120,7 @@ csv-fault_at_next cause done fields rest few good =
     csv-fault_after cause 1 done (fields ∷ rest) good ∙ ap (λ (k : ℕ). first_bad cause k (fields ∷ rest)) same
     ∙ ap (λ (b : Bool). cond b (Some (list.Bad (length done + 1) TooMany)) (option_map_or (λ why. Some (list.Bad (length done + 1) why)) (cause fields) (first_bad cause (length done + 1 + 1) rest))) within
 
--- so many data records are read and are good, and these are what they tell
+-- the data records so far are read and good, and these entries are made from them
 pub record IsReadTo {X : Type 0} (form : ListForm X) (bytes : List ℕ) (entries : List X) (rdr : Reader (Bor (List ℕ))) : Type 0 where
   pub header : Record
   pub done : List Record
@@ -143,7 +143,7 @@ csv-headed_fault form bytes header rest headed are =
 csv-count_told : {X : Type 0} (form : ListForm X) (entries : List X) (done : List Record) → entries ≡ map form.entry done → length entries ≡ length done
 csv-count_told form entries done told = ap length told ∙ length-map done form.entry
 
--- all was read
+-- all records are read
 pub csv-all_read : {X : Type 0} (form : ListForm X) (bytes : List ℕ) (entries : List X) (old new : Reader (Bor (List ℕ)))
     → IsReadTo form bytes entries old → ReadRecord bytes_of old new false [] → Tells form bytes entries
 csv-all_read form bytes entries old new to step =
@@ -153,7 +153,7 @@ csv-all_read form bytes entries old new to step =
       told = to.told ∙ ap (λ (rs : List Record). map form.entry (data_records rs)) (sym are);
     }
 
--- one more is read, and is good
+-- one more record is read, and is good
 pub csv-one_read : {X : Type 0} (form : ListForm X) (bytes : List ℕ) (entries : List X) (old new : Reader (Bor (List ℕ))) (row : Row) (entry : X)
     → IsReadTo form bytes entries old → ReadRecord bytes_of old new true (fields_of row) → new.first ≡ true → is_flexible new ≡ is_flexible old → length entries < record_limit
     → cause_of form (fields_of row) ≡ None → entry ≡ form.entry (fields_of row) → IsReadTo form bytes (entries ++ entry ∷ []) new
@@ -171,7 +171,7 @@ csv-one_read form bytes entries old new row entry to step first same few good is
       headed = to.headed;
     }
 
--- the records after those that are read begin with this one
+-- the records after those read so far begin with this one
 csv-next_is : {X : Type 0} (form : ListForm X) (bytes : List ℕ) (entries : List X) (old new : Reader (Bor (List ℕ))) (row : Row)
     → (to : IsReadTo form bytes entries old) → ReadRecord bytes_of old new true (fields_of row) → new.first ≡ true → is_flexible new ≡ is_flexible old
     → (rest : List Record) × (list_fault form (records_of bytes) ≡ first_bad (cause_of form) 1 (to.done ++ fields_of row ∷ rest))
@@ -180,7 +180,7 @@ csv-next_is form bytes entries old new row to step first same =
     let are : records_of bytes ≡ to.header ∷ (to.done ++ fields_of row ∷ found.0) = found.1 ∙ ap (λ (rs : List Record). to.header ∷ rs) (append_assoc to.done (fields_of row ∷ []) found.0) in
     (found.0, csv-headed_fault form bytes to.header (to.done ++ fields_of row ∷ found.0) to.headed are)
 
--- one more stands there than a list may have
+-- there is one record more than a list may have
 pub csv-one_too_many : {X : Type 0} (form : ListForm X) (bytes : List ℕ) (entries : List X) (old new : Reader (Bor (List ℕ))) (row : Row)
     → IsReadTo form bytes entries old → ReadRecord bytes_of old new true (fields_of row) → new.first ≡ true → is_flexible new ≡ is_flexible old → record_limit ≤ length entries
     → Fails form bytes (list.Bad 10001 TooMany)
@@ -192,7 +192,7 @@ csv-one_too_many form bytes entries old new row to step first same full =
     inr (found.1 ∙ csv-fault_after (cause_of form) 1 to.done (fields_of row ∷ found.0) to.good
     ∙ ap (λ (k : ℕ). first_bad (cause_of form) k (fields_of row ∷ found.0)) at)
 
--- one more is read, and is bad, or is not read for memory
+-- one more record is read and is bad, or an allocation fails
 pub csv-one_fails : {X : Type 0} (form : ListForm X) (bytes : List ℕ) (entries : List X) (old new : Reader (Bor (List ℕ))) (row : Row) (fault : RecordFault)
     → IsReadTo form bytes entries old → ReadRecord bytes_of old new true (fields_of row) → new.first ≡ true → is_flexible new ≡ is_flexible old → length entries < record_limit
     → 0 < length bytes → FailsFor (cause_of form (fields_of row)) fault → Fails form bytes (fault_at (length entries + 1) fault)
@@ -210,7 +210,7 @@ csv-one_fails form bytes entries old new row (one.Bad cause) to step first same 
     inside None e = cc e
     inside (Some why) e = let same : why ≡ cause = cc in ap (λ (w : Cause). Some w) same
 
--- no header is there
+-- there is no header
 pub csv-no_records : {X : Type 0} (form : ListForm X) (bytes : List ℕ) (old new : Reader (Bor (List ℕ))) → HasGiven bytes [] old
     → ReadRecord bytes_of old new false [] → Fails form bytes (list.Bad 0 Header)
 csv-no_records form bytes old new has step = inr (ap (list_fault form) (csv-gave_all bytes [] old new has step))
@@ -233,7 +233,7 @@ pub csv-some_bytes : (n : ℕ) → (n == 0) ≡ false → 0 < n
 csv-some_bytes zero e = cc e
 csv-some_bytes (suc n) e = omega arith
 
--- a header has as many fields as it should
+-- equal records have the same number of fields
 pub csv-same_width : (xs ys : Record) → same_fields xs ys ≡ true → length ys ≡ length xs
 unfolding same_fields
 csv-same_width [] [] same = refl

@@ -1,4 +1,4 @@
--- Sending an export record by record.
+-- Writing an export record by record.
 use Rattle.std.proofs.Common.{◌≡◌, ◌∙◌, ◌<◌, ◌≤◌, ◌+◌, ◌*◌, ◌^◌, ◌++◌, ℕ, zero, suc, List, [], ◌∷◌, add-one, length, drop, take, map, get_or, refl, sym, ap, subst, arith, drop-cons, append-nil, length-append}
 use Rattle.std.proofs.lemmas.Grind.{flat_map-append}
 use Rattle.std.proofs.lemmas.List.{length-map, take-append-drop, take-append-le}
@@ -9,7 +9,7 @@ use Rattle.room_types.proofs.watched_bytes.Streams.{watched_bytes-Puts-nil, watc
 use Rattle.office_lists.specs.Exports.{export_bytes, record_bytes}
 use Rattle.office_lists.specs.Records.{Record}
 
--- so many of the records were written, `sent` bytes
+-- the first `count` records are written, `sent` bytes in all
 pub record IsWritten (records : List Record) (count sent : ℕ) (before after : Output) : Type 0 where
   pub size : sent ≡ length (export_bytes (take count records))
   pub room : sent ≤ count * 2 ^ 64
@@ -19,26 +19,26 @@ pub record IsWritten (records : List Record) (count sent : ℕ) (before after : 
 abbrev pub record_at : List Record → ℕ → Record
 record_at records place = get_or records place []
 
--- the record of a row stands after the header and those of the rows before
+-- the record of a row comes after the header and the records of the rows before it
 csv-at_row : {Row : Type 0} (header : Record) (fields : Row → Record) (rows : List Row) (i : ℕ) (d : Row) → i < length rows
     → record_at (header ∷ map fields rows) (suc i) ≡ fields (get_or rows i d)
 csv-at_row header fields [] i d low = absurd (omega arith)
 csv-at_row header fields (row ∷ rows) zero d low = refl
 csv-at_row header fields (row ∷ rows) (suc i) d low = csv-at_row (fields row) fields rows i d (omega arith)
 
--- there is one for each row
+-- there is a record for each row
 pub csv-row_place : {Row : Type 0} (header : Record) (fields : Row → Record) (rows : List Row) (i : ℕ) → i < length rows
     → i + 1 < length (header ∷ map fields rows)
 csv-row_place header fields rows i low = let l : length (map fields rows) ≡ length rows = length-map rows fields in omega arith
 
--- bytes that are those of a row's record
+-- bytes that are equal to those of a row's record are those of the record at its place
 pub csv-row_bytes_are : {Row : Type 0} (header : Record) (fields : Row → Record) (rows : List Row) (i : ℕ) (d row : Row) (own bytes : List ℕ)
     → i < length rows → row ≡ get_or rows i d → own ≡ record_bytes (fields row) → bytes ≡ own
     → bytes ≡ record_bytes (record_at (header ∷ map fields rows) (i + 1))
 csv-row_bytes_are header fields rows i d row own bytes low at is same =
     same ∙ is ∙ ap (λ (r : _). record_bytes (fields r)) at ∙ sym (rw add-one (ap record_bytes (csv-at_row header fields rows i d low)))
 
--- one record more
+-- the first records and one more
 csv-next : (records : List Record) (count : ℕ) → count < length records
     → export_bytes (take (suc count) records) ≡ export_bytes (take count records) ++ record_bytes (record_at records count)
 csv-next records count low =
@@ -46,7 +46,7 @@ csv-next records count low =
     ∙ flat_map-append record_bytes (take count records) (record_at records count ∷ [])
     ∙ ap (λ (bytes : List ℕ). export_bytes (take count records) ++ bytes) (append-nil (record_bytes (record_at records count)))
 
--- the bytes before a record, its own, and those after it
+-- the bytes before a record, its own bytes, and those after it
 csv-parts : (records : List Record) (count : ℕ) → count < length records
     → export_bytes records
     ≡ export_bytes (take count records) ++ (record_bytes (record_at records count) ++ export_bytes (drop (suc count) records))
@@ -55,7 +55,7 @@ csv-parts records count low =
     ∙ flat_map-append record_bytes (take count records) (drop count records)
     ∙ ap (λ (rest : List Record). export_bytes (take count records) ++ export_bytes rest) (drop-cons records count [] low)
 
--- a record has a byte, the line feed at its end
+-- a record has at least one byte: the line feed at its end
 csv-has_byte : (fields : Record) → 0 < length (record_bytes fields)
 unfolding record_bytes
 csv-has_byte fields = ends (row_body default_writer fields) _
@@ -81,7 +81,7 @@ csv-writing_goes_on records count sent before middle after bytes low is small pu
       written = subst (λ (b : List ℕ). Puts before after b) all (watched_bytes-Puts-trans _ _ _ _ _ so_far.written puts);
     }
 
--- a write that failed within a record
+-- a write fails within a record
 pub csv-writing_cut : (records : List Record) (count sent part : ℕ) (before middle after : Output) (bytes : List ℕ) → count < length records
     → bytes ≡ record_bytes (record_at records count) → part < length bytes → Puts middle after (take part bytes)
     → IsWritten records count sent before middle → Puts before after (take (sent + part) (export_bytes records))
@@ -107,7 +107,7 @@ csv-cut_short records count sent part before middle bytes low is short so_far =
     let m = length-append (record_bytes (record_at records count)) rest in
     omega (arith, so_far.size)
 
--- an end before a record
+-- the export stops before a record
 pub csv-writing_stopped : (records : List Record) (count sent : ℕ) (before after : Output)
     → IsWritten records count sent before after → Puts before after (take sent (export_bytes records))
 csv-writing_stopped records count sent before after so_far =

@@ -1,4 +1,4 @@
--- Chains, numbered from their ends.
+-- Chains of entries, numbered from their ends.
 use Rattle.std.proofs.Common.{◌≡◌, ◌≢◌, ℕ, zero, suc, ◌+◌, ◌<◌, ◌≤◌, true, false, List, length, get_or, set, Option, None, Some, refl, sym, ap, ◌∙◌, subst, inl, inr, ◌⊎◌, arith, eqb, eqb-true}
 use Rattle.std.specs.Prelude.{option_and_then}
 use Rattle.std.proofs.lemmas.Bool.{cases_lt, eqb-false}
@@ -18,7 +18,7 @@ move_days-next-within ls i j e =
       | inr past ↦ cc (sym (get_or-eq_default ls None past) ∙ e)
     ]
 
--- the chain that ends at `end` is numbered up to so many moves
+-- the first `count` entries of the chain that ends at `end` are numbered, counted from that end
 pub record IsNumberedTo (fs : List (Option ℕ)) (end first count : ℕ) (old new : List Wave) : Type 0 where
   pub as_many : length new ≡ length old
   pub reached : (c i : ℕ) → c < count → followed fs c end ≡ Some i → IsNumbered new i
@@ -36,7 +36,7 @@ move_days-none_numbered fs end first waves = record {
 move_days-same_number : (m n : ℕ) → Nth m ≡ Nth n → m ≡ n
 move_days-same_number m n e = cc
 
--- what is at a place after a write
+-- the waves at each index after one is written
 move_days-after_write : (ws : List Wave) (here i number : ℕ) → here < length ws
     → ((i ≡ here) × (get_or (set ws here (Nth number)) i Swap ≡ Nth number)) ⊎ ((i ≢ here) × (get_or (set ws here (Nth number)) i Swap ≡ get_or ws i Swap))
 move_days-after_write ws here i number in' =
@@ -72,7 +72,7 @@ move_days-one_numbered fs end first count here old new so at in' = record {
       ];
 }
 
--- at the end of the chain all its moves are numbered
+-- a chain numbered up to its other end is numbered as a whole
 pub move_days-all_numbered : (fs : List (Option ℕ)) (end first count : ℕ) (old new : List Wave) → IsNumberedTo fs end first count old new → followed fs count end ≡ None → NumbersChain fs end first old new
 move_days-all_numbered fs end first count old new so at = record {
   reached = λ c i e.
@@ -84,7 +84,7 @@ move_days-all_numbered fs end first count old new so at = record {
   kept = so.kept;
 }
 
--- the chains of the ends below `count` are numbered
+-- the chains that end at entries below `count` are numbered
 pub record AreNumberedTo (ends : List ℕ) (ls fs : List (Option ℕ)) (count : ℕ) (waves : List Wave) : Type 0 where
   pub as_many : length waves ≡ length ls
   pub right : (i number : ℕ) → get_or waves i Swap ≡ Nth number → HasNumber ends ls number i
@@ -98,7 +98,7 @@ move_days-fewer_done ends ls fs few count waves low so = record {
 }
 
 module _ (ends : List ℕ) (ls fs : List (Option ℕ)) (linked : AreFollowers ls fs) where
-  -- a place behind the end of a chain has the next number
+  -- an entry that is c steps from the end of its chain has the number of the end plus c
   pub move_days-number-along : (c end i : ℕ) → next ls end ≡ None → followed fs c end ≡ Some i → HasNumber ends ls (c + own_number ends end) i
   move_days-number-along zero end i none e =
       let is : own_number ends end ≡ 0 + own_number ends end = omega arith in
@@ -119,7 +119,7 @@ module _ (ends : List ℕ) (ls fs : List (Option ℕ)) (linked : AreFollowers ls
         | Some j ↦ λ f g. move_days-next-within ls i j (linked.after i j g)
       ] refl e
 
-  -- what has a number stands behind the end of a chain
+  -- an entry with a number is on a chain that ends
   pub move_days-end_of : (n i : ℕ) → i < length ls → AreApart ls → HasNumber ends ls n i → (end : ℕ) × (c : ℕ) × (end < length ls) × (next ls end ≡ None) × (followed fs c end ≡ Some i)
   move_days-end_of zero i in' apart h =
       elim (next ls i) as (λ o. next ls i ≡ o → (end : ℕ) × (c : ℕ) × (end < length ls) × (next ls end ≡ None) × (followed fs c end ≡ Some i)) [
@@ -134,7 +134,7 @@ module _ (ends : List ℕ) (ls fs : List (Option ℕ)) (linked : AreFollowers ls
             (rest.0, suc rest.1, rest.2, rest.3, ap (option_and_then (next fs)) rest.4 ∙ linked.before i j e)
       ] refl
 
-  -- one more entry, the end of a chain that is numbered
+  -- the next entry ends a chain, which is numbered now
   pub move_days-end_done : (count : ℕ) (old new : List Wave) → AreNumberedTo ends ls fs count old → next ls count ≡ None → length new ≡ length old → NumbersChain fs count (own_number ends count) old new → AreNumberedTo ends ls fs (count + 1) new
   move_days-end_done count old new so none same chain = record {
     as_many = same ∙ so.as_many;
@@ -150,7 +150,7 @@ module _ (ends : List ℕ) (ls fs : List (Option ℕ)) (linked : AreFollowers ls
         ];
   }
 
-  -- one more entry that is not the end of a chain
+  -- the next entry does not end a chain
   pub move_days-other_done : (count : ℕ) (waves : List Wave) → AreNumberedTo ends ls fs count waves → (j : ℕ) → next ls count ≡ Some j → AreNumberedTo ends ls fs (count + 1) waves
   move_days-other_done count waves so j some = record {
     as_many = so.as_many;

@@ -1,4 +1,4 @@
--- Each entry has one wave.
+-- Each entry has exactly one wave.
 use Rattle.std.proofs.Common.{◌≡◌, ℕ, zero, suc, ◌+◌, ◌<◌, ◌≤◌, true, false, ◌||◌, List, [], ◌∷◌, length, map, get_or, Option, None, Some, MatchOption, refl, sym, ap, ◌∙◌, subst, inl, inr, ◌⊎◌, arith, eqb, eqb-true, eq-eqb, ne_eqb}
 use Rattle.std.specs.Prelude.{option_and_then, unwrap_or}
 use Rattle.std.specs.Option.{option_map, option_map_or}
@@ -22,7 +22,7 @@ move_days-any_below q n (x ∷ xs) h e =
       | false ↦ λ is f. move_days-any_below q n xs h.1 f
     ] refl e
 
--- different numbers below n are at most n
+-- m different numbers below n: m is at most n
 move_days-few_apart : (f : ℕ → ℕ) (m n : ℕ) → ((k : ℕ) → k < m → f k < n) → ((a b : ℕ) → a < b → b < m → f a ≡ f b → ⊥) → m ≤ n
 move_days-few_apart f m n into apart =
     let xs = map f (range_with_len 0 m) in
@@ -35,7 +35,7 @@ move_days-few_apart f m n into apart =
     omega arith
 
 module _ (ls : List (Option ℕ)) where
-  -- to follow from i is to follow from its leaver, one less
+  -- following the leavers from i is following them from the leaver of i, one step less
   move_days-followed-next : (c i j : ℕ) → next ls i ≡ Some j → followed ls (suc c) i ≡ followed ls c j
   move_days-followed-next zero i j e = e
   move_days-followed-next (suc c) i j e = ap (option_and_then (next ls)) (move_days-followed-next c i j e)
@@ -54,7 +54,7 @@ module _ (ls : List (Option ℕ)) where
       ]
 
 module _ (ends : List ℕ) (ls : List (Option ℕ)) where
-  -- the entry at the end of its chain has the number of an end, and no other
+  -- an entry at the end of its chain has its end number, and no other
   pub move_days-number-end : (n i : ℕ) → next ls i ≡ None → n ≡ own_number ends i → HasNumber ends ls n i
   move_days-number-end zero i e is = subst (λ o. MatchOption o (0 ≡ own_number ends i) (λ j. ⊥)) (sym e) is
   move_days-number-end (suc n) i e is = subst (λ o. MatchOption o (suc n ≡ own_number ends i) (HasNumber ends ls n)) (sym e) is
@@ -69,7 +69,7 @@ module _ (ends : List ℕ) (ls : List (Option ℕ)) where
   pub move_days-number-back : (n i j : ℕ) → next ls i ≡ Some j → HasNumber ends ls (suc n) i → HasNumber ends ls n j
   move_days-number-back n i j e h = subst (λ o. MatchOption o (suc n ≡ own_number ends i) (HasNumber ends ls n)) e h
 
-  -- the number 0 is that of an end
+  -- an entry with a leaver does not have the number 0
   pub move_days-number-none : (i j : ℕ) → next ls i ≡ Some j → HasNumber ends ls 0 i → ⊥
   move_days-number-none i j e h = subst (λ o. MatchOption o (0 ≡ own_number ends i) (λ j. ⊥)) e h
 
@@ -93,7 +93,7 @@ module _ (ends : List ℕ) (ls : List (Option ℕ)) where
         | Some j ↦ λ e. ap suc (move_days-one_number m n j (move_days-number-back m i j e h) (move_days-number-back n i j e g))
       ] refl
 
-  -- what is numbered does not return
+  -- following the leavers from an entry with a number does not return to it
   move_days-no_return : (n c i : ℕ) → HasNumber ends ls n i → followed ls (suc c) i ≡ Some i → ⊥
   move_days-no_return zero c i h r =
       elim (next ls i) as (λ o. next ls i ≡ o → ⊥) [
@@ -126,7 +126,7 @@ module _ (ends : List ℕ) (ls : List (Option ℕ)) where
       ] refl e
 
   module _ (apart : AreApart ls) (low : (i : ℕ) → own_number ends i ≤ 1) where
-    -- along a chain the numbers fall
+    -- the numbers fall by one with each leaver
     move_days-number-after : (c n i : ℕ) → i < length ls → c < n → HasNumber ends ls n i → (x : ℕ) × (m : ℕ) × (followed ls c i ≡ Some x) × (x < length ls) × HasNumber ends ls m x × (m + c ≡ n)
     move_days-number-after zero n i in' below h = (i, n, refl, in', h, omega arith)
     move_days-number-after (suc c) zero i in' below h = absurd (omega arith)
@@ -138,7 +138,7 @@ module _ (ends : List ℕ) (ls : List (Option ℕ)) where
               (rest.0, rest.1, move_days-followed-next ls c i j e ∙ rest.2, rest.3, rest.4, omega (arith, rest.5))
         ] refl
 
-    -- a chain is not longer than there are entries
+    -- a number is at most the number of entries
     pub move_days-number-le : (n i : ℕ) → i < length ls → HasNumber ends ls n i → n ≤ length ls
     move_days-number-le n i in' h =
         move_days-few_apart (λ c. unwrap_or (followed ls c i) 0) n (length ls)
@@ -150,7 +150,7 @@ module _ (ends : List ℕ) (ls : List (Option ℕ)) where
         let number : first.1 ≡ second.1 = move_days-one_number first.1 second.1 second.0 (subst (HasNumber ends ls first.1) one first.4) second.4 in
         absurd (omega (arith, first.5, second.5)))
 
-    -- two places that meet have gone round
+    -- if two different numbers of steps lead to the same entry, following the leavers returns to the start
     move_days-gone_round : (a b i x : ℕ) → a < b → followed ls a i ≡ Some x → followed ls b i ≡ Some x → (c : ℕ) × (c < b) × (followed ls (suc c) i ≡ Some i)
     move_days-gone_round a zero i x low p q = absurd (omega arith)
     move_days-gone_round zero (suc b) i x low p q = (b, omega arith, q ∙ sym p)
@@ -165,7 +165,7 @@ module _ (ends : List ℕ) (ls : List (Option ℕ)) where
           ] refl q
         ] refl p
 
-    -- where no end comes, each place is an entry
+    -- if the chain does not end within k steps, each of these steps leads to an entry
     move_days-goes_on : (c k i : ℕ) → i < length ls → c ≤ k → chain_number ends ls k i ≡ None → (x : ℕ) × (followed ls c i ≡ Some x) × (x < length ls)
     move_days-goes_on zero k i in' low e = (i, refl, in')
     move_days-goes_on (suc c) zero i in' low e = absurd (omega arith)
@@ -179,7 +179,7 @@ module _ (ends : List ℕ) (ls : List (Option ℕ)) where
               (rest.0, move_days-followed-next ls c i j some ∙ rest.1, rest.2)
         ] refl e
 
-    -- it returns within so many steps, or does not
+    -- following the leavers returns to the start, or it does not within m steps
     move_days-return_cases : (m i : ℕ) → Returns ls i ⊎ ((c : ℕ) → c < m → followed ls (suc c) i ≡ Some i → ⊥)
     move_days-return_cases zero i = inr (λ c low e. absurd (omega arith))
     move_days-return_cases (suc m) i =
@@ -201,7 +201,7 @@ module _ (ends : List ℕ) (ls : List (Option ℕ)) where
               ] refl
         ]
 
-    -- where no end comes within as many steps as there are entries, following returns
+    -- if the chain does not end within as many steps as there are entries, following the leavers returns to the start
     move_days-returns : (i : ℕ) → i < length ls → chain_number ends ls (length ls) i ≡ None → Returns ls i
     move_days-returns i in' endless =
         elim (move_days-return_cases (suc (length ls)) i) [

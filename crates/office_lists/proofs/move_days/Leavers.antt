@@ -1,4 +1,4 @@
--- The leavers of rooms, and those of entries whose new rooms differ.
+-- The leavers of rooms, and of entries whose new rooms differ.
 use Rattle.std.proofs.Common.{◌≡◌, ℕ, zero, suc, ◌+◌, ◌≤◌, ◌<◌, Bool, true, false, cond, List, [], ◌∷◌, ◌++◌, length, take, get_or, Option, None, Some, refl, sym, ap, ◌∙◌, subst, inl, inr, arith, ltb, not, ne_eqb, eq-eqb}
 use Rattle.std.specs.Prelude.{option_and_then}
 use Rattle.std.specs.Option.{is_some, option_map, option_map_or, option_or}
@@ -48,7 +48,7 @@ move_days-position-push p xs y =
           new ∙ ap (λ o. option_or o (cond (p y) (Some many) None)) (sym old)
     ]
 
--- whether an entry's old room is this one
+-- whether this is the old room of the entry
 abbrev pub has_left : Text → Mover → Bool
 has_left room entry = option_map_or (λ old. text_eq old room) entry.1 false
 
@@ -69,7 +69,7 @@ move_days-first_missing None y e = refl
 move_days-first_missing (Some x) y e = cc
 
 module _ (entries : List Mover) (i : ℕ) (entry : Mover) (in' : i < length entries) (is : entry ≡ get_or entries i entry) (room : Text) where
-  -- an entry without old room is nobody's leaver
+  -- an entry without an old room is nobody's leaver
   pub move_days-without_old_room : entry.1 ≡ None → leaver (take (i + 1) entries) room ≡ leaver (take i entries) room
   move_days-without_old_room none =
       move_days-leaver-more entries i entry room in' is
@@ -80,7 +80,7 @@ module _ (entries : List Mover) (i : ℕ) (entry : Mover) (in' : i < length entr
     more : leaver (take (i + 1) entries) room ≡ option_or (leaver (take i entries) room) (cond (text_eq old room) (Some i) None)
     more = move_days-leaver-more entries i entry room in' is ∙ ap (λ o. option_or (leaver (take i entries) room) (cond (option_map_or (λ old. text_eq old room) o false) (Some i) None)) has
 
-    -- a later entry with an old room that has a leaver changes nothing
+    -- if the room already has a leaver, a later entry with the same old room changes nothing
     pub move_days-known_old_room : is_some (leaver (take i entries) old) ≡ true → leaver (take (i + 1) entries) room ≡ leaver (take i entries) room
     move_days-known_old_room known =
         more ∙ elim (text_eq old room) as (λ b. text_eq old room ≡ b → option_or (leaver (take i entries) room) (cond b (Some i) None) ≡ leaver (take i entries) room) [
@@ -88,7 +88,7 @@ module _ (entries : List Mover) (i : ℕ) (entry : Mover) (in' : i < length entr
           | false ↦ λ e. options-option_or-none (leaver (take i entries) room)
         ] refl
 
-    -- and the first one is that room's leaver
+    -- otherwise the entry is the leaver of its old room
     pub move_days-new_old_room : is_some (leaver (take i entries) old) ≡ false → leaver (take (i + 1) entries) room ≡ cond (text_eq old room) (Some i) (leaver (take i entries) room)
     move_days-new_old_room new =
         more ∙ elim (text_eq old room) as (λ b. text_eq old room ≡ b → option_or (leaver (take i entries) room) (cond b (Some i) None) ≡ cond b (Some i) (leaver (take i entries) room)) [
@@ -96,7 +96,7 @@ module _ (entries : List Mover) (i : ℕ) (entry : Mover) (in' : i < length entr
           | false ↦ λ e. options-option_or-none (leaver (take i entries) room)
         ] refl
 
--- what is known of an entry that has a leaver
+-- what holds for entry i with leaver k
 record HasLeaver (entries : List Mover) (i k : ℕ) : Type 0 where
   within : i < length entries
   room : Text
@@ -104,7 +104,7 @@ record HasLeaver (entries : List Mover) (i k : ℕ) : Type 0 where
   below : k < length entries
   left : has_left room (get_or entries k ([], None, None)) ≡ true
 
--- an old room that is told by its text
+-- if an entry has left a room, that room is its old room; and the converse
 pub move_days-left_room : (room : Text) (entry : Mover) → has_left room entry ≡ true → entry.1 ≡ Some room
 move_days-left_room room entry h =
     elim entry.1 as (λ o. option_map_or (λ old. text_eq old room) o false ≡ true → o ≡ Some room) [
@@ -116,7 +116,7 @@ pub move_days-has_left_room : (room : Text) (entry : Mover) → entry.1 ≡ Some
 move_days-has_left_room room entry h =
     ap (λ o. option_map_or (λ old. text_eq old room) o false) h ∙ (bytes_eq-Decides room room).1 refl
 
--- the first that passes is found, where one passes
+-- if some element passes the test, `position` finds the first one
 pub move_days-position_found : {X : Type 0} (p : X → Bool) (xs : List X) (j : ℕ) (d : X) → j < length xs → p (get_or xs j d) ≡ true
     → (position_or_len p xs < length xs) × (position p xs ≡ Some (position_or_len p xs))
 move_days-position_found p xs j d within h =
@@ -128,7 +128,7 @@ move_days-position_found p xs j d within h =
           (low, ap (λ b. cond b (Some (position_or_len p xs)) None) (lt-ltb (position_or_len p xs) (length xs) low))
     ]
 
--- the room is that which the leaver leaves
+-- an entry leaves one room at most
 move_days-same_room : (one other : Text) (entry : Mover) → has_left one entry ≡ true → has_left other entry ≡ true → one ≡ other
 move_days-same_room one other entry p q =
     elim entry.1 as (λ o. option_map_or (λ old. text_eq old one) o false ≡ true → option_map_or (λ old. text_eq old other) o false ≡ true → one ≡ other) [
@@ -146,7 +146,7 @@ move_days-first_at_most_one [] i = omega arith
 move_days-first_at_most_one (entry ∷ entries) zero = move_days-end_at_most_one entry.2
 move_days-first_at_most_one (entry ∷ entries) (suc i) = move_days-first_at_most_one entries i
 
--- the number is that of the entry
+-- the end number of entry i is that of the entry itself
 pub move_days-own_number : (entries : List Mover) (i : ℕ) (d : Mover) → i < length entries → own_number (end_numbers entries) i ≡ option_map_or (λ room. 1) (get_or entries i d).2 0
 move_days-own_number [] i d low = absurd (omega (arith, low))
 move_days-own_number (entry ∷ entries) zero d low = refl
@@ -198,7 +198,7 @@ module _ (entries : List Mover) where
     }
 
     module _ (fs : List (Option ℕ)) (waves : List Wave) (linked : AreFollowers (leavers entries) fs) (so : AreNumberedTo (end_numbers entries) (leavers entries) fs (length (leavers entries)) waves) where
-      -- when the chains of all ends are numbered, each entry has its wave
+      -- once the chains of all ends are numbered, each entry has its wave
       each_wave : (i : ℕ) → i < length entries → get_or waves i Swap ≡ wave_of (end_numbers entries) (leavers entries) i
       each_wave i in' = move_days-wave_at (end_numbers entries) (leavers entries) fs linked (move_days-leavers-apart differ) (move_days-first_at_most_one entries) waves so i (omega (arith, move_days-length-leavers))
 
@@ -211,7 +211,7 @@ module _ (entries : List Mover) where
       pub are_computed : waves ≡ waves_of entries
       are_computed = fill_by_all (wave_of (end_numbers entries) (leavers entries)) waves (length entries) Swap (so.as_many ∙ move_days-length-leavers) each_wave
 
--- ---- those without a new room
+-- ---- entries without a new room
 
 move_days-next : (entries : List Mover) (i : ℕ) (d : Mover) → i < length entries
     → next (leavers entries) i ≡ option_and_then (leaver entries) (get_or entries i d).2

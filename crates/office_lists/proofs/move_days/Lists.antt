@@ -1,4 +1,4 @@
--- Moves have one list for the day of moving.
+-- Moves have exactly one list for the day of moving.
 use Rattle.std.proofs.Common.{◌≡◌, List, refl, sym, ap, ◌∙◌, subst}
 use Rattle.std.specs.Cmp.{IsTotalOrder, bool_cmp_total}
 use Rattle.std.proofs.lemmas.Cmp.{then_total, on_total, nat_cmp_total, nat_list_cmp_total}
@@ -21,7 +21,7 @@ move_days-one_move_day_list moves =
       one = λ text listed. listed.lines ∙ ap moves_table (one.one listed.rows listed.in_order);
     }
 
--- a list of moves that were put in order
+-- a text made of the moves in order is the list for the day of moving
 pub move_days-listed_by_order : (moves rows : List Move) (text : Text) → rows ≡ ascending move_cmp moves → text ≡ moves_table rows → IsMoveDayList moves text
 move_days-listed_by_order moves rows text in_order lines =
     subst (λ t. IsMoveDayList moves t) (sym (lines ∙ ap moves_table in_order)) (move_days-one_move_day_list moves).some

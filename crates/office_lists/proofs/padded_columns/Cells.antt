@@ -1,4 +1,4 @@
--- What `{:<8}` and its like write.
+-- What `{:<8}` and the like print.
 use Rattle.std.proofs.Common.{◌≡◌, ℕ, zero, suc, ◌-◌, ◌^◌, ◌<◌, [], ◌∷◌, ◌++◌, length, replicate, refl, ap, arith}
 use Rattle.std.specs.List.{repeat}
 use Rattle.std.specs.Fmt.{padded, format_spec, char_count}
@@ -11,7 +11,7 @@ padded_columns-repeat_space : (n : ℕ) → repeat {A = ℕ} n (32 ∷ []) ≡ r
 padded_columns-repeat_space zero = refl
 padded_columns-repeat_space (suc n) = ap (λ (t : Text). 32 ∷ t) (padded_columns-repeat_space n)
 
--- a text in a column of this width
+-- a text padded to a column of this width
 pub padded_columns-padded-left : (width : ℕ) (text : Text) → length text < 2 ^ 64 → padded (format_spec 32 1 0 width (2 ^ 64 - 1)) text ≡ left_in width text
 unfolding padded encode
 padded_columns-padded-left width text short =

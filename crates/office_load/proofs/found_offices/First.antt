@@ -20,14 +20,14 @@ found_offices-none_behind DocumentedSecond = refl
 found_offices-none_behind DocumentedFirst = refl
 found_offices-none_behind EarlierFirst = refl
 
--- with nothing behind
+-- with nothing after them
 pub found_offices-begins_if_laid : (layout : Layout) (schema : Schema) → schema ≡ schema_of layout → Begins layout schema
 found_offices-begins_if_laid layout schema has = record { tables = []; indexes = []; is = has ∙ found_offices-none_behind layout }
 
 pub found_offices-first_if_has : (layout : Layout) (db : Database) (tables : Tables) → HasTablesIn layout db tables → HasTablesFirst layout db tables
 found_offices-first_if_has layout db tables has = record { schema = found_offices-begins_if_laid layout db.schema has.schema; rows = has.rows }
 
--- the first tables are still there
+-- The first tables are unchanged.
 pub found_offices-still_first : (layout : Layout) (a b : State) (tables : Tables) → OnlyReads a b → IsHonest b → HasTablesFirst layout a.now tables → HasTablesFirst layout b.now tables
 found_offices-still_first layout a b tables p honest has = subst (λ (d : Database). HasTablesFirst layout d tables) (sym (p.same honest)) has
 

@@ -1,10 +1,10 @@
--- Lists that are tested place by place.
+-- Lists that are tested element by element.
 use Rattle.std.proofs.Common.{◌≡◌, ◌≢◌, ◌<◌, ◌≤◌, ◌+◌, ℕ, suc, Bool, true, false, ◌&&◌, List, [], ◌∷◌, length, drop, map, get_or, refl, sym, ap, ap₂, ◌∙◌, subst, arith}
 use Rattle.std.proofs.lemmas.List.{drop_all, drop_more, get_or-map, length-map}
 use Rattle.office_load.specs.Layout.{pass_all}
 
 module _ {X Y : Type 0} (test : Y → X → Bool) where
-  -- lists of different lengths do not pass
+  -- Lists of different lengths do not pass.
   found_offices-uneven : (owns : List Y) (xs : List X) → length xs ≢ length owns → pass_all test owns xs ≡ false
   found_offices-uneven [] [] uneven = absurd (uneven refl)
   found_offices-uneven [] (x ∷ xs) uneven = refl
@@ -16,7 +16,7 @@ module _ {X Y : Type 0} (test : Y → X → Bool) where
       never true = refl
       never false = refl
 
-  -- what is left from a place on, where both have one more
+  -- the rest of both lists from a place on, where both have one more element
   found_offices-one_place : (owns : List Y) (xs : List X) (i : ℕ) (own : Y) (x : X) → i < length owns → i < length xs
       → get_or owns i own ≡ own → x ≡ get_or xs i x
       → pass_all test (drop i owns) (drop i xs) ≡ (test own x && pass_all test (drop (i + 1) owns) (drop (i + 1) xs))
@@ -25,9 +25,9 @@ module _ {X Y : Type 0} (test : Y → X → Bool) where
       (drop_more owns i own low ∙ ap (λ y. y ∷ drop (i + 1) owns) is)
       (drop_more xs i x lower ∙ ap (λ y. y ∷ drop (i + 1) xs) (sym here))
 
--- each list is that of the own values, as the test wants them
+-- Each element is tested against its counterpart.
 module _ {X Y O : Type 0} (f : O → Y) (test : Y → X → Bool) (owns : List O) (xs : List X) where
-  -- how many there are is looked at first
+  -- The lengths are compared first.
   pub found_offices-too_few : length xs ≢ length owns → pass_all test (map f owns) xs ≡ false
   found_offices-too_few uneven = found_offices-uneven test (map f owns) xs (λ e. uneven (e ∙ length-map owns f))
 
@@ -39,14 +39,14 @@ module _ {X Y O : Type 0} (f : O → Y) (test : Y → X → Bool) (owns : List O
         (omega (arith, low, length-map owns f)) (omega (arith, low, even))
         (get_or-map f owns i d (f (get_or owns i d)) low) here
 
-    -- this one does not pass
+    -- This element does not pass.
     pub found_offices-fails_at : test (f (get_or owns i d)) x ≡ false
         → pass_all test (drop i (map f owns)) (drop i xs) ≡ pass_all test (map f owns) xs → pass_all test (map f owns) xs ≡ false
     found_offices-fails_at fails left =
         sym left ∙ found_offices-from_place
         ∙ ap (λ b. b && pass_all test (drop (i + 1) (map f owns)) (drop (i + 1) xs)) fails
 
-    -- this one passes
+    -- This element passes.
     pub found_offices-passes_at : test (f (get_or owns i d)) x ≡ true
         → pass_all test (drop i (map f owns)) (drop i xs) ≡ pass_all test (map f owns) xs
         → pass_all test (drop (i + 1) (map f owns)) (drop (i + 1) xs) ≡ pass_all test (map f owns) xs

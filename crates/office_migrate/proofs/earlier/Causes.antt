@@ -21,7 +21,7 @@ use Rattle.office_migrate.specs.declared.migrating.MigrateFault.{MigrateFault}
 use Rattle.office_migrate.specs.declared.migrating.MigrateFault.TheVariants.{Unavailable, OtherVersion, NotAnOffice, AlreadyThere}
 use Rattle.office_migrate.proofs.earlier.First.{earlier-first_if_holds, earlier-first_is_laid, earlier-holds_if_first}
 
--- the names of the tables that a layout of an earlier version lacks are free in it
+-- In a layout of an earlier version, the names of the tables that it lacks are free.
 pub earlier-own_names_free : (layout : Layout) → IsEarlier (version_of layout)
     → is_lacking_name_used (version_of layout) (schema_of layout) ≡ false
 unfolding same_name
@@ -36,23 +36,23 @@ earlier-own_names_free EarlierFirst e = refl
 pub earlier-pos : (v w : ℕ) → pos v ≡ pos w → v ≡ w
 earlier-pos v w e = cc
 
--- a name that version 2 lacks is one that version 1 lacks
+-- A name that version 2 lacks is one that version 1 lacks.
 earlier-lacking_first : (grade going : Bool) → IsTrue (takes_name grade going 2) → IsTrue (takes_name grade going 1)
 earlier-lacking_first true going h = refl
 earlier-lacking_first false going h = h
 
--- an earlier version is an earlier one as a number, too
+-- An earlier version is an earlier one as a number, too.
 pub earlier-not_no : (version : ℕ) → IsEarlier version → IsNoEarlier (pos version) → ⊥
 earlier-not_no version (inl e) none = none.0 (ap (λ n. pos n) e)
 earlier-not_no version (inr e) none = none.1 (ap (λ n. pos n) e)
 
--- an office of an earlier version is refused for no other version
+-- An office of an earlier version is not refused for another version.
 pub earlier-only_unavailable : (version : ℕ) (fault : MigrateFault) → IsEarlier version → IsOfNumber fault
     → (fault ≡ Unavailable) ⊎ (fault ≡ OtherVersion (pos version)) → fault ≡ Unavailable
 earlier-only_unavailable version fault is number (inl e) = e
 earlier-only_unavailable version fault is number (inr e) = absurd (earlier-not_no version is (subst IsOfNumber e number))
 
--- nor for a name
+-- It is not refused for a name either.
 pub earlier-takes_none : (layout : Layout) (schema : Schema) (grade going : Bool) (version : ℕ)
     → IsEarlier (version_of layout) → schema ≡ schema_of layout
     → grade ≡ is_used schema (codes "grade") → going ≡ is_used schema (codes "going") → version_of layout ≡ version
@@ -62,14 +62,14 @@ earlier-takes_none layout schema grade going version is has a b same =
     (rw (a, b) (subst (λ (s : Schema). is_lacking_name_used (version_of layout) s ≡ false) (sym has)
     (earlier-own_names_free layout is)))
 
--- but where one that its version lacks is used
+-- It is refused for a name if one that its version lacks is in use.
 pub earlier-takes_used : (schema : Schema) (grade going : Bool) (version own : ℕ) → grade ≡ is_used schema (codes "grade")
     → going ≡ is_used schema (codes "going") → own ≡ version → is_lacking_name_used own schema ≡ true
     → takes_name grade going version ≡ true
 earlier-takes_used schema grade going version own a b same used =
     subst (λ n. takes_name grade going n ≡ true) same (rw (a, b) used)
 
--- whatever stands behind the tables, the row of the round is of their version
+-- Whatever follows the tables, the row of table `round` is of their version.
 pub earlier-first_says : (layout : Layout) (db : Database) (office : Office) → StandsFirst layout db office
     → HoldsVersion db (pos (version_of layout))
 earlier-first_says layout db office h =
@@ -77,7 +77,7 @@ earlier-first_says layout db office h =
     (record { schema = refl; rows = h.rows })
 
 module _ (db : Database) (front : IsFront db.schema) where
-  -- where there is not one row of the round
+  -- where there is not exactly one row in table `round`
   pub earlier-none_without_version : ((version : ℤ) → HoldsVersion db version → ⊥) → HoldsNoEarlier db
   earlier-none_without_version none_held = record {
     front = front;
@@ -91,7 +91,7 @@ module _ (db : Database) (front : IsFront db.schema) where
     earlier-same_version layout office h = earlier-pos (version_of layout) version
         (found_offices-one_version db (pos (version_of layout)) (pos version) (earlier-first_says layout db office h) holds)
 
-    -- where the first tables are the rows of no office of the version that their row says
+    -- where the first tables are not the rows of an office of the version in the row of table `round`
     pub earlier-none_first : BeginsKnown db.schema → AreNoEarlierRows version db → HoldsNoEarlier db
     earlier-none_first known none = record {
       front = front;
@@ -101,7 +101,7 @@ module _ (db : Database) (front : IsFront db.schema) where
       none = λ layout office h. none layout (earlier-same_version layout office h) office h;
     }
 
-    -- why such tables are refused where the name of a table that they lack is taken
+    -- the cause for which such tables are refused if the name of a table that they lack is taken
     pub earlier-name_cause : (fault : MigrateFault) → IsOfName fault → IsTrue (is_lacking_name_used version db.schema)
         → (fault ≡ NotAnOffice → BeginsKnown db.schema) → (fault ≡ NotAnOffice → AreNoEarlierRows version db)
         → (fault ≡ AlreadyThere → AreEarlierRows version db) → HasCause db fault
@@ -118,7 +118,7 @@ module _ (db : Database) (front : IsFront db.schema) where
 
     module _ (layout : Layout) (has : db.schema ≡ schema_of layout)
         (free : is_lacking_name_used version db.schema ≡ false) where
-      -- where the tables of the layout hold none
+      -- where the tables of the layout hold no office
       pub earlier-none_in_layout : ((office : Office) → HoldsEarlier layout db office → ⊥) → HoldsNoEarlier db
       earlier-none_in_layout none = earlier-none_first (layout, found_offices-begins_if_laid layout db.schema has) (λ other same office h.
           let here = subst (λ v. is_lacking_name_used v (schema_of layout) ≡ false) (sym same)
@@ -127,7 +127,7 @@ module _ (db : Database) (front : IsFront db.schema) where
           let is = earlier-first_is_laid layout other h.earlier here tables in
           none office (earlier-holds_if_first layout db office has (subst (λ l. StandsFirst l db office) is h)))
 
-      -- where the tables are of another version than their row says
+      -- where the tables are of another version than the row of table `round` holds
       pub earlier-none_of_other : (version_of layout ≡ version → ⊥) → HoldsNoEarlier db
       earlier-none_of_other differs = earlier-none_in_layout (λ office h.
           differs (earlier-same_version layout office (earlier-first_if_holds layout db office h)))

@@ -1,4 +1,4 @@
--- Tables of an earlier version that come first.
+-- Tables of an earlier version with which a database begins.
 use Rattle.std.proofs.Common.{◌≡◌, ◌⊎◌, ◌++◌, ℕ, nat_le, Bool, true, false, List, take, length, slice_index_or, Option, Some, None, if◌then◌else◌, refl, sym, ap, ◌∙◌, subst, true≢false, inl, inr, arith}
 use Rattle.std.proofs.lemmas.Bool.{and_from, le-leb}
 use Rattle.std.proofs.lemmas.List.{length-append}
@@ -48,7 +48,7 @@ earlier-begins_tables layout schema begins =
     subst (λ (s : Schema). take (table_count layout) s.tables ≡ (schema_of layout).tables) (sym begins.is)
     (earlier-tables_behind layout begins.tables begins.indexes)
 
--- the tables of the layout, with nothing behind, come first
+-- A database that holds exactly the tables of the layout begins with them.
 pub earlier-first_if_holds : (layout : Layout) (db : Database) (office : Office) → HoldsEarlier layout db office
     → StandsFirst layout db office
 earlier-first_if_holds layout db office h =
@@ -63,7 +63,7 @@ earlier-first_if_holds layout db office h =
       rows = h.rows.rows;
     }
 
--- and so back
+-- The converse, if the schema is exactly that of the layout.
 pub earlier-holds_if_first : (layout : Layout) (db : Database) (office : Office) → db.schema ≡ schema_of layout
     → StandsFirst layout db office → HoldsEarlier layout db office
 earlier-holds_if_first layout db office has h = record {
@@ -85,7 +85,7 @@ earlier-if_not_true : {A : Type 0} (b : Bool) (x y : A) → (b ≡ true → ⊥)
 earlier-if_not_true true x y differs = absurd (differs refl)
 earlier-if_not_true false x y differs = refl
 
--- whatever stands behind its tables, they pass the test
+-- Whatever follows the tables of the layout, they pass the test.
 earlier-begins_behind : (layout : Layout) → IsEarlier (version_of layout) → (tables : List Table) (indexes : List Index)
     → begins_with layout (with_behind layout tables indexes) ≡ true
 unfolding same_name
@@ -106,7 +106,7 @@ earlier-begins_behind EarlierFirst e tables indexes =
     and_from _ _ (and_from _ _ refl (and_from _ _ (earlier-enough own.tables tables) refl))
     (and_from _ _ (earlier-enough own.indexes indexes) refl)
 
--- the tables of version 1 as the program made them do not stand in the documented order
+-- The tables of version 1 as the program made them are not in the documented order.
 earlier-not_documented : (tables : List Table) (indexes : List Index)
     → begins_with DocumentedFirst (with_behind EarlierFirst tables indexes) ≡ true → ⊥
 unfolding same_name
@@ -127,7 +127,7 @@ earlier-found_behind EarlierFirst e tables indexes =
     earlier-if_not_true _ (Some DocumentedFirst) _ (earlier-not_documented tables indexes)
     ∙ earlier-if_true _ (Some EarlierFirst) None (earlier-begins_behind EarlierFirst e tables indexes)
 
--- the layout whose tables come first is found
+-- The layout with whose tables the schema begins is found.
 pub earlier-first_found : (layout : Layout) (schema : Schema) → IsEarlier (version_of layout) → Begins layout schema
     → first_layout (version_of layout) schema ≡ Some layout
 earlier-first_found layout schema is begins =
@@ -139,7 +139,7 @@ earlier-picked : (b : Bool) (layout found : Layout) (rest : Option Layout)
 earlier-picked true layout found rest e = inl (refl, found_offices-same_some layout found e)
 earlier-picked false layout found rest e = inr e
 
--- what is found passes its test, and is of the version
+-- The layout that is found passes its test, and is of the version.
 pub earlier-found_begins : (version : ℕ) (schema : Schema) (found : Layout) → IsEarlier version
     → first_layout version schema ≡ Some found → (begins_with found schema ≡ true) × (version_of found ≡ version)
 earlier-found_begins version schema found (inl e) is =
@@ -159,7 +159,7 @@ earlier-found_begins version schema found (inr e) is =
       | inr none ↦ absurd (found_offices-none_some found none)
     ]
 
--- two layouts of the same earlier version whose tables pass the same test are one
+-- Two layouts of the same earlier version whose tables pass the same test are equal.
 earlier-one_test : (layout found : Layout) → IsEarlier (version_of found) → version_of layout ≡ version_of found
     → are_tables found (take (table_count found) (schema_of layout).tables) ≡ true → found ≡ layout
 unfolding same_name
@@ -212,7 +212,7 @@ earlier-take_own DocumentedSecond = refl
 earlier-take_own DocumentedFirst = refl
 earlier-take_own EarlierFirst = refl
 
--- the layout that is found is the one whose tables come first
+-- The layout that is found is the one with whose tables the schema begins.
 pub earlier-found_is_first : (layout found : Layout) (schema : Schema) → IsEarlier (version_of found)
     → version_of layout ≡ version_of found → begins_with found schema ≡ true
     → take (table_count layout) schema.tables ≡ (schema_of layout).tables → found ≡ layout
@@ -224,7 +224,7 @@ earlier-found_is_first layout found schema is same begins tables =
     earlier-one_test layout found is same
     (subst (λ ts. are_tables found ts ≡ true) here (found_offices-tables_pass found schema begins))
 
--- where nothing has a name that is lacking, the tables that come first are those that stand there
+-- If no missing name is in use, a database that begins with the tables of a layout has exactly those.
 pub earlier-first_is_laid : (layout other : Layout) → IsEarlier (version_of other)
     → is_lacking_name_used (version_of other) (schema_of layout) ≡ false
     → take (table_count other) (schema_of layout).tables ≡ (schema_of other).tables → other ≡ layout

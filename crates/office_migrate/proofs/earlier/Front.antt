@@ -1,4 +1,4 @@
--- What is declared where the first three tables are those of an office.
+-- Schemas whose first three tables are those of an office.
 use Rattle.std.proofs.Common.{◌≡◌, true, List, ◌∷◌, ◌++◌, drop, refl, sym, ap, ◌∙◌, subst}
 use Rattle.std.proofs.lemmas.List.{take-append-drop}
 use Rattle.sqlite_schema.specs.declared.schema.Schema.{Schema}
@@ -8,7 +8,7 @@ use Rattle.office_tables.specs.Schema.{person, room, round}
 use Rattle.office_load.specs.Finding.{names_round}
 use Rattle.office_load.specs.Front.{IsFront}
 
--- the table of the round has its name
+-- Something has the name of table `round`.
 pub earlier-front_named : (schema : Schema) → IsFront schema → names_round schema ≡ true
 unfolding same_name
 earlier-front_named schema front =

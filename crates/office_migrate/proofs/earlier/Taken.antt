@@ -1,4 +1,4 @@
--- What the tables of a layout that come first show of an office of an earlier version.
+-- What the first tables of a database show of an office of an earlier version.
 use Rattle.std.proofs.Common.{◌≡◌, ℕ, Some, sym, ◌∙◌, subst}
 use Rattle.sqlite_schema.specs.declared.schema.Schema.{Schema}
 use Rattle.sqlite.specs.Effect.{Database}
@@ -19,11 +19,11 @@ use Rattle.office_migrate.proofs.earlier.First.{earlier-found_begins, earlier-fo
 
 module _ (version : ℕ) (is : IsEarlier version) (db : Database) (layout : Layout)
     (tested : first_layout version db.schema ≡ Some layout) where
-  -- the layout that is found is of the version
+  -- The layout that is found is of the version.
   pub earlier-found_version : version_of layout ≡ version
   earlier-found_version = (earlier-found_begins version db.schema layout is tested).1
 
-  -- an office of that version that stands first stands in the layout that is found
+  -- An office of that version in the first tables is in the layout that is found.
   pub earlier-stands_in_found : (other : Layout) (office : Office) → version_of other ≡ version → StandsFirst other db office
       → StandsFirst layout db office
   earlier-stands_in_found other office same h =
@@ -32,7 +32,7 @@ module _ (version : ℕ) (is : IsEarlier version) (db : Database) (layout : Layo
       found.0 h.tables in
       subst (λ l. StandsFirst l db office) (sym one) h
 
-  -- so the tables of that layout hold it
+  -- So the tables of that layout hold the office.
   pub earlier-held_in_found : (office : Office) → StandsFirst layout db office → HoldsOfficeFirst layout db office
   earlier-held_in_found office h = record {
     schema = found_offices-begins_if_tables layout db.schema h.tables
@@ -40,13 +40,13 @@ module _ (version : ℕ) (is : IsEarlier version) (db : Database) (layout : Layo
     rows = h.rows;
   }
 
-  -- a layout of that version whose tables come first is the one that is found
+  -- A layout of that version with whose tables the schema begins is the one that is found.
   pub earlier-begins_is_found : (other : Layout) → version_of other ≡ version → Begins other db.schema → layout ≡ other
   earlier-begins_is_found other same begins = found_offices-same_some layout other
       (sym tested ∙ subst (λ v. first_layout v db.schema ≡ Some other) same
       (earlier-first_found other db.schema (subst IsEarlier (sym same) is) begins))
 
-  -- an office that the tables of the layout hold stands first
+  -- An office that the tables of the layout hold is in the first tables.
   pub earlier-stands_if_held : (office : Office) → IsLawful office → IsSpelled (rows_at (version_of layout) office)
       → IsOfVersion version office → HoldsOfficeFirst layout db office → StandsFirst layout db office
   earlier-stands_if_held office lawful spelled kind h = record {

@@ -34,7 +34,7 @@ earlier-kind_other People h = refl
 earlier-kind_other Choices h = refl
 earlier-kind_other Grades h = absurd (h refl)
 
--- no kept list is one of grades
+-- No imported list is one of grades.
 pub earlier-kinds-decide : (lists : TextMap KeptList)
     → Decides (list_all (λ (e : Text × KeptList). is_no_grades e.1) (map.entries lists))
     ((label : Text) (kept : KeptList) → map.get lists label ≡ Some kept → kept.kind ≢ Grades)
@@ -48,7 +48,7 @@ earlier-kinds-decide lists = (
 earlier-nowhere : (p : Text) (moved : Moved) → map.get (map.empty {R = text_cmp}) p ≡ Some moved → ⊥
 earlier-nowhere p moved e = let none = get-empty {X = Moved} text_cmp p in cc
 
--- each move goes into a room
+-- Each move goes into a room.
 pub earlier-arrived-decide : (moves : RoundMap RoundMoves)
     → Decides (list_all (λ (e : ℕ × RoundMoves). do_all_arrive e.1) (map.entries moves))
     ((round : ℕ) (p : Text) (moved : Moved) → map.get (moves_of moves round) p ≡ Some moved → IsSome moved.to)

@@ -1,4 +1,4 @@
--- What the program does, from what was done of its line.
+-- From what was done for a subcommand to the contract of the program.
 use Rattle.std.proofs.Common.{◌≡◌, ℕ, List, Option, Some, inl, refl, subst, sym}
 use Rattle.office_file.specs.Access.{FileAccess}
 use Rattle.office_program.specs.Doing.{CarriesOut, DoesLine}
@@ -11,7 +11,7 @@ use Rattle.room_types.specs.Streams.{Input, Output}
 use Rattle.room_types.specs.Texts.{Text}
 
 module _ {F S L P : Type 0} (access : FileAccess F S) (shelf : Shelf L) (network : Network P) where
-  -- words that are a line of `do` are carried out where that line is done
+  -- arguments that are `do` are carried out by doing its line
   pub done_lines-done_in_file : (words : List Text) (path : Text) (line : List Text) (files : F) (lists : L) (ports : P) (status : ℕ) (files' : F) (input : Input) (out out' error : Output) → program_of words ≡ Some (does path line)
       → DoesInFile access files path line status files' out out' → CarriesOut access shelf network words files lists ports status files' lists ports input input out out' error error
   done_lines-done_in_file words path line files lists ports status files' input out out' error is done =

@@ -1,4 +1,4 @@
--- What is done in a file, from what its desk was found to be, what was done at it and how its connection was closed.
+-- What is done in a file, from the desk that was found, what was done there, and how its connection was closed.
 use Rattle.std.proofs.Common.{◌≡◌, ℕ, List, Result, Ok, Err, IfOk, IsErr, OnErr, ◌⊎◌, inl, inr, refl, subst, sym}
 use Rattle.sqlite.specs.Held.{state}
 use Rattle.sqlite.specs.State.{HasCleanDisk}
@@ -32,7 +32,7 @@ module _ {F S : Type 0} (access : FileAccess F S) (files : F) (path : List ℕ) 
   done_lines-file_desk_migrated (Err fault) status out out' begins cause tells closed same =
       inr (fault, subst (λ (f : F). IsMigrateFault access files path (Err fault) f) (sym same) cause, tells)
 
-  -- what was done at the desk that an opening found is done in the file
+  -- what was done at the desk that was found is done in the file
   pub done_lines-done_at_found : (IsDone : DeskState S → DeskState S → Type 0) (found last : Result (DeskState S) DeskFault) (status : ℕ) (out out' : Output)
       → IfOk found (λ desk. BeginsFound access files path desk between) → IsFileFault access files path found between → DoneAt IsDone found last status out out'
       → IfOk last (λ desk. access.closes between desk.conn files') → OnErr last (files' ≡ between) → DoneInFile access IsDone files path status files' out out'
@@ -43,7 +43,7 @@ module _ {F S : Type 0} (access : FileAccess F S) (files : F) (path : List ℕ) 
   done_lines-done_at_found IsDone (Ok desk) (Err fault) status out out' begins cause done closed same = absurd done
   done_lines-done_at_found IsDone (Err fault) (Ok last) status out out' begins cause done closed same = absurd done
 
-  -- residents were served, or a list came in, at the desk that an opening found; or no port was listened on, and no list opened
+  -- The same for serving residents and importing a list. Without a desk, no port is listened on and no list is opened.
   pub done_lines-asked_at_found : {P : Type 0} (place place' : P) (IsDone : DeskState S → DeskState S → Type 0) (found last : Result (DeskState S) DeskFault) (status : ℕ) (out out' : Output)
       → IfOk found (λ desk. BeginsFound access files path desk between) → IsFileFault access files path found between → DoneAt IsDone found last status out out'
       → (IsErr found → place' ≡ place) → IfOk last (λ desk. access.closes between desk.conn files') → OnErr last (files' ≡ between)

@@ -1,4 +1,4 @@
--- A rehearsal at a desk is one of the office that the desk stands for.
+-- A rehearsal at a desk is one of the office that the desk represents.
 use Rattle.std.proofs.Common.{ℕ, List, [], ◌∷◌, refl, sym, subst}
 use Rattle.sqlite.specs.Held.{state}
 use Rattle.sqlite.specs.State.{HasCleanDisk}
@@ -19,13 +19,13 @@ use Rattle.office_words.specs.Sentences.{begins_request, sentence_of}
 use Rattle.room_types.specs.Streams.{Input, Output}
 
 module _ {S : Type 0} (g : Ghosts S) where
-  -- the connection after a run of lines follows the one before it
+  -- the state of the database connection after a run of lines follows the one before
   done_lines-run_follows : (old new : DeskState S) (lines : List (List ℕ)) (all : List Said) → Run (HandlesAt g) old lines all new → Follows (state g old.conn) (state g new.conn)
   done_lines-run_follows old new lines all run =
       (rehearsals-run_shown {K = Unit {0}} (HandlesAt g) (λ _ _ _ _. Unit {0}) (λ desk _. Follows (state g old.conn) (state g desk.conn))
       (λ before after request answer h k follows. (tt, tt, statements-follows_then _ _ _ follows h.follows)) old new lines all run tt (statements-follows-refl (state g old.conn))).2
 
-  -- what a run of lines does at a desk, it does to the office that the desk stands for
+  -- a run of lines at a desk is a run of the office that the desk represents
   done_lines-run_stands : (old new : DeskState S) (lines : List (List ℕ)) (all : List Said) → Run (HandlesAt g) old lines all new → HasCleanDisk (state g new.conn)
       → (office : Office) → StandsFor g old office → (last : Office) × Run HandlesLawfully office lines all last × StandsFor g new last
   done_lines-run_stands old new [] [] run clean office stands = (office, refl, subst (λ desk. StandsFor g desk office) (sym run) stands)

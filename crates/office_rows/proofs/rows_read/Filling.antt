@@ -1,4 +1,4 @@
--- Filling a map undoes what lists its entries.
+-- Filling a map inverts the listing of its entries.
 use Rattle.std.proofs.Common.{◌≡◌, true, false, List, [], ◌∷◌, ◌++◌, map, Option, Some, None, cond, refl, sym, ap, ◌∙◌, subst, append-nil, IsPermutation}
 use Rattle.std.specs.Prelude.{reverse}
 use Rattle.std.specs.Option.{is_some}
@@ -39,7 +39,7 @@ module _ {X : Type 0} where
   rows_read-still_new m k v (e ∷ es) apart h =
       (ap is_some (maps-get-put_other m k v e.0 ((eq_by_cmp_equiv nat_list_cmp_total).symm e.0 k ∙ apart.0)) ∙ h.0, rows_read-still_new m k v es apart.1 h.1)
 
-  -- where keys differ, none is refused
+  -- If the keys are distinct and new, every entry is inserted.
   pub rows_read-filled-all : (es : List (Text × X)) (m : TextMap X) → IsDistinct (eq_by_cmp text_cmp) (map (λ e. e.0) es) → AreNew m es → filled m es ≡ None → ⊥
   rows_read-filled-all [] m d h n = cc
   rows_read-filled-all (f ∷ es) m d h n =

@@ -1,4 +1,4 @@
--- Gathering undoes what makes rows of lists.
+-- Gathering lists from rows inverts `choice_rows`.
 use Rattle.std.proofs.Common.{◌≡◌, ℕ, ◌+◌, ◌<◌, true, false, List, [], ◌∷◌, ◌++◌, length, drop, get_or, Option, Some, None, cond, refl, sym, ap, ◌∙◌, subst, inl, inr, T, arith, append_assoc, append-nil, length-append, IsPermutation, IsSorted}
 use Rattle.std.specs.Prelude.{unwrap_or, eqb}
 use Rattle.std.specs.Option.{IfSome}
@@ -50,7 +50,7 @@ rows_read-taken_put m p w = same_map nat_list_cmp_total maps-exact_texts _ _ (λ
       | inr other ↦ maps-get-put_other (map.remove m p) p w q other ∙ maps-get-gone_other m p q other ∙ sym (maps-get-put_other m p w q other)
     ])
 
--- one turn of the loop
+-- one iteration of the loop
 pub rows_read-turn : (lists left next : Lists) (rows : List ChoiceRecord) (i : ℕ) (row : ChoiceRecord) (codes more : List Text) (person room : Text)
     → i < length rows → row ≡ get_or rows i row → codes ≡ list_at lists row.person → row.place ≡ length codes → left ≡ map.remove lists row.person
     → person ≡ row.person → room ≡ row.room → more ≡ codes ++ room ∷ [] → next ≡ map.insert left person more
@@ -65,7 +65,7 @@ rows_read-turn lists left next rows i row codes more person room low is codes_ar
     ∙ ap (λ b. cond b (gathered (map.insert lists row.person (list_at lists row.person ++ row.room ∷ [])) rest) None) test
     ∙ ap (λ m. gathered m rest) (sym made)
 
--- ---- rows of lists in their order are gathered into the lists
+-- ---- gathering the ordered rows of lists gives the lists back
 
 rows_read-step : (p : Text) (code : Text) (lists : Lists) (done : List Text) (rows : List ChoiceRecord) → list_at lists p ≡ done
     → gathered lists (record { person = p; place = length done; room = code } ∷ rows) ≡ gathered (map.insert lists p (done ++ code ∷ [])) rows
@@ -114,12 +114,12 @@ rows_read-gathered-rows lists sound =
     (rows_read-all_new (map.entries lists))
     ∙ ap (λ m. Some m) (round_problems-with_all-entries lists)
 
--- rows tell what the lists are
+-- Rows determine the lists.
 pub rows_read-one_lists : (m n : Lists) → AreKeptLists m → AreKeptLists n → IsPermutation (choice_rows m) (choice_rows n) → m ≡ n
 rows_read-one_lists m n kept_m kept_n same =
     same_Some m n (sym (rows_read-gathered-rows m kept_m) ∙ ap (gathered map.empty) (sym (rows_read-sorted_rows m (choice_rows n) same (rows_read-rows_sorted n))) ∙ rows_read-gathered-rows n kept_n)
 
--- ---- what was gathered has the rows
+-- ---- gathered lists have the rows
 
 rows_read-choices_from-push : (p : Text) (k : ℕ) (codes : List Text) (room : Text)
     → choices_from p k (codes ++ room ∷ []) ≡ choices_from p k codes ++ record { person = p; place = k + length codes; room = room } ∷ []
@@ -128,7 +128,7 @@ rows_read-choices_from-push p k (code ∷ codes) room =
     ap (λ (l : List ChoiceRecord). record { person = p; place = k; room = code } ∷ l)
     (rows_read-choices_from-push p (k + 1) codes room ∙ ap (λ n. choices_from p (k + 1) codes ++ record { person = p; place = n; room = room } ∷ []) (omega arith))
 
--- one more room at the end of a person's list is one more row
+-- One more room at the end of a person's list adds one row.
 module _ (p room : Text) where
   abbrev row_at : List Text → ChoiceRecord
   row_at codes = record { person = p; place = length codes; room = room }
@@ -215,7 +215,7 @@ rows_read-gathered-filled (row ∷ rows) lists final e h =
       | false ↦ λ m. absurd (cc)
     ] e
 
--- nothing is gathered from no rows
+-- Gathering no rows gives no lists.
 pub rows_read-gathered-from : (rows : List ChoiceRecord) (lists : Lists) → gathered map.empty rows ≡ Some lists
     → 0 < length (map.entries lists) → 0 < length rows
 rows_read-gathered-from [] lists e some =
@@ -240,7 +240,7 @@ rows_read-told-chosen : (es : List (Text × List Text)) (made : Lists) → AllBy
 rows_read-told-chosen [] made h = refl
 rows_read-told-chosen (f ∷ es) made h = ap (λ b. cond b (chosen_from (map.insert made f.0 f.1) es) None) h.0 ∙ rows_read-told-chosen es (map.insert made f.0 f.1) h.1
 
--- ---- both ways
+-- ---- both directions
 
 module _ (rows sorted : List ChoiceRecord) (moved : IsPermutation rows sorted) (ascends : IsSorted row_cmp sorted) where
   rows_read-these : (lists : Lists) → AreKeptLists lists → IsPermutation (choice_rows lists) rows → gathered map.empty sorted ≡ Some lists

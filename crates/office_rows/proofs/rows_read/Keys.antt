@@ -1,4 +1,4 @@
--- A set is told by its keys.
+-- The keys of a set determine it.
 use Rattle.std.proofs.Common.{◌≡◌, List, [], ◌∷◌, map, Option, Some, None, refl, sym, ap, ◌∙◌, subst, IsPermutation}
 use Rattle.std.specs.Prelude.{reverse}
 use Rattle.std.specs.Cmp.Lexicographic.{nat_list_cmp_total}
@@ -12,7 +12,7 @@ use Rattle.office_rows.specs.Reads.{Reads, IsAny}
 use Rattle.office_rows.specs.Rows.{key_rows}
 use Rattle.office_rows.proofs.rows_read.Filling.{rows_read-filled-reads}
 
--- the entries are told by their keys
+-- The keys determine the entries.
 rows_read-entries_of_keys : (es : List (Text × Unit {0})) → map key_entry (map (λ e. e.0) es) ≡ es
 rows_read-entries_of_keys [] = refl
 rows_read-entries_of_keys (e ∷ es) = ap (λ l. e ∷ l) (rows_read-entries_of_keys es)
@@ -37,11 +37,11 @@ rows_read-keys_if_entries rows (Some set) reads = record {
   only = λ m any same. reads.only m tt (rows_read-entries_moved m rows same);
 }
 
--- filling a set undoes what lists its keys
+-- Filling a set inverts the listing of its keys.
 pub rows_read-keys_filled : (rows : List Text) → Reads IsAny key_rows rows (filled maps.empty (reverse (map key_entry rows)))
 rows_read-keys_filled rows = rows_read-keys_if_entries rows _ (rows_read-filled-reads (map key_entry rows))
 
--- sets with the same keys are one
+-- Sets with the same keys are equal.
 pub rows_read-one_set : (m n : TextMap (Unit {0})) → IsPermutation (key_rows m) (key_rows n) → m ≡ n
 rows_read-one_set m n same =
     maps-one_map nat_list_cmp_total maps-exact_texts m n (subst (IsPermutation (maps.entries m)) (rows_read-entries_of_keys (maps.entries n)) (rows_read-entries_moved m (key_rows n) same))

@@ -1,4 +1,4 @@
--- Recording moves undoes what makes rows of moves.
+-- Recording moves inverts `move_rows`.
 use Rattle.std.proofs.Common.{◌≡◌, ℕ, Bool, true, false, List, [], ◌∷◌, ◌++◌, map, Option, Some, None, cond, refl, sym, ap, ◌∙◌, subst, T, ◌&&◌, append-nil, IsPermutation}
 use Rattle.std.specs.Prelude.{unwrap_or, reverse}
 use Rattle.std.specs.Option.{is_some}
@@ -41,7 +41,7 @@ rest_of row = record { from = row.from; to = row.to; wave = row.wave }
 abbrev with_row : TextMap Moved → Move → RoundMoves
 with_row kept row = record { by_person = maps.insert kept row.person (rest_of row) }
 
--- a round that gets one more row
+-- A round that is recorded already gets one more row.
 rows_read-put-known : (k : ℕ) (v old : RoundMoves) (row : Move) (es : List (ℕ × RoundMoves)) → T (is_sorted nat_cmp es) → find nat_cmp k es ≡ Some old
     → IsPermutation (row ∷ round_rows (k, old)) (round_rows (k, v)) → IsPermutation (row ∷ flat_map round_rows es) (flat_map round_rows (put nat_cmp k v es))
 rows_read-put-known k v old row [] s f h = absurd (cc)
@@ -189,7 +189,7 @@ rows_read-all_new [] = tt
 rows_read-all_new (r ∷ rows) =
     (ap (λ o. maps.contains_key (kept_moves o) r.person) (get-empty {X = RoundMoves} nat_cmp r.round) ∙ ap is_some (get-empty {X = Moved} text_cmp r.person), rows_read-all_new rows)
 
--- ---- rows tell what the moves are
+-- ---- rows determine the moves
 
 abbrev IsIn : Moves → Move → Type 0
 IsIn m r = maps.get (moves_of m r.round) r.person ≡ Some (rest_of r)
@@ -209,7 +209,7 @@ rows_read-all_apart : {A B : Type 0} (P : B → Type 0) (f : A → List B) (xs :
 rows_read-all_apart P f [] h = tt
 rows_read-all_apart P f (x ∷ xs) h = let parts = rows_read-split_all P (f x) (flat_map f xs) h in (parts.0, rows_read-all_apart P f xs parts.1)
 
--- what holds of each row holds of each move
+-- What holds for each row holds for each move.
 rows_read-at_moves : (P : Move → Type 0) (m : Moves) → AllByRecursion P (move_rows m) → (round : ℕ) (p : Text) (moved : Moved) → maps.get (moves_of m round) p ≡ Some moved → P (move_row round (p, moved))
 rows_read-at_moves P m h round p moved f =
     elim (maps.get m round) as (λ o. maps.get m round ≡ o → maps.get (kept_moves o) p ≡ Some moved → P (move_row round (p, moved))) [

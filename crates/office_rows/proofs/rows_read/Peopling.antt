@@ -1,4 +1,4 @@
--- Filling the maps of people undoes what makes rows of people.
+-- Filling the maps of people inverts `people_rows`.
 use Rattle.std.proofs.Common.{◌≡◌, true, false, List, [], ◌∷◌, ◌++◌, map, Option, Some, None, cond, refl, sym, ap, ◌∙◌, subst, inl, inr, append-nil, IsPermutation}
 use Rattle.std.specs.Prelude.{reverse}
 use Rattle.std.specs.Option.{is_some}
@@ -124,7 +124,7 @@ rows_read-ids_differ p rows same =
     subst (λ l. IsDistinct (eq_by_cmp text_cmp) l) (map-map (λ (e : Text × Person). e.0) entry_of rows)
     (maps-moved_keys nat_list_cmp_total maps-exact_texts p.people (map entry_of rows) (rows_read-entries_moved p rows same))
 
--- rows tell who the people are, and who has withdrawn
+-- Rows determine the people and who has withdrawn.
 pub rows_read-one_people : (p q : People) → AreKept p → AreKept q → IsPermutation (people_rows p) (people_rows q) → p ≡ q
 rows_read-one_people p q known_p known_q same =
     let people : p.people ≡ q.people =

@@ -1,4 +1,4 @@
--- The rows of recorded lists ascend.
+-- The rows of preference lists are in ascending order.
 use Rattle.std.proofs.Common.{◌≡◌, ℕ, suc, zero, ◌+◌, ◌<◌, List, [], ◌∷◌, cond, refl, ap, ◌∙◌, T, arith, add-one, eqb, IsPermutation, IsSorted}
 use Rattle.std.specs.declared.cmp.Ordering.TheVariants.{Less, Equal, Greater}
 use Rattle.std.specs.Ordering.{is_lt, nat_cmp, ordering_reverse, ordering_then}
@@ -60,7 +60,7 @@ rows_read-rows_up (e ∷ es) s =
     (λ r same. all_weaker (λ (t : ChoiceRecord). text_cmp e.0 t.person ≡ Less) (Before r) (λ t h. rows_read-before_person r t (ap (λ p. text_cmp p t.person) same ∙ h)) (flat_map list_rows es) (rows_read-later_people e.0 es (maps-first_holds _ _ s)))
     (list_rows e) (rows_read-of_person e.0 0 e.1))
 
--- sorted rows of some lists are the rows of the lists in their order
+-- The sorted rows of some lists are `choice_rows` of the lists.
 pub rows_read-sorted_rows : (lists : TextMap (List Text)) (rows : List ChoiceRecord) → IsPermutation (choice_rows lists) rows → IsSorted row_cmp rows → rows ≡ choice_rows lists
 rows_read-sorted_rows lists rows same sorted = sorted_unique row_cmp rows_read-row_total (choice_rows lists) rows (rows_read-rows_up (map.entries lists) (entries_sorted lists)) same sorted
 

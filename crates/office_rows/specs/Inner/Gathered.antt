@@ -1,4 +1,4 @@
--- Lists gathered from rows in order.
+-- Gathering lists from rows in order.
 use Rattle.std.specs.Prelude.{◌++◌, List, [], ◌∷◌, length, eqb, Option, Some, None, unwrap_or}
 use Rattle.std.specs.Prelude.{if◌then◌else◌}
 use Rattle.std.specs.declared.cmp.Ordering.{Ordering}
@@ -8,17 +8,18 @@ use Rattle.room_types.specs.Texts.{Text, TextMap, text_cmp}
 use Rattle.office_state.specs.Inner.Soundness.{is_choices}
 use Rattle.office_rows.specs.declared.records.ChoiceRecord.{ChoiceRecord}
 
--- by person, then by place, then by room
+-- compares rows by person, then place, then room
 abbrev pub row_cmp : ChoiceRecord → ChoiceRecord → Ordering
 row_cmp a b =
     ordering_then (text_cmp a.person b.person)
     (ordering_then (nat_cmp a.place b.place) (text_cmp a.room b.room))
 
--- the list of a person, which is empty where there is none
+-- a person's list, which is empty if there is none
 abbrev pub list_at : TextMap (List Text) → Text → List Text
 list_at lists person = unwrap_or (map.get lists person) []
 
--- each row adds its room to the list of its person, whose next place it must have
+-- Appends each row's room to the list of its person. There is no result if a row's place is not the length of that
+-- list.
 abbrev pub gathered : TextMap (List Text) → List ChoiceRecord → Option (TextMap (List Text))
 gathered lists [] = Some lists
 gathered lists (row ∷ rows) =
@@ -26,7 +27,7 @@ gathered lists (row ∷ rows) =
     then gathered (map.insert lists row.person (list_at lists row.person ++ row.room ∷ [])) rows
     else None
 
--- the entries are put into the map, where each is a list of choices
+-- Inserts the entries into the map. There is no result if one of them is not a valid list of choices.
 abbrev pub chosen_from : TextMap (List Text) → List (Text × List Text)
     → Option (TextMap (List Text))
 chosen_from made [] = Some made

@@ -1,4 +1,4 @@
--- People put into their maps one by one.
+-- Inserting people into their maps one by one.
 use Rattle.std.specs.Prelude.{List, [], ◌∷◌, Option, Some, None, if◌then◌else◌}
 use Rattle.std.specs.FinMap as maps
 use Rattle.room_types.specs.Texts.{TextMap}
@@ -8,7 +8,7 @@ use Rattle.office_rows.specs.declared.records.PersonRecord.{PersonRecord}
 abbrev pub nobody : People
 nobody = record { people = maps.empty; withdrawn = maps.empty }
 
--- who has withdrawn, after one more person
+-- who has withdrawn, after one more row
 abbrev pub marked : TextMap (Unit {0}) → PersonRecord → TextMap (Unit {0})
 marked withdrawn row = if row.withdrawn then maps.insert withdrawn row.id tt else withdrawn
 
@@ -16,7 +16,7 @@ abbrev pub with_person : People → PersonRecord → People
 with_person p row =
     record { people = maps.insert p.people row.id row.person; withdrawn = marked p.withdrawn row }
 
--- the people with those of the rows, where their identifiers are new
+-- Adds the people of the rows in order. There is no result if an identifier is there already.
 abbrev pub peopled : People → List PersonRecord → Option People
 peopled p [] = Some p
 peopled p (row ∷ rows) =

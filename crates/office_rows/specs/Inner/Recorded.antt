@@ -1,11 +1,11 @@
--- Moves recorded one by one.
+-- Recording moves one by one.
 use Rattle.std.specs.Prelude.{List, [], ◌∷◌, Option, Some, None, if◌then◌else◌}
 use Rattle.std.specs.FinMap as maps
 use Rattle.room_types.specs.declared.moves.Move.{Move}
 use Rattle.office_state.specs.Office.Moves.{RoundMap, moves_of, with_move}
 use Rattle.office_state.specs.declared.office.moves.RoundMoves.{RoundMoves}
 
--- the moves with those of the rows, where nobody moves twice in a round
+-- Adds the moves of the rows in order. There is no result if somebody moves twice in a round.
 abbrev pub recorded_moves : RoundMap RoundMoves → List Move → Option (RoundMap RoundMoves)
 recorded_moves moves [] = Some moves
 recorded_moves moves (row ∷ rows) =

@@ -1,4 +1,4 @@
--- Those who leave the college: they get no room, and nobody else is left without one.
+-- Those who leave the college: they get no room, and nobody else loses a room without getting another.
 use Rattle.std.proofs.Common.{◌≡◌, Bool, true, false, not, ◌&&◌, ◌||◌, Some, None, cond, refl, ap, ◌∙◌, sym}
 use Rattle.std.specs.Option.{option_and_then}
 use Rattle.std.specs.List.{filter}
@@ -26,7 +26,7 @@ moving_people-out true true goes e = refl
 moving_people-out true false goes e = ap not e
 moving_people-out false left goes e = refl
 
--- who leaves has no result
+-- a person who leaves has no result
 pub moving_people-leaver_unplaced : (office : Office) (p : Text) → IsLawful office
     → is_going office p ≡ true → recorded_result office p ≡ None
 moving_people-leaver_unplaced office p l goes =
@@ -69,7 +69,7 @@ module _ (office : Office) (l : IsLawful office) (there : has_results office.pha
             absurd (moving_people-goes p part out nothing)
       ] refl
 
-  -- who moves and gets no room leaves
+  -- a person who moves and gets no room leaves the college
   pub moving_people-only_leavers : OnlyLeaversMoveOut office
   moving_people-only_leavers =
       All-map (λ (m : Mover). m.2 ≡ None → is_going office m.0 ≡ true)

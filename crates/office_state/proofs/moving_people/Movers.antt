@@ -1,4 +1,4 @@
--- Who moves, and what the settlement makes of the people.
+-- Who moves, and the people after the settlement.
 use Rattle.std.proofs.Common.{◌≡◌, Bool, true, false, ◌&&◌, ◌||◌, List, [], ◌∷◌}
 use Rattle.std.proofs.Common.{map as map_list, Option, Some, None, cond, refl, ap, ◌∙◌, sym, ◌⊎◌}
 use Rattle.std.proofs.Common.{inl, inr}
@@ -23,7 +23,7 @@ use Rattle.office_state.specs.declared.office.person.Person.{Person}
 use Rattle.office_state.proofs.round_problems.People.{round_problems-not_withdrawn_hold}
 use Rattle.office_state.proofs.offices.People.{offices-same_optional}
 
--- the people after one person's move, by what is known of the person
+-- the people after one person's move, by what is stored about the person
 abbrev pub rehomed_by : TextMap Person → Text → Option Text → Option Person → TextMap Person
 rehomed_by people person home None = people
 rehomed_by people person home (Some kept) = map.insert people person (record kept { home = home })
@@ -70,12 +70,12 @@ moving_people-get-rehomed people person home q =
           ]
     ] refl
 
--- the people once these have left
+-- the people after these have left
 abbrev pub left_people : TextMap Person → List Mover → TextMap Person
 left_people people [] = people
 left_people people (mover ∷ others) = left_people (rehomed people mover.0 None) others
 
--- the people once each of these has come to the new room, in turn
+-- the people after each of these has come to the new room, in turn
 abbrev pub arrived_people : TextMap Person → List Mover → TextMap Person
 arrived_people people [] = people
 arrived_people people (mover ∷ others) = arrived_people (rehomed people mover.0 mover.2) others
@@ -83,7 +83,7 @@ arrived_people people (mover ∷ others) = arrived_people (rehomed people mover.
 abbrev pub is_mover : List Mover → Text → Bool
 is_mover ms q = list_any (λ mover. eq_by_cmp text_cmp q mover.0) ms
 
--- where a mover goes to
+-- where a person who moves goes to
 abbrev pub mover_to : List Mover → Text → Option (Option Text)
 mover_to [] q = None
 mover_to (mover ∷ others) q =
@@ -151,7 +151,7 @@ moving_people-left_and_arrived (Some to) true None comes = refl
 moving_people-left_and_arrived (Some to) true (Some kept) comes = refl
 moving_people-left_and_arrived (Some to) false o comes = refl
 
--- where each mover goes by what is known of the person
+-- where each person who moves goes, by what is known of the person
 pub moving_people-mover_to-by : (to : Text → Option Text) (ms : List Mover) (q : Text)
     → AllByRecursion (λ (m : Mover). m.2 ≡ to m.0) ms
     → mover_to ms q ≡ cond (is_mover ms q) (Some (to q)) None
@@ -182,7 +182,7 @@ moving_people-mover_to-by to (m ∷ ms) q h =
     together false true = refl
     together false false = refl
 
--- what holds of each mover by where the person lives and what the person gets
+-- what holds of each person who moves, by where the person lives and what the person gets
 pub moving_people-each_mover : (office : Office) (P : Mover → Type 0)
     → ((p : Text) → P (p, home_of office p, recorded_result office p)) → All P (movers office)
 moving_people-each_mover office P h =
@@ -194,7 +194,7 @@ moving_people-any_mapped : (test : Text → Bool) (f : Text → Mover) → ((p :
 moving_people-any_mapped test f same [] = refl
 moving_people-any_mapped test f same (p ∷ ps) = λ i. same p i || moving_people-any_mapped test f same ps i
 
--- who moves has not withdrawn, and the home changes
+-- a person who moves has not withdrawn, and the home changes
 moving_people-is_mover-movers : (office : Office) (q : Text)
     → is_mover (movers office) q ≡ (moves_out office q && is_settled office q)
 moving_people-is_mover-movers office q =
@@ -234,7 +234,7 @@ moving_people-find_changed change (e ∷ es) q =
           ∙ ap (λ b. option_map (change q) (cond b (Some e.1) (find text_cmp q es))) (sym other)
     ]
 
--- what the settlement makes of a person
+-- a person after the settlement
 abbrev pub settled : Office → Text → Person → Person
 settled office q kept =
     cond (is_settled office q) (at_home (recorded_result office q) kept) kept
@@ -256,7 +256,7 @@ moving_people-stays_put : (to : Option Text) (o : Option Person)
 moving_people-stays_put to None h = refl
 moving_people-stays_put to (Some kept) h = ap (λ home. Some (at_home home kept)) (offices-same_optional kept.home to h)
 
--- leaving and arriving settle the people, in whatever order the movers arrive, and whoever of them left before
+-- leaving and arriving settle the people, in whatever order they arrive, and whichever of them left before
 pub moving_people-people_settled : (office : Office) (gone order : List Mover)
     → ((q : Text) → is_mover gone q ≡ true → is_mover order q ≡ true)
     → ((q : Text) → mover_to order q ≡ mover_to (movers office) q)
@@ -288,12 +288,12 @@ moving_people-people_settled office gone order come same = same_map nat_list_cmp
     ] refl
     ∙ sym (moving_people-get-settled office q))
 
--- also in the order of the identifiers, nobody having left before
+-- also in the order of the identifiers, if nobody left before
 moving_people-arrived_settled : (office : Office)
     → arrived_people office.people (movers office) ≡ settled_people office
 moving_people-arrived_settled office = moving_people-people_settled office [] (movers office) (λ q never. cc) (λ q. refl)
 
--- the settled home of somebody
+-- the home of a person after the settlement
 pub moving_people-home_settled : (office : Office) (q room : Text)
     → option_and_then (λ (p : Person). p.home) (map.get (settled_people office) q) ≡ Some room
     → ((is_settled office q ≡ true) × (recorded_result office q ≡ Some room))
@@ -353,7 +353,7 @@ moving_people-len-settled office =
     ap map.len (sym (moving_people-arrived_settled office))
     ∙ moving_people-len-arrived office.people (movers office)
 
--- who is no mover lives after the settlement as before
+-- a person who does not move lives after the settlement where they lived before
 pub moving_people-stays_settled : (office : Office) (q : Text) → is_mover (movers office) q ≡ false
     → map.get (settled_people office) q ≡ map.get office.people q
 moving_people-stays_settled office q stays =
@@ -362,7 +362,7 @@ moving_people-stays_settled office q stays =
     ∙ ap (λ t. arrive_at t (map.get office.people q))
     (options-none_if_not_some (mover_to (movers office) q) (moving_people-is_some-mover_to (movers office) q ∙ stays))
 
--- who has a home once these have left is none of them, and had it before
+-- a person who has a home after these have left is none of them, and had it before
 pub moving_people-left_home : (people : TextMap Person) (gone : List Mover) (q room : Text)
     → option_and_then (λ (p : Person). p.home) (map.get (left_people people gone) q) ≡ Some room
     → (is_mover gone q ≡ false)

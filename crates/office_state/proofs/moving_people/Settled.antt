@@ -1,5 +1,4 @@
--- The office after a settlement: who moves where, and that the register and the moves obey the
--- laws.
+-- The office after a settlement: who moves where, and that the register and the moves obey the invariants.
 use Rattle.std.proofs.Common.{◌≡◌, ◌≢◌, ℕ, suc, ◌+◌, ◌≤◌, ◌<◌, Bool, true, false, not, ◌&&◌, List, [], ◌∷◌, get_or}
 use Rattle.std.proofs.Common.{length, map as map_list, Option, Some, None, cond, refl, ap, ◌∙◌, sym}
 use Rattle.std.proofs.Common.{subst, inl, inr, arith}
@@ -65,7 +64,7 @@ moving_people-AllPairs-map R f (x ∷ xs) h =
     (moving_people-AllPairs-map R f xs (λ i j d before within. h (suc i) (suc j) d (omega (arith, before))
     (omega (arith, within))))
 
--- the settlement decides where those live who have not withdrawn
+-- the settlement sets the homes of those who have not withdrawn
 moving_people-not_withdrawn_settled : (office : Office)
     → All (λ p. is_settled office p ≡ true) (people_not_withdrawn office)
 moving_people-not_withdrawn_settled office =
@@ -90,7 +89,7 @@ module _ (office : Office) (l : IsRegister office.rooms office.people)
       (ap (λ kept. map.get kept p) results ∙ round_outcomes-get-round_results office p
       ∙ ap (λ b. cond b (Some (record { room = result_of office p })) None) part)
 
-  -- who has a room as the recorded result takes part, and top trading cycles give that room
+  -- a person with a room as the recorded result takes part, and top trading cycles give that room
   moving_people-given_part : (p room : Text) → recorded_result office p ≡ Some room
       → (is_participant office p ≡ true) × (result_of office p ≡ Some room)
   moving_people-given_part p room e =
@@ -113,7 +112,7 @@ module _ (office : Office) (l : IsRegister office.rooms office.people)
       All-filter (moves_out office) (λ p. is_settled office p ≡ true) (people_not_withdrawn office)
       (moving_people-not_withdrawn_settled office)
 
-  -- each mover comes to the settled home
+  -- each person who moves comes to their home after the settlement
   pub moving_people-movers_lead : All (λ (m : Mover). (room : Text) → m.2 ≡ Some room
       → home_in (settled_people office) m.0 ≡ Some room) (movers office)
   moving_people-movers_lead =
@@ -140,7 +139,7 @@ module _ (office : Office) (l : IsRegister office.rooms office.people)
                 (cond b (record kept { home = recorded_result office p }) kept)) part ∙ e
           ] (known p part)
 
-  -- no two movers are one person, and no two get one room
+  -- those who move are different people, and no two of them get one room
   moving_people-names_differ : AllPairs ◌≢◌ (filter (moves_out office) (people_not_withdrawn office))
   moving_people-names_differ =
       AllPairs-filter ◌≢◌ (moves_out office) (people_not_withdrawn office) (round_problems-not_withdrawn_differ office)
@@ -163,7 +162,7 @@ module _ (office : Office) (l : IsRegister office.rooms office.people)
       (round_problems-given_once office ok (get_or names i d) (get_or names j d) room first.0 second.0
       first.1 second.1))
 
-  -- a room that is given is open, and nobody who has withdrawn lives there
+  -- a room that is given is not shut, and nobody who has withdrawn lives there
   moving_people-given_open : (p room : Text) → recorded_result office p ≡ Some room
       → (map.get office.rooms room ≡ Some false) × (is_kept_back office room ≡ false)
   moving_people-given_open p room e =
@@ -251,7 +250,7 @@ moving_people-fresh kept round (m ∷ ms) (wave ∷ waves) none pairs =
           (omega (arith, within))),
     )
 
--- the laws of moves, for the rounds that may have any
+-- the invariants on moves, for the rounds that may have any
 pub record KeepsMoves (ok : ℕ → Bool) (moves : RoundMap RoundMoves) : Type 0 where
   pub over : (round : ℕ) → map.contains_key moves round ≡ true → ok round ≡ true
   pub none_empty : (round : ℕ) (kept : RoundMoves) → map.get moves round ≡ Some kept
@@ -313,7 +312,7 @@ moving_people-with_move-keeps ok moves move l fine goes =
           (sym (get-insert nat_cmp_total moves move.round kept_now round)) ∙ h);
     }
 
--- each mover without a new room has wave 0
+-- each person who moves without a new room has wave 0
 abbrev pub LeaveFirst : List Mover → List Wave → Type 0
 LeaveFirst [] waves = Unit {0}
 LeaveFirst (m ∷ ms) [] = Unit {0}
@@ -331,7 +330,7 @@ moving_people-leave_first_from wave k (m ∷ ms) h =
           ap wave there ∙ h (suc i) d (omega (arith, low)) nowhere),
     )
 
--- whoever goes into no room has wave 0
+-- a person who gets no new room has wave 0
 pub moving_people-leave_first : (ms : List Mover) → LeaveFirst ms (waves_of ms)
 moving_people-leave_first ms =
     moving_people-leave_first_from (wave_of (end_numbers ms) (leavers ms)) 0 ms
@@ -359,7 +358,7 @@ moving_people-fewer p (x ∷ xs) =
       | false ↦ omega (arith, rest)
     ]
 
--- no more people move than there are
+-- at most all people move
 pub moving_people-few_movers : (office : Office) → IsRegister office.rooms office.people
     → length (movers office) ≤ people_limit
 moving_people-few_movers office l =

@@ -1,4 +1,4 @@
--- Where the movers of a settlement come to, and the moves of a round, one after the other.
+-- Where the people who move in a settlement come to, and the moves of a round, one after the other.
 use Rattle.std.proofs.Common.{◌≡◌, false, List, [], ◌∷◌, Option, Some, cond, ap, ◌∙◌}
 use Rattle.std.specs.Prelude.{unwrap_or}
 use Rattle.std.specs.Option.{option_map}
@@ -17,7 +17,7 @@ use Rattle.office_state.specs.declared.office.person.Person.{Person}
 abbrev pub home_in : TextMap Person → Text → Option Text
 home_in people q = had_by (λ p. p.home) people q
 
--- each move is of somebody who has none in that round yet
+-- each move is of a person who has none in that round yet
 abbrev pub AreFresh : RoundMap RoundMoves → List Move → Type 0
 AreFresh kept [] = Unit {0}
 AreFresh kept (move ∷ moves) =

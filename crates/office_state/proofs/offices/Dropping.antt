@@ -1,4 +1,4 @@
--- Somebody who is dropped.
+-- A person who is dropped.
 use Rattle.std.proofs.Common.{◌≡◌, Bool, true, false, cond, refl, ap, ◌∙◌, sym, inl, inr}
 use Rattle.std.specs.Cmp.Lexicographic.{nat_list_cmp_total}
 use Rattle.std.specs.FinMap as map
@@ -11,7 +11,7 @@ use Rattle.office_state.specs.Office.{knows_person}
 use Rattle.office_state.specs.declared.change.Change.TheVariants.{DropPerson}
 use Rattle.office_state.specs.declared.office.Office.{Office}
 
--- nothing goes where nothing is
+-- removing what is not there changes nothing
 offices-gone_unknown : {X : Type 0} (m : TextMap X) (k : Text) → map.contains_key m k ≡ false
     → map.remove m k ≡ m
 offices-gone_unknown m k unknown = same_map nat_list_cmp_total maps-exact_texts _ _ (λ q.
@@ -25,7 +25,7 @@ offices-ungraded : (graded known : Bool) → (graded ≡ true → known ≡ true
 offices-ungraded true known law unknown = sym (law refl) ∙ unknown
 offices-ungraded false known law unknown = refl
 
--- where only known people have a grade, whoever is dropped is gone, and so is the grade
+-- if only known people have a grade, a dropped person is gone, and so is their grade
 pub offices-person_dropped : (office : Office) (person : Text)
     → (map.contains_key office.grades person ≡ true → knows_person office person ≡ true)
     → applied office (DropPerson person) ≡ without_person office person

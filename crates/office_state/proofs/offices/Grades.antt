@@ -1,4 +1,4 @@
--- The laws of grades, after the changes that touch grades or people.
+-- The invariants on grades, after the changes that touch grades or people.
 use Rattle.std.proofs.Common.{◌≡◌, ℕ, zero, suc, true, false, Option, Some, refl, sym, ap, ◌∙◌, inl, inr}
 use Rattle.std.specs.Prelude.{unwrap_or}
 use Rattle.std.specs.Option.{is_some}
@@ -13,7 +13,7 @@ use Rattle.office_state.specs.Office.Invariants.{AreGrades}
 use Rattle.office_state.specs.declared.office.person.Person.{Person}
 use Rattle.office_state.proofs.offices.Empty.{offices-none_known}
 
--- other people's grades stay where one is put
+-- other people's grades stay when one is put
 offices-grade_other : (grades : TextMap ℕ) (person : Text) (grade : ℕ) (p : Text)
     → eq_by_cmp text_cmp p person ≡ false
     → map.get (with_grade grades person grade) p ≡ map.get grades p
@@ -73,7 +73,7 @@ module _ (people : TextMap Person) (grades : TextMap ℕ) (l : AreGrades people 
     ];
   }
 
-  -- who is not known has no grade
+  -- an unknown person has no grade
   pub offices-unknown_ungraded : (person : Text) → map.contains_key people person ≡ false
       → map.contains_key grades person ≡ false
   offices-unknown_ungraded person unknown =

@@ -1,4 +1,4 @@
--- Somebody moves, or loses the home.
+-- A person moves, or loses the home.
 use Rattle.std.proofs.Common.{◌≡◌, false, Option, Some, None, refl, ap, ◌∙◌, sym, inl, inr}
 use Rattle.std.specs.Option.{option_and_then}
 use Rattle.std.specs.FinMap as map
@@ -18,7 +18,7 @@ use Rattle.office_state.proofs.offices.Grades.{offices-graded_person}
 use Rattle.office_state.proofs.offices.KeptLists.{offices-person_known}
 use Rattle.office_state.proofs.offices.Leavers.{offices-leaver_person}
 
--- the office after one person's move, by what is known of the person
+-- the office after one person's move, by what is stored about the person
 abbrev pub moved : Office → Text → Option Text → Option Person → Office
 moved office person home known =
     elim known as (λ _. Office) [
@@ -27,7 +27,7 @@ moved office person home known =
           { people = map.insert office.people person (record kept { home = home }) }
     ]
 
--- who moves leaves the rooms as they are
+-- a person's move leaves the rooms as they are
 pub offices-rooms_stay : (office : Office) (person : Text) (home : Option Text)
     → (with_home office person home).rooms ≡ office.rooms
 offices-rooms_stay office person home =
@@ -40,7 +40,7 @@ offices-phase_stays office person home =
     elim (map.get office.people person) as
     (λ o. (moved office person home o).phase ≡ office.phase) [ None ↦ refl | Some kept ↦ refl ]
 
--- before the draw a known person may move to a home that nobody else has, and that is open
+-- before the draw, a known person may move to a home that nobody else has, and that is not shut
 pub offices-moved-lawful : (office : Office) (person : Text) (home : Option Text) → IsLawful office
     → has_words office.phase ≡ false
     → ((q room : Text) → home ≡ Some room → home_of office q ≡ Some room → q ≡ person)
@@ -71,7 +71,7 @@ offices-moved-lawful office person home l before own unshut =
           }
     ] refl
 
--- who left a room was the only one there
+-- a person who left a room was the only one there
 pub offices-left_empty : (office : Office) (person room : Text) → HomesDiffer office
     → home_of office person ≡ Some room → (q : Text)
     → home_of (with_home office person None) q ≡ Some room → ⊥

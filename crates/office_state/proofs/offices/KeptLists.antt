@@ -1,4 +1,4 @@
--- Changes that keep the laws of lists and withdrawals.
+-- Changes that keep the invariants on lists and withdrawals.
 use Rattle.std.proofs.Common.{◌≡◌, Bool, true, false, List, [], ◌∷◌, Option, Some, None, refl, ap}
 use Rattle.std.proofs.Common.{◌∙◌, sym, subst, inl, inr}
 use Rattle.std.specs.Prelude.{unwrap_or}
@@ -20,7 +20,7 @@ offices-listed_other : (lists : TextMap (List Text)) (person : Text) (choices : 
 offices-listed_other lists person [] p other = maps-get-gone_other lists person p other
 offices-listed_other lists person (code ∷ codes) p other = maps-get-put_other lists person (code ∷ codes) p other
 
--- who has a list after it was put has that list, and it is not empty
+-- a person whose list was put has that list, and it is not empty
 offices-listed_same : (lists : TextMap (List Text)) (person : Text) (choices codes : List Text) (p : Text)
     → p ≡ person → map.get (with_list lists person choices) p ≡ Some codes
     → (choices ≡ codes) × (codes ≡ [] → ⊥)
@@ -101,7 +101,7 @@ module _ (rooms : TextMap Bool) (people : TextMap Person) (choices : TextMap (Li
     ];
   }
 
-  -- who is not known has not withdrawn
+  -- an unknown person has not withdrawn
   pub offices-unknown_stays : (person : Text) → map.contains_key people person ≡ false
       → map.contains_key withdrawn person ≡ false
   offices-unknown_stays person unknown =

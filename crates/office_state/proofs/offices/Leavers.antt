@@ -1,4 +1,4 @@
--- The laws of those who leave the college, after the changes that touch them, people or withdrawals.
+-- The invariants on those who leave the college, after the changes that touch them, people or withdrawals.
 use Rattle.std.proofs.Common.{◌≡◌, true, false, refl, sym, ap, ◌∙◌, inl, inr}
 use Rattle.std.specs.Option.{is_some}
 use Rattle.std.specs.FinMap as map
@@ -20,7 +20,7 @@ module _ (phase : Phase) (people : TextMap Person) (withdrawn going : TextMap (U
     idle_going = l.idle_going;
   }
 
-  -- somebody who does not leave is dropped
+  -- a person who does not leave is dropped
   pub offices-leaver_dropped : (person : Text) → map.contains_key going person ≡ false
       → AreLeavers phase (map.remove people person) withdrawn going
   offices-leaver_dropped person stays = record {
@@ -36,7 +36,7 @@ module _ (phase : Phase) (people : TextMap Person) (withdrawn going : TextMap (U
     idle_going = l.idle_going;
   }
 
-  -- somebody who does not leave withdraws
+  -- a person who does not leave withdraws
   pub offices-leaver_withdrawn : (person : Text) → map.contains_key going person ≡ false
       → AreLeavers phase people (map.insert withdrawn person tt) going
   offices-leaver_withdrawn person stays = record {
@@ -77,7 +77,7 @@ module _ (phase : Phase) (people : TextMap Person) (withdrawn going : TextMap (U
     idle_going = λ idle. absurd (cc);
   }
 
-  -- who is not known does not leave
+  -- an unknown person does not leave
   pub offices-unknown_not_going : (person : Text) → map.contains_key people person ≡ false
       → map.contains_key going person ≡ false
   offices-unknown_not_going person unknown =

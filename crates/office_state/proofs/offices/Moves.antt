@@ -1,4 +1,4 @@
--- The moves of rounds, after one more move.
+-- The moves of all rounds, after one more move.
 use Rattle.std.proofs.Common.{◌≡◌, ℕ, [], Option, Some, None, true, false, IsSome}
 use Rattle.std.proofs.Common.{cond, refl, ap, ◌∙◌, sym, subst}
 use Rattle.std.specs.Prelude.{unwrap_or}
@@ -18,7 +18,7 @@ use Rattle.office_state.specs.declared.office.moves.Moved.{Moved}
 use Rattle.office_state.specs.declared.office.moves.RoundMoves.{RoundMoves}
 use Rattle.room_types.proofs.maps.Trees.{maps-entries-empty, maps-get-tree, maps-insert-tree}
 
--- the moves kept for a round
+-- the recorded moves of a round
 abbrev pub kept_moves : Option RoundMoves → TextMap Moved
 kept_moves kept = unwrap_or (option_map (λ (k : RoundMoves). k.by_person) kept) map.empty
 
@@ -27,7 +27,7 @@ pub offices-no_moves : (moves : RoundMap RoundMoves) (round : ℕ) → map.get m
 offices-no_moves moves round none =
     ap (λ o. map.entries (kept_moves o)) none ∙ maps-entries-empty nat_list_cmp_total
 
--- a value that is there already adds nothing
+-- inserting the value that is there already changes nothing
 offices-put_again : {X : Type 0} (m : RoundMap X) (k : ℕ) (v : X) → map.get m k ≡ Some v
     → map.insert m k v ≡ m
 offices-put_again m k v there = same_map nat_cmp_total nat_cmp-IsAntisymmetric (map.insert m k v) m (λ q.

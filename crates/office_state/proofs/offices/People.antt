@@ -1,4 +1,4 @@
--- What people have, read from the map of people.
+-- What people have, as read from the map of people.
 use Rattle.std.proofs.Common.{◌≡◌, Bool, true, false, List, [], ◌∷◌, Option, Some, None, cond, refl}
 use Rattle.std.proofs.Common.{ap, ◌∙◌, sym, inl, inr, T}
 use Rattle.std.specs.declared.cmp.Ordering.TheVariants.{Less}
@@ -27,7 +27,7 @@ module _ (which : Person → Option Text) where
       → eq_by_cmp text_cmp q k ≡ false → had_by which (map.insert m k v) q ≡ had_by which m q
   offices-had_by-put_other m k v q e = ap (option_and_then which) (maps-get-put_other m k v q e)
 
-  -- who is gone has nothing, and the others have what they had
+  -- a removed person has nothing, and the others have what they had
   pub offices-had_by-gone : (m : TextMap Person) (k q text : Text)
       → had_by which (map.remove m k) q ≡ Some text → had_by which m q ≡ Some text
   offices-had_by-gone m k q text h =
@@ -45,7 +45,7 @@ module _ (which : Person → Option Text) where
   offices-Unshared-gone m k unshared p q text hp hq =
       unshared p q text (offices-had_by-gone m k p text hp) (offices-had_by-gone m k q text hq)
 
-  -- a person may be put where nobody else has the same
+  -- a person may be put if nobody else has the same
   pub offices-Unshared-put : (m : TextMap Person) (k : Text) (v : Person) → Unshared which m
       → ((q text : Text) → which v ≡ Some text → had_by which m q ≡ Some text → q ≡ k)
       → Unshared which (map.insert m k v)
@@ -90,7 +90,7 @@ offices-same_optional None None e = refl
 offices-same_optional None (Some text) e = cc
 offices-same_optional (Some text) other e = sym (offices-held-is_text other text e)
 
--- where nobody holds it, nobody has it
+-- if there is no holder, nobody has it
 pub offices-nobody_has : (which : Person → Option Text) (m : TextMap Person) (text : Text)
     → holder which m text ≡ None → (q : Text) → had_by which m q ≡ Some text → ⊥
 offices-nobody_has which m text none q h =
@@ -101,7 +101,7 @@ offices-nobody_has which m text none q h =
     let held : is_text (which found.0) text ≡ true = offices-is_text-held (which found.0) text found.2 in
     cc
 
--- what is found lies above a key that is below all
+-- what is found is above a key that is below all
 pub offices-found_above : {X : Type 0} (x q : Text) (es : List (Text × X)) (v : X)
     → T (below_all text_cmp x es) → find text_cmp q es ≡ Some v → text_cmp x q ≡ Less
 offices-found_above x q [] v below h = cc

@@ -1,4 +1,4 @@
--- Changes that keep the laws of rooms and people.
+-- Changes that keep the invariants on rooms and people.
 use Rattle.std.proofs.Common.{◌≡◌, ℕ, ◌+◌, ◌-◌, ◌≤◌, Bool, true, false, Option, Some, cond, refl}
 use Rattle.std.proofs.Common.{ap, ◌∙◌, sym, subst, inl, inr, arith}
 use Rattle.std.specs.Prelude.{nat_le}
@@ -25,7 +25,7 @@ offices-len-put_within m k v n new h =
     omega (arith, leb-false n (map.len m) h)
 
 module _ (rooms : TextMap Bool) (people : TextMap Person) (l : IsRegister rooms people) where
-  -- a room that is not shut
+  -- a room that is not shut is put
   pub offices-room_put : (room : Text) → map.len (map.insert rooms room false) ≤ room_limit
       → IsRegister (map.insert rooms room false) people
   offices-room_put room few = record {
@@ -52,7 +52,7 @@ module _ (rooms : TextMap Bool) (people : TextMap Person) (l : IsRegister rooms 
     few_people = l.few_people;
   }
 
-  -- a person put where the key and the home are nobody else's, and the home is open
+  -- a person is put whose key and home are nobody else's, and whose home is not shut
   pub offices-person_put : (person : Text) (v : Person)
       → ((q : Text) → had_by (λ p. Some p.key) people q ≡ Some v.key → q ≡ person)
       → ((q room : Text) → v.home ≡ Some room → had_by (λ p. p.home) people q ≡ Some room
@@ -73,7 +73,7 @@ module _ (rooms : TextMap Bool) (people : TextMap Person) (l : IsRegister rooms 
     few_people = few;
   }
 
-  -- a known person moves to a home that nobody else has, and that is open
+  -- a known person moves to a home that nobody else has, and that is not shut
   pub offices-person_moved : (person : Text) (kept : Person) (home : Option Text)
       → map.get people person ≡ Some kept
       → ((q room : Text) → home ≡ Some room → had_by (λ p. p.home) people q ≡ Some room
@@ -87,7 +87,7 @@ module _ (rooms : TextMap Bool) (people : TextMap Person) (l : IsRegister rooms 
       (subst (λ n. n ≤ people_limit)
       (sym (maps-len-put_known people person _ (ap is_some known))) l.few_people)
 
-  -- a person is gone
+  -- a person is removed
   pub offices-person_gone : (person : Text) → IsRegister rooms (map.remove people person)
   offices-person_gone person =
       let fewer : map.len (map.remove people person) ≤ map.len people =

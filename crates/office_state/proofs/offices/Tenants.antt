@@ -1,4 +1,4 @@
--- Tenants, gathered in a map.
+-- Tenants, collected in a map.
 use Rattle.std.proofs.Common.{◌≡◌, true, false, Option, Some, None, cond, ap, ◌∙◌, sym, inl, inr}
 use Rattle.std.specs.Option.{option_or}
 use Rattle.std.specs.Cmp.Lexicographic.{nat_list_eq_equiv, texts_ties}
@@ -12,7 +12,7 @@ pub offices-tenants-none : (room : Text) (o : Option Text)
     → option_or (map.get (map.empty {X = Text} {R = text_cmp}) room) o ≡ o
 offices-tenants-none room o = ap (λ p. option_or p o) (get-empty text_cmp room)
 
--- a home that had no tenant gets one
+-- a home without a tenant gets one
 pub offices-tenants-put : (m : TextMap Text) (home id room : Text) (o : Option Text)
     → map.contains_key m home ≡ false
     → option_or (map.get (map.insert m home id) room) o

@@ -1,4 +1,4 @@
--- Facts on truth values, comparisons and options that lemmas of several subjects need.
+-- Lemmas on truth values, comparisons and options that several subjects need.
 use Rattle.std.proofs.Common.{◌≡◌, true, Option, None, Some, refl}
 use Rattle.std.specs.declared.cmp.Ordering.{Ordering}
 use Rattle.std.specs.declared.cmp.Ordering.TheVariants.{Less, Equal, Greater}

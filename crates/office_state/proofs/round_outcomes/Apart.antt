@@ -22,7 +22,7 @@ use Rattle.office_state.proofs.round_problems.Problem.{round_problems-market_peo
 use Rattle.office_state.proofs.round_problems.Rooms.{round_problems-home_numbered}
 use Rattle.office_state.proofs.round_outcomes.Ranks.{person_at, round_outcomes-below, round_outcomes-number_at, round_outcomes-named_again, round_outcomes-rank-named, round_outcomes-rank-result, round_outcomes-result-numbered}
 
--- where a participant stands
+-- the number of a participant
 record IsAt (office : Office) (person : Text) : Type 0 where
   number : ℕ
   numbered : number_in (round_people office) person ≡ Some number
@@ -66,7 +66,7 @@ module _ (office : Office) (l : IsRegister office.rooms office.people)
       (lt-ltb place.number (round_market office).people place.within)
       (subst (λ z. group z ≡ true) (sym place.named) h)
 
-  -- what a member is given is a room of the round
+  -- what a member gets is a room of the round
   round_outcomes-known : (person : Text) → group person ≡ true → (room : Text) → gives person ≡ Some room
       → is_some (number_in (round_rooms office) room) ≡ true
   round_outcomes-known person h room e =

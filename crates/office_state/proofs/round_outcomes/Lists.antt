@@ -105,7 +105,7 @@ module _ (office : Office) (l : IsLawful office) (lists : TextMap (List Text))
         (λ r e. (welfare-gets_assignment (with_lists (round_market office) new_lists) round_outcomes-new_market).known n r
         within e)
 
-  -- where none in the group loses, everybody gets the same
+  -- if none in the group loses, everybody gets the same
   round_outcomes-all_same : (group : Text → Bool) → OthersKeepList office group lists
       → NoneLosesBy office (result_of office) group lists
       → (person : Text) → is_participant office person ≡ true
@@ -217,7 +217,7 @@ module _ (office : Office) (l : IsLawful office) (person : Text) (codes : List T
                   ∙ sym (get_or-set_other m.lists n i (round_list office person codes) [] d)
             ]
 
-  -- what another list gives is what is given where it is recorded
+  -- what another list gives is what the round gives if that list is recorded
   pub round_outcomes-by_list : result_by office person codes ≡ result_of (with_choices office put) person
   round_outcomes-by_list =
       let place : (n : ℕ) × (number_in (round_people office) person ≡ Some n) =
@@ -255,7 +255,7 @@ module _ (office : Office) (l : IsLawful office) (person : Text) (codes : List T
       subst (λ room. round_rank office q room ≤ round_rank office q (result_of office q))
       (sym gets_same) (le_refl (round_rank office q (result_of office q))))
 
--- ---- of the recorded results
+-- ---- the recorded results
 
 module _ (office : Office) (l : IsLawful office) (there : has_results office.phase ≡ true) where
   pub round_outcomes-own_list_best : IsOwnListBest office (recorded_result office)

@@ -1,4 +1,4 @@
--- What each participant gets, and how it is ranked.
+-- What each participant gets, and its rank.
 use Rattle.std.proofs.Common.{◌≡◌, ℕ, ◌<◌, ◌≤◌, ◌+◌, true, cond, is_none, le_refl, arith}
 use Rattle.std.proofs.Common.{List, [], length, get_or, Option, Some, None, refl}
 use Rattle.std.proofs.Common.{sym, ap, ◌∙◌, subst}
@@ -26,7 +26,7 @@ use Rattle.office_state.proofs.round_problems.People.{round_problems-rooms_diffe
 use Rattle.office_state.proofs.round_problems.Problem.{round_problems-market_people, round_problems-market_rooms, round_problems-market_home}
 use Rattle.office_state.proofs.offices.Truths.{offices-then_some}
 
--- a room of the round, named and numbered again
+-- a room of the round, from its number to its name and back
 round_outcomes-number-round_room : (office : Office) (o : Option ℕ)
     → ((r : ℕ) → o ≡ Some r → r < length (round_rooms office))
     → option_and_then (number_in (round_rooms office)) (round_room office o) ≡ o
@@ -36,7 +36,7 @@ round_outcomes-number-round_room office (Some r) known =
     (slice_get-get_or (round_rooms office) r [] (known r refl))
     ∙ round_problems-number_in-at (round_rooms office) r [] (round_problems-rooms_differ office) (known r refl)
 
--- and it is a room of the round
+-- the room of a number is a room of the round
 round_outcomes-round_room-known : (office : Office) (o : Option ℕ)
     → ((r : ℕ) → o ≡ Some r → r < length (round_rooms office))
     → (room : Text) → round_room office o ≡ Some room
@@ -58,7 +58,7 @@ module _ (office : Office) (ok : IsMarket (round_market office)) (person : Text)
   round_outcomes-rank-numbered room =
       ap (λ o. rank_by_number office (unwrap_or o (length (round_people office))) room) numbered
 
-  -- what a person ranks by name is ranked by number
+  -- the rank of a room by name is its rank by number
   pub round_outcomes-rank-named : (room : Option Text)
       → ((name : Text) → room ≡ Some name → is_some (number_in (round_rooms office) name) ≡ true)
       → round_rank office person room
@@ -108,7 +108,7 @@ module _ (office : Office) (ok : IsMarket (round_market office)) (person : Text)
       ∙ round_outcomes-rank-given (gets (round_market office) n)
       (λ r e. (welfare-gets_assignment (round_market office) ok).known n r round_outcomes-within e)
 
-  -- the room by another list is not ranked above the result
+  -- the room with another list does not rank above the result
   pub round_outcomes-no_gain-named : (codes : List Text)
       → IsListFor (round_market office) n (round_list office person codes)
       → rank (round_market office) n (gets (round_market office) n) ≤ rank (round_market office) n
@@ -139,7 +139,7 @@ module _ (office : Office) (ok : IsMarket (round_market office)) (person : Text)
       (subst (λ k. rank (round_market office) n (home (round_market office) n) ≤ k)
       (sym (round_outcomes-rank-numbered (home_of office person))) (least (home_of office person) lives)))
     where
-      -- a home outside the round is ranked below all else
+      -- a home outside the round ranks below all else
       round_outcomes-by_number : (o : Option ℕ) → home (round_market office) n ≡ o
           → rank (round_market office) n (home (round_market office) n) ≤ unwrap_or
           (option_map (λ r. rank (round_market office) n (Some r)) o)
@@ -187,7 +187,7 @@ module _ (office : Office) where
       → is_participant office (person_at n) ≡ true
   round_outcomes-takes_part n h = sym (round_problems-participant_number office (person_at n)) ∙ ap is_some (round_outcomes-number_at n h)
 
-  -- a room of the round, or nothing, numbered and named again
+  -- a room of the round, or nothing, from its name to its number and back
   pub round_outcomes-named_again : (o : Option Text)
       → ((name : Text) → o ≡ Some name → is_some (number_in (round_rooms office) name) ≡ true)
       → round_room office (option_and_then (number_in (round_rooms office)) o) ≡ o

@@ -52,7 +52,7 @@ round_outcomes-find_named f (name ∷ names) q =
           other)
     ]
 
--- what the table of results says of a person
+-- what the table of results has for a person
 pub round_outcomes-get-round_results : (office : Office) (person : Text)
     → maps.get (round_results office) person
     ≡ cond (is_participant office person) (Some (record { room = result_of office person })) None
@@ -77,7 +77,7 @@ round_outcomes-keys_named : {A : Type 0} (f : Text → A) (names : List Text)
 round_outcomes-keys_named f [] = refl
 round_outcomes-keys_named f (name ∷ names) = ap (λ (rest : List Text). name ∷ rest) (round_outcomes-keys_named f names)
 
--- the results stand by identifier
+-- the results are in order of identifier
 pub round_outcomes-entries-round_results : (office : Office)
     → maps.entries (round_results office)
     ≡ map (λ person. (person, record { room = result_of office person })) (participants office)
@@ -89,7 +89,7 @@ round_outcomes-entries-round_results office =
     (sym (round_outcomes-keys_named (λ person. record { room = result_of office person })
     (participants office))) (round_problems-participants_ascend office))
 
--- what the line of askers gives, by name
+-- what the run gives, by name
 pub round_outcomes-results-same : (office : Office) (results : TextMap Assigned) (people rooms : List Text)
     (given : List (Option ℕ)) → IsMarket (round_market office)
     → people ≡ round_people office → rooms ≡ round_rooms office → given ≡ ttc (round_market office)
@@ -131,7 +131,7 @@ round_outcomes-results-same office results people rooms given ok is_people is_ro
 
 -- ---- what does not change the round
 
--- the one office with what the round is made of from the other
+-- one office, with the entries that determine the round taken from the other
 round_outcomes-blend : (one other : Office) → HaveSameEntries one other
     → one ≡ record one {
       rooms = other.rooms;

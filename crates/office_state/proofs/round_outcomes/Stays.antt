@@ -1,4 +1,4 @@
--- The round's results do not hang on the phase and on what is recorded of results.
+-- The round's results do not depend on the phase and on the recorded results.
 use Rattle.std.proofs.Common.{◌≡◌, refl}
 use Rattle.room_types.specs.Texts.{TextMap}
 use Rattle.room_types.specs.declared.phase.Phase.{Phase}

@@ -1,4 +1,4 @@
--- What top trading cycles gives in a lawful office is well traded, and so are the recorded results.
+-- What top trading cycles give in a lawful office is well traded, and so are the recorded results.
 use Rattle.std.proofs.Common.{◌≡◌, ◌≤◌, true, Option, sym, subst, ◌∙◌}
 use Rattle.room_types.specs.Texts.{Text}
 use Rattle.office_state.specs.Office.Invariants.{IsLawful}
@@ -25,7 +25,7 @@ round_outcomes-traded office l = record {
   apart = round_outcomes-apart office l.register (round_problems-lawful-IsMarket office l);
 }
 
--- so is whatever gives each participant the same
+-- so is everything that gives each participant the same
 round_outcomes-traded_too : (office : Office) (f g : Text → Option Text) → IsWellTraded office f
     → ((p : Text) → is_participant office p ≡ true → g p ≡ f p) → IsWellTraded office g
 round_outcomes-traded_too office f g w same = record {

@@ -10,7 +10,7 @@ use Rattle.office_state.specs.Office.{is_over}
 use Rattle.office_state.specs.Office.Phases.{is_idle}
 use Rattle.office_state.specs.declared.office.Office.{Office}
 
--- a round is over, by whether none is under way
+-- which rounds are over, by whether one is under way
 abbrev over_by : Bool → ℕ → ℕ → Bool
 over_by idle number round =
     nat_le 1 round && nat_le round number && not (not idle && eqb round number)
@@ -26,7 +26,7 @@ round_phases-idle_over : (b c d : Bool) → (b && not (not d && c)) ≡ true →
 round_phases-idle_over true c d h = refl
 round_phases-idle_over false c d h = cc
 
--- between rounds all are over
+-- between rounds, all are over
 pub round_phases-over-idle : (office : Office) (round : ℕ) → is_over office round ≡ true
     → is_over (record office { phase = Idle }) round ≡ true
 round_phases-over-idle office round o =

@@ -1,4 +1,4 @@
--- The laws of words, results and moves, where a command does not touch them.
+-- The invariants on words, results and moves, after a command that does not touch them.
 use Rattle.std.proofs.Common.{◌≡◌, ℕ, true, false, refl, ap, ◌∙◌, sym}
 use Rattle.std.specs.FinMap as map
 use Rattle.room_types.specs.Texts.{TextMap}
@@ -159,7 +159,7 @@ pub round_phases-results_undrawn : (office : Office) → has_results office.phas
     → office.results ≡ map.empty → AreResults office
 round_phases-results_undrawn office before none = record { none = λ _. none; given = λ h. absurd (cc) }
 
--- the moves stay, and no round that is over comes back
+-- the moves stay, and no round that is over starts again
 pub round_phases-moves_stay : (old new : Office) → new.moves ≡ old.moves
     → ((round : ℕ) → is_over old round ≡ true → is_over new round ≡ true) → AreMoves old
     → AreMoves new

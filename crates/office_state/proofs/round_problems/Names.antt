@@ -28,7 +28,7 @@ use Rattle.office_state.proofs.offices.Truths.{offices-text_eq-same}
 pub round_problems-same-text_eq : (a b : Text) → text_eq a b ≡ true → a ≡ b
 round_problems-same-text_eq a b e = same_text a b (sym e)
 
--- the two tests on texts are one
+-- the two tests on texts agree
 pub round_problems-text_eq-tied : (a b : Text) → text_eq a b ≡ eq_by_cmp text_cmp b a
 round_problems-text_eq-tied a b =
     elim (maps-text_cases b a) as (λ _. text_eq a b ≡ eq_by_cmp text_cmp b a) [
@@ -62,7 +62,7 @@ module _ {X : Type 0} (p : X → Bool) where
             ≡ option_map (λ k. 1 + k) (cond b (Some n) None)) [ true ↦ refl | false ↦ refl ]
       ]
 
--- a name of its own after the others has the next number
+-- a new name after the others has the next number
 pub round_problems-number_in-push_fresh : (names : List Text) (name q : Text) → number_in names name ≡ None
     → number_in (names ++ name ∷ []) q
     ≡ cond (eq_by_cmp text_cmp q name) (Some (length names)) (number_in names q)
@@ -87,7 +87,7 @@ round_problems-number_in-push_fresh names name q fresh =
           ∙ sym (ap (λ b. cond b (Some (length names)) (number_in names q)) other)
     ]
 
--- a name that stood before changes no number
+-- a repeated name changes no number
 pub round_problems-number_in-push_known : (names : List Text) (name q : Text) (k : ℕ)
     → number_in names name ≡ Some k → number_in (names ++ name ∷ []) q ≡ number_in names q
 round_problems-number_in-push_known names name q k known =
@@ -117,7 +117,7 @@ pub round_problems-number_in-name : (names : List Text) (q : Text) (n : ℕ) (d 
 round_problems-number_in-name names q n d h =
     round_problems-same-text_eq (get_or names n d) q (position-Some (λ other. text_eq other q) names n d h).1
 
--- the name at a place has its number, where all names differ
+-- the name at a place has that number, if all names differ
 pub round_problems-number_in-at : (names : List Text) (n : ℕ) (d : Text) → AllPairs ◌≢◌ names → n < length names
     → number_in names (get_or names n d) ≡ Some n
 round_problems-number_in-at names n d differ_all within =
@@ -167,7 +167,7 @@ round_problems-numbers-known m names i name within at told known q =
           ∙ ap (λ ns. number_in ns q) (sym (round_problems-one_more names i name within at))
     ] refl known
 
--- a name does not stand before its place, where all names differ
+-- a name does not occur before its place, if all names differ
 round_problems-number_in-later : (names : List Text) (i : ℕ) (name : Text) → AllPairs ◌≢◌ names → i < length names
     → name ≡ get_or names i name → number_in (take i names) name ≡ None
 round_problems-number_in-later names i name apart within at =
@@ -181,7 +181,7 @@ round_problems-number_in-later names i name apart within at =
           ∙ at))
     ] refl
 
--- one more name in a table of what its number gives
+-- one more name in a table of what numbers give
 pub round_problems-given-more : {A : Type 0} (g : ℕ → A) (m : TextMap A) (names : List Text) (i : ℕ) (name : Text)
     (v : A) → AllPairs ◌≢◌ names → i < length names → name ≡ get_or names i name → v ≡ g i
     → ((q : Text) → map.get m q ≡ option_map g (number_in (take i names) q))
@@ -203,7 +203,7 @@ round_problems-given-more g m names i name v apart within at is told q =
     (round_problems-number_in-later names i name apart within at)))
     ∙ ap (λ ns. option_map g (number_in ns q)) (sym (round_problems-one_more names i name within at))
 
--- ---- what stands before the own room
+-- ---- the part of a list before the own room
 
 pub round_problems-before_first-Some : {X : Type 0} (p : X → Bool) (xs : List X) (i : ℕ) → position p xs ≡ Some i
     → before_first p xs ≡ take i xs

@@ -1,4 +1,4 @@
--- Who takes part: each person once, also in the drawn order.
+-- The participants: each person once, also in the drawn order.
 use Rattle.std.proofs.Common.{◌≡◌, ◌≢◌, ℕ, ◌+◌, Bool, true, false, cond, not, ◌&&◌, ◌||◌, List, []}
 use Rattle.std.proofs.Common.{◌∷◌, length, get_or, Option, Some, None, map, refl, sym, ap, ◌∙◌}
 use Rattle.std.proofs.Common.{subst, T}
@@ -45,7 +45,7 @@ module _ {X : Type 0} (test : Text × X → Bool) where
         | false ↦ round_problems-below_kept x es (maps-second_holds _ _ below)
       ]
 
-  -- the keys of entries ascend, also of some of them
+  -- the keys of entries ascend, and so do those of some of them
   round_problems-keys_ascend : (es : List (Text × X)) → T (is_sorted text_cmp es)
       → IsStrictlySortedBy text_cmp (map (λ e. e.0) (filter test es))
   unfolding IsStrictlySortedBy
@@ -118,7 +118,7 @@ round_problems-people_are_participants office =
     (subst (λ names. IsPermutation (map (λ (lot : Lot). lot.0) (lots_of office)) names)
     (sym drawn.identifiers) moved)
 
--- there are as many in the drawn order as there are lots
+-- the drawn order has as many people as there are tickets
 pub round_problems_as_many_as_lots : (office : Office) → length (round_people office) ≡ length (lots_of office)
 round_problems_as_many_as_lots office =
     length_permutation (participants office) (round_people office) (round_problems-people_are_participants office)
@@ -138,7 +138,7 @@ round_problems-both_known true (Some x) = refl
 round_problems-both_known false None = refl
 round_problems-both_known false (Some x) = refl
 
--- who is among the known people that pass a test
+-- the people among those known who pass a test
 round_problems-passing_hold : (office : Office) (stays : Text → Bool) (person : Text)
     → list_any (eq_by_cmp text_cmp person) (map (λ e. e.0) (filter (λ e. stays e.0) (maps.entries office.people)))
     ≡ (knows_person office person && stays person)
@@ -165,7 +165,7 @@ round_problems-people_hold office person =
     sym (list_any-IsPermutation (eq_by_cmp text_cmp person) (participants office)
     (round_people office) (round_problems-people_are_participants office)) ∙ round_problems-participants_hold office person
 
--- a name has a number where it is one of the names
+-- a name has a number if and only if it is one of the names
 pub round_problems-is_some-number_in : (names : List Text) (q : Text)
     → is_some (number_in names q) ≡ list_any (eq_by_cmp text_cmp q) names
 round_problems-is_some-number_in [] q = refl
@@ -182,7 +182,7 @@ round_problems-is_some-number_in (name ∷ names) q =
           ∙ round_problems-is_some-number_in names q
     ]
 
--- a person takes part where the person has a number
+-- a person takes part if and only if the person has a number
 pub round_problems-participant_number : (office : Office) (person : Text)
     → is_some (number_in (round_people office) person) ≡ is_participant office person
 round_problems-participant_number office person =
@@ -205,7 +205,7 @@ round_problems-ungraded_lots grade word none [] = refl
 round_problems-ungraded_lots grade word none (p ∷ people) =
     λ i. (p, none p i, word p) ∷ round_problems-ungraded_lots grade word none people i
 
--- the participants of a round without grades stand by word and identifier alone
+-- the participants of a round without grades are in order of word and identifier alone
 pub round_problems-people_by_word : (office : Office) → office.grades ≡ maps.empty → round_people office ≡ people_by_word office
 unfolding round_people
 round_problems-people_by_word office none =

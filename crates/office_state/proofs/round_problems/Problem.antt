@@ -1,4 +1,4 @@
--- The problem of a round is well formed where homes differ.
+-- The problem of a round is well formed if homes differ.
 use Rattle.std.proofs.Common.{◌≡◌, ◌≢◌, ℕ, suc, ◌+◌, ◌<◌, Bool, true, false, cond, not, List, []}
 use Rattle.std.proofs.Common.{◌∷◌, ◌++◌, length, take, get_or, Option, Some, None, map, refl, sym}
 use Rattle.std.proofs.Common.{ap, ◌∙◌, subst, arith, ◌||◌}
@@ -68,7 +68,7 @@ round_problems-fails_before_first p (x ∷ xs) =
       | false ↦ λ e. All-cons (λ y. p y ≡ false) x (before_first p xs) e (round_problems-fails_before_first p xs)
     ] refl)
 
--- what holds of all numbers that codes with P have
+-- what holds of the numbers of all codes with P
 round_problems-All-filter_map : {X Y : Type 0} (f : X → Option Y) (P : X → Type 0) (Q : Y → Type 0)
     → ((x : X) (y : Y) → P x → f x ≡ Some y → Q y) → (xs : List X) → All P xs
     → All Q (filter_map f xs)
@@ -130,7 +130,7 @@ round_problems-codes_differ codes none = (round_problems-unrepeated [] codes non
 -- ---- numbers of a list
 
 module _ (names : List Text) where
-  -- two names of one number are one
+  -- two names with one number are one
   round_problems-same_number : (a b : Text) (n : ℕ) → number_in names a ≡ Some n → number_in names b ≡ Some n
       → a ≡ b
   round_problems-same_number a b n ha hb = sym (round_problems-number_in-name names a n [] ha) ∙ round_problems-number_in-name names b n [] hb
@@ -308,7 +308,7 @@ module _ (office : Office) where
             (ap (round_home office) (sym name) ∙ sym (round_problems-market_home n within) ∙ lives),
       )
 
--- the market that is built is that of the round
+-- the market that the code builds is that of the round
 pub round_problems-market-same : (office : Office) (people_count room_count : ℕ)
     (people people_1 people_2 rooms rooms_1 : List Text) (homes : List (Option ℕ))
     (lists : List (List ℕ)) (number : Text → Option ℕ)
@@ -338,7 +338,7 @@ round_problems-market-same office people_count room_count people people_1 people
     (before_own (home_of office p) (choices_of office p))) (is_people_2 i)) in
     λ i. record { people = as_people i; rooms = as_rooms i; homes = as_homes i; lists = as_lists i }
 
--- the list that is built counts as it does in the round
+-- the list that the code builds is the one that counts in the round
 pub round_problems-list-same : (office : Office) (person : Text) (codes codes_1 : List Text) (home_1 : Option Text)
     (number : Text → Option ℕ)
     → ((room : Text) → number room ≡ number_in (round_rooms office) room)
@@ -348,9 +348,9 @@ round_problems-list-same office person codes codes_1 home_1 number told is_home 
     let same : number ≡ number_in (round_rooms office) = λ i room. told room i in
     λ i. filter_map (same i) (before_own (is_home i) (is_codes i))
 
--- ---- refusals
+-- ---- faults
 
--- a market that is well formed is refused only for memory
+-- the only fault of a well-formed market is out of memory
 pub round_problems-sole_fault : (m : Market) → IsMarket m → (fault : TradeFault) → IsFirstFault m fault
     → fault ≡ OutOfMemory
 round_problems-sole_fault m ok BadIndex broken = absurd (broken ok.indexed)
@@ -359,7 +359,7 @@ round_problems-sole_fault m ok ListRepeats broken = absurd (broken.2 ok.lists_st
 round_problems-sole_fault m ok OwnRoomListed broken = absurd (broken.3 ok.own_unlisted)
 round_problems-sole_fault m ok OutOfMemory broken = refl
 
--- and so is a list that may be handed in
+-- and so it is for a list that may be handed in
 pub round_problems-sole_list_fault : (m : Market) (p : ℕ) (l : List ℕ) → IsListFor m p l → (fault : TradeFault)
     → IsFirstListFault m p l fault → fault ≡ OutOfMemory
 round_problems-sole_list_fault m p l ok BadIndex broken = absurd (broken ok.0)

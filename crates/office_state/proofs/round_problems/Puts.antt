@@ -1,4 +1,4 @@
--- A map put together from its entries, one by one in ascending order.
+-- A map built from its entries, one by one in ascending order.
 use Rattle.std.proofs.Common.{◌≡◌, true, false, cond, List, [], ◌∷◌, Some, None, refl, sym}
 use Rattle.std.proofs.Common.{ap, ◌∙◌, T}
 use Rattle.std.specs.declared.cmp.Ordering.{Ordering}
@@ -47,7 +47,7 @@ round_problems-get-with_all (e ∷ es) m q sorted =
       | false ↦ λ t. refl
     ] refl
 
--- the entries of a map, put one by one into the empty map, are the map
+-- the entries of a map, inserted one by one into the empty map, give the map
 pub round_problems-with_all-entries : {X : Type 0} (m : TextMap X) → with_all maps.empty (maps.entries m) ≡ m
 round_problems-with_all-entries m =
     same_map nat_list_cmp_total maps-exact_texts (with_all maps.empty (maps.entries m)) m (λ q.

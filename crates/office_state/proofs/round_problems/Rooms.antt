@@ -1,5 +1,5 @@
--- The rooms that participants get: open ones, not those of people who have withdrawn, and none of
--- them twice.
+-- The rooms that participants get: they are not shut, are not the home of anybody who has withdrawn, and none
+-- is given twice.
 use Rattle.std.proofs.Common.{◌≡◌, ℕ, ◌+◌, ◌<◌, Bool, true, false, not, ◌&&◌, ◌||◌, List, []}
 use Rattle.std.proofs.Common.{◌∷◌, length, get_or, map as map_list, Some, None, cond, refl, ap, ◌∙◌}
 use Rattle.std.proofs.Common.{sym, subst, inl, inr, arith, T}
@@ -37,7 +37,7 @@ use Rattle.office_state.proofs.round_problems.Problem.{round_problems-market_peo
 use Rattle.office_state.proofs.offices.Truths.{offices-text_eq-same}
 use Rattle.office_state.proofs.round_outcomes.Ranks.{round_outcomes-result-numbered, round_outcomes-within}
 
--- each entry is what is found at its key
+-- each entry is what its key gives
 pub round_problems-found_each : {X : Type 0} (P : Text → X → Type 0) (es : List (Text × X))
     → T (is_sorted text_cmp es) → ((q : Text) (v : X) → find text_cmp q es ≡ Some v → P q v)
     → All (λ e. P e.0 e.1) es
@@ -78,7 +78,7 @@ round_problems-rooms_open office =
     (kept k d b ∙ ap (λ shut. Some shut) parts.0, parts.1))
 
 module _ {X : Type 0} (test : Text × X → Bool) where
-  -- what is found and passes is among those that pass
+  -- an entry that is found and passes is among those that pass
   round_problems-found_passes : (es : List (Text × X)) (q : Text) (v : X) → find text_cmp q es ≡ Some v
       → test (q, v) ≡ true → list_any (eq_by_cmp text_cmp q) (map_list (λ e. e.0) (filter test es))
       ≡ true
@@ -178,7 +178,7 @@ round_problems-home_numbered office person room l part lives =
     (sym (get-entries office.rooms room) ∙ l.homes_open person room lives)
     (ap (λ b. not false && not b) free)
 
--- how a participant comes by a room
+-- how a participant gets a room
 pub record IsGiven (office : Office) (person room : Text) : Type 0 where
   pub person_number : ℕ
   pub room_number : ℕ

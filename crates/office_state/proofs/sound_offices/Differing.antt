@@ -1,4 +1,4 @@
--- People that differ in what they have, seen entry by entry and key by key.
+-- People who differ in what they have, checked entry by entry and key by key.
 use Rattle.std.proofs.Common.{◌≡◌, Bool, true, false, List, [], ◌∷◌, Option, Some, None, cond, refl, ap, ◌∙◌, sym, subst, inl, inr, T}
 use Rattle.std.specs.Prelude.{unwrap_or}
 use Rattle.std.specs.Bool.{Decides}
@@ -20,11 +20,11 @@ use Rattle.office_state.proofs.offices.People.{offices-found_above}
 use Rattle.office_state.proofs.offices.Truths.{offices-then_some}
 
 module _ (which : Person → Option Text) where
-  -- nobody of these has this
+  -- none of these has this
   abbrev pub Without : Text → List (Text × Person) → Type 0
   Without text es = AllByRecursion (λ e. which e.1 ≡ Some text → ⊥) es
 
-  -- nobody of these has what was seen
+  -- none of these has what was seen
   abbrev pub Unseen : TextMap (Unit {0}) → List (Text × Person) → Type 0
   Unseen seen es = AllByRecursion (λ e. (text : Text) → which e.1 ≡ Some text → map.contains_key seen text ≡ false) es
 
@@ -88,7 +88,7 @@ module _ (which : Person → Option Text) where
             ∙ sound_offices-differ-told (map.insert seen text tt) es d.1 (sound_offices-still_unseen seen text es (d.0 text some) u.1)
       ] refl
 
-  -- two who have the same are one
+  -- two people who have the same are one
   sound_offices-one_of : (es : List (Text × Person)) → Differ es → (p q text : Text) (v w : Person) → find text_cmp p es ≡ Some v → find text_cmp q es ≡ Some w → which v ≡ Some text → which w ≡ Some text → p ≡ q
   sound_offices-one_of [] d p q text v w fp fq hp hq = absurd (cc)
   sound_offices-one_of (e ∷ es) d p q text v w fp fq hp hq =

@@ -1,4 +1,4 @@
--- The laws of grades, and of those who leave the college, by the tests that show them.
+-- The invariants on grades and on those who leave the college, by the tests that decide them.
 use Rattle.std.proofs.Common.{◌≡◌, ℕ, Bool, true, false, not, Some, refl, ap, ◌∙◌, sym, ne_eqb}
 use Rattle.std.specs.Prelude.{eqb}
 use Rattle.std.specs.Bool.{Decides}
@@ -45,7 +45,7 @@ sound_offices-grades-decide people grades = (
       both_true (l.graded k (ap is_some f)) (sound_offices-at_no_zero g (λ nothing. l.none_zero k (f ∙ ap (λ n. Some n) nothing)))),
 )
 
--- while a round is under way, each who leaves is known and has not withdrawn
+-- while a round is under way, each person who leaves is known and has not withdrawn
 pub sound_offices-leavers-decide : (phase : Phase) (people : TextMap Person) (withdrawn going : TextMap (Unit {0})) → is_idle phase ≡ false
     → Decides (list_all (λ (e : Text × Unit {0}). is_leaver people withdrawn e.0) (map.entries going)) (AreLeavers phase people withdrawn going)
 sound_offices-leavers-decide phase people withdrawn going busy = (

@@ -1,4 +1,4 @@
--- Each law, by the tests that show it.
+-- Each invariant, by the tests that decide it.
 use Rattle.std.proofs.Common.{◌≡◌, ℕ, Bool, true, false, not, ◌||◌, ◌&&◌, ◌≤◌, ◌<◌, List, [], ◌∷◌, length, Option, Some, None, Result, Ok, Err, OnErr, refl, ap, ◌∙◌, sym, subst, inl, inr}
 use Rattle.std.specs.Prelude.{nat_le, eqb}
 use Rattle.std.specs.Bool.{Decides}
@@ -45,12 +45,12 @@ sound_offices-never f = (λ e. absurd (cc), λ p. absurd (f p))
 pub sound_offices-as_well : {P Q : Type 0} (b : Bool) → (P → Q) → (Q → P) → Decides b P → Decides b Q
 sound_offices-as_well b f g d = (λ e. f (d.0 e), λ q. d.1 (g q))
 
--- what is so anyway is so where a call refuses
+-- what always holds also holds if a call fails
 pub sound_offices-on_err : {T E Q : Type 0} (r : Result T E) → Q → OnErr r Q
 sound_offices-on_err (Ok x) q = tt
 sound_offices-on_err (Err y) q = q
 
--- a map has no entries where it is the empty one
+-- a map has no entries if it is the empty one
 pub sound_offices-empty-decides : {X : Type 0} (m : TextMap X) → Decides (eqb (map.len m) 0) (m ≡ map.empty)
 sound_offices-empty-decides {X} m = (
   λ e. elim (eqb_tells (map.len m) 0) as (λ _. m ≡ map.empty) [
@@ -91,7 +91,7 @@ module _ (rooms : TextMap Bool) (people : TextMap Person) where
         ] refl),
   )
 
-  -- keys and homes are noted once these tests pass
+  -- once these tests pass, keys and homes are compared
   pub sound_offices-noted : map.len rooms ≤ room_limit → map.len people ≤ people_limit → list_all (λ (e : Text × Person). is_home_open rooms e.1) (map.entries people) ≡ true → 0 < length (map.entries people) → AreNoted rooms people
   sound_offices-noted few_rooms few_people unshut somebody = record {
     somebody = subst (λ n. 0 < n) (sym (len-entries people)) somebody;
@@ -271,7 +271,7 @@ module _ (office : Office) where
         (maps-keys_all nat_list_cmp_total maps-exact_texts (λ k v. is_kept_move v) kept.by_person (λ p moved m. sound_offices-kept_move moved (h.arrived round p moved (ap (λ o. map.get (kept_moves o) p) f ∙ m))))),
   )
 
--- kept lists
+-- imported lists
 module _ (lists : TextMap KeptList) where
   pub record AreShort : Type 0 where
     pub short : (label : Text) (kept : KeptList) → map.get lists label ≡ Some kept → length kept.bytes ≤ byte_limit

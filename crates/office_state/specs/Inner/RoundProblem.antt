@@ -1,4 +1,4 @@
--- What the code keeps of a round's problem, for its inner contracts.
+-- The round's problem, as the code builds it.
 use Rattle.std.specs.Prelude.{◌≡◌}
 use Rattle.std.specs.FinMap as map
 use Rattle.room_types.specs.Texts.{Text}
@@ -6,7 +6,7 @@ use Rattle.office_state.specs.Round.{round_people, round_rooms, round_market, nu
 use Rattle.office_state.specs.declared.office.Office.{Office}
 use Rattle.office_state.specs.declared.round.problem.RoundProblem.{RoundProblem}
 
--- the round's problem of the office, and the names in it
+-- it is the problem of the office's round, with its names
 pub record IsProblemOf (office : Office) (round : RoundProblem) : Type 0 where
   pub people : round.people.items ≡ round_people office
   pub rooms : round.rooms.items ≡ round_rooms office

@@ -1,4 +1,4 @@
--- The tests that show whether an office is lawful.
+-- The tests that decide whether an office is lawful.
 use Rattle.std.specs.Prelude.{ℕ, Bool, true, false, not, ◌&&◌, ◌||◌, eqb, List, [], ◌∷◌, length, nat_le}
 use Rattle.std.specs.Prelude.{Option, None, Some, if◌then◌else◌}
 use Rattle.std.specs.List.{list_all}
@@ -19,7 +19,7 @@ use Rattle.office_state.specs.declared.office.moves.RoundMoves.{RoundMoves}
 use Rattle.office_state.specs.declared.office.Assigned.{Assigned}
 use Rattle.office_state.specs.declared.office.person.Person.{Person}
 
--- no two of these people have the same, and none of them has what was seen
+-- no two of these people have the same, and none of them has what was seen before
 abbrev pub differ_from : (Person → Option Text) → TextMap (Unit {0}) → List (Text × Person) → Bool
 differ_from which seen [] = true
 differ_from which seen (e ∷ es) = elim (which e.1) [
@@ -41,12 +41,12 @@ is_home_open rooms person = elim person.home [
   | Some home ↦ is_unshut (map.get rooms home)
 ]
 
--- whether it is a list of choices: not too many, and none twice
+-- whether it is a valid list of choices: at most the limit, and none twice
 abbrev pub is_choices : List Text → Bool
 is_choices codes =
     nat_le (length codes) CHOICE_LIMIT && not (is_some (first_repeated [] codes))
 
--- whether a list may be recorded: it is one of choices, is not empty, and its rooms are known
+-- whether a list may be recorded: it is a valid list of choices, is not empty, and its rooms are known
 abbrev pub is_recorded_list : TextMap Bool → List Text → Bool
 is_recorded_list rooms codes =
     is_choices codes
@@ -59,7 +59,7 @@ is_given results person found = elim (map.get results person) [
   | Some given ↦ is_same_text given.room found.room
 ]
 
--- whether it is the wave of those who leave the college
+-- whether it is the wave of those who leave the college, wave 0
 abbrev pub is_wave_0 : Wave → Bool
 is_wave_0 Swap = false
 is_wave_0 (Nth number) = eqb number 0
@@ -74,15 +74,15 @@ is_kept_round kept =
     not (eqb (map.len kept.by_person) 0)
     && list_all (λ (e : Text × Moved). is_kept_move e.1) (map.entries kept.by_person)
 
--- whether a grade of this person may be recorded: the person is known, and it is not 0
+-- whether this grade of this person may be recorded: the person is known, and the grade is not 0
 abbrev pub is_recorded_grade : TextMap Person → Text → ℕ → Bool
 is_recorded_grade people person grade = map.contains_key people person && not (eqb grade 0)
 
--- whether this person may leave the college: is known, and has not withdrawn
+-- whether this person may leave the college: the person is known, and has not withdrawn
 abbrev pub is_leaver : TextMap Person → TextMap (Unit {0}) → Text → Bool
 is_leaver people withdrawn person =
     map.contains_key people person && not (map.contains_key withdrawn person)
 
--- whether a kept list is no longer than a list may be
+-- whether an imported list is within the limits of bytes and records
 abbrev pub is_short : KeptList → Bool
 is_short kept = nat_le (length kept.bytes) byte_limit && nat_le kept.count record_limit

@@ -1,4 +1,4 @@
--- The laws of the office: what holds of it between commands.
+-- The invariants of the office: what holds before and after each command.
 use Rattle.std.specs.Prelude.{◌≡◌, ℕ, ◌≤◌, Bool, true, false, ◌&&◌, ◌||◌, not, List, [], Option, None, Some, length}
 use Rattle.std.specs.List.{All}
 use Rattle.std.specs.FinMap as map
@@ -19,7 +19,7 @@ use Rattle.office_state.specs.declared.office.moves.RoundMoves.{RoundMoves}
 use Rattle.office_state.specs.declared.office.Office.{Office}
 use Rattle.office_state.specs.declared.office.person.Person.{Person}
 
--- no two people have the same
+-- no two people have the same of what `which` gives, a home or a key
 abbrev pub Unshared : (Person → Option Text) → TextMap Person → Type 0
 Unshared which people =
     (p q text : Text) → had_by which people p ≡ Some text → had_by which people q ≡ Some text
@@ -34,7 +34,8 @@ abbrev pub HomesOpen : TextMap Bool → TextMap Person → Type 0
 HomesOpen rooms people = (p room : Text) → had_by (λ p. p.home) people p ≡ Some room
     → map.get rooms room ≡ Some false
 
--- rooms and people: keys differ, homes differ, and each home is a known room that is not shut
+-- rooms and people: keys differ, homes differ, each home is a known room that is not shut, and the numbers of
+-- both are within the limits
 pub record IsRegister (rooms : TextMap Bool) (people : TextMap Person) : Type 0 where
   pub keys : Unshared (λ p. Some p.key) people
   pub homes : Unshared (λ p. p.home) people
@@ -42,8 +43,8 @@ pub record IsRegister (rooms : TextMap Bool) (people : TextMap Person) : Type 0 
   pub few_rooms : map.len rooms ≤ room_limit
   pub few_people : map.len people ≤ people_limit
 
--- lists and withdrawals: of known people alone, and lists of known rooms, at most forty and none
--- twice, that are not empty
+-- lists and withdrawals: people with a list or a withdrawal are known, and each list is of at most forty
+-- known rooms, none twice, and is not empty
 pub record AreLists (rooms : TextMap Bool) (people : TextMap Person) (choices : TextMap (List Text))
     (withdrawn : TextMap (Unit {0})) : Type 0 where
   pub choosers : (p : Text) → map.contains_key choices p ≡ true → map.contains_key people p ≡ true
@@ -54,7 +55,8 @@ pub record AreLists (rooms : TextMap Bool) (people : TextMap Person) (choices : 
   pub withdrawers : (p : Text) → map.contains_key withdrawn p ≡ true
       → map.contains_key people p ≡ true
 
--- the round: its number, and nothing that is left over between rounds
+-- the round: its number is within the limit, and at least 1 while a round is under way; between rounds there
+-- are no lists and no withdrawals
 pub record IsRound (number : ℕ) (phase : Phase) (choices : TextMap (List Text))
     (withdrawn : TextMap (Unit {0})) : Type 0 where
   pub few_rounds : number ≤ round_limit
@@ -62,19 +64,19 @@ pub record IsRound (number : ℕ) (phase : Phase) (choices : TextMap (List Text)
   pub idle_choices : is_idle phase ≡ true → choices ≡ map.empty
   pub idle_withdrawn : is_idle phase ≡ true → withdrawn ≡ map.empty
 
--- grades: of known people alone, and grade 0 is not recorded
+-- grades: people with a grade are known, and grade 0 is not recorded
 pub record AreGrades (people : TextMap Person) (grades : TextMap ℕ) : Type 0 where
   pub graded : (p : Text) → map.contains_key grades p ≡ true → map.contains_key people p ≡ true
   pub none_zero : (p : Text) → map.get grades p ≡ Some 0 → ⊥
 
--- who leaves the college: known people, none of whom has withdrawn, and nobody between rounds
+-- those who leave the college: they are known and have not withdrawn, and there are none between rounds
 pub record AreLeavers (phase : Phase) (people : TextMap Person) (withdrawn : TextMap (Unit {0}))
     (going : TextMap (Unit {0})) : Type 0 where
   pub leavers : (p : Text) → map.contains_key going p ≡ true → map.contains_key people p ≡ true
   pub apart : (p : Text) → map.contains_key going p ≡ true → map.contains_key withdrawn p ≡ false
   pub idle_going : is_idle phase ≡ true → going ≡ map.empty
 
--- words: from the draw on one for each participant, and none before
+-- words: from the draw on, one for each participant, and before it none
 pub record AreWords (phase : Phase) (people : TextMap Person) (withdrawn : TextMap (Unit {0}))
     (going : TextMap (Unit {0})) (words : TextMap ℕ) : Type 0 where
   pub none : has_words phase ≡ false → words ≡ map.empty
@@ -82,14 +84,13 @@ pub record AreWords (phase : Phase) (people : TextMap Person) (withdrawn : TextM
       → map.contains_key words p
       ≡ (map.contains_key people p && not (map.contains_key withdrawn p || map.contains_key going p))
 
--- results: none before the run, and from the run on those of top trading cycles for the round's
--- problem
+-- results: none before the run, and from the run on those of top trading cycles for the round's problem
 pub record AreResults (office : Office) : Type 0 where
   pub none : has_results office.phase ≡ false → office.results ≡ map.empty
   pub given : has_results office.phase ≡ true → office.results ≡ round_results office
 
--- moves: of rounds that are over, and those without a new room in wave 0. A round without moves is
--- not recorded.
+-- moves: their rounds are over, and a move without a new room has wave 0. A round without moves is not
+-- recorded.
 pub record AreMoves (office : Office) : Type 0 where
   pub over : (round : ℕ) → map.contains_key office.moves round ≡ true → is_over office round ≡ true
   pub none_empty : (round : ℕ) (kept : RoundMoves) → map.get office.moves round ≡ Some kept
@@ -98,7 +99,7 @@ pub record AreMoves (office : Office) : Type 0 where
       → map.get (moves_of office.moves round) p ≡ Some moved
       → moved.to ≡ None → moved.wave ≡ Nth 0
 
--- kept lists: not too many, and none longer, or counted as more records, than a list may have
+-- imported lists: the number of them, and the bytes and records of each, are within the limits
 pub record AreKept (lists : TextMap KeptList) : Type 0 where
   pub few : map.len lists ≤ label_limit
   pub short : (label : Text) (kept : KeptList) → map.get lists label ≡ Some kept
@@ -106,7 +107,7 @@ pub record AreKept (lists : TextMap KeptList) : Type 0 where
   pub counted : (label : Text) (kept : KeptList) → map.get lists label ≡ Some kept
       → kept.count ≤ record_limit
 
--- all laws: what holds of an office before and after each command
+-- all invariants: what holds of an office before and after each command
 pub record IsLawful (office : Office) : Type 0 where
   pub register : IsRegister office.rooms office.people
   pub lists : AreLists office.rooms office.people office.choices office.withdrawn

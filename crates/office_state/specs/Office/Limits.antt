@@ -1,4 +1,4 @@
--- How much an office may hold.
+-- The limits of an office.
 use Rattle.std.specs.Prelude.{ℕ}
 
 abbrev pub room_limit : ℕ
@@ -7,14 +7,14 @@ room_limit = 2000
 abbrev pub people_limit : ℕ
 people_limit = 2000
 
--- how many labels there may be
+-- the maximum number of labels
 abbrev pub label_limit : ℕ
 label_limit = 200
 
--- how many bytes a list may have
+-- the maximum number of bytes of a list
 abbrev pub byte_limit : ℕ
 byte_limit = 262144
 
--- the number of the last round
+-- the greatest number of a round
 abbrev pub round_limit : ℕ
 round_limit = 9999

@@ -9,7 +9,7 @@ use Rattle.room_types.specs.declared.moves.Move.{Move}
 use Rattle.office_state.specs.declared.office.moves.Moved.{Moved}
 use Rattle.office_state.specs.declared.office.moves.RoundMoves.{RoundMoves}
 
--- values by the number of a round
+-- finite maps from numbers of rounds
 abbrev pub RoundMap : Type 0 → Type 0
 RoundMap X = FinMap nat_cmp X
 
@@ -18,7 +18,7 @@ abbrev pub moves_of : RoundMap RoundMoves → ℕ → TextMap Moved
 moves_of moves round =
     unwrap_or (option_map (λ (kept : RoundMoves). kept.by_person) (map.get moves round)) map.empty
 
--- one more move
+-- the moves with one more move
 abbrev pub with_move : RoundMap RoundMoves → Move → RoundMap RoundMoves
 with_move moves move =
     map.insert moves move.round

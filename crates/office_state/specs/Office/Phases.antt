@@ -9,7 +9,7 @@ abbrev pub is_idle : Phase → Bool
 is_idle Idle = true
 is_idle _ = false
 
--- people may list rooms, or withdraw
+-- people may list rooms and withdraw
 abbrev pub is_open : Phase → Bool
 is_open Opened = true
 is_open _ = false
@@ -29,12 +29,12 @@ abbrev pub is_ran : Phase → Bool
 is_ran Ran = true
 is_ran _ = false
 
--- each participant sees the result
+-- each participant may see the result
 abbrev pub is_published : Phase → Bool
 is_published Published = true
 is_published _ = false
 
--- rooms and people may be added, and rooms be shut or reopened
+-- rooms and people may be added, and rooms shut or reopened
 abbrev pub is_preparing : Phase → Bool
 is_preparing phase = is_idle phase || is_open phase
 
@@ -56,7 +56,7 @@ has_words Drawn = true
 has_words Ran = true
 has_words Published = true
 
--- the results are there
+-- there are results
 abbrev pub has_results : Phase → Bool
 has_results Ran = true
 has_results Published = true

@@ -1,4 +1,4 @@
--- What holds of the round's problem and of its results.
+-- Properties of the round's problem and of its results.
 use Rattle.std.specs.Prelude.{◌≡◌, ◌≤◌, Bool, true, List, length, Option, Some, is_some, map as map_list}
 use Rattle.std.specs.Option.{option_and_then}
 use Rattle.std.specs.FinMap as map
@@ -13,7 +13,7 @@ use Rattle.office_state.specs.Round.{round_market, round_results, round_rank, nu
 use Rattle.office_state.specs.declared.office.Assigned.{Assigned}
 use Rattle.office_state.specs.declared.office.Office.{Office}
 
--- rooms of the round, or nothing, for those who take part, and no room twice
+-- an assignment of rooms of the round, or nothing, to the participants: no room is given twice
 pub record IsRoundAssignment (office : Office) (gives : Text → Option Text) : Type 0 where
   pub known :
       (person room : Text) → is_participant office person ≡ true
@@ -23,14 +23,14 @@ pub record IsRoundAssignment (office : Office) (gives : Text → Option Text) : 
       → is_participant office other ≡ true
       → gives person ≡ Some room → gives other ≡ Some room → person ≡ other
 
--- nobody who takes part ranks what they get below their home, or below no room where they have none
+-- no participant ranks what they get below their home, or below no room if they have no home
 abbrev pub IsRationalFor : Office → (Text → Option Text) → Type 0
 IsRationalFor office gets =
     (person : Text) → is_participant office person ≡ true
     → round_rank office person (gets person) ≤ round_rank office person (home_of office person)
 
--- an assignment at which nobody who takes part is worse off gives everybody the same: nobody can be
--- better off
+-- each assignment at which no participant is worse off gives every participant the same: nobody can be better
+-- off
 abbrev pub IsEfficientFor : Office → (Text → Option Text) → Type 0
 IsEfficientFor office gets =
     (gives : Text → Option Text) → IsRoundAssignment office gives
@@ -38,7 +38,7 @@ IsEfficientFor office gets =
     → round_rank office person (gives person) ≤ round_rank office person (gets person))
     → (person : Text) → is_participant office person ≡ true → gives person ≡ gets person
 
--- participants who live somewhere and hand out their own rooms among themselves
+-- participants with homes who hand out their own rooms among themselves
 pub record TradesOwnRooms
     (office : Office) (group : Text → Bool) (gives : Text → Option Text) : Type 0 where
   pub participants : (person : Text) → group person ≡ true → is_participant office person ≡ true
@@ -52,7 +52,7 @@ pub record TradesOwnRooms
       (person other : Text) → group person ≡ true → group other ≡ true
       → gives person ≡ gives other → person ≡ other
 
--- no such group does better: where none of it is worse off, all of it get the same
+-- no such group does better: if none of it is worse off, all of it get the same
 abbrev pub HasNoBetterTradeFor : Office → (Text → Option Text) → Type 0
 HasNoBetterTradeFor office gets =
     (group : Text → Bool) (gives : Text → Option Text) → TradesOwnRooms office group gives
@@ -84,11 +84,12 @@ abbrev pub plain_lots_of : Office → List PlainLot
 plain_lots_of office =
     map_list (λ person. (person, word_of office person)) (participants office)
 
--- the participants in the order of their words, and of their identifiers where the words are equal, as if there were no grades
+-- the participants in the order of their words, and by identifier where words are equal, as if there were no
+-- grades
 abbrev pub people_by_word : Office → List Text
 people_by_word office = plain_order (plain_lots_of office)
 
--- the problem of the rooms of the round in which people stand in this order, with their homes and lists as these count there
+-- the round's problem with the people in this order, with their homes and lists as they count in the round
 abbrev pub market_in : Office → List Text → Market
 market_in office people = record {
   people = length people;
@@ -116,7 +117,7 @@ pub record GoesByWord (office : Office) : Type 0 where
   pub market : round_market office ≡ market_in office (people_by_word office)
   pub results : round_results office ≡ results_in office (people_by_word office)
 
--- where nobody has a grade, it is so
+-- this holds whenever nobody has a grade
 abbrev pub GoesByWordAlone : Type 0
 GoesByWordAlone = (office : Office) → office.grades ≡ map.empty → GoesByWord office
 

@@ -7,21 +7,21 @@ use Rattle.office_state.specs.Office.{choices_of}
 use Rattle.office_state.specs.Round.{is_participant, result_by, result_of, round_rank}
 use Rattle.office_state.specs.declared.office.Office.{Office}
 
--- the same office, with other lists recorded
+-- the office with other lists recorded
 abbrev pub with_choices : Office → TextMap (List Text) → Office
 with_choices office lists = record office { choices = lists }
 
--- the same, where one person alone has another list
+-- the office in which one person has another list
 abbrev pub with_choices_of : Office → Text → List Text → Office
 with_choices_of office person codes =
     with_choices office (map.insert office.choices person codes)
 
--- each of them is at most forty rooms, and none twice
+-- each list is of at most forty rooms, none twice
 abbrev pub AreChoices : TextMap (List Text) → Type 0
 AreChoices lists =
     (person : Text) (codes : List Text) → map.get lists person ≡ Some codes → IsChoices codes
 
--- by no list does a participant get a room that the recorded list ranks above what they get
+-- no list gets a participant a room that the recorded list ranks above what they get
 abbrev pub IsOwnListBest : Office → (Text → Option Text) → Type 0
 IsOwnListBest office gets =
     (person : Text) (codes : List Text) → is_participant office person ≡ true → IsChoices codes
@@ -34,8 +34,8 @@ OthersKeepList office group lists =
     (person : Text) → is_participant office person ≡ true → group person ≡ false
     → choices_of (with_choices office lists) person ≡ choices_of office person
 
--- none in the group loses: by their recorded list, nobody in it ranks what they get by the other
--- lists below what they get
+-- none in the group loses: by their recorded list, nobody in it ranks what they get with the other lists
+-- below what they get
 abbrev pub NoneLosesBy :
     Office → (Text → Option Text) → (Text → Bool) → TextMap (List Text) → Type 0
 NoneLosesBy office gets group lists =
@@ -43,8 +43,8 @@ NoneLosesBy office gets group lists =
     → round_rank office person (result_of (with_choices office lists) person)
     ≤ round_rank office person (gets person)
 
--- where a group of participants hands in other lists and none in it loses, every participant, in
--- the group or not, gets the same
+-- if a group of participants hands in other lists and none in it loses, every participant, in the group or
+-- not, gets the same
 abbrev pub NoGroupGains : Office → (Text → Option Text) → Type 0
 NoGroupGains office gets =
     (group : Text → Bool) (lists : TextMap (List Text)) → AreChoices lists
@@ -52,7 +52,7 @@ NoGroupGains office gets =
     → (person : Text) → is_participant office person ≡ true
     → result_of (with_choices office lists) person ≡ gets person
 
--- a participant who gets the same by another list leaves every participant with the same
+-- if a participant gets the same with another list, then so does every other participant
 abbrev pub NobodyIsBossy : Office → (Text → Option Text) → Type 0
 NobodyIsBossy office gets =
     (person : Text) (codes : List Text) → is_participant office person ≡ true → IsChoices codes

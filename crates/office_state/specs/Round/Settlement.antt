@@ -1,4 +1,4 @@
--- What the settlement of a round comes to: who moves, in which wave, and who lives where then.
+-- The settlement of a round: who moves, in which wave, and who lives where afterwards.
 use Rattle.std.specs.Prelude.{◌≡◌, ℕ, Bool, true, ◌&&◌, ◌||◌, not, List, [], ◌∷◌, None}
 use Rattle.std.specs.Prelude.{if◌then◌else◌, map as map_list}
 use Rattle.std.specs.List.{All, filter, fold}
@@ -15,8 +15,8 @@ use Rattle.office_state.specs.declared.office.moves.RoundMoves.{RoundMoves}
 use Rattle.office_state.specs.declared.office.Office.{Office}
 use Rattle.office_state.specs.declared.office.person.Person.{Person}
 
--- whether the settlement decides where a person lives: that of a participant by the result, and that
--- of somebody who leaves the college, who has no result, as nowhere
+-- whether the settlement sets a person's home: that of a participant to the result, and that of a person who
+-- leaves the college, who has no result, to none
 abbrev pub is_settled : Office → Text → Bool
 is_settled office person = knows_person office person && not (has_withdrawn office person)
 
@@ -24,18 +24,18 @@ is_settled office person = knows_person office person && not (has_withdrawn offi
 abbrev pub has_room : Office → Text → Bool
 has_room office person = is_some (home_of office person) || is_some (recorded_result office person)
 
--- whether the home changes by the recorded result
+-- whether the settlement changes the home, to the recorded result
 abbrev pub moves_out : Office → Text → Bool
 moves_out office person = not (is_same_text (home_of office person) (recorded_result office person))
 
--- the people whose home the settlement changes, by identifier, each with the old room and the new
--- one, which somebody who leaves the college does not have
+-- the people whose home the settlement changes, by identifier, each with the old and the new room; a person
+-- who leaves the college has no new room
 abbrev pub movers : Office → List Mover
 movers office =
     map_list (λ person. (person, home_of office person, recorded_result office person))
     (filter (moves_out office) (people_not_withdrawn office))
 
--- nobody is left without a room by the settlement but those who leave the college
+-- only those who leave the college lose a room without getting another
 abbrev pub OnlyLeaversMoveOut : Office → Type 0
 OnlyLeaversMoveOut office =
     All (λ (mover : Mover). mover.2 ≡ None → is_going office mover.0 ≡ true) (movers office)
@@ -52,12 +52,12 @@ moves_with round (mover ∷ others) [] = []
 abbrev pub settled_moves : Office → List Move
 settled_moves office = moves_with office.number (movers office) (waves_of (movers office))
 
--- the moves, recorded in turn
+-- the map of moves with these moves recorded, one after the other
 abbrev pub with_moves : RoundMap RoundMoves → List Move → RoundMap RoundMoves
 with_moves = fold with_move
 
--- a participant lives in the room of the result, who leaves the college nowhere, and who has withdrawn
--- where they lived
+-- a participant gets the home of the result, a person who leaves the college none, and a person who has
+-- withdrawn keeps theirs
 abbrev pub settled_person : Office → Text × Person → Text × Person
 settled_person office entry = (
   entry.0,

@@ -1,4 +1,4 @@
-//! Changes, applied to an office.
+//! Applies changes to an office.
 ghost use Rattle.std.specs.Prelude.{◌≡◌, ◌≢◌, OnOk, OnErr, true, false};
 ghost use Rattle.office_state.specs.Change.{applied, change_takes_memory};
 ghost use Rattle.office_state.specs.Change.{with_grade, with_home, with_list, without_round};
@@ -14,9 +14,12 @@ use room_types::{
     Choices, Grade, Key, Label, ListKind, Listing, Name, OutOfMemory, PersonId, RoomCode,
 };
 
-/// Applies a change. Where memory is refused the office is as before. `DropPerson`, `PutRound` and `ClearRound`, an
-/// empty list in `PutChoices`, grade 0 in `PutGrade`, and `PutHome` of somebody unknown take no memory, and are never
-/// refused. `PutHome` and `DropPerson` of somebody unknown change nothing.
+/// Applies a change. These changes do not allocate: `DropPerson`, `PutRound`, `ClearRound`, `PutChoices` of an empty list,
+/// `PutGrade` of grade 0, and `PutHome` of an unknown person. `PutHome` and `DropPerson` of an unknown person change nothing.
+///
+/// # Errors
+///
+/// `OutOfMemory` if an allocation fails. The office is then as before.
 pub fn apply(office: &mut Office, change: &Change) -> Result<(), OutOfMemory>
     ensures ok { OnOk result (office.new ≡ applied office.old change.now) }
     ensures err { OnErr result (office.new ≡ office.old) }

@@ -1,16 +1,16 @@
-//! What is kept of a list that was handed in.
+//! An imported list, as stored.
 ghost use Rattle.std.specs.Prelude.{◌≡◌, ◌<◌, IfOk, OnErr, length};
 
 use room_types::{Copied, ListKind, Listing};
 use std::alloc::AllocError;
 
-/// A list that was handed in under a label, so that the same list may come again.
+/// A list that was imported under a label. It is stored so that the same import can be recognized when it is repeated.
 #[derive(Drop)]
 pub struct KeptList {
     pub kind: ListKind,
-    /// The list as it came.
+    /// The bytes that were imported.
     pub bytes: Listing<u8>,
-    /// How many records it added.
+    /// The number of records that it added.
     pub count: u16,
 }
 

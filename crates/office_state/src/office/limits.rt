@@ -1,16 +1,16 @@
-//! How much an office may hold.
+//! The limits of an office.
 
-/// How many rooms there may be.
+/// The maximum number of rooms.
 pub const ROOM_LIMIT: usize = 2000;
 
-/// How many people there may be.
+/// The maximum number of people.
 pub const PEOPLE_LIMIT: usize = 2000;
 
-/// How many labels there may be.
+/// The maximum number of labels of imports.
 pub const LABEL_LIMIT: usize = 200;
 
-/// How many bytes a list may have.
+/// The maximum length of an imported list, in bytes.
 pub const BYTE_LIMIT: usize = 262_144;
 
-/// The number of the last round.
+/// The greatest number of a round.
 pub const ROUND_LIMIT: u16 = 9999;

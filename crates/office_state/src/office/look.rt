@@ -1,4 +1,4 @@
-//! What is read from an office.
+//! Queries of an office.
 ghost use Rattle.std.specs.Prelude.{◌≡◌, ◌<◌, IfOk, IsSome, List, OnErr, length, true, ℕ};
 ghost use Rattle.std.specs.FinMap as map;
 ghost use Rattle.std.specs.Option.{option_copied};
@@ -15,7 +15,7 @@ use room_types::{Grade, Grammar, Key, OutOfMemory, PersonId, RoomCode, Table, Te
 use std::alloc::Global;
 
 impl Office {
-    /// Who lives in a room, or `None` where nobody does. It goes through the people.
+    /// Returns who lives in a room, or `None` if nobody does. Takes time linear in people.
     pub fn tenant(&self, room: &RoomCode) -> Option<&PersonId>
         ensures { option_copied result ≡ tenant self.now room.now }
     {
@@ -27,8 +27,11 @@ impl Office {
         None
     }
 
-    /// Who lives in each room, found in one pass over the people. It is refused only for memory. Where nobody has a home it
-    /// takes none.
+    /// Returns who lives in each room, in one pass over the people. If nobody has a home, the call does not allocate.
+    ///
+    /// # Errors
+    ///
+    /// `OutOfMemory` if an allocation fails.
     pub fn tenants(&self, alloc: Global) -> Result<Table<RoomCodes, PersonId>, OutOfMemory>
         ensures tenants { IfOk result
             (λ tenants. (room : List ℕ) → map.get tenants room ≡ tenant self.now room) }
@@ -45,7 +48,7 @@ impl Office {
         Ok(tenants)
     }
 
-    /// Whose key it is, or `None` where it is nobody's. It goes through the people.
+    /// Returns the person with this key, or `None` if nobody has it. Takes time linear in people.
     pub fn owner(&self, key: &Key) -> Option<&PersonId>
         ensures { option_copied result ≡ owner self.now key.now }
     {
@@ -57,84 +60,86 @@ impl Office {
         None
     }
 
-    /// Where a person lives, or `None` for no home and for somebody unknown.
+    /// Returns where a person lives, or `None` for no home and for an unknown person.
     pub(crate) fn home_of(&self, person: &PersonId) -> Option<&RoomCode>
         ensures { option_copied result ≡ home_of self.now person.now }
     {
         self.people.get(person)?.home.as_ref()
     }
 
-    /// The recorded result of a person, or `None` for no room and where none is recorded.
+    /// Returns the recorded result of a person: the room, or `None` for no room and if no result is recorded.
     pub fn recorded_result(&self, person: &PersonId) -> Option<&RoomCode>
         ensures { option_copied result ≡ recorded_result self.now person.now }
     {
         self.results.get(person)?.room.as_ref()
     }
 
-    /// Whether a room is known and shut.
+    /// Returns whether a room is known and shut.
     pub fn is_shut(&self, room: &RoomCode) -> bool
         ensures { result ≡ is_shut self.now room.now }
     {
         self.rooms.get(room).copied().unwrap_or(false)
     }
 
-    /// Whether a person has withdrawn from the round.
+    /// Returns whether a person has withdrawn from the round.
     pub fn has_withdrawn(&self, person: &PersonId) -> bool
         ensures { result ≡ has_withdrawn self.now person.now }
     {
         self.withdrawn.contains_key(person)
     }
 
-    /// Whether a person leaves the college after the round.
+    /// Returns whether a person leaves the college after the round.
     pub fn is_going(&self, person: &PersonId) -> bool
         ensures { result ≡ is_going self.now person.now }
     {
         self.going.contains_key(person)
     }
 
-    /// Whether a person takes no part in the round: has withdrawn, or leaves the college.
+    /// Returns whether a person has withdrawn from the round or leaves the college.
     pub(crate) fn sits_out(&self, person: &PersonId) -> bool
         ensures { result ≡ sits_out self.now person.now }
     {
         self.has_withdrawn(person) || self.is_going(person)
     }
 
-    /// Whether a person takes part in the round: is known, and has neither withdrawn nor leaves the college.
+    /// Returns whether a person takes part in the round: whether they are known, have not withdrawn and do not leave the
+    /// college.
     pub fn is_participant(&self, person: &PersonId) -> bool
         ensures { result ≡ is_participant self.now person.now }
     {
         self.people.contains_key(person) && !self.sits_out(person)
     }
 
-    /// A person's grade: 0 where none is recorded.
+    /// Returns a person's grade, which is 0 if none is recorded.
     pub fn grade_of(&self, person: &PersonId) -> Grade
         ensures { result ≡ grade_of self.now person.now }
     {
         self.grades.get(person).copied().unwrap_or(Grade::first())
     }
 
-    /// Whether a person sees the result. Somebody unknown does not sit out, so it is true of them while it is published.
+    /// Returns whether a person may see their result: whether the phase is `Published`, and the person has not withdrawn and
+    /// does not leave the college. In a lawful office it is then true of an unknown person too.
     pub fn is_shown(&self, person: &PersonId) -> bool
         ensures { result ≡ is_shown self.now person.now }
     {
         is_published(self.phase) && !self.sits_out(person)
     }
 
-    /// Whether a round is settled or cancelled.
+    /// Returns whether a round is settled or cancelled.
     pub fn is_over(&self, round: u16) -> bool
         ensures { result ≡ is_over self.now round }
     {
         1 <= round && round <= self.number && !self.is_under_way(round)
     }
 
-    /// Whether a round has begun, and is neither settled nor cancelled.
+    /// Returns whether a round has begun and is neither settled nor cancelled.
     pub(crate) fn is_under_way(&self, round: u16) -> bool
         ensures { result ≡ is_under_way self.now round }
     {
         !is_idle(self.phase) && round == self.number
     }
 
-    /// How many people take part in the round. It takes no memory.
+    /// Returns the number of participants. Does not allocate.
     pub fn participant_count(&self) -> usize
         ensures { result ≡ length (participants self.now) }
     {
@@ -147,7 +152,12 @@ impl Office {
         count
     }
 
-    /// Who has neither withdrawn nor leaves the college, by identifier. Where nobody takes part it takes no memory.
+    /// Returns the participants, by identifier: the people who have not withdrawn and do not leave the college. If there are
+    /// none, the call does not allocate.
+    ///
+    /// # Errors
+    ///
+    /// `OutOfMemory` if an allocation fails.
     pub fn participants(&self, alloc: Global) -> Result<Vec<PersonId>, OutOfMemory>
         ensures people { IfOk result (λ people. people.items ≡ participants self.now) }
         ensures memory { OnErr result (0 < length (participants self.now)) }
@@ -162,7 +172,11 @@ impl Office {
     }
 }
 
-/// A copy of a text that was found, if any. It is refused only for memory; `None` takes none.
+/// Copies an optional text. `None` is copied without an allocation.
+///
+/// # Errors
+///
+/// `OutOfMemory` if an allocation fails.
 pub fn copy_found_in_office<G: Grammar>(
     found: Option<&Text<G>>,
 ) -> Result<Option<Text<G>>, OutOfMemory>
@@ -181,7 +195,7 @@ fn lives_in(person: &Person, room: &RoomCode) -> bool
     is_room(person.home.as_ref(), room)
 }
 
-/// Whether two rooms, or none, are the same.
+/// Returns whether both are the same room, or both are none.
 pub(crate) fn is_same_room(one: &Option<RoomCode>, other: &Option<RoomCode>) -> bool
     ensures { result ≡ is_same_text one.now other.now }
 {
@@ -192,7 +206,7 @@ pub(crate) fn is_same_room(one: &Option<RoomCode>, other: &Option<RoomCode>) -> 
     }
 }
 
-/// Whether a room was found, and is this one.
+/// Returns whether `found` is this room.
 pub(crate) fn is_room(found: Option<&RoomCode>, room: &RoomCode) -> bool
     ensures { result ≡ is_text (option_copied found.entry) room.now }
 {

@@ -13,12 +13,12 @@ use std::collections::BTreeMap;
 use std::collections::btree_map::Iter;
 use std::marker::Model;
 
-/// What is kept of a move beside the round and the person.
+/// A recorded move, apart from its round and person.
 #[derive(Debug, Drop)]
 pub struct Moved {
-    /// The old room, or none for a newcomer.
+    /// The old room, or `None` for a newcomer.
     pub from: Option<RoomCode>,
-    /// The new room, or none for somebody who leaves the college.
+    /// The new room, or `None` for a person who leaves the college.
     pub to: Option<RoomCode>,
     pub wave: Wave,
 }
@@ -66,7 +66,7 @@ impl Copied for RoundMoves {
     ghost same = { λ x y h. h };
 }
 
-/// Values by the number of a round, seen as a finite map.
+/// A finite map from numbers of rounds to values.
 #[derive(Drop)]
 pub struct Rounds<V> {
     alloc: Global,
@@ -86,7 +86,7 @@ impl<V> Model for Rounds<V> {
 }
 
 impl<V> Rounds<V> {
-    /// No values.
+    /// Creates an empty map.
     pub fn new(alloc: Global) -> Self
         ensures { result ≡ map.empty }
     {
@@ -96,14 +96,14 @@ impl<V> Rounds<V> {
         }
     }
 
-    /// The value of a round.
+    /// Returns the value of a round, if it has one.
     pub fn get(&self, round: u16) -> Option<&V>
         ensures { option_copied result ≡ map.get self.now round }
     {
         self.tree.get(&round)
     }
 
-    /// The values by ascending round.
+    /// Iterates over the rounds with their values, by ascending round.
     pub fn iter(&self) -> Iter<'_, u16, V>
         ensures rest { result ≡ map.entries self.now }
         ensures runs { ShowsInOrder (deref_pair {K = ℕ} {X = V}) }
@@ -111,7 +111,7 @@ impl<V> Rounds<V> {
         self.tree.iter()
     }
 
-    // How many rounds have a value.
+    // Returns the number of rounds with a value.
     fn len(&self) -> usize
         ensures { result ≡ map.len self.now }
     {
@@ -120,7 +120,7 @@ impl<V> Rounds<V> {
 }
 
 impl<V: Copied> Rounds<V> {
-    /// An equal map. The empty one takes no memory.
+    /// Copies the map. The empty map is copied without an allocation.
     pub(crate) fn copy(&self) -> Result<Self, OutOfMemory>
         ensures copy { IfOk result (λ copy. copy ≡ self.now) }
         ensures memory { OnErr result (0 < map.len self.now) }
@@ -137,7 +137,7 @@ impl<V: Copied> Rounds<V> {
 }
 
 impl Rounds<RoundMoves> {
-    /// Records a move.
+    /// Records a move. If an allocation fails, the map is as before.
     pub fn add(&mut self, moved: &Move) -> Result<(), OutOfMemory>
         ensures ok { OnOk result (self.new ≡ with_move self.old moved.now) }
         ensures err { OnErr result (self.new ≡ self.old) }
@@ -154,7 +154,7 @@ impl Rounds<RoundMoves> {
         }
     }
 
-    // The moves of a round are this one.
+    // Records the first move of a round, or replaces the moves of a round by this one.
     fn begin(&mut self, round: u16, person: PersonId, kept: Moved) -> Result<(), OutOfMemory>
         ensures ok { OnOk result (self.new ≡
             map.insert self.old round (record { by_person = map.insert map.empty person kept })) }

@@ -1,22 +1,22 @@
-//! What is kept of a person.
+//! A person of the office.
 ghost use Rattle.std.specs.Prelude.{◌≡◌, IfOk};
 
 use room_types::rows::copy_optional;
 use room_types::{Copied, Key, Name, OutOfMemory, RoomCode};
 use std::alloc::AllocError;
 
-/// What is kept of a person beside the identifier.
+/// What the office stores about a person, apart from the identifier.
 #[derive(Drop)]
 pub struct Person {
     pub name: Name,
-    /// What the person shows to be known.
+    /// The secret by which the person authenticates.
     pub key: Key,
     /// Where the person lives, if anywhere.
     pub home: Option<RoomCode>,
 }
 
 impl Person {
-    /// The same person with another home, or with none.
+    /// Copies the person, with another home or with none.
     pub(crate) fn copy_with_home(&self, home: &Option<RoomCode>) -> Result<Person, OutOfMemory>
         ensures { IfOk result (λ moved. moved ≡ record self.now { home = home.now }) }
     {

@@ -5,63 +5,63 @@ ghost use Rattle.office_state.specs.Office.Phases.{has_words, is_drawn, is_ran, 
 
 use room_types::Phase;
 
-/// Whether no round is under way.
+/// Returns whether no round is under way.
 pub fn is_idle(phase: Phase) -> bool
     ensures { result ≡ is_idle phase }
 {
     matches!(phase, Phase::Idle)
 }
 
-/// Whether people may list rooms, or withdraw.
+/// Returns whether people may list rooms and withdraw.
 pub fn is_open(phase: Phase) -> bool
     ensures { result ≡ is_open phase }
 {
     matches!(phase, Phase::Opened)
 }
 
-/// Whether the lists are final, and nothing is drawn yet.
+/// Returns whether the lists are final and nothing is drawn yet.
 pub fn is_closed(phase: Phase) -> bool
     ensures { result ≡ is_closed phase }
 {
     matches!(phase, Phase::Closed)
 }
 
-/// Whether the words are drawn, and the rooms not traded yet.
+/// Returns whether the words are drawn and the rooms are not traded yet.
 pub fn is_drawn(phase: Phase) -> bool
     ensures { result ≡ is_drawn phase }
 {
     matches!(phase, Phase::Drawn)
 }
 
-/// Whether the rooms are traded, and the results not published yet.
+/// Returns whether the rooms are traded and the results are not published yet.
 pub fn is_ran(phase: Phase) -> bool
     ensures { result ≡ is_ran phase }
 {
     matches!(phase, Phase::Ran)
 }
 
-/// Whether the results are there.
+/// Returns whether there are results: whether the rooms are traded, published or not.
 pub fn has_results(phase: Phase) -> bool
     ensures { result ≡ has_results phase }
 {
     matches!(phase, Phase::Ran | Phase::Published)
 }
 
-/// Whether each participant sees the result.
+/// Returns whether each participant may see their result.
 pub fn is_published(phase: Phase) -> bool
     ensures { result ≡ is_published phase }
 {
     matches!(phase, Phase::Published)
 }
 
-/// Whether rooms and people may be added, and rooms be shut or reopened.
+/// Returns whether rooms and people may be added, and rooms shut or reopened.
 pub fn is_preparing(phase: Phase) -> bool
     ensures { result ≡ is_preparing phase }
 {
     is_idle(phase) || is_open(phase)
 }
 
-/// Whether there is a round that can be given up.
+/// Returns whether there is a round that can be cancelled.
 pub fn round_phase_may_cancel(phase: Phase) -> bool
     ensures { result ≡ may_cancel phase }
 {
@@ -71,7 +71,7 @@ pub fn round_phase_may_cancel(phase: Phase) -> bool
     )
 }
 
-/// Whether the words are drawn.
+/// Returns whether the words are drawn.
 pub fn round_phase_has_words(phase: Phase) -> bool
     ensures { result ≡ has_words phase }
 {

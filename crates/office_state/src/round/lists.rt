@@ -1,4 +1,4 @@
-//! Homes and lists as numbers of rooms.
+//! Homes and lists, with rooms as numbers.
 ghost use Rattle.std.specs.Prelude.{◌≡◌, IfOk, OnOk, [], None, filter_map, map as map_list};
 ghost use Rattle.std.specs.Option.{option_copied, option_and_then};
 ghost use Rattle.std.specs.List.{All};
@@ -13,7 +13,7 @@ use room_types::grammars::RoomCodes;
 use room_types::{OutOfMemory, PersonId, RoomCode, Table};
 use std::alloc::Global;
 
-/// The homes of the people, by the numbers of the rooms.
+/// Returns the home of each person, as the number of the room. It is `None` without a home, and for a home without a number.
 pub(crate) fn homes(
     alloc: Global,
     office: &Office,
@@ -41,7 +41,7 @@ fn home_number(
     numbers.get(home).copied()
 }
 
-/// The rooms that a person's list comes to, by their numbers: those before the own room that have one.
+/// Returns the numbers of the rooms on a list that come before the person's own room. Rooms without a number are left out.
 pub(crate) fn numbers_of(
     alloc: Global,
     numbers: &Table<RoomCodes, usize>,
@@ -69,7 +69,7 @@ fn before_own<'a>(home: Option<&RoomCode>, codes: &'a [RoomCode]) -> &'a [RoomCo
     }
 }
 
-/// The recorded lists of the people as they count in the round, by the numbers of the rooms.
+/// Returns each person's recorded list as it counts in the round: the numbers of the rooms before their own room.
 pub(crate) fn lists(
     alloc: Global,
     office: &Office,

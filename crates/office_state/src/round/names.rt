@@ -1,4 +1,4 @@
-//! The numbers that a problem has in place of names.
+//! The numbering of the names of a problem.
 ghost use Rattle.std.specs.Prelude.{◌≡◌, IfOk, List, ℕ};
 ghost use Rattle.std.specs.FinMap as map;
 ghost use Rattle.office_state.specs.Round.{number_in};
@@ -6,7 +6,7 @@ ghost use Rattle.office_state.specs.Round.{number_in};
 use room_types::{Grammar, OutOfMemory, Table, Text};
 use std::alloc::Global;
 
-/// The number of each name: its first place. It takes n log n comparisons.
+/// Returns the number of each name, which is its first place in `names`. Takes n log n comparisons.
 pub(crate) fn numbers<G: Grammar>(
     alloc: Global,
     names: &[Text<G>],

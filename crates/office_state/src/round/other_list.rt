@@ -1,4 +1,4 @@
-//! What another list would give.
+//! What a participant would get with another list.
 ghost use Rattle.std.specs.Prelude.{◌≡◌, ◌≤◌, IfOk, true};
 ghost use Rattle.office_state.specs.Office.Invariants.{HomesDiffer};
 ghost use Rattle.office_state.specs.Round.{is_participant, number_in, result_of, result_by, round_rank};
@@ -11,8 +11,12 @@ use room_types::{Choices, OutOfMemory, PersonId, RoomCode};
 use std::alloc::Global;
 use trade_line::what_if::run_with_list;
 
-/// The room that a participant would get by this list in place of the recorded one, where the order and all other
-/// lists stay (none for no room). By the recorded list it never ranks above the result. It is refused only for memory.
+/// Returns the room that a participant would get with this list instead of the recorded one, in the same order and with all
+/// other lists unchanged; `None` is no room. By the recorded list it never ranks above what the round gives the participant.
+///
+/// # Errors
+///
+/// `OutOfMemory` if an allocation fails.
 pub fn result_by(
     alloc: Global,
     office: &Office,

@@ -1,4 +1,4 @@
-//! Who takes part, in the drawn order.
+//! The participants, in the drawn order.
 ghost use Rattle.std.specs.Prelude.{◌≡◌, ◌<◌, IfOk, OnErr, length};
 ghost use Rattle.office_state.specs.Round.{lots_of, round_people, word_of};
 
@@ -7,8 +7,12 @@ use draw_order::order;
 use room_types::{Grade, OutOfMemory, PersonId, Word};
 use std::alloc::Global;
 
-/// The participants in the drawn order, in n log n steps for n people; before the draw by grade and then by identifier,
-/// since each word is then 0. It is refused only for memory. Where nobody takes part it takes none.
+/// Returns the participants in the drawn order, in n log n steps for n people. Before the draw each word counts as 0, so the
+/// order is by grade and then by identifier. Without participants, the call does not allocate.
+///
+/// # Errors
+///
+/// `OutOfMemory` if an allocation fails.
 #[tactic(auto, using(crate::proofs::round_problems::People::round_problems_as_many_as_lots))]
 pub fn round_people(alloc: Global, office: &Office) -> Result<Vec<PersonId>, OutOfMemory>
     ensures people { IfOk result (λ people. people.items ≡ round_people office.now) }
@@ -18,7 +22,7 @@ pub fn round_people(alloc: Global, office: &Office) -> Result<Vec<PersonId>, Out
     order(alloc, &lots)
 }
 
-// The participants by identifier, with their grades and words.
+// Returns the participants by identifier, with their grades and words.
 fn lots(alloc: Global, office: &Office) -> Result<Vec<(PersonId, Grade, Word)>, OutOfMemory>
     ensures lots { IfOk result (λ lots. lots.items ≡ lots_of office.now) }
     ensures memory { OnErr result (0 < length (lots_of office.now)) }
@@ -32,7 +36,8 @@ fn lots(alloc: Global, office: &Office) -> Result<Vec<(PersonId, Grade, Word)>, 
     Ok(lots)
 }
 
-/// The word that a person drew, or word 0 where none is recorded. From the draw on each participant has one.
+/// Returns the word that a person drew, or word 0 if none is recorded. From the draw on, each participant of a lawful office
+/// has one.
 pub fn round_word_of(office: &Office, person: &PersonId) -> Word
     ensures { result ≡ word_of office.now person.now }
 {

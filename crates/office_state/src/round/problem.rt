@@ -28,8 +28,12 @@ pub(crate) struct RoundProblem {
     pub(crate) problem: Problem,
 }
 
-/// The problem of the office's round. Homes that differ make it well formed, so it is refused only for memory.
-/// It takes n log n steps for n people, rooms and entries of lists.
+/// Builds the problem of the office's round, which is well formed because homes differ. Takes n log n steps for n people,
+/// rooms and list entries.
+///
+/// # Errors
+///
+/// `OutOfMemory` if an allocation fails.
 pub(crate) fn round_problem(alloc: Global, office: &Office) -> Result<RoundProblem, OutOfMemory>
     requires { HomesDiffer office.now }
     ensures problem { IfOk result (λ round. IsProblemOf office.now round) }
@@ -51,7 +55,7 @@ pub(crate) fn round_problem(alloc: Global, office: &Office) -> Result<RoundProbl
     }
 }
 
-/// The one refusal of a problem that is well formed, and of a list that may be handed in.
+/// Converts the only fault that a well-formed problem, or a list that may be handed in, can have.
 pub(crate) fn round_problem_want_of_memory(fault: TradeFault) -> OutOfMemory
     requires { fault ≡ TradeFault.OutOfMemory }
 {

@@ -1,4 +1,4 @@
-//! What each participant of a round gets.
+//! The results of a round.
 ghost use Rattle.std.specs.Prelude.{◌≡◌, ◌≢◌, IfOk, Some, None, ℕ, List, slice_get, slice_index_or};
 ghost use Rattle.std.specs.Option.{option_map, option_and_then};
 ghost use Rattle.std.specs.List.{AllPairs};
@@ -19,9 +19,12 @@ use trade_line::outcome::Outcome;
 use trade_line::problem::Problem;
 use trade_line::trade::run;
 
-/// What each participant gets: the rooms that top trading cycles give for the problem of the
-/// office's round (Abdulkadiroglu and Sönmez 1999). The functions of `round::laws` say what is good
-/// about them in a lawful office. It is refused only for memory.
+/// Returns the result of each participant: the rooms that top trading cycles give for the problem of the office's round
+/// (Abdulkadiroglu and Sönmez 1999). The functions of `round::laws` state its properties in a lawful office.
+///
+/// # Errors
+///
+/// `OutOfMemory` if an allocation fails.
 pub fn round_results(
     alloc: Global,
     office: &Office,
@@ -34,7 +37,7 @@ pub fn round_results(
     results_by_person(alloc, &round.people, &round.rooms, &outcome)
 }
 
-// What the line of askers gives.
+// Runs the exchange for the problem.
 fn round_outcome_of(alloc: Global, problem: &Problem) -> Result<Outcome, OutOfMemory>
     ensures { IfOk result (λ outcome. outcome.rooms ≡ ttc problem.now) }
 {
@@ -47,7 +50,7 @@ fn round_outcome_of(alloc: Global, problem: &Problem) -> Result<Outcome, OutOfMe
     Ok(run(problem, line, bench))
 }
 
-// What each person gets, by identifier.
+// Returns the result of each person, by identifier.
 fn results_by_person(
     alloc: Global,
     people: &[PersonId],
@@ -69,7 +72,7 @@ fn results_by_person(
     Ok(results)
 }
 
-/// The room of a number.
+/// Returns the room of a number, if there is one.
 pub(crate) fn round_room_named(
     rooms: &[RoomCode],
     number: Option<usize>,

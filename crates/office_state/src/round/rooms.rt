@@ -8,7 +8,7 @@ use room_types::grammars::RoomCodes;
 use room_types::{OutOfMemory, RoomCode, Table};
 use std::alloc::Global;
 
-/// The rooms that are not shut and are not the home of somebody who has withdrawn, by code.
+/// Returns the rooms that are not shut and are not the home of a person who has withdrawn, by code.
 pub(crate) fn round_rooms(alloc: Global, office: &Office) -> Result<Vec<RoomCode>, OutOfMemory>
     ensures { IfOk result (λ rooms. rooms.items ≡ round_rooms office.now) }
 {
@@ -22,7 +22,7 @@ pub(crate) fn round_rooms(alloc: Global, office: &Office) -> Result<Vec<RoomCode
     Ok(rooms)
 }
 
-// The homes of those who have withdrawn.
+// Returns the homes of the people who have withdrawn.
 fn kept_back(alloc: Global, office: &Office) -> Result<Table<RoomCodes, ()>, OutOfMemory>
     ensures { IfOk result
         (λ homes. (room : List ℕ) → map.contains_key homes room ≡ is_kept_back office.now room) }

@@ -10,10 +10,14 @@ use office_lists::Mover;
 use room_types::OutOfMemory;
 use std::alloc::Global;
 
-/// The people whose home the settlement of the round changes, by identifier, each with the old room and the new one: the
-/// participants by their recorded results, and those who leave the college, who have no result and so no new room. Where
-/// no results are recorded it is each who has a home and has not withdrawn, with no new room. It goes through the people
-/// once, and is refused only for memory. Where nobody who has not withdrawn has a home or a recorded room, it takes none.
+/// Returns the people whose home the settlement of the round changes, by identifier, each with the old and the new room. The
+/// new room of a participant is the recorded result; a person who leaves the college has no result and so no new room. If no
+/// results are recorded, these are all people who have a home and have not withdrawn, with no new room. Makes one pass over
+/// the people. If nobody who has not withdrawn has a home or a recorded room, the call does not allocate.
+///
+/// # Errors
+///
+/// `OutOfMemory` if an allocation fails.
 pub fn movers(alloc: Global, office: &Office) -> Result<Vec<Mover>, OutOfMemory>
     ensures movers { IfOk result (λ found. found.items ≡ movers office.now) }
     ensures memory { OnErr result

@@ -1,4 +1,4 @@
-//! The laws of grades.
+//! The invariants on grades.
 ghost use Rattle.std.specs.Prelude.{◌≡◌};
 ghost use Rattle.std.specs.Bool.{Decides};
 ghost use Rattle.std.specs.List.{list_all};
@@ -9,14 +9,14 @@ ghost use Rattle.office_state.specs.Inner.Soundness.{is_recorded_grade};
 use crate::office::Office;
 use room_types::{Grade, PersonId};
 
-/// Whether grades obey their laws.
+/// Returns whether the invariants on grades hold.
 pub(crate) fn are_grades(office: &Office) -> bool
     ensures { Decides result (AreGrades office.now.people office.now.grades) }
 {
     are_grades_recorded(office)
 }
 
-// Whether each grade is that of a known person, and is not 0.
+// Returns whether each grade is that of a known person, and is not 0.
 fn are_grades_recorded(office: &Office) -> bool
     ensures { result ≡ list_all (λ e. is_recorded_grade office.now.people e.0 e.1)
         (map.entries office.now.grades) }

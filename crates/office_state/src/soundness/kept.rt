@@ -1,4 +1,4 @@
-//! The laws of kept lists.
+//! The invariants on imported lists.
 ghost use Rattle.std.specs.Prelude.{◌≡◌};
 ghost use Rattle.std.specs.Bool.{Decides};
 ghost use Rattle.std.specs.List.{list_all};
@@ -11,7 +11,7 @@ use crate::office::kept_list::KeptList;
 use crate::office::limits::{BYTE_LIMIT, LABEL_LIMIT};
 use office_lists::RECORD_LIMIT;
 
-/// Whether the kept lists obey their laws.
+/// Returns whether the invariants on imported lists hold.
 pub(crate) fn are_kept(office: &Office) -> bool
     ensures { Decides result (AreKept office.now.lists) }
 {
@@ -21,7 +21,7 @@ pub(crate) fn are_kept(office: &Office) -> bool
     are_sound_labels_short(office)
 }
 
-// Whether no kept list is longer than a list may be.
+// Returns whether each imported list is within the limits of bytes and records.
 fn are_sound_labels_short(office: &Office) -> bool
     ensures { result ≡ list_all (λ e. is_short e.1) (map.entries office.now.lists) }
 {

@@ -1,4 +1,4 @@
-//! The laws of those who leave the college.
+//! The invariants on those who leave the college.
 ghost use Rattle.std.specs.Prelude.{◌≡◌};
 ghost use Rattle.std.specs.Bool.{Decides};
 ghost use Rattle.std.specs.List.{list_all};
@@ -10,7 +10,7 @@ use crate::office::Office;
 use crate::office::phases::is_idle;
 use room_types::PersonId;
 
-/// Whether those who leave the college obey their laws.
+/// Returns whether the invariants on those who leave the college hold.
 pub(crate) fn are_leavers(office: &Office) -> bool
     ensures { Decides result (AreLeavers office.now.phase office.now.people office.now.withdrawn
         office.now.going) }
@@ -21,7 +21,7 @@ pub(crate) fn are_leavers(office: &Office) -> bool
     may_leavers_go(office)
 }
 
-// Whether each who leaves is known, and has not withdrawn.
+// Returns whether each person who leaves is known, and has not withdrawn.
 fn may_leavers_go(office: &Office) -> bool
     ensures { result ≡ list_all (λ e. is_leaver office.now.people office.now.withdrawn e.0)
         (map.entries office.now.going) }

@@ -1,4 +1,4 @@
-//! The laws of lists and withdrawals.
+//! The invariants on lists and withdrawals.
 ghost use Rattle.std.specs.Prelude.{◌≡◌};
 ghost use Rattle.std.specs.Bool.{Decides};
 ghost use Rattle.std.specs.List.{list_all};
@@ -9,7 +9,7 @@ ghost use Rattle.office_state.specs.Inner.Soundness.{is_recorded_list};
 use crate::office::Office;
 use room_types::{Choices, RoomCode};
 
-/// Whether lists and withdrawals obey their laws.
+/// Returns whether the invariants on lists and withdrawals hold.
 pub(crate) fn are_lists(office: &Office) -> bool
     ensures { Decides result
         (AreLists office.now.rooms office.now.people office.now.choices office.now.withdrawn) }
@@ -23,7 +23,7 @@ pub(crate) fn are_lists(office: &Office) -> bool
     are_withdrawers_known(office)
 }
 
-// Whether each person with a list is known.
+// Returns whether each person with a list is known.
 fn are_choosers_known(office: &Office) -> bool
     ensures { result ≡
         list_all (λ e. map.contains_key office.now.people e.0) (map.entries office.now.choices) }
@@ -34,7 +34,7 @@ fn are_choosers_known(office: &Office) -> bool
         .all(|(person, _)| office.people.contains_key(person))
 }
 
-// Whether no list is empty, and each listed room is known.
+// Returns whether no list is empty, and each listed room is known.
 fn are_lists_kept(office: &Office) -> bool
     ensures { result ≡
         list_all (λ e. is_recorded_list office.now.rooms e.1) (map.entries office.now.choices) }
@@ -61,7 +61,7 @@ fn are_sound_rooms_known(office: &Office, codes: &[RoomCode]) -> bool
     codes.iter().all(|code| office.rooms.contains_key(code))
 }
 
-// Whether each person who has withdrawn is known.
+// Returns whether each person who has withdrawn is known.
 fn are_withdrawers_known(office: &Office) -> bool
     ensures { result ≡
         list_all (λ e. map.contains_key office.now.people e.0) (map.entries office.now.withdrawn) }

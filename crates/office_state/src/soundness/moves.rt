@@ -1,4 +1,4 @@
-//! The laws of moves.
+//! The invariants on moves.
 ghost use Rattle.std.specs.Prelude.{◌≡◌};
 ghost use Rattle.std.specs.Bool.{Decides};
 ghost use Rattle.std.specs.List.{list_all};
@@ -11,7 +11,7 @@ use crate::office::Office;
 use crate::office::moves::{Moved, RoundMoves};
 use room_types::Wave;
 
-/// Whether moves obey their laws.
+/// Returns whether the invariants on moves hold.
 pub(crate) fn are_moves(office: &Office) -> bool
     ensures { Decides result (AreMoves office.now) }
 {
@@ -21,14 +21,14 @@ pub(crate) fn are_moves(office: &Office) -> bool
     are_rounds_kept(office)
 }
 
-// Whether each round with moves is over.
+// Returns whether each round with recorded moves is over.
 fn are_rounds_over(office: &Office) -> bool
     ensures { result ≡ list_all (λ e. is_over office.now e.0) (map.entries office.now.moves) }
 {
     office.moves.iter().all(|(round, _)| office.is_over(*round))
 }
 
-// Whether each round with moves has some, and those that go into no room have wave 0.
+// Returns whether no recorded round is without moves, and each move without a new room has wave 0.
 fn are_rounds_kept(office: &Office) -> bool
     ensures { result ≡ list_all (λ e. is_kept_round e.1) (map.entries office.now.moves) }
 {

@@ -1,4 +1,4 @@
-//! The laws of rooms and people.
+//! The invariants on rooms and people.
 ghost use Rattle.std.specs.Prelude.{◌≡◌, ◌<◌, IfOk, OnErr, Some, length};
 ghost use Rattle.std.specs.Bool.{Decides};
 ghost use Rattle.std.specs.List.{list_all};
@@ -14,7 +14,7 @@ use room_types::grammars::{Keys, RoomCodes};
 use room_types::{OutOfMemory, Table};
 use std::alloc::Global;
 
-/// Whether rooms and people obey their laws, in n log n steps.
+/// Returns whether the invariants on rooms and people hold, in n log n steps.
 pub(crate) fn is_register(alloc: Global, office: &Office) -> Result<bool, OutOfMemory>
     ensures lawful { IfOk result
         (λ lawful. Decides lawful (IsRegister office.now.rooms office.now.people)) }
@@ -35,7 +35,7 @@ pub(crate) fn is_register(alloc: Global, office: &Office) -> Result<bool, OutOfM
     do_homes_differ(alloc, office)
 }
 
-// Whether each home is a known room that is not shut.
+// Returns whether each home is a known room that is not shut.
 fn are_homes_open(office: &Office) -> bool
     ensures { result ≡
         list_all (λ e. is_home_open office.now.rooms e.1) (map.entries office.now.people) }
@@ -58,7 +58,7 @@ fn is_sound_home_open(office: &Office, person: &Person) -> bool
     }
 }
 
-// Whether no two people have the same key, in one pass.
+// Returns whether no two people have the same key, in one pass.
 fn do_keys_differ(alloc: Global, office: &Office) -> Result<bool, OutOfMemory>
     ensures differ { IfOk result (λ differ. differ ≡
         differ_from (λ p. Some p.key) map.empty (map.entries office.now.people)) }
@@ -74,7 +74,7 @@ fn do_keys_differ(alloc: Global, office: &Office) -> Result<bool, OutOfMemory>
     Ok(true)
 }
 
-// Whether no two people have the same home, in one pass.
+// Returns whether no two people have the same home, in one pass.
 fn do_homes_differ(alloc: Global, office: &Office) -> Result<bool, OutOfMemory>
     ensures differ { IfOk result (λ differ. differ ≡
         differ_from (λ p. p.home) map.empty (map.entries office.now.people)) }

@@ -1,4 +1,4 @@
-//! The laws of results.
+//! The invariants on results.
 ghost use Rattle.std.specs.Prelude.{◌≡◌, IfOk, OnErr, true};
 ghost use Rattle.std.specs.Bool.{Decides};
 ghost use Rattle.std.specs.List.{list_all};
@@ -15,7 +15,7 @@ use room_types::grammars::PersonIds;
 use room_types::{OutOfMemory, PersonId, Table};
 use std::alloc::Global;
 
-/// Whether results obey their laws. Where there are some, the round is run again.
+/// Returns whether the invariants on results hold. If the phase has results, the round is run again.
 pub(crate) fn are_results(alloc: Global, office: &Office) -> Result<bool, OutOfMemory>
     requires { HomesDiffer office.now }
     ensures lawful { IfOk result (λ lawful. Decides lawful (AreResults office.now)) }
@@ -28,7 +28,7 @@ pub(crate) fn are_results(alloc: Global, office: &Office) -> Result<bool, OutOfM
     Ok(are_same(&office.results, &given))
 }
 
-// Whether the two maps are the same.
+// Returns whether the two maps are the same.
 fn are_same(found: &Table<PersonIds, Assigned>, given: &Table<PersonIds, Assigned>) -> bool
     ensures { Decides result (found.now ≡ given.now) }
 {

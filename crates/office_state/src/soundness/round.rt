@@ -1,4 +1,4 @@
-//! The laws of the round: its number, and what is left over between rounds.
+//! The invariants on the round: its number, and that nothing is left over between rounds.
 ghost use Rattle.std.specs.Bool.{Decides};
 ghost use Rattle.office_state.specs.Office.Invariants.{IsRound};
 
@@ -6,7 +6,7 @@ use crate::office::Office;
 use crate::office::limits::ROUND_LIMIT;
 use crate::office::phases::is_idle;
 
-/// Whether the round obeys its laws.
+/// Returns whether the invariants on the round hold.
 pub(crate) fn is_round(office: &Office) -> bool
     ensures { Decides result
         (IsRound office.now.number office.now.phase office.now.choices office.now.withdrawn) }

@@ -1,4 +1,4 @@
-//! The laws of words.
+//! The invariants on words.
 ghost use Rattle.std.specs.Prelude.{◌≡◌, ◌||◌};
 ghost use Rattle.std.specs.Bool.{Decides};
 ghost use Rattle.std.specs.List.{list_all};
@@ -10,7 +10,7 @@ ghost use Rattle.office_state.specs.Round.{is_participant};
 use crate::office::Office;
 use crate::office::phases::round_phase_has_words;
 
-/// Whether words obey their laws.
+/// Returns whether the invariants on words hold.
 pub(crate) fn are_words(office: &Office) -> bool
     ensures { Decides result
         (AreWords office.now.phase office.now.people office.now.withdrawn office.now.going
@@ -25,7 +25,7 @@ pub(crate) fn are_words(office: &Office) -> bool
     have_participants_words(office)
 }
 
-// Whether each word is that of a participant.
+// Returns whether each word is that of a participant.
 fn are_words_of_participants(office: &Office) -> bool
     ensures { result ≡
         list_all (λ e. is_participant office.now e.0) (map.entries office.now.words) }
@@ -36,7 +36,7 @@ fn are_words_of_participants(office: &Office) -> bool
         .all(|(person, _)| office.is_participant(person))
 }
 
-// Whether each participant has a word.
+// Returns whether each participant has a word.
 fn have_participants_words(office: &Office) -> bool
     ensures { result ≡
         list_all (λ e. sits_out office.now e.0 || map.contains_key office.now.words e.0)

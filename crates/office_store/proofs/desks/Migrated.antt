@@ -20,7 +20,7 @@ use Rattle.office_store.specs.Desk.{Shows}
 use Rattle.office_store.specs.Migrating.{IsFaultOfMigration, MayNotMigrate, migrating_fault}
 use Rattle.office_store.specs.declared.desk.faults.DeskFault.TheVariants.{AlreadyThere}
 
--- what may be said of a migration may be said of the desk
+-- A fault that a migration may return is one that the desk may return.
 pub desks-may_not_migrate : (db : Database) (fault : MigrateFault) → HasCause db fault → MayNotMigrate db (migrating_fault fault)
 desks-may_not_migrate db migrate.Unavailable cause = tt
 desks-may_not_migrate db (migrate.OtherVersion version) cause = cause
@@ -33,14 +33,14 @@ desks-fault_of_migration schema (migrate.OtherVersion version) allowed = allowed
 desks-fault_of_migration schema migrate.NotAnOffice allowed = allowed
 desks-fault_of_migration schema migrate.AlreadyThere allowed = allowed
 
--- a desk answers that a name is taken only where the migration does
+-- A desk returns `AlreadyThere` only if the migration does.
 pub desks-there : (fault : MigrateFault) → migrating_fault fault ≡ AlreadyThere → fault ≡ migrate.AlreadyThere
 desks-there migrate.Unavailable e = absurd (cc)
 desks-there (migrate.OtherVersion version) e = absurd (cc)
 desks-there migrate.NotAnOffice e = absurd (cc)
 desks-there migrate.AlreadyThere e = refl
 
--- rows of any version are those of this one, but for the version in the row of the round
+-- The rows of any version are those of this one, except for the version in the row of table `round`.
 pub desks-spelled_as_own : (version : ℕ) (office : Office) → IsSpelled (rows_at version office) → IsSpelled (rows_of office)
 unfolding rows_at
 desks-spelled_as_own version office spelled =

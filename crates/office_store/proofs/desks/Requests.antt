@@ -31,7 +31,7 @@ use Rattle.office_store.specs.declared.requests.Answer.TheVariants.{Reply, Unava
 use Rattle.office_store.specs.declared.requests.Request.{Request}
 use Rattle.office_store.specs.declared.requests.Request.TheVariants as request
 
--- the office that is kept after changes in turn, if one is
+-- the office that is cached after changes in turn, if any
 desks-kept_after : (taken after : Option Office) (office : Office) (changes : List Change) → taken ≡ Some office
     → MatchOption taken (after ≡ None) (λ o. IfSome after (λ n. n ≡ applied_all o changes)) → IfSome after (λ n. n ≡ applied_all office changes)
 desks-kept_after None after office changes e h = absurd (cc)
@@ -51,7 +51,7 @@ desks-accepted_handles : (office : Office) (command : Command) (reply : CoreRepl
 desks-accepted_handles office command reply accepted replied =
     inl (desks-accepted_answer office command reply accepted replied, ap (λ refusal. office_but refusal office (next office command)) (sym accepted))
 
--- a command that no check refuses changes nothing exactly where it has no changes
+-- A command that no check refuses changes nothing if and only if it has no changes.
 desks-accepted_changes : (office : Office) (command : Command) (changes : List Change) → accepts office command ≡ None → changes ≡ changes_of office command
     → changes_nothing office (request.Office command) ≡ is_empty changes
 desks-accepted_changes office command changes accepted same =
@@ -65,69 +65,69 @@ desks-changes_none : (office : Office) (command : Command) (changes : List Chang
     → changes_nothing office (request.Office command) ≡ true
 desks-changes_none office command changes accepted same none = desks-accepted_changes office command changes accepted same ∙ none
 
--- a list is empty where its length is 0
+-- A list is empty if its length is 0.
 pub desks-no_length : (changes : List Change) → (length changes == 0) ≡ is_empty changes
 desks-no_length [] = refl
 desks-no_length (change ∷ changes) = ne_eqb (length (change ∷ changes)) 0 (λ e. omega (arith, e))
 
--- no changes leave the office
+-- No changes leave the office unchanged.
 desks-applied_none : (office : Office) (changes : List Change) → is_empty changes ≡ true → applied_all office changes ≡ office
 desks-applied_none office [] none = refl
 desks-applied_none office (change ∷ changes) none = absurd (desks-false_is_not_true none)
 
--- the office that is kept next is the one that was
+-- The office that is cached next is the one that was.
 desks-was_kept_after : (old mid : Option Office) (office : Office) → IfSome old (λ kept. mid ≡ Some kept) → IfSome mid (λ o. o ≡ office) → IfSome old (λ o. o ≡ office)
 desks-was_kept_after None mid office kept is = tt
 desks-was_kept_after (Some o) mid office kept is = subst (λ k. IfSome k (λ o. o ≡ office)) kept is
 
--- an office that is kept stays so, and has answered what is certain
+-- A cached office stays cached, and has answered what is certain.
 pub desks-stays_kept : (office : Office) (request : Request) (answer : Answer) → Handles office request answer office → (is_certain office request ≡ true → answer ≡ answer_to office request)
     → KeepsOn office request answer (Some office)
 desks-stays_kept office request answer handled certain = record { certain = certain; stays = λ none. refl; goes_on = handled; lost = λ none. absurd (cc) }
 
--- none is kept after changes of the office that was taken
+-- If none is cached after the changes, applying them needs memory.
 desks-lost_after : (taken after : Option Office) (office : Office) (changes all : List Change) → taken ≡ Some office → changes ≡ all
     → IfSome taken (λ o. after ≡ None → changes_take_memory o changes ≡ true) → after ≡ None → changes_take_memory office all ≡ true
 desks-lost_after taken after office changes all e same h none =
     subst (λ l. changes_take_memory office l ≡ true) same (subst (λ t. IfSome t (λ o. after ≡ None → changes_take_memory o changes ≡ true)) e h none)
 
--- nothing is asked of what is kept where nothing is
+-- If no office is cached, nothing has to be shown of it.
 desks-none_keeps : (kept : Option Office) (request : Request) (answer : Answer) (next : Option Office) → kept ≡ None → IfSome kept (λ office. KeepsOn office request answer next)
 desks-none_keeps kept request answer next none = subst (λ k. IfSome k (λ office. KeepsOn office request answer next)) (sym none) tt
 
--- none was kept where none is kept now
+-- If none is cached now, none was before.
 pub desks-none_before : (old mid : Option Office) → IfSome old (λ kept. mid ≡ Some kept) → mid ≡ None → old ≡ None
 desks-none_before None mid kept none = refl
 desks-none_before (Some o) mid kept none = absurd (cc)
 
--- the office that is kept next, if one is, has handled the command
+-- The office that is cached next, if any, has handled the command.
 desks-goes_on_after : (office next : Office) (request : Request) (answer : Answer) (after : Option Office) → Handles office request answer next → IfSome after (λ n. n ≡ next)
     → IfSome after (λ n. Handles office request answer n)
 desks-goes_on_after office next request answer None handled is = tt
 desks-goes_on_after office next request answer (Some n) handled is = subst (λ o. Handles office request answer o) (sym is) handled
 
--- what is done with the office that is kept is done with the one that was
+-- What holds for the office that is cached now holds for the one that was.
 desks-keeps_after : (old mid : Option Office) (request : Request) (answer : Answer) (next : Option Office) → IfSome old (λ kept. mid ≡ Some kept)
     → IfSome mid (λ office. KeepsOn office request answer next) → IfSome old (λ office. KeepsOn office request answer next)
 desks-keeps_after None mid request answer next kept keeps = tt
 desks-keeps_after (Some o) mid request answer next kept keeps = subst (λ k. IfSome k (λ office. KeepsOn office request answer next)) kept keeps
 
--- what is done where an office is kept is done where the same one is kept next
+-- What holds where an office is cached holds where the same one is cached next.
 desks-kept_office_through : (old mid : Option Office) (A : Type 0) (B C : Office → Type 0) → IfSome old (λ kept. mid ≡ Some kept) → IfSome old (λ kept. A) → IfSome mid B
     → ((office : Office) → A → B office → C office) → IfSome old C
 desks-kept_office_through None mid A B C kept a b both = tt
 desks-kept_office_through (Some o) mid A B C kept a b both = both o a (subst (λ k. IfSome k B) kept b)
 
--- nothing is kept, so nothing is said
+-- If no office is cached, nothing has to be shown of it.
 desks-none_said : (kept : Option Office) (A : Office → Type 0) → kept ≡ None → IfSome kept A
 desks-none_said kept A none = subst (λ k. IfSome k A) (sym none) tt
 
--- where nothing is done, tables are only read
+-- If nothing is done, the tables are only read.
 pub desks-reads-refl : (a : State) → OnlyReads a a
 desks-reads-refl a = record { follows = statements-follows-refl a; same = λ honest. refl }
 
 module _ {S : Type 0} (g : Ghosts S) where
-  -- a desk stands for the office that it shows, and shows the one that it stands for while the connection is open
+  -- A desk represents the office that it shows. While the connection is open, it shows the office that it represents.
   pub desks-stands_if_shown : (desk : DeskState S) (office : Office) → Shows g desk office → StandsFor g desk office
   desks-stands_if_shown desk office shows = record {
     tables = λ is_open. shows.tables;
@@ -145,11 +145,11 @@ module _ {S : Type 0} (g : Ghosts S) where
     kept = stands.kept;
   }
 
-  -- the office that the desk stands for is the one that is kept
+  -- The office that the desk represents is the cached one.
   desks-kept_is : (desk : DeskState S) (kept office : Office) → desk.kept ≡ Some kept → StandsFor g desk office → kept ≡ office
   desks-kept_is desk kept office is stands = subst (λ k. IfSome k (λ o. o ≡ office)) is stands.kept
 
-  -- the tables are as they were, as long as the connection is open
+  -- The tables are unchanged while the connection is open.
   pub desks-held_still : (old new : Held S) (kept : Option Office) (office : Office) → HasCleanDisk (state g new) → Follows (state g old) (state g new)
       → (IsHonest (state g new) → (state g new).now ≡ (state g old).now)
       → StandsFor g (record { conn = old; kept = kept }) office → IsTrue (state g new).is_open → HoldsOffice (state g new).now office
@@ -157,7 +157,7 @@ module _ {S : Type 0} (g : Ghosts S) where
       let held = stands.tables (follows.was_open clean is_open) in
       subst (λ db. HoldsOffice db office) (sym (same (clean, is_open))) held
 
-  -- and so is what is kept
+  -- So is the office that the desk represents.
   pub desks-stands_still : (old new : Held S) (kept : Option Office) (office : Office) → HasCleanDisk (state g new) → Follows (state g old) (state g new)
       → (IsHonest (state g new) → (state g new).now ≡ (state g old).now)
       → StandsFor g (record { conn = old; kept = kept }) office → StandsFor g (record { conn = new; kept = kept }) office
@@ -168,7 +168,7 @@ module _ {S : Type 0} (g : Ghosts S) where
     kept = stands.kept;
   }
 
-  -- nothing is changed
+  -- Nothing is changed.
   pub desks-unavailable_keeps_desk : (old new : DeskState S) (request : Request) → OnlyReads (state g old.conn) (state g new.conn)
       → IfSome old.kept (λ office. KeepsOn office request Unavailable new.kept)
       → IfSome old.kept (λ office. changes_nothing office request ≡ true → new.conn ≡ old.conn)
@@ -181,14 +181,14 @@ module _ {S : Type 0} (g : Ghosts S) where
     steps = λ clean office stands. (office, inr (refl, refl), still clean office stands);
   }
 
-  -- and no office was kept
+  -- the same, where no office was cached
   pub desks-unavailable_unkept : (old new : DeskState S) (request : Request) → old.kept ≡ None → OnlyReads (state g old.conn) (state g new.conn)
       → (HasCleanDisk (state g new.conn) → (office : Office) → StandsFor g old office → StandsFor g new office) → HandlesAt g old request Unavailable new
   desks-unavailable_unkept old new request none reads still =
       desks-unavailable_keeps_desk old new request reads (desks-none_said old.kept (λ office. KeepsOn office request Unavailable new.kept) none)
       (desks-none_said old.kept (λ office. changes_nothing office request ≡ true → new.conn ≡ old.conn) none) still
 
-  -- what is answered by the office that is kept, where nothing is stored
+  -- an answer of the cached office, if nothing is stored
   pub desks-kept_office_answers : (desk : DeskState S) (kept : Office) (request : Request) (answer : Answer) → desk.kept ≡ Some kept → IsLawful kept → Handles kept request answer kept
       → (is_certain kept request ≡ true → answer ≡ answer_to kept request) → ¬ IsStored kept request answer → HandlesAt g desk request answer desk
   desks-kept_office_answers desk kept request answer is lawful handled certain none =
@@ -216,7 +216,7 @@ module _ {S : Type 0} (g : Ghosts S) where
         steps = λ clean office stands. (office, subst (λ o. Handles o request answer o) (desks-kept_is desk kept office is stands) handled, stands);
       }
 
-  -- the office that answers after what lets the desk stand for the same
+  -- the office that answers, after a read that leaves the desk representing the same office
   desks-answered_after : (old mid new : DeskState S) (request : Request) (answer : Answer) (office : Office) → OnlyReads (state g old.conn) (state g mid.conn) → IfSome old.kept (λ kept. mid.kept ≡ Some kept)
       → (HasCleanDisk (state g new.conn) → (stood : Office) → StandsFor g old stood → StandsFor g mid stood)
       → IsAnsweredBy g mid request answer new office → IsAnsweredBy g old request answer new office
@@ -230,7 +230,7 @@ module _ {S : Type 0} (g : Ghosts S) where
     stored = by.stored;
   }
 
-  -- after what lets the desk stand for the same
+  -- the same for a whole request
   pub desks-handles_after : (old mid new : DeskState S) (request : Request) (answer : Answer) → OnlyReads (state g old.conn) (state g mid.conn) → IfSome old.kept (λ kept. mid.kept ≡ Some kept)
       → IfSome old.kept (λ kept. mid.conn ≡ old.conn)
       → (HasCleanDisk (state g mid.conn) → (office : Office) → StandsFor g old office → StandsFor g mid office) → HandlesAt g mid request answer new → HandlesAt g old request answer new
@@ -249,7 +249,7 @@ module _ {S : Type 0} (g : Ghosts S) where
         steps = λ clean office stands. h.steps clean office (stands_on clean office stands);
       }
 
-  -- a command whose changes are stored: they are in the tables, and in the office that is kept, if one is
+  -- a command whose changes are stored: they are in the tables, and in the cached office, if any
   pub desks-carried_out : (old new : Held S) (kept : Office) (command : Command) (decision : Decision) (changes : List Change) (taken after : Option Office)
       → IsDecision (checks kept command) (reply_to kept command) (changes_of kept command) decision → LeadsOn kept (next kept command) decision.changes.items
       → IsLawful kept → changes ≡ decision.changes.items → is_empty changes ≡ false

@@ -1,4 +1,4 @@
-//! Desks over an office that tables of an earlier version hold.
+//! Opens desks over an office in the tables of an earlier version.
 ghost use Rattle.std.specs.Prelude.{◌≡◌, ◌⊎◌, ℤ, false, IfErr, IfOk, IsErrAnd, IsSome, IsTrue, MatchResult, OnOk, Some};
 ghost use Rattle.sqlite.specs.Held.{state};
 ghost use Rattle.sqlite.specs.State.{HasCleanDisk};
@@ -23,20 +23,19 @@ use sqlite::{Alter, Connection};
 use std::alloc::Global;
 
 impl<S: Alter> Desk<S> {
-    /// A desk over a database whose tables are the rows of an office of an earlier version. The tables are made those of
-    /// the version of this program, all in one transaction, and the desk shows the same office, in whichever phase: with no
-    /// leavers, and with no grades but those that it had.
+    /// Opens a desk over a database whose tables are the rows of an office of an earlier version. Makes the tables anew in the
+    /// version of this program, in one transaction. The desk shows the same office, in whichever phase: with no leavers, and
+    /// with no other grades than it had.
     ///
     /// # Errors
     ///
-    /// `NotAnOffice` where nothing has the name of the table of the round. Else, where the first tables are those of an
-    /// office: `OtherVersion` only where the row of the round holds that version, which is no earlier one; `NotAnOffice` only
-    /// where the first tables, in an order that is known, are the rows of no office of an earlier version, or the row of the
-    /// round is absent; `AlreadyThere` only where the rows are not at fault and something has the name of a table that the
-    /// version in the row lacks. Else `Unavailable`, which may also come in place of each of these.
-    /// An office's tables of an earlier version are never refused otherwise. The connection comes back, its tables as they
-    /// were, unless a fault shut it or the disk did not return what was written. Where the first tables are not those of an
-    /// office, no statement has run on it.
+    /// `NotAnOffice` if nothing has the name of table `round`. Otherwise, if the first tables are those of an office:
+    /// `OtherVersion` only if the row of table `round` holds that version, and it is not an earlier one; `NotAnOffice` only if
+    /// the first tables, in a known order, are not the rows of an office of an earlier version, or the row of table `round` is
+    /// missing; `AlreadyThere` only if the rows are not at fault and something has the name of a table that the version in the
+    /// row lacks. `Unavailable` otherwise, and it may also replace each of these. The tables of an office of an earlier version
+    /// are refused in no other way. The connection is returned. Its tables are unchanged, unless a fault closed it or the disk
+    /// failed to return what was written. If the first tables are not those of an office, no statement has run on it.
     pub fn migrate(alloc: Global, connection: Connection<S>) -> Result<Desk<S>, Back<S>>
         requires { connection.in_transaction ≡ false }
         ensures follows { IfOk result

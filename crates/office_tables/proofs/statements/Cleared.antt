@@ -1,4 +1,4 @@
--- Tables are dropped, and declared again.
+-- Dropping tables and creating them again.
 use Rattle.std.proofs.Common.{◌≡◌, ◌⊎◌, ◌≤◌, ◌<◌, ◌+◌, ℕ, zero, suc, List, [], ◌∷◌, drop, take, cond, slice_get, ◌-◌, Option, Some, None, Ok, false, codes, refl, sym, ap, ◌∙◌, subst, inl, inr, arith}
 use Rattle.std.specs.List.{AllByRecursion}
 use Rattle.std.proofs.lemmas.Bool.{MatchBool-at_false}
@@ -35,7 +35,7 @@ use Rattle.office_tables.proofs.statements.Rows.{statements-went, statements-sam
 
 -- ---- one more table
 
--- among these tables the text declares one more, and then these are there
+-- With the schema `before` the text creates one more table, which gives the schema `after`.
 pub record IsDeclaredBy (text : List ℕ) (before after : Schema) (table : Table) : Type 0 where
   pub is : command_of (understood before text) ≡ CreateTable
   pub whole : statement_of text (understood before text) ≡ text
@@ -45,7 +45,7 @@ pub record IsDeclaredBy (text : List ℕ) (before after : Schema) (table : Table
   pub uncounted : lacks_sequence after ≡ false
 
 module _ (text : List ℕ) (before after : Schema) (table : Table) (it : IsDeclaredBy text before after table) (old new : State) where
-  -- what CREATE TABLE makes of the tables
+  -- the effect of CREATE TABLE on the tables
   pub statements-adds : (count : ℕ) → old.now.schema ≡ before → Executes text [] old new (Ok count) → Adds table old.now new.now
   statements-adds count has h =
       let w = subst (λ t. Writes old new None CreateTable t [] count) it.whole (runs_as text [] old new before has CreateTable it.is it.plain count h) in
@@ -76,7 +76,7 @@ module _ (text : List ℕ) (before after : Schema) (table : Table) (it : IsDecla
 
 -- ---- one table less
 
--- among these tables the text drops one, to which no other refers, and then these are left
+-- With the schema `before` the text drops a table to which no other refers, which gives the schema `after`.
 pub record IsDroppedBy (text : List ℕ) (before after : Schema) (place : ℕ) (table : Table) : Type 0 where
   pub is : command_of (understood before text) ≡ DropTable place
   pub plain : IsPlain (understood before text)
@@ -119,7 +119,7 @@ module _ (text : List ℕ) (before after : Schema) (place : ℕ) (table : Table)
     mode = λ clean. (runs clean).mode;
   }
 
--- ---- what declares each table
+-- ---- the statement that creates each table
 
 statements-room_declared : IsDeclaredBy schema.room_text (first_tables 0) (first_tables 1) (schema.room 0)
 unfolding understood everything
@@ -161,7 +161,7 @@ statements-going_declared : IsDeclaredBy schema.going_text (first_tables 9) (fir
 unfolding understood everything
 statements-going_declared = record { is = refl; whole = refl; defined = refl; plain = (refl, refl); added = refl; uncounted = refl }
 
--- ---- what drops each, the last one first, in each order
+-- ---- the statement that drops each table, the last one first, in each order
 
 statements-own_move_dropped : IsDroppedBy (drop_table_text (codes "move")) (first_tables 4) (first_tables 3) 3 (schema.move 7)
 unfolding understood everything
@@ -289,7 +289,7 @@ statements-one_more P zero (suc n) (x ∷ tables) t here low all p = (all.0, sta
 statements-one_more P (suc few) (suc n) (x ∷ tables) t here low all p = statements-one_more P few n tables t here (omega (arith, low)) all p
 
 module _ (old mid new : State) (early : HasCleanDisk new → HasCleanDisk mid) where
-  -- what stood, and is not touched later, still stands
+  -- A first effect still holds after a second one that does not touch its tables.
   pub statements-and_then : (a b c : Schema) (many few fresh later : List Table) → ((x y : Trees) → KeepsRows many x y → KeepsRows few x y) → Stands a b many fresh old mid → Stands b c few later mid new → Stands a c few later old new
   statements-and_then a b c many few fresh later narrow first second = record {
     shown = λ clean has.
@@ -299,7 +299,7 @@ module _ (old mid new : State) (early : HasCleanDisk new → HasCleanDisk mid) w
     mode = λ clean. second.mode clean ∙ first.mode (early clean);
   }
 
-  -- one table more is made
+  -- One more table is created.
   pub statements-one_made : (before : Schema) (kept few n : ℕ) (t : Table) → slice_get office_schema.tables n ≡ Some t → few ≤ n → kept ≤ n
       → Stands before (first_tables n) (take kept office_schema.tables) (drop few (take n office_schema.tables)) old mid
       → Stands (first_tables n) (first_tables (suc n)) (take n office_schema.tables) (t ∷ []) mid new
@@ -317,7 +317,7 @@ module _ (old mid new : State) (early : HasCleanDisk new → HasCleanDisk mid) w
     mode = λ clean. second.mode clean ∙ first.mode (early clean);
   }
 
-  -- a statement was refused, or failed, after others
+  -- A statement is refused or fails after others.
   pub statements-cut_short : (a b : Schema) (kept fresh : List Table) → StaysInside old mid → StaysInside mid new → Stands a b kept fresh old mid → IsUndone mid new → IsHonest new → Stands a b kept fresh old new ⊎ RollsBack old new
   statements-cut_short a b kept fresh before later first undone honest =
       elim (undone honest) [
@@ -332,13 +332,13 @@ module _ (old mid new : State) (early : HasCleanDisk new → HasCleanDisk mid) w
             inr (rolled.0 ∙ (before.kept (early honest.0)).committed was_open, rolled.1)
       ]
 
--- what is rolled back goes to the state before all of it
+-- A rollback goes back to the state before all of it.
 pub statements-rolled_before : (old mid new : State) → StaysInside old mid → StaysInside mid new → IsHonest new → RollsBack mid new → RollsBack old new
 statements-rolled_before old mid new before later honest rolled =
     let early : HasCleanDisk mid = omega (arith, honest.0, later.survives.clean) in
     (rolled.0 ∙ (before.kept early).committed ((later.kept honest.0).was_open honest.1), rolled.1)
 
--- the tables of a round were dropped, and one of them could not be made anew
+-- The tables of a round were dropped, and one of them could not be created again.
 pub statements-made_too_few : (old mid new : State) → StaysInside old mid → StaysInside mid new → LeftStand Own 6 old mid → MakesTooFew 6 mid new → MayLackTables old new
 statements-made_too_few old mid new before later lost few honest =
     let early : HasCleanDisk new → HasCleanDisk mid = λ clean. omega (arith, clean, later.survives.clean) in
@@ -347,20 +347,20 @@ statements-made_too_few old mid new before later lost few honest =
       | inr rolled ↦ inr (statements-rolled_before old mid new before later honest rolled)
     ]
 
--- not all of them could be dropped
+-- Not all of them could be dropped.
 pub statements-dropped_too_few : (old new : State) → DropsTooFew Own 6 old new → MayLackTables old new
 statements-dropped_too_few old new few honest = elim (few honest) [ inl some ↦ inl (inl some) | inr rolled ↦ inr rolled ]
 
--- nothing has been done yet
+-- Nothing has been done yet.
 pub statements-all_stand : (schema : Schema) (kept fresh : List Table) (state : State) → ((trees : Trees) → IsEmptyIn trees fresh) → Stands schema schema kept fresh state state
 statements-all_stand schema kept fresh state none = record {
   shown = λ clean has. (has, statements-keeps_same kept state.now.trees, none state.now.trees);
   mode = λ clean. refl;
 }
 
--- ---- one table less after another
+-- ---- dropping one table after another
 
--- what a layout keeps when one table goes
+-- The remaining tables keep their rows when one goes.
 statements-keeps_one_fewer : (layout : Layout) (n : ℕ) (x y : Trees) → KeepsRows (tables_of layout (suc n)).tables x y → KeepsRows (tables_of layout n).tables x y
 statements-keeps_one_fewer Own n x y h = statements-keeps_fewer n (suc n) office_schema.tables x y (omega arith) h
 statements-keeps_one_fewer Documented n x y h = statements-keeps_fewer n (suc n) documented_schema.tables x y (omega arith) h
@@ -368,7 +368,7 @@ statements-keeps_one_fewer DocumentedSecond n x y h = statements-keeps_fewer n (
 statements-keeps_one_fewer DocumentedFirst n x y h = statements-keeps_fewer n (suc n) documented_schema.tables x y (omega arith) h
 statements-keeps_one_fewer EarlierFirst n x y h = statements-keeps_fewer n (suc n) earlier_schema.tables x y (omega arith) h
 
--- all tables of a layout stand before any is dropped
+-- All tables of a layout are there before any is dropped.
 pub statements-whole_layout : (layout : Layout) (state : State) → LeftStand layout (table_count layout) state state
 statements-whole_layout Own state = statements-all_stand office_schema office_schema.tables [] state (λ trees. tt)
 statements-whole_layout Documented state = statements-all_stand documented_schema documented_schema.tables [] state (λ trees. tt)
@@ -385,7 +385,7 @@ module _ (old mid new : State) (early : HasCleanDisk new → HasCleanDisk mid) w
       statements-and_then old mid new early (schema_of layout) (tables_of layout (suc n)) (tables_of layout n) (tables_of layout (suc n)).tables (tables_of layout n).tables [] []
       (statements-keeps_one_fewer layout n) first (statements-loses text (tables_of layout (suc n)) (tables_of layout n) n t it mid new runs)
 
-  -- one table less stands
+  -- There is one table less.
   pub statements-one_fewer : (layout : Layout) (n : ℕ) → 3 ≤ n → n < table_count layout → Fewer layout n
   statements-one_fewer Own (suc (suc (suc zero))) high low = statements-fewer_by Own _ 3 _ statements-own_move_dropped
   statements-one_fewer Own (suc (suc (suc (suc zero)))) high low = statements-fewer_by Own _ 4 _ statements-own_list_dropped
@@ -438,7 +438,7 @@ module _ (old mid new : State) (early : HasCleanDisk new → HasCleanDisk mid) w
   statements-one_fewer EarlierFirst (suc (suc zero)) high low = absurd (omega (arith, high))
   statements-one_fewer EarlierFirst (suc (suc (suc (suc (suc (suc (suc (suc n)))))))) high low = absurd (omega (arith, low))
 
--- ---- one table more after another
+-- ---- creating one table after another
 
 statements-below_ten : (P : ℕ → Type 0) → P 0 → P 1 → P 2 → P 3 → P 4 → P 5 → P 6 → P 7 → P 8 → P 9 → (i : ℕ) → i < 10 → P i
 statements-below_ten P a b c d e f g h i j zero low = a
@@ -468,7 +468,7 @@ module _ (old mid new : State) (early : HasCleanDisk new → HasCleanDisk mid) (
       statements-one_made old mid new early before kept few n t here low lower first
       (subst (λ x. Stands (first_tables n) (first_tables (suc n)) (take n office_schema.tables) (x ∷ []) mid new) is (statements-gains text (first_tables n) (first_tables (suc n)) declared it mid new runs))
 
-  -- one table more stands, with no rows
+  -- There is one more table, without rows.
   pub statements-one_more_made : (n : ℕ) → n < 10 → More n
   statements-one_more_made = statements-below_ten More
       (statements-more_by _ 0 (schema.room 0) (schema.room 0) refl refl statements-room_declared)
@@ -482,12 +482,12 @@ module _ (old mid new : State) (early : HasCleanDisk new → HasCleanDisk mid) (
       (statements-more_by _ 8 (schema.choice 0) (schema.choice 18) refl refl statements-choice_declared)
       (statements-more_by _ 9 (schema.going 0) (schema.going 21) refl refl statements-going_declared)
 
--- ---- all of it
+-- ---- all tables together
 
 statements-empty_is : (trees : Trees) {X : Type 0} (columns : X → Row) (tree : ℕ) → trees tree ≡ [] → Holds columns (trees tree) []
 statements-empty_is trees columns tree none = subst (λ l. Holds columns l []) (sym none) (statements-none_held columns)
 
--- the tables are there, with no rows
+-- The tables of a round are there, without rows.
 pub statements-clears : (old new : State) → FirstStand 10 10 6 old new → Makes old new edit.without_round_tables
 unfolding edit.without_round_tables
 statements-clears old new stands = record {
@@ -513,7 +513,7 @@ statements-clears old new stands = record {
   mode = stands.mode;
 }
 
--- the first three tables stand in the same place in each layout
+-- The first three tables have the same places in every layout.
 pub statements-first_three : (layout : Layout) (old new : State) → LeftStand layout 3 old new → Stands (schema_of layout) (first_tables 3) (take 3 office_schema.tables) [] old new
 statements-first_three Own old new h = h
 statements-first_three Documented old new h = h
@@ -521,7 +521,7 @@ statements-first_three DocumentedSecond old new h = h
 statements-first_three DocumentedFirst old new h = h
 statements-first_three EarlierFirst old new h = h
 
--- the tables behind the first three are those that this program makes, and empty
+-- The tables after the first three are those that this program creates, and empty.
 pub statements-rebuilds : (layout : Layout) (old new : State) → Stands (schema_of layout) office_schema (take 3 office_schema.tables) (drop 3 office_schema.tables) old new → Rebuilds layout old new
 statements-rebuilds layout old new stands = record {
   shown = λ tables clean was.

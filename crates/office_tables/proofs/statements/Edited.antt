@@ -20,12 +20,12 @@ use Rattle.sqlite_rules.proofs.TableLemmas.{int_is}
 use Rattle.sqlite_keyed.proofs.ListLemmas.{filter_same, none_from_any, filter_all, all_map, all-filter, all_weaker}
 use Rattle.sqlite_keyed.proofs.RuleLemmas.{each_true}
 
--- the rows have rowids that differ
+-- The rows have distinct rowids, which are integers.
 pub record IsNumbered (rows : List Row) : Type 0 where
   pub apart : IsDistinct same_rowid rows
   pub keyed : AllByRecursion (λ r. IsTrue (is_int (rowid r))) rows
 
--- a row whose rowid is free is one more row
+-- A row whose rowid is free is added.
 pub statements-put_free : (new : Row) (rows : List Row) → is_taken rows new ≡ false → IsPermutation (put_row new rows) (new ∷ rows)
 statements-put_free new [] free = IsPermutation-refl _
 statements-put_free new (r ∷ rows) free = go (value_cmp (rowid r) (rowid new)) refl (λ h. statements-put_free new rows h)
@@ -87,7 +87,7 @@ statements-without_any rows (id ∷ ids) =
     neither true b = refl
     neither false b = refl
 
--- in what order the rowids stand is no matter
+-- The order of the rowids does not matter.
 pub statements-without_permuted : (rows : List Row) (ids jds : List ℤ) → IsPermutation ids jds → without_all rows jds ≡ without_all rows ids
 statements-without_permuted rows ids jds same =
     statements-without_any rows jds ∙ filter_same _ _ (λ r. ap not (sym (list_any-IsPermutation (λ id. has_rowid id r) ids jds same))) rows ∙ sym (statements-without_any rows ids)

@@ -1,4 +1,4 @@
--- What a statement makes of the records that a table holds.
+-- The effect of a statement on the records that a table holds.
 use Rattle.std.proofs.Common.{◌≡◌, ℤ, Bool, true, List, [], ◌∷◌, map, filter, drop, sym, ap, ◌∙◌, subst}
 use Rattle.std.specs.List.Sorted.{IsPermutation}
 use Rattle.std.proofs.lemmas.List.Sorted.{IsPermutation-map}
@@ -21,7 +21,7 @@ use Rattle.office_tables.proofs.statements.Held.{statements-held_inserted, state
 use Rattle.office_tables.proofs.statements.Rows.{Turned, passes, shows, statements-answer_over}
 
 module _ {X : Type 0} (columns : X → Row) (table : Table) (old new : Database) (xs : List X) (held : Holds columns (old.trees table.tree) xs) where
-  -- one more row, whose rowid is given or chosen
+  -- One more row, whose rowid is given or chosen.
   pub statements-insert_held : (source : Row) (id : ℤ) (x : X) → with_rowid Chosen (old.trees table.tree) (cast_row table source) ≡ stored columns (id, x)
       → Turned table old new (edit_of old.trees table [] Chosen 0 (source ∷ [])) → Holds columns (new.trees table.tree) (x ∷ xs)
   statements-insert_held source id x is t =

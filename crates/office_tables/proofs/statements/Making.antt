@@ -1,4 +1,4 @@
--- What a statement over one table makes of the tables of an office.
+-- The effect of a statement that edits one table on all tables of an office.
 use Rattle.std.proofs.Common.{◌≡◌, ℕ, ℤ, Bool, List, [], ◌∷◌, length, drop, ◌/◌, ap, subst, slice_get, None, Ok}
 use Rattle.sqlite_value.specs.Order.{Row}
 use Rattle.sqlite_value.specs.declared.value.Value.TheVariants.{Null}
@@ -28,11 +28,11 @@ use Rattle.office_tables.proofs.statements.OneTable.{OneTable}
 use Rattle.office_tables.proofs.statements.Rows.{statements-ran, at_schema, statements-row_inserted, statements-rows_updated, statements-rows_deleted, passes, shows}
 
 module _ {X : Type 0} (one : OneTable X) (old new : State) (text : List ℕ) (params : Row) where
-  -- the records of the table are changed, and no others
+  -- Only the records of this table change.
   abbrev pub Changes : (List X → List X) → Type 0
   Changes change = Makes old new (λ tables. one.with_records (change (one.of tables)) tables)
 
-  -- what the statement does, at its table
+  -- the effect of the statement on its table
   statements-on_rows : (command : Command) (out : Tally × Database)
       → AtPlace (λ t. OnRows (record { limit = old.step_limit; keys = Enforced; schema = office_schema; table = t; params = params }) (mode_of old) None command old.now.trees) (slice_get office_schema.tables one.at) (Ok out)
       → OnRows (record { limit = old.step_limit; keys = Enforced; schema = office_schema; table = one.table; params = params }) (mode_of old) None command old.now.trees (Ok out)
@@ -53,7 +53,7 @@ module _ {X : Type 0} (one : OneTable X) (old new : State) (text : List ℕ) (pa
     mode = λ clean. (runs clean).mode;
   }
 
-  -- the rowid is chosen
+  -- The engine chooses the rowid.
   pub statements-inserted_anew : (terms : List Term) (width : ℕ) → Means text (Insert one.at (Values terms width)) → (source : Row) → value_rows params width (length terms / width) terms ≡ source ∷ []
       → (x : X) → cast_row one.table source ≡ Null ∷ one.columns x → (HasCleanDisk new → Ran text params old new) → Changes (λ xs. x ∷ xs)
   statements-inserted_anew terms width means source values x casts = statements-inserted terms width means source values next_rowid x (λ rows. ap (with_rowid Chosen rows) casts)

@@ -22,16 +22,17 @@ use Rattle.office_tables.specs.Tables.{HasTables}
 use Rattle.office_tables.specs.declared.layouts.Layout.{Layout}
 use Rattle.office_tables.proofs.statements.Held.{statements-held_permuted}
 
--- the item at an index, and what is left after it
+-- the item at an index, and the items after it
 pub statements-next_of : {X : Type 0} (xs : List X) (i : ℕ) (x : X) → i < length xs → x ≡ get_or xs i x
     → drop i xs ≡ x ∷ drop (i + 1) xs
 statements-next_of xs i x low is = drop_more xs i x low ∙ ap (λ y. y ∷ drop (i + 1) xs) (sym is)
 
--- one more row before those that are to come, and those that are there
+-- A row may go before those that are to come and those that are there.
 statements-one_before : {X : Type 0} (r : X) (rows there xs : List X) → IsPermutation (rows ++ r ∷ there) xs → IsPermutation (r ∷ rows ++ there) xs
 statements-one_before r rows there xs same = IsPermutation-trans _ _ _ (IsPermutation-sym _ _ (IsPermutation-middle rows r there)) same
 
--- Where a row is put before the others of its table, all are there at the end, in some order, and no other table changes.
+-- If each row is put before the others of its table, all are there at the end, in some order, and no other table
+-- changes.
 module _ {X : Type 0} (with_row : X → Tables → Tables) (of : Tables → List X) (with_records : List X → Tables → Tables)
     (put : (r : X) (tables : Tables) → with_row r tables ≡ with_records (r ∷ of tables) tables) (same : (tables : Tables) → with_records (of tables) tables ≡ tables)
     (has : (xs : List X) (tables : Tables) → of (with_records xs tables) ≡ xs) (over : (xs ys : List X) (tables : Tables) → with_records xs (with_records ys tables) ≡ with_records xs tables) where
@@ -45,7 +46,7 @@ module _ {X : Type 0} (with_row : X → Tables → Tables) (of : Tables → List
         statements-one_before r rows (of tables) more.0 (subst (λ l. IsPermutation (rows ++ l) more.0) there more.2),
       )
 
-  -- where there was none, those are there that were to come
+  -- In a table that was empty, the rows that were to come are there.
   statements-all_there : (rows old : List X) (tables : Tables) → of tables ≡ [] → IsPermutation old rows → (xs : List X) × (with_all with_row rows tables ≡ with_records xs tables) × IsPermutation old xs
   statements-all_there rows old tables none to_come =
       let all = statements-all_put rows tables in
@@ -80,7 +81,7 @@ statements-going_there : (rows old : List Text) (tables : Tables) → tables.goi
 unfolding edit.with_going
 statements-going_there = statements-all_there edit.with_going (λ t. t.going) (λ xs t. record t { going = xs }) (λ r t. refl) (λ t. refl) (λ xs t. refl) (λ xs ys t. refl)
 
--- the tables behind the first three, in some other order of their rows
+-- The tables after the first three may have their rows in another order.
 statements-later_permuted : (db : Database) (tables : Tables) (moves : List Move) (lists : List (Text × KeptList)) (grades : List (Text × ℕ)) (choices : List ChoiceRecord) (words : List (Text × ℕ)) (results : List (Text × Assigned)) (going : List Text)
     → IsPermutation tables.moves moves → IsPermutation tables.lists lists → IsPermutation tables.grades grades → IsPermutation tables.choices choices → IsPermutation tables.words words → IsPermutation tables.results results → IsPermutation tables.going going
     → HasTables db (record tables { moves = moves; lists = lists; grades = grades; choices = choices; words = words; results = results; going = going }) → HasTables db tables
@@ -100,7 +101,7 @@ statements-later_permuted db tables moves lists grades choices words results goi
   };
 }
 
--- the tables are made anew, filled again, and noted to be of the version that this program makes
+-- The tables are created again, filled again, and marked with the version that this program creates.
 pub statements-renews : (layout : Layout) (records : OfficeRecords) (old s0 s1 s2 s3 s4 s5 s6 s7 new : State)
     → (HasCleanDisk s1 → HasCleanDisk s0) → (HasCleanDisk s2 → HasCleanDisk s1) → (HasCleanDisk s3 → HasCleanDisk s2) → (HasCleanDisk s4 → HasCleanDisk s3)
     → (HasCleanDisk s5 → HasCleanDisk s4) → (HasCleanDisk s6 → HasCleanDisk s5) → (HasCleanDisk s7 → HasCleanDisk s6) → (HasCleanDisk new → HasCleanDisk s7)

@@ -1,4 +1,4 @@
--- What a statement over one table makes of its rows.
+-- The effect of a statement on the rows of one table.
 use Rattle.std.proofs.Common.{◌≡◌, ℕ, Bool, true, false, List, [], ◌∷◌, ◌++◌, map, filter, flat_map, drop, length, ◌/◌, Option, None, Ok, Err, Result, refl, sym, ap, ◌∙◌, subst, cond, nat_le, unwrap_or, ◌^◌, inl, inr, ◌⊎◌}
 use Rattle.std.specs.List.{AllByRecursion, list_all, filter_map}
 use Rattle.std.specs.List.Sorted.{IsPermutation}
@@ -55,7 +55,7 @@ statements-matching params tests (r ∷ rows) = go (passes params tests r) (stat
     go true more = ap (λ l. (params ∷ r ∷ []) ∷ l) more
     go false more = more
 
--- the answer over one table has what is shown of each row that passes
+-- The answer of a query of one table has the columns of each row that passes the tests.
 pub statements-answer_over : (tree : ℕ) (tests project : List Term) (order : List (Term × Key)) (db : Database) (params : Row) (rows : List Row) → Answers db (alone (over tree tests project order)) params rows
     → IsPermutation (map (shows params project) (filter (passes params tests) (db.trees tree))) rows
 statements-answer_over tree tests project order db params rows h =
@@ -70,7 +70,7 @@ statements-answer_over tree tests project order db params rows h =
     ∙ map-map (eval_all project) (λ r. params ∷ r ∷ []) (filter (passes params tests) (db.trees tree)) in
     subst (λ l. IsPermutation l rows) outputs (subst (IsPermutation (map (λ (o : Output). o.1) a.kept)) (sym shown) (IsPermutation-map _ _ _ a.same))
 
--- no reference of an office acts on the rows that refer to it
+-- No reference of an office changes the rows that refer to a row.
 pub statements-calm : (tree : ℕ) (olds news : List Row) → works office_schema Enforced 0 tree olds news ≡ []
 statements-calm tree olds news = go (length news == 0)
   where
@@ -78,7 +78,7 @@ statements-calm tree olds news = go (length news == 0)
     go true = refl
     go false = refl
 
--- a part that gave a value did not stop on the way
+-- A part that returned a value did not stop on the way.
 pub statements-went : {B E R : Type 0} {b : B} {Stops : E → Type 0} → ((stop : E) × Stops stop × (Ok b ≡ Err stop)) ⊎ R → R
 statements-went (inl stopped) = absurd (let e = stopped.2 in cc)
 statements-went (inr on) = on
@@ -86,7 +86,7 @@ statements-went (inr on) = on
 pub statements-same_value : {B E : Type 0} {a b : B} → ◌≡◌ {A = Result B E} (Ok a) (Ok b) → a ≡ b
 statements-same_value e = cc
 
--- only this table has other rows, and they are those of an edit
+-- Only the rows of this table differ, and they result from an edit.
 pub record Turned (table : Table) (old new : Database) (edit : Edit) : Type 0 where
   pub schema : new.schema ≡ office_schema
   pub fresh : are_fresh (Rattle.sqlite_rules.specs.Edit.left_by old.trees edit) edit.news ≡ true

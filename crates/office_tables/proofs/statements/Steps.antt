@@ -32,7 +32,7 @@ statements-follows_then a b c p q = record {
     more_after : (x y z : ℕ) → y ≤ z → MoreFaults x y → MoreFaults x z
     more_after x y z low more = omega (arith, low, more)
 
--- a state that is followed by an honest one is honest
+-- If a state that follows another is intact, so is the other.
 pub statements-honest_before : (a b : State) → Follows a b → IsHonest b → IsHonest a
 statements-honest_before a b p h = (p.clean h.0, p.was_open h.0 h.1)
 
@@ -56,11 +56,11 @@ statements-inside_then a b c p q = record {
   survives = survives_then a b c _ _ (λ _. ⊥) (λ _ db none. none) (λ _ db none. none) p.survives q.survives;
 }
 
--- refused before any statement
+-- A call that fails before any statement changes nothing.
 pub statements-undone_none : (a : State) → IsUndone a a
 statements-undone_none a honest = inl (refl, refl)
 
--- what the engine says of a statement that it refused, or that failed
+-- what the engine guarantees for a statement that it refused, or that failed
 pub statements-undone_by : (held : ℕ) (sql : List ℕ) (params : Row) (e : Error) (old new : State) → ExecutesInside held sql params old new (Err e) → IsUndone old new
 statements-undone_by held sql params e old new h honest = elim h [
   | inl failed ↦ either failed.1

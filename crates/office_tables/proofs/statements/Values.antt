@@ -1,4 +1,4 @@
--- Values as the columns of a strict table take them.
+-- Values as the columns of a strict table store them.
 use Rattle.std.proofs.Common.{◌≡◌, ℕ, ℤ, pos, Bool, true, false, ◌&&◌, Option, Some, None, List, refl, ap, ◌∙◌, cond}
 use Rattle.std.specs.Str.{bytes_eq}
 use Rattle.std.specs.Ordering.{is_eq}
@@ -37,7 +37,7 @@ pub statements-cast-wave_value : (wave : Wave) → cast kind.Integer (wave_value
 statements-cast-wave_value Swap = statements-cast-Null
 statements-cast-wave_value (Nth n) = statements-cast-Int (pos n)
 
--- the test that a column of texts is a parameter
+-- the test that a column of texts equals a parameter
 pub statements-same_text : (a b : List ℕ) → (is_true (binary (Compare Eq Binary) (Text a) (Text b)) && true) ≡ bytes_eq a b
 unfolding binary
 statements-same_text a b = tested (is_eq (value_cmp (Text a) (Text b))) ∙ ap is_eq (value_cmp-Text a b) ∙ is_eq-slice_cmp a b

@@ -1,4 +1,4 @@
--- Which texts have bytes.
+-- Texts that are not empty.
 use Rattle.std.proofs.Common.{◌<◌, List, [], ◌∷◌, length, codes, arith, length-append}
 use Rattle.std.specs.Fmt.{decimal}
 use Rattle.room_types.specs.Texts.{Text}
@@ -7,12 +7,12 @@ use Rattle.office_core.specs.declared.reply.OrderRow.{OrderRow}
 use Rattle.office_texts.specs.OutputLines.{line_of}
 use Rattle.office_texts.specs.OrderLines.{order_line, order_lines, order_text, right_in, told_grade}
 
--- a line ends with a line feed
+-- a line is not empty: it ends with a line feed
 pub answer_texts-line_some : (pieces : List Text) → 0 < length (line_of pieces)
 answer_texts-line_some [] = omega arith
 answer_texts-line_some (piece ∷ pieces) = omega (arith, length-append piece (line_of pieces), answer_texts-line_some pieces)
 
--- there is a line for each row
+-- an order with rows has a text that is not empty
 pub answer_texts_order_some : (rows : List OrderRow) → 0 < length rows → 0 < length (order_text rows)
 answer_texts_order_some [] some = absurd (omega (arith, some))
 answer_texts_order_some (row ∷ rows) some =

@@ -1,4 +1,4 @@
--- Words that are joined.
+-- Joined words.
 use Rattle.std.proofs.Common.{◌≡◌, ◌++◌, Bor, List, [], ◌∷◌, map, refl, ap, codes}
 use Rattle.std.specs.List.{join_by, flat_map}
 use Rattle.room_types.specs.Texts.{Text}
@@ -8,7 +8,7 @@ request_words-after : (separator : Text) (words : List (Bor Text)) → flat_map 
 request_words-after separator [] = refl
 request_words-after separator (word ∷ words) = ap (λ (text : Text). (separator ++ word.now) ++ text) (request_words-after separator words)
 
--- the texts of words, joined
+-- joining the texts of words is joining the words by their texts
 pub request_words-joined-texts : (words : List (Bor Text)) → joined (map (λ (word : Bor Text). word.now) words) ≡ join_by (λ (word : Bor Text). word.now) (codes " ") words
 request_words-joined-texts [] = refl
 request_words-joined-texts (word ∷ words) = ap (λ (text : Text). word.now ++ text) (request_words-after (codes " ") words)

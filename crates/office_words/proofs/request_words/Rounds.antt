@@ -1,4 +1,4 @@
--- The number of a round, as `parse` reads it.
+-- The number of a round, as `parse` returns it.
 use Rattle.std.proofs.Common.{rules, tests, ◌≡◌, ℕ, ◌≤◌, ◌^◌, Bool, true, false, length, refl, arith, Result, Ok}
 use Rattle.std.specs.Prelude.{◌&&◌}
 use Rattle.std.specs.Char.{is_ascii_digit}
@@ -31,7 +31,7 @@ request_words-digits_test = record {
 request_words-digits_model : IsNumeralModel HasDigits (digits_value 10)
 request_words-digits_model = numerals_by_value HasDigits request_words-digits_test
 
--- a word of 1 to 4 digits is read as the number that they write
+-- `parse` of a word of 1 to 4 digits returns the number that they write
 pub request_words-round_read : {E : Type 0} (word : Text) (r : Result ℕ E) → ParsesUnsigned 16 10 word r → is_round_number_word word ≡ true → r ≡ Ok (digits_value 10 word)
 request_words-round_read word r parses is =
     let p = and_parts (is_in_range 1 4 (length word)) (list_all is_ascii_digit word) is in

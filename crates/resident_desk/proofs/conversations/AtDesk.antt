@@ -1,4 +1,4 @@
--- A conversation at a desk is one with the office that the desk stands for.
+-- Serving a connection at a desk simulates serving it with the office that the desk represents.
 use Rattle.sqlite_trees.specs.declared.memory.MemStore.{MemStore}
 use Rattle.sqlite_trees.specs.declared.store.Store.{Ghosts}
 use Rattle.room_types.specs.declared.stream.Stream.{Ghosts as Calls}
@@ -16,7 +16,7 @@ use Rattle.resident_desk.specs.declared.served.Served.{Served}
 use Rattle.resident_desk.proofs.conversations.Carried.{conversations-converses_carried}
 
 module _ {S : Type 0} (g : Ghosts S) where
-  -- the connection after a conversation follows the one before
+  -- The state of the database connection afterwards follows the one before.
   pub conversations-conversation_follows : {T : Type 0} (calls : Calls T) (served : Served) (old new : DeskState S) (before after : Connection T) → Converses calls (HandlesAt g) served old new before after
       → Follows (state g old.conn) (state g new.conn)
   conversations-conversation_follows calls served old new before after h =
@@ -24,7 +24,7 @@ module _ {S : Type 0} (g : Ghosts S) where
       (λ o m r a step rest. statements-follows_then _ _ _ step.follows rest) (λ o m r a step rest k s. (tt, tt, tt)) calls served old new before after h).0
       (statements-follows-refl (state g new.conn))
 
-  -- what a conversation does at a desk, it does to the office that the desk stands for
+  -- serving at a desk, seen from the office that the desk represents
   pub conversations-conversation_stands : {T : Type 0} (calls : Calls T) (served : Served) (old new : DeskState S) (before after : Connection T) → Converses calls (HandlesAt g) served old new before after
       → HasCleanDisk (state g new.conn) → (office : Office) → StandsFor g old office
       → (next : Office) × Converses calls Handles served office next before after × StandsFor g new next
@@ -32,7 +32,7 @@ module _ {S : Type 0} (g : Ghosts S) where
       (conversations-converses_carried (HandlesAt g) Handles (λ desk. HasCleanDisk (state g desk.conn)) (StandsFor g)
       (λ o m r a step. step.follows.clean) (λ o m r a step clean. step.steps clean) calls served old new before after h).1
 
--- and, in memory, to the office that it shows
+-- the same in memory, from the office that the desk shows
 pub conversations-conversation_in_memory : {T : Type 0} (calls : Calls T) (served : Served) (old new : DeskState MemStore) (before after : Connection T) → Converses calls (HandlesAt over_memory) served old new before after
     → (office : Office) → Shows over_memory old office
     → (next : Office) × Converses calls Handles served office next before after × Shows over_memory new next

@@ -1,4 +1,4 @@
--- What is answered by those who handle requests is answered by what they stand for.
+-- Serving with a concrete handler simulates serving with an abstract one, if each request does.
 use Rattle.std.proofs.Common.{◌≡◌, ℕ, List, Result, Ok, Err, inl, inr, refl, sym, subst}
 use Rattle.room_types.specs.Texts.{Text}
 use Rattle.room_types.specs.declared.fault.TypeFault.{TypeFault}
@@ -22,12 +22,13 @@ use Rattle.resident_desk.specs.Serving.{Admits, Answers, AnswersWanted, Commands
 use Rattle.resident_desk.specs.declared.served.Served.{Served}
 use Rattle.resident_desk.specs.declared.served.Served.TheVariants.{Answered, ReadFault, Silent, WriteFault}
 
--- who handles requests, and what they stand for; each step that ends well began well, and is one of what they stand for
+-- A concrete handler, an abstract one, and the relation between their states. A request that ends well began well, and is
+-- then also a request to the abstract handler.
 module _ {H K : Type 0} (handles : H → Request → DeskAnswer → H → Type 0) (does : K → Request → DeskAnswer → K → Type 0) (IsWell : H → Type 0) (stands : H → K → Type 0)
     (back : (old new : H) (request : Request) (answer : DeskAnswer) → handles old request answer new → IsWell new → IsWell old)
     (step : (old new : H) (request : Request) (answer : DeskAnswer) → handles old request answer new → IsWell new → (k : K) → stands old k
     → (next : K) × does k request answer next × stands new next) where
-  -- it ends well only where it began well, and is then something of what they stand for
+  -- A step that ends well began well, and is then a step `Q` of the abstract handler too.
   abbrev pub Carried : H → H → (K → K → Type 0) → Type 0
   Carried old new Q = (IsWell new → IsWell old) × (IsWell new → (k : K) → stands old k → (next : K) × Q k next × stands new next)
 
@@ -95,7 +96,7 @@ module _ {H K : Type 0} (handles : H → Request → DeskAnswer → H → Type 0
   conversations-wanted_carried forbidden body answer old new h = conversations-tells_carried (one_fault 403) answer old new h
   conversations-wanted_carried (wanted route key) body answer old new h = conversations-admits_carried route key body answer old new h
 
-  -- what is answered to what was asked
+  -- the response to parsed bytes
   pub conversations-answers_carried : (asked : Asked) (answer : Answer) (old new : H) → Answers handles asked old answer new
       → Carried old new (λ k n. Answers does asked k answer n)
   conversations-answers_carried more answer old new h = conversations-tells_carried (one_fault 400) answer old new h
@@ -127,7 +128,7 @@ module _ {H K : Type 0} (handles : H → Request → DeskAnswer → H → Type 0
             ),
       )
 
-  -- a conversation
+  -- a whole connection
   pub conversations-converses_carried : {T : Type 0} (calls : Calls T) (served : Served) (old new : H) (before after : Connection T) → Converses calls handles served old new before after
       → Carried old new (λ k n. Converses calls does served k n before after)
   conversations-converses_carried calls (Answered status) old new before after h = conversations-replies_carried calls (Answered status) old new before after h

@@ -1,4 +1,4 @@
--- What was read of a stream, and what went out on it.
+-- What was read from a stream, and what was written to it.
 use Rattle.std.proofs.Common.{◌≡◌, ℕ, zero, suc, ◌+◌, ◌<◌, ◌≤◌, Bool, true, false, List, [], ◌++◌, length, take, drop, refl, sym, ap, ◌∙◌, subst, arith, append-nil, length-append, rules, tests, Option, None, Some, Ok, inl, inr}
 use Rattle.std.specs.Prelude.{◌||◌, ◌&&◌, ◌==◌, nat_lt, if◌then◌else◌, OnSome}
 use Rattle.std.proofs.Math.Bool.{or-true}
@@ -21,9 +21,9 @@ use Rattle.resident_desk.specs.Conversations.{Connection, Converses, Delivers, I
 use Rattle.resident_desk.specs.declared.served.Served.{Served}
 use Rattle.resident_desk.specs.declared.served.Served.TheVariants.{Answered, ReadFault, Silent, WriteFault}
 
--- ---- what was read
+-- ---- reading
 
--- the bytes read so far, and those that are read into the buffer behind them
+-- the bytes read so far, and those read into the buffer after them
 pub conversations-put_into : (buf new : List ℕ) (len n k : ℕ) → len ≤ length buf → n ≤ length new → take (len + n) (put_mid len k buf new) ≡ take len buf ++ take n new
 conversations-put_into buf new len n k within fits =
     let count = length-take-le len buf within in
@@ -31,7 +31,7 @@ conversations-put_into buf new len n k within fits =
     ∙ take-append-add (take len buf) (new ++ post_of len k buf) n
     ∙ ap (λ t. take len buf ++ t) (take-append-le n new (post_of len k buf) fits)
 
--- a read into the buffer behind the bytes read so far
+-- a read into the buffer after the bytes read so far
 pub conversations-read_into : (a b c : Option (List ℕ)) (buf new : List ℕ) (len n k : ℕ) → len ≤ length buf → n ≤ length new → Consumes a b (take len buf) → Consumes b c (take n new)
     → Consumes a c (take (len + n) (put_mid len k buf new))
 conversations-read_into a b c buf new len n k within fits p q = rw (conversations-put_into buf new len n k within fits) (Consumes-trans a b c _ _ p q)
@@ -43,53 +43,53 @@ pub conversations-length-put_into : (buf new : List ℕ) (len k : ℕ) → len +
 conversations-length-put_into buf new len k size e =
     conversations-length-parts (take len buf) new (drop k (drop len buf)) ∙ omega (arith, e, size, length-take-le len buf (omega arith), length-drop k (drop len buf), length-drop len buf)
 
--- a read of nothing
+-- a read that returned no bytes
 pub conversations-read_none : (a b c : Option (List ℕ)) (bs new : List ℕ) (n : ℕ) → n ≡ 0 → Consumes a b bs → Consumes b c (take n new) → Consumes a c bs
 conversations-read_none a b c bs new n e p q =
     let none : take n new ≡ [] = ap (λ k. take k new) e in
     subst (Consumes a c) (append-nil bs) (Consumes-trans a b c bs [] p (subst (Consumes b c) none q))
 
--- a stream that tells its bytes is still at its end
+-- a stream with known remaining bytes is still at its end
 conversations-still_at_end : (a b c : Option (List ℕ)) (bs : List ℕ) → Consumes a b bs → IsAtEnd b → Keeps b c → OnSome a (IsAtEnd c)
 conversations-still_at_end None b c bs p e k = tt
 conversations-still_at_end (Some x) None c bs p e k = absurd p
 conversations-still_at_end (Some x) (Some y) None bs p e k = absurd k
 conversations-still_at_end (Some x) (Some y) (Some z) bs p e k = k ∙ e
 
--- what is not awaited any more
+-- any state but `More` is seen as another value than `more`
 pub conversations-not_more : (r : AskState) → (r ≡ state.More → ⊥) → seen r ≡ more → ⊥
 conversations-not_more state.More h e = absurd (h refl)
 conversations-not_more (state.Ask m t k b u) h e = cc
 conversations-not_more (state.Fault s) h e = cc
 
--- one read more
+-- one more read
 pub conversations-counted_within : (r len n : ℕ) → r ≤ len → len ≤ 9216 → (n ≡ 0 → ⊥) → counted r 1 ≤ len + n
 conversations-counted_within r len n h k some = omega arith
 
 pub conversations-counted_last : (r len : ℕ) → r ≤ len → len < 9216 → counted r 1 ≤ 9216
 conversations-counted_last r len h k = omega arith
 
--- a read that gave nothing, with room, has found the end
+-- a read into a nonempty buffer that returned no bytes has found the end
 pub conversations-ended_told : (before after : Bool) (buf : List ℕ) (n : ℕ) → after ≡ (before || (nat_lt 0 (length buf) && n == 0)) → n ≡ 0 → 0 < length buf → after ≡ true
 conversations-ended_told before after buf n told none some =
     let room : nat_lt 0 (length buf) ≡ true = search (rules, tests) in
     let nothing : (n == 0) ≡ true = search (rules, tests) in
     told ∙ ap (λ t. before || (t && n == 0)) room ∙ ap (λ t. before || (true && t)) nothing ∙ or-true before
 
--- a call after neither a failure nor the end, into some room, is not wasted
+-- a call with a nonempty buffer, after neither a failure nor the end, is not wasted
 pub conversations-not_wasted : (after before failed ended full : Bool) → after ≡ (before || failed || ended || full) → failed ≡ false → ended ≡ false → full ≡ false → after ≡ before
 conversations-not_wasted after before failed ended full told f e r =
     told ∙ watched_bytes-or_known (before || failed || ended) full r ∙ watched_bytes-or_known (before || failed) ended e ∙ watched_bytes-or_known before failed f
 
 module _ {T : Type 0} (calls : Calls T) where
-  -- the stream as it was, where reads gave no byte
+  -- if the reads returned no bytes, the stream is unchanged
   pub conversations-reads_none : (bytes : List ℕ) (old new : T) → Reads calls bytes old new → bytes ≡ [] → new ≡ old
   conversations-reads_none bytes old new (zero, h) none = h.1
   conversations-reads_none bytes old new (suc times, h) none =
       let read = h.3 in
       absurd (omega (arith, read.some, read.within, ap length (sym read.joined ∙ none), length-append h.0 (take read.count read.buffer), length-take-le read.count read.buffer read.within))
 
-  -- a read that gave nothing, with room, has found the end of the stream as it was
+  -- a read into a nonempty buffer that returned no bytes has found the end of the unchanged stream
   pub conversations-finds_end : (buffer_before buffer : List ℕ) (n : ℕ) (old between new : T) → n ≡ 0 → 0 < length buffer → between ≡ old
       → calls.reads between buffer_before buffer (Ok n) new → FindsEnd calls old new
   conversations-finds_end buffer_before buffer n old between new none room same called = (
@@ -99,13 +99,13 @@ module _ {T : Type 0} (calls : Calls T) where
     subst (λ k. calls.reads old buffer_before buffer (Ok k) new) none (subst (λ t. calls.reads t buffer_before buffer (Ok n) new) same called),
   )
 
-  -- all that is asked was read
+  -- if the bytes need no more, the reads are all reads
   pub conversations-reads_all : (bytes : List ℕ) (asked : Asked) (old new : T) → (asked ≡ more → ⊥) → Reads calls bytes old new → ReadsAll calls bytes asked old new
   conversations-reads_all bytes more old new h reads = absurd (h refl)
   conversations-reads_all bytes (ask method path key body used) old new h reads = reads
   conversations-reads_all bytes (fault status) old new h reads = reads
 
--- ---- what went out
+-- ---- writing
 
 pub conversations-untouched-refl : (o : Output) → IsUntouched o o
 conversations-untouched-refl o = record { kept = Keeps-refl o.contents; taken = refl; flushes = refl; pending = refl }
@@ -176,7 +176,7 @@ module _ {T H : Type 0} (calls : Calls T) (handles : H → Request → DeskAnswe
     };
   }
 
-  -- what was asked by the bytes that were read was answered
+  -- the response to the bytes read makes the whole connection
   pub conversations-converses-responded : (served : Served) (old new : H) (before mid after : Connection T) (bytes : List ℕ) (asked : Asked)
       → ReadsAll calls bytes asked before.stream mid.stream → Consumes before.input.remaining mid.input.remaining bytes → Keeps mid.input.remaining after.input.remaining → IsUntouched before.output mid.output
       → length bytes ≤ 9216 → after.input.reads ≤ length bytes + (if is_more asked then 1 else 0) → Asks bytes asked

@@ -1,4 +1,4 @@
--- Letters, and what they answer.
+-- Prepared responses and what holds of them.
 use Rattle.std.proofs.Common.{Result, Ok, Err, inr, refl}
 use Rattle.office_store.specs.declared.requests.Answer.{Answer as DeskAnswer}
 use Rattle.office_store.specs.declared.requests.Request.{Request}
@@ -10,12 +10,12 @@ use Rattle.resident_desk.specs.Serving.{AnswersWanted}
 use Rattle.resident_desk.specs.declared.letters.Letter.{Letter}
 use Rattle.resident_desk.specs.declared.letters.NoLetter.{NoLetter}
 
--- what holds of each answer that a letter may be of
+-- weakens the property of the response
 pub desk_letters-WithAnswer-weaker : (r : Result Letter NoLetter) (P Q : Answer → Type 0) → ((answer : Answer) → P answer → Q answer) → WithAnswer r P → WithAnswer r Q
 desk_letters-WithAnswer-weaker (Ok letter) P Q f h = (h.0, h.1, f h.0 h.2)
 desk_letters-WithAnswer-weaker (Err none) P Q f h = f unavailable_answer h
 
--- memory may be wanting whatever is wanted
+-- whatever a request wants, 503 is a possible response
 pub desk_letters-wanted-unavailable : {H : Type 0} (handles : H → Request → DeskAnswer → H → Type 0) (what : Wanted) (body : _) (old : H) → AnswersWanted handles what body old unavailable_answer old
 desk_letters-wanted-unavailable handles unknown body old = (inr refl, refl)
 desk_letters-wanted-unavailable handles (wrong_method allow) body old = (inr refl, refl)

@@ -1,4 +1,4 @@
--- What a resident is served depends on little.
+-- A response depends only on the owner of the key and on public facts.
 use Rattle.std.proofs.Common.{◌≡◌, ℕ, List, [], ◌∷◌, Bool, true, false, Option, Some, None, Result, Ok, Err, inl, inr, refl, sym, ap, ◌∙◌, subst, arith, map}
 use Rattle.std.specs.Prelude.{◌&&◌, ◌||◌, not, if◌then◌else◌}
 use Rattle.std.specs.Option.{is_some}
@@ -93,7 +93,7 @@ own_replies-told_same : (a b : Office) (key : Text) → a.number ≡ b.number �
 own_replies-told_same a b key number phase agree =
     own_replies-owner_told_same a b (owner a key) number phase agree.person ∙ ap (me.told_owner b) agree.whose
 
--- the standing that is told is that of the key's owner
+-- the standing that is returned belongs to the key's owner
 own_replies-told_kept : (office : Office) (person : Text) (kept : Option Person) (standing : Standing) → me.told_person office person kept ≡ Ok (reply.Me standing) → standing.person ≡ person
 own_replies-told_kept office person None standing e = absurd (cc)
 own_replies-told_kept office person (Some kept) standing e = ap person_in (sym e)
@@ -129,7 +129,7 @@ own_replies-rooms_same a b same occupied =
 
 -- ---- commands
 
--- a list is refused for the rooms alone, the phase, and what is recorded of the person
+-- whether a list is refused depends only on the rooms, the phase, and what is recorded of the person
 own_replies-choosing_same : (a b : Office) (person : Text) (choices : List Text) → a.rooms ≡ b.rooms → a.phase ≡ b.phase → AgreeOnPerson a b person
     → accepts a (SetChoices person choices) ≡ accepts b (SetChoices person choices)
 own_replies-choosing_same a b person choices same phase agree =
@@ -154,9 +154,9 @@ own_replies-withdrawing_same a b person phase agree =
     refused_by phase stranger going =
         first_refusal ((not (is_open phase), BadPhase phase) ∷ (stranger, UnknownPerson) ∷ (going, Going) ∷ [])
 
--- ---- what is served
+-- ---- responses
 
--- the other office has some office after it
+-- the other office changes to some office
 abbrev Also : (Office → Type 0) → Type 0
 Also P = (other : Office) × P other
 
@@ -213,7 +213,7 @@ module _ (a b : Office) (same : a.rooms ≡ b.rooms) (occupied : (room : Text) �
       own_replies-commands_same a b next (Withdraw standing.person) (compact_text withdrawn_data) answer (own_replies-withdrawing_same a b standing.person phase agree) refl h
   own_replies-does_same route.Choices standing body answer next agree h = own_replies-records_same a b next standing.person (choices_of_body body) answer same phase agree h
 
-  -- the desk's answer to whose the key is
+  -- after the desk's answer to whose the key is
   own_replies-greets_same : (route : Route) (key : Text) (body : List ℕ) (who : DeskAnswer) (answer : Answer) (next : Office) → AgreeOnKey a b key → who ≡ answer_told (me.told a key)
       → Greets Handles route body who a answer next → Also (λ other. Greets Handles route body who b answer other)
   own_replies-greets_same route key body who answer next agree told (inl h) =
@@ -250,7 +250,7 @@ module _ (a b : Office) (same : a.rooms ≡ b.rooms) (occupied : (room : Text) �
   own_replies-wanted_same forbidden body answer next agree h = (b, (h.0, refl))
   own_replies-wanted_same (wanted route key) body answer next agree h = own_replies-admits_same route key body answer next (agree route key refl) h
 
--- a request that wants something has a key
+-- a request that is routed has a key
 own_replies-keyed : (key : Option Text) (route r : Route) (k : Text) → with_key route key ≡ wanted r k → key ≡ Some k
 own_replies-keyed None route r k e = absurd (cc)
 own_replies-keyed (Some key) route r k e = cc
@@ -263,7 +263,7 @@ own_replies-keyed_to : (method path : List ℕ) (key : Option Text) (found : Opt
 own_replies-keyed_to method path key None r k found e = absurd (let d = rw found at e in cc)
 own_replies-keyed_to method path key (Some route) r k found e = own_replies-keyed_if _ key route r _ k (rw found at e)
 
--- offices that agree serve the same answers
+-- offices that agree serve the same responses
 pub own_replies-replies_by_own_record : RepliesByOwnRecord
 own_replies-replies_by_own_record a b bytes answer next agree (more, asks, h) = (b, (more, asks, (h.0, refl)))
 own_replies-replies_by_own_record a b bytes answer next agree (fault status, asks, h) = (b, (fault status, asks, (h.0, refl)))
@@ -273,7 +273,7 @@ own_replies-replies_by_own_record a b bytes answer next agree (ask method path k
     let other = own_replies-wanted_same a b agree.rooms agree.occupied agree.number agree.phase (wanted_of method path key) body answer next own h in
     (other.0, (ask method path key body used, asks, other.1))
 
--- ---- where 503 is served
+-- ---- after 503
 
 -- a command that is not accepted changes nothing
 own_replies-refused_keeps : (told : DeskAnswer) (refusal : Option Refusal) (r : Reply) (old new after : Office) → told ≡ answer_but refusal r → ((s : Reply) → told ≡ desk.Reply s → ⊥)

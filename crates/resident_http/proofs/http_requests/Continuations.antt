@@ -1,4 +1,4 @@
--- What is found in some bytes is found in each continuation of them.
+-- What holds of a connection's bytes when more bytes follow.
 use Rattle.std.proofs.Common.{◌≡◌, ℕ, ◌+◌, ◌-◌, ◌≤◌, Bool, true, false, cond, ltb, List, [], ◌++◌, length, take, drop, refl, sym, ap, ◌∙◌, subst, arith, append_assoc, length-append, Option, Result, Ok, Err, inl, inr, map, codes}
 use Rattle.std.proofs.lemmas.List.{take-append-le}
 use Rattle.std.proofs.lemmas.Bool.Decides.{nat_tests}
@@ -10,7 +10,7 @@ use Rattle.resident_http.specs.Asks.{Asked, more, ask, fault, is_more, is_reques
 use Rattle.resident_http.proofs.http_requests.Windows.{http_requests-window-few, http_requests-window-rest, http_requests-in_window}
 use Rattle.resident_http.proofs.http_requests.Targets.{http_requests-target_began}
 
--- ---- after a whole head
+-- ---- with a complete head
 
 http_requests-ok_case : (t : Bool) (m p : List ℕ) (k : Option (List ℕ)) (n c : ℕ) (rest xs : List ℕ) → ltb (length rest) c ≡ t → is_more (cond t more (ask m p k (take c rest) (n + c))) ≡ false
     → cond (ltb (length (rest ++ xs)) c) more (ask m p k (take c (rest ++ xs)) (n + c)) ≡ cond t more (ask m p k (take c rest) (n + c))
@@ -37,7 +37,7 @@ http_requests-asked_longer m t v fields n rest xs h =
     http_requests-chain (has_bad_host v (values_of (codes "host") fields)) (is_there (values_of (codes "expect") fields)) (is_there (values_of (codes "transfer-encoding") fields)) _ _
     (http_requests-with_longer m (path_of t) (key_of (values_of (codes "room-key") fields)) n rest xs (length_of (values_of (codes "content-length") fields))) h
 
--- a head that is there answers in each continuation what it answers here, unless more bytes are awaited
+-- with a complete head, any result but `more` is the result for each continuation
 http_requests-after_head : (bytes next : List ℕ) (asked later : Asked) (h : RequestHead) (rest : List ℕ) → HasHead bytes h rest → asked ≡ asked_by h rest → is_more asked ≡ false → Asks (bytes ++ next) later → later ≡ asked
 http_requests-after_head bytes next asked later h rest hh e f (inl k) =
     let same = request_unique (bytes ++ next) k.0 h k.1 (rest ++ next) k.2.reads (ReadsRequest-append bytes h rest next hh.reads) in
@@ -52,21 +52,21 @@ http_requests-after_head bytes next asked later h rest hh e f (inr (inr (g, inl 
 http_requests-after_head bytes next asked later h rest hh e f (inr (inr (g, inr none))) =
     absurd (none.1 h _ (http_requests-in_window (bytes ++ next) (rest ++ next) h (ReadsRequest-append bytes h rest next hh.reads) hh.short))
 
--- ---- where no head is there
+-- ---- without a complete head
 
--- bytes that have no head in their window have none within the limit in a continuation
+-- if the bytes reach the head's limit, a continuation has the same window
 http_requests-window_longer : (bytes next : List ℕ) → head_limit ≤ length bytes → window (bytes ++ next) ≡ window bytes
 unfolding window
 http_requests-window_longer bytes next many = take-append-le head_limit bytes next many
 
--- the window, and what follows it in a continuation
+-- a continuation is the window and what follows it
 http_requests-window_then : (bytes next : List ℕ) → window bytes ++ (drop head_limit bytes ++ next) ≡ bytes ++ next
 http_requests-window_then bytes next = sym (append_assoc (window bytes) (drop head_limit bytes) next) ∙ ap (λ l. l ++ next) (http_requests-window-rest bytes)
 
 http_requests-never : (bytes : List ℕ) → RequestOverflows field_limit (window bytes) → ¬ (BeginsTooManyFields bytes) → NeverHasRequest (window bytes)
 http_requests-never bytes over other = λ next h rest r. other (record { too_many = over; some = (next, h, rest, r) })
 
--- after a refusal of all continuations, the target apart, there is no other answer
+-- If no bytes can complete a head, and the bytes do not end within the target, each continuation is refused with 400.
 http_requests-after_never : (bytes next : List ℕ) (later : Asked) → NeverHasRequest (window bytes) → ¬ (EndsInTarget bytes) → Asks (bytes ++ next) later → later ≡ fault 400
 http_requests-after_never bytes next later none apart (inl k) =
     let reads : ReadsRequest (window bytes ++ (drop head_limit bytes ++ next)) k.0 k.1 = rw (http_requests-window_then bytes next) k.2.reads in
@@ -84,7 +84,7 @@ http_requests-after_never bytes next later none apart (inr (inl k)) = absurd (aw
         elim (http_requests-target_began bytes next t) [ inl here ↦ apart here | inr r ↦ none r.0 r.1 r.2 (rw all r.3) ]
 http_requests-after_never bytes next later none apart (inr (inr k)) = k.0
 
--- after many bytes with no head there is no other answer
+-- If the bytes reach the head's limit without a complete head, each continuation is refused with 400.
 http_requests-after_long : (bytes next : List ℕ) (later : Asked) → head_limit ≤ length bytes → HasNoRequest (window bytes) → Asks (bytes ++ next) later → later ≡ fault 400
 http_requests-after_long bytes next later many none (inl k) =
     let short : ReadsRequest (window (bytes ++ next)) k.0 (take (head_limit - length (print_request k.0)) k.1) = http_requests-in_window (bytes ++ next) k.1 k.0 k.2.reads k.2.short in
@@ -92,7 +92,7 @@ http_requests-after_long bytes next later many none (inl k) =
 http_requests-after_long bytes next later many none (inr (inl k)) = let few = k.1.few in absurd (omega (arith, few, many, length-append bytes next))
 http_requests-after_long bytes next later many none (inr (inr k)) = k.0
 
--- after a refusal for the number of fields no request comes
+-- after too many fields, no continuation is a request
 http_requests-after_over : (bytes next : List ℕ) (later : Asked) → RequestOverflows field_limit (window bytes) → Asks (bytes ++ next) later → is_request later ≡ false
 http_requests-after_over bytes next later over (inl k) =
     let reads : ReadsRequest (window bytes ++ (drop head_limit bytes ++ next)) k.0 k.1 = rw (http_requests-window_then bytes next) k.2.reads in
@@ -102,7 +102,7 @@ http_requests-after_over bytes next later over (inl k) =
 http_requests-after_over bytes next later over (inr (inl k)) = ap is_request k.0
 http_requests-after_over bytes next later over (inr (inr k)) = ap is_request k.0
 
--- ---- the laws
+-- ---- the theorems
 
 http_requests-not_more : (asked : Asked) → is_request asked ≡ true → is_more asked ≡ false
 http_requests-not_more more h = absurd (cc)

@@ -1,4 +1,4 @@
--- Lemmas on the fields of a head.
+-- Lemmas about the fields of a head.
 use Rattle.std.proofs.Common.{◌≡◌, ℕ, ◌+◌, ◌-◌, ◌*◌, ◌<◌, Bool, true, false, cond, List, [], ◌∷◌, ◌++◌, length, take, get_or, map, filter, refl, ap, ◌∙◌, arith, min}
 use Rattle.std.proofs.lemmas.Bool.Decides.{nat_tests}
 use Rattle.std.proofs.lemmas.Int.Digits.{digits_value_more}
@@ -21,7 +21,7 @@ http_requests-one_value : (same : Bool) (field : NamedValue) → map (λ (f : Na
 http_requests-one_value true field = refl
 http_requests-one_value false field = refl
 
--- the values of one header more
+-- the values with one more field
 pub http_requests-values_of-more : (name buf : List ℕ) (headers : List HeaderSpan) (i : ℕ) (d : HeaderSpan) → i < length headers
     → values_of name (map (header_bytes buf) (take (i + 1) headers)) ≡ values_of name (map (header_bytes buf) (take i headers)) ++ cond (str_eq_ignore_ascii_case (span_bytes buf (get_or headers i d).name) name) (span_bytes buf (get_or headers i d).value ∷ []) []
 http_requests-values_of-more name buf headers i d lt =
@@ -34,7 +34,7 @@ http_requests-values_of-more name buf headers i d lt =
 http_requests-digit : (b : ℕ) → is_ascii_digit b ≡ true → digit_value b ≡ b - 48
 http_requests-digit b h = grind (arith, nat_tests)
 
--- one digit more, up to a limit
+-- one more digit, up to a limit
 pub http_requests-number_of-more : (text : List ℕ) (i most : ℕ) → i < length text → is_ascii_digit (get_or text i 0) ≡ true
     → min (min (number_of (take i text)) most * 10 + (get_or text i 0 - 48)) most ≡ min (number_of (take (i + 1) text)) most
 http_requests-number_of-more text i most lt h =
@@ -42,6 +42,6 @@ http_requests-number_of-more text i most lt h =
     let d = http_requests-digit (get_or text i 0) h in
     omega (arith, e, d)
 
--- each of the digits is one
+-- each byte of a text of digits is a digit
 pub http_requests-digit_at : (text : List ℕ) (i : ℕ) → list_all is_ascii_digit text ≡ true → i < length text → is_ascii_digit (get_or text i 0) ≡ true
 http_requests-digit_at text i h lt = AllPass-from_list_all is_ascii_digit text h i 0 lt

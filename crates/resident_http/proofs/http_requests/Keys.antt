@@ -1,4 +1,4 @@
--- Keys are text.
+-- Keys are valid UTF-8.
 use Rattle.std.proofs.Common.{◌≡◌, ℕ, ◌<◌, Bool, true, false, cond, ◌&&◌, List, length, get_or, Some, None, refl, sym, arith, lit<, inl, inr, IsUtf8}
 use Rattle.std.proofs.lemmas.Bool.{cases_lt}
 use Rattle.std.proofs.lemmas.Bool.Decides.{nat_tests}
@@ -25,6 +25,6 @@ http_requests-not_of_key text true true e h = absurd (h (http_requests-bytes_are
 http_requests-not_of_key text true false e h = refl
 http_requests-not_of_key text false bytes e h = refl
 
--- bytes that are no text are no key
+-- bytes that are not UTF-8 are not a key
 pub http_requests-no_key_of : (text : List ℕ) → ¬ (IsUtf8 text) → None ≡ cond (is_key text) (Some text) None
 http_requests-no_key_of text h = http_requests-not_of_key text (is_in_range 16 64 (length text)) (list_all is_key_byte text) refl h

@@ -1,4 +1,4 @@
--- A whole head with a whole body is a request.
+-- A complete head with a complete body is a request.
 use Rattle.std.proofs.Common.{◌≡◌, ℕ, ◌+◌, ◌-◌, ◌≤◌, false, List, length, take, drop, refl, sym, arith, codes, Option, Ok, nat_lt}
 use Rattle.std.proofs.lemmas.Bool.Decides.{nat_tests}
 use Rattle.std.proofs.lemmas.List.{take_all, length-drop}

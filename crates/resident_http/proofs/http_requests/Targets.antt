@@ -1,4 +1,4 @@
--- Bytes that end in a request target, and the bytes at their front.
+-- Bytes that end within a request target, and their prefixes.
 use Rattle.std.proofs.Common.{◌≡◌, ℕ, ◌+◌, ◌-◌, ◌<◌, ◌⊎◌, List, [], ◌∷◌, ◌++◌, length, take, drop, get_or, zero, suc, refl, sym, ap, ◌∙◌, arith, append_assoc, append-nil, inl, inr, lit<, lit≤, IsTrue}
 use Rattle.std.proofs.lemmas.Bool.{cases_lt}
 use Rattle.std.proofs.Math.Seq.{take-append-add, take-append_seam}
@@ -7,11 +7,11 @@ use Rattle.std.proofs.lemmas.List.Elements.{All-take, All-nil, All-cons}
 use Rattle.std.proofs.lemmas.Str.{IsUtf8-from_ascii}
 use Rattle.httparse.specs.Grammar.{LineEnd, crlf, print_end, print_blank, print_version, print_section, IsField, RequestHead, print_request, IsToken, is_uri_byte, IsRequestHead, ReadsRequest, EndsInTarget}
 
--- a request of this method for `/`
+-- a request for `/` with this method
 http_requests-plain : List LineEnd → List ℕ → RequestHead
 http_requests-plain blank method = record { blank = blank; method = method; target = 47 ∷ []; minor = 1; line_end = crlf; fields = []; last = crlf }
 
--- what stands after its method
+-- the bytes of that request after its method
 http_requests-after_method : List ℕ
 http_requests-after_method = (32 ∷ 47 ∷ []) ++ (32 ∷ print_version 1) ++ print_end crlf ++ print_section [] crlf
 
@@ -36,7 +36,7 @@ http_requests-plain-bytes blank method = regroup (print_blank blank ++ method) (
     regroup : (a b c d e : List ℕ) → a ++ b ++ c ++ d ++ e ≡ a ++ (b ++ c ++ d ++ e)
     regroup a b c d e = simp append_assoc refl
 
--- a front of the empty lines and a method can become a request
+-- a prefix of blank lines and a method can become a request
 http_requests-becomes_plain : (bytes x : List ℕ) (blank : List LineEnd) (method : List ℕ) → IsToken method → bytes ++ x ≡ print_blank blank ++ method
     → (more : List ℕ) × (head : RequestHead) × (rest : List ℕ) × ReadsRequest (bytes ++ more) head rest
 http_requests-becomes_plain bytes x blank method token e =
@@ -44,7 +44,7 @@ http_requests-becomes_plain bytes x blank method token e =
     sym (append_assoc bytes x http_requests-after_method) ∙ ap (λ l. l ++ http_requests-after_method) e ∙ sym (http_requests-plain-bytes blank method) ∙ sym (append-nil _) in
     (x ++ http_requests-after_method, http_requests-plain blank method, [], (http_requests-plain-is blank method token, whole))
 
--- a front of these bytes, which reaches past the space, ends in the target
+-- bytes that reach past the space after the method, before others that end within the target, end within the target too
 http_requests-front_in_target : (bytes next front target : List ℕ) → length front < length bytes → bytes ++ next ≡ front ++ 32 ∷ target
     → bytes ≡ front ++ 32 ∷ take (length bytes - length front - 1) target
 http_requests-front_in_target bytes next front target lt e =
@@ -53,7 +53,7 @@ http_requests-front_in_target bytes next front target lt e =
     sym (take-append_seam bytes next) ∙ ap (take (length bytes)) e ∙ ap (λ m. take m (front ++ 32 ∷ target)) n
     ∙ take-append-add front (32 ∷ target) (suc k)
 
--- where bytes that follow end in a target, these do too, or can become a request
+-- If a continuation ends within the target, the bytes do too, or can become a request.
 pub http_requests-target_began : (bytes next : List ℕ) → EndsInTarget (bytes ++ next)
     → EndsInTarget bytes ⊎ ((more : List ℕ) × (head : RequestHead) × (rest : List ℕ) × ReadsRequest (bytes ++ more) head rest)
 http_requests-target_began bytes next t =

@@ -1,11 +1,11 @@
--- Lemmas on the bytes within which a head must end.
+-- Lemmas about the bytes within which a head must end.
 use Rattle.std.proofs.Common.{◌≡◌, ℕ, ◌+◌, ◌-◌, ◌<◌, ◌≤◌, List, ◌++◌, length, take, drop, refl, sym, ap, ◌∙◌, arith}
 use Rattle.std.proofs.lemmas.List.{take_all, take-append-drop, length-take-le}
 use Rattle.std.proofs.Math.Seq.{take-append-add}
 use Rattle.httparse.specs.Grammar.{RequestHead, print_request, ReadsRequest}
 use Rattle.resident_http.specs.Asks.{window, head_limit}
 
--- few bytes are all within it
+-- taking more bytes than there are takes all of them
 http_requests-short : (n : ℕ) (xs : List ℕ) → length xs < n → take n xs ≡ xs
 http_requests-short n xs h = take_all n xs (omega arith)
 
@@ -23,7 +23,7 @@ http_requests-cut n xs h = sym (take-append-drop n xs) ∙ ap (λ k. take n xs +
 pub http_requests-first_cut : (xs : List ℕ) → head_limit ≤ length xs → xs ≡ take head_limit xs ++ drop (length (take head_limit xs)) xs
 http_requests-first_cut xs h = http_requests-cut head_limit xs h
 
--- the window and what is after it are all bytes
+-- the window and the bytes after it are all bytes
 pub http_requests-window-rest : (xs : List ℕ) → window xs ++ drop head_limit xs ≡ xs
 unfolding window
 http_requests-window-rest xs = take-append-drop head_limit xs
@@ -31,7 +31,7 @@ http_requests-window-rest xs = take-append-drop head_limit xs
 http_requests-front_of : (n : ℕ) (p q : List ℕ) → length p ≤ n → take n (p ++ q) ≡ p ++ take (n - length p) q
 http_requests-front_of n p q h = let e : n ≡ length p + (n - length p) = omega arith in ap (λ k. take k (p ++ q)) e ∙ take-append-add p q (n - length p)
 
--- a short head of the bytes is one of the window
+-- a head within the limit is a head of the window
 pub http_requests-in_window : (bytes rest : List ℕ) (h : RequestHead) → ReadsRequest bytes h rest → length (print_request h) ≤ head_limit → ReadsRequest (window bytes) h (take (head_limit - length (print_request h)) rest)
 unfolding window
 http_requests-in_window bytes rest h r fits = (r.0, ap (take head_limit) r.1 ∙ http_requests-front_of head_limit (print_request h) rest fits)

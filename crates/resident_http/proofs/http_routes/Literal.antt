@@ -1,4 +1,4 @@
--- A router without parameters finds the route whose path is the one that is asked for.
+-- A router without parameters finds the route whose pattern equals the path.
 use Rattle.std.proofs.Common.{◌≡◌, ℕ, ◌-◌, ◌<◌, ◌≤◌, ◌==◌, zero, suc, Bool, true, false, cond, ◌&&◌, List, [], ◌∷◌, length, Option, Some, None, refl, ap, ◌∙◌, arith, lit≤}
 use Rattle.std.proofs.lemmas.Bool.Decides.{nat_tests}
 use Rattle.matchit.specs.Rows.{RowsOf, param_token, catch_all_token}
@@ -15,7 +15,7 @@ module _ {K : Type 0} where
   AreLiteral [] = Unit {0}
   AreLiteral ((t, key) ∷ rest) = IsLiteral t × AreLiteral rest
 
-  -- no row goes on with a token that is no byte
+  -- no row continues with a token that is not a byte
   http_routes-step_none : (token : ℕ) (rows : RowsOf K) → 256 ≤ token → AreLiteral rows → step token rows ≡ []
   http_routes-step_none token [] h l = refl
   http_routes-step_none token (([], key) ∷ rest) h l = http_routes-step_none token rest h l.1
@@ -70,7 +70,7 @@ module _ {K : Type 0} where
   http_routes-lookup_step b path (([], key) ∷ rest) = http_routes-lookup_step b path rest
   http_routes-lookup_step b path ((x ∷ t, key) ∷ rest) = http_routes-lookup_cond (x == b) path t key (step b rest) (lookup (b ∷ path) rest) (http_routes-lookup_step b path rest)
 
-  -- what is sought among literal rows is looked up
+  -- seeking among literal rows is looking up
   pub http_routes-seek_literal : (path : List ℕ) (rows : RowsOf K) → AreLiteral rows → seek 0 rows path ≡ lookup path rows
   unfolding seek
   http_routes-seek_literal [] rows l = http_routes-own_row rows

@@ -1,4 +1,4 @@
--- Lemmas on the JSON of bodies.
+-- Lemmas about the JSON of bodies.
 use Rattle.std.proofs.Common.{◌≡◌, ℕ, ◌<◌, ◌⊎◌, Bool, true, false, cond, List, [], ◌∷◌, length, Option, Some, None, Result, Ok, Err, refl, sym, ap, ◌∙◌, IsUtf8, IfErr, MatchResult, option_and_then, inl, inr, arith}
 use Rattle.std.proofs.lemmas.Str.{IsUtf8-from_is_utf8, is_utf8-from_IsUtf8}
 use Rattle.std.specs.Str.{is_utf8}
@@ -26,18 +26,18 @@ json-empty_is_none : json_of [] ≡ None
 unfolding serde_json_on_literals
 json-empty_is_none = json-no_json [] (is_utf8 []) refl (λ _. refl)
 
--- a value is spelled by some bytes
+-- a JSON value has at least one byte
 pub json-some_bytes : (bytes : List ℕ) (value : Data) → json_of bytes ≡ Some value → 0 < length bytes
 json-some_bytes [] value e = absurd (let none = json-empty_is_none in cc)
 json-some_bytes (b ∷ bytes) value e = omega arith
 
--- the body is an array of these items
+-- the choices of a body that is an array of these items
 pub json-choices_of_items : (body : List ℕ) (value : Data) (items : Items) (codes : Option (List Text)) → json_of body ≡ Some value → Some items ≡ as_array value → codes_in items ≡ codes
     → choices_of_body body ≡ choices_from codes
 json-choices_of_items body value items codes told array e =
     ap (λ d. choices_from (option_and_then codes_in (option_and_then as_array d))) told ∙ ap (λ a. choices_from (option_and_then codes_in a)) (sym array) ∙ ap choices_from e
 
--- what reading choices answers, for one that is refused
+-- the error that `Choices::read` returns for these codes is the error of the body
 pub json-refused_choices : (body : List ℕ) (codes : List Text) (r : Result (List Text) TypeFault) → choices_of_body body ≡ choices_from (Some codes) → 0 < length body
     → MatchResult r (λ value. (value ≡ codes) × (choices_fault codes ≡ None)) (λ fault. ((fault ≡ OutOfMemory) × RepeatsRoom codes) ⊎ (choices_fault codes ≡ Some fault))
     → IfErr r (λ fault. ((fault ≡ OutOfMemory) × (0 < length body)) ⊎ (choices_of_body body ≡ Err fault))

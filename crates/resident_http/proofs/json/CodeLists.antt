@@ -1,4 +1,4 @@
--- Lemmas on the room codes of an array's items.
+-- Lemmas about the room codes of an array's items.
 use Rattle.std.proofs.Common.{◌≡◌, ℕ, ◌+◌, ◌<◌, ◌≤◌, List, [], ◌∷◌, ◌++◌, length, drop, get_or, Option, Some, None, refl, sym, ap, ◌∙◌, append_assoc, append-nil, option_map, option_and_then}
 use Rattle.std.proofs.lemmas.List.{at_drop_more, drop_all}
 use Rattle.serde_json.specs.declared.value.Value.{Value}
@@ -6,7 +6,7 @@ use Rattle.serde_json.specs.View.{view, items_view}
 use Rattle.room_types.specs.Texts.{Text}
 use Rattle.resident_http.specs.Bodies.{code_in, code_before, codes_in}
 
--- these codes before others, where there are some
+-- these codes in front of others, if there are any
 abbrev pub codes_before : List Text → Option (List Text) → Option (List Text)
 codes_before codes others = option_map (λ rest. codes ++ rest) others
 
@@ -14,13 +14,13 @@ json-one_before : (codes : List Text) (code : Text) (others : Option (List Text)
 json-one_before codes code None = refl
 json-one_before codes code (Some rest) = ap (λ l. Some l) (append_assoc codes (code ∷ []) rest)
 
--- the codes from one item on
+-- the codes of the items from this one on
 json-codes_from : (items : List Value) (i : ℕ) (item : Value) → i < length items → item ≡ get_or items i item
     → codes_in (items_view (drop i items)) ≡ option_and_then (λ code. code_before code (codes_in (items_view (drop (i + 1) items)))) (code_in (view item))
 json-codes_from items i item lt is =
     at_drop_more (λ l. codes_in (items_view l)) items i item lt ∙ ap (λ y. option_and_then (λ code. code_before code (codes_in (items_view (drop (i + 1) items)))) (code_in (view y))) (sym is)
 
--- one code more
+-- one more code
 pub json-code_list_step : (items : List Value) (i : ℕ) (item : Value) (codes : List Text) (code : Text) (all : Option (List Text)) → i < length items → item ≡ get_or items i item → code_in (view item) ≡ Some code
     → codes_before codes (codes_in (items_view (drop i items))) ≡ all → codes_before (codes ++ code ∷ []) (codes_in (items_view (drop (i + 1) items))) ≡ all
 json-code_list_step items i item codes code all lt is told h =
@@ -28,7 +28,7 @@ json-code_list_step items i item codes code all lt is told h =
     json-one_before codes code rest ∙ ap (λ o. codes_before codes (option_and_then (λ c. code_before c rest) o)) (sym told)
     ∙ ap (codes_before codes) (sym (json-codes_from items i item lt is)) ∙ h
 
--- an item that is no code
+-- an item that is not a room code
 pub json-code_list_stopped : (items : List Value) (i : ℕ) (item : Value) (codes : List Text) (all : Option (List Text)) → i < length items → item ≡ get_or items i item → code_in (view item) ≡ None
     → codes_before codes (codes_in (items_view (drop i items))) ≡ all → all ≡ None
 json-code_list_stopped items i item codes all lt is told h =

@@ -1,4 +1,4 @@
--- The bodies of answers hold no float, so that their text is known.
+-- The bodies of responses contain no float, so their text is determined.
 use Rattle.std.proofs.Common.{◌≡◌, false, List, [], ◌∷◌, map, refl, Option, Some, None}
 use Rattle.serde_json.specs.Data.{string}
 use Rattle.serde_json.specs.View.{items_of}

@@ -1,4 +1,4 @@
--- Items have one ascending arrangement.
+-- Items have exactly one ascending arrangement.
 use Rattle.std.proofs.Common.{◌≡◌, ℕ, zero, suc, ◌+◌, ◌<◌, Bool, true, false, cond, not, ◌&&◌, List, [], ◌∷◌, length, map, get_or, replicate, refl, sym, ap, ◌∙◌, subst, add-one, arith}
 use Rattle.std.specs.declared.cmp.Ordering.{Ordering}
 use Rattle.std.specs.declared.cmp.Ordering.TheVariants.{Less, Equal, Greater}
@@ -54,7 +54,7 @@ module _ {X : Type 0} (R : X → X → Ordering) (o : IsTotalOrder R) where
   arranged-apart_below : (x y : X) → R x y ≡ Less → tie x y ≡ false
   arranged-apart_below x y e = ap (λ r. not (is_lt r) && not (is_lt (R y x))) e
 
-  -- what is below z is below each item that z is not above
+  -- if y is below z, then y is below each item that z is not above
   arranged-below_rest : (y z : X) (zs : List X) → R y z ≡ Less → AboveNone z zs → AllByRecursion (λ w. R y w ≡ Less) zs
   arranged-below_rest y z [] e h = tt
   arranged-below_rest y z (w ∷ zs) e h = (
@@ -73,7 +73,8 @@ module _ {X : Type 0} (R : X → X → Ordering) (o : IsTotalOrder R) where
   arranged-starts_with_itself : (y : X) (ys : List X) → filter (tie y) (y ∷ ys) ≡ y ∷ filter (tie y) ys
   arranged-starts_with_itself y ys = ap (λ b. cond b (y ∷ filter (tie y) ys) (filter (tie y) ys)) (arranged-ties_itself y)
 
-  -- the first of one list is not below all of the other
+  -- If the head of one list is below the head of the other, whose head is above none of its items, then the lists differ in
+  -- the items that tie with the smaller head.
   arranged-not_below : (y z : X) (ys zs : List X) → R y z ≡ Less → AboveNone z zs → filter (tie y) (y ∷ ys) ≡ filter (tie y) (z ∷ zs) → ⊥
   arranged-not_below y z ys zs e h same =
       let none : filter (tie y) (z ∷ zs) ≡ [] = arranged-no_ties y (z ∷ zs) (e, arranged-below_rest y z zs e h) in
@@ -87,7 +88,7 @@ module _ {X : Type 0} (R : X → X → Ordering) (o : IsTotalOrder R) where
         | false ↦ λ e. e
       ] (same x)
 
-  -- two lists that ascend, in which those that tie stand alike, are one
+  -- two ascending lists are equal if, for each x, the items that tie with x are the same in both and in the same order
   arranged-one_stable : (ys zs : List X) → Ascends ys → Ascends zs → ((x : X) → filter (tie x) ys ≡ filter (tie x) zs) → ys ≡ zs
   arranged-one_stable [] [] up_y up_z same = refl
   arranged-one_stable [] (z ∷ zs) up_y up_z same = let some = arranged-starts_with_itself z zs in let none = same z in cc
@@ -147,7 +148,7 @@ module _ {X : Type 0} (R : X → X → Ordering) (o : IsTotalOrder R) where
         | Greater ↦ λ e f. let below : is_lt (R y x) ≡ true = ap is_lt (o.antisymm y x ∙ ap ordering_reverse e) in cc (sym (ap not below) ∙ f)
       ] refl h
 
-  -- two items that x ties with tie
+  -- two items that tie with x are not above each other
   arranged-tied_pair : (x m y : X) → tie x m ≡ true → tie x y ≡ true → is_gt (R m y) ≡ false
   arranged-tied_pair x m y p q = ap is_gt (sym (o.congr x m y (arranged-equal_from_tie x m p)) ∙ arranged-equal_from_tie x y q)
 
@@ -218,7 +219,7 @@ module _ {X : Type 0} (R : X → X → Ordering) (o : IsTotalOrder R) where
   }
 
   module _ (exact : IsAntisymmetric R) where
-    -- those that tie with x are x, so many times
+    -- under an order in which only equal items tie, the items that tie with x are copies of x
     arranged-only_itself : (x : X) (xs : List X) → filter (tie x) xs ≡ replicate (length (filter (tie x) xs)) x
     arranged-only_itself x [] = refl
     arranged-only_itself x (y ∷ ys) =
@@ -227,7 +228,7 @@ module _ {X : Type 0} (R : X → X → Ordering) (o : IsTotalOrder R) where
           | false ↦ λ e. arranged-only_itself x ys
         ] refl
 
-    -- a sort need not be stable where only equal items tie
+    -- where only equal items tie, any sort is an arrangement: stability comes for free
     pub arranged_by_exact : (xs ys : List X) → IsPermutation xs ys → IsSorted R ys → IsArrangement R xs ys
     arranged_by_exact xs ys same up = record {
       same_items = same;
@@ -247,7 +248,7 @@ module _ {X Y : Type 0} (f : X → Y) (R : Y → Y → Ordering) where
         | false ↦ refl
       ]
 
-  -- to order items by what they show, and to order what they show
+  -- sorting by a key and then taking the keys is the same as taking the keys and sorting them
   pub arranged-map-ascending : (xs : List X) → map f (ascending (on f R) xs) ≡ ascending R (map f xs)
   arranged-map-ascending [] = refl
   arranged-map-ascending (x ∷ xs) = arranged-map-placed x (ascending (on f R) xs) ∙ ap (placed R (f x)) (arranged-map-ascending xs)
@@ -255,7 +256,7 @@ module _ {X Y : Type 0} (f : X → Y) (R : Y → Y → Ordering) where
   arranged-at_map : (xs : List X) (k : ℕ) (d : X) → k + 1 < length xs → is_lt (R (f (get_or xs (k + 1) d)) (f (get_or xs k d))) ≡ false → (e : Y) → is_lt (R (get_or (map f xs) (k + 1) e) (get_or (map f xs) k e)) ≡ false
   arranged-at_map xs k d within h e = rw (get_or-map f xs (k + 1) d e within, get_or-map f xs k d e (omega arith)) h
 
-  -- what shows items that ascend ascends
+  -- the keys of items that are sorted by key are sorted
   pub arranged-IsSorted-map : (xs : List X) → IsSorted (on f R) xs → IsSorted R (map f xs)
   arranged-IsSorted-map [] up = λ k e low within. absurd (omega arith)
   arranged-IsSorted-map (x ∷ xs) up = λ k e low within.

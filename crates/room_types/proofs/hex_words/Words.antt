@@ -1,4 +1,4 @@
--- The text of a word is ASCII, and is read as the word.
+-- The text of a word is ASCII, and parsing it gives the word back.
 use Rattle.std.proofs.Common.{◌≡◌, ◌≢◌, ℕ, ◌+◌, ◌-◌, ◌*◌, ◌/◌, ◌%◌, ◌^◌, ◌<◌, ◌≤◌, zero, suc, Bool, true, false, cond, List, [], ◌∷◌, ◌++◌, length, replicate, Option, Some, None, refl, sym, ap, ◌∙◌, subst, inl, inr, eqb, arith, length-append}
 use Rattle.std.proofs.lemmas.Bool.Decides.{nat_tests, eqb_tells}
 use Rattle.std.proofs.lemmas.Bool.{eq-eqb}
@@ -41,7 +41,7 @@ hex_words-zeros_read : (m : ℕ) (bytes : List ℕ) → hex_value 0 (replicate m
 hex_words-zeros_read zero bytes = refl
 hex_words-zeros_read (suc m) bytes = hex_words-zeros_read m bytes
 
--- how many digits there are
+-- bounds on the number of digits
 hex_words-more_digits : (n : ℕ) (more : List ℕ) (acc : List ℕ) → n / 16 ≢ 0 → ((j : ℕ) → n / 16 < 16 ^ suc j → length more ≤ suc j + suc (length acc)) → (m : ℕ) → n < 16 ^ suc m → length more ≤ suc m + length acc
 hex_words-more_digits n more acc some short zero h = absurd (some (omega (arith, h)))
 hex_words-more_digits n more acc some short (suc j) h =
@@ -77,7 +77,7 @@ hex_words-word_read w h =
     ∙ hex_words-zeros_read (16 - length (digits 16 false w)) (digits 16 false w)
     ∙ hex_words-onto_read 64 w [] (omega (arith, h))
 
--- ---- a number of sixteen digits is a word
+-- ---- a number that takes at most sixteen digits is a 64-bit word
 
 hex_words-onto_longer : (k n : ℕ) (acc : List ℕ) → length acc ≤ length (digits_onto k 16 false n acc)
 hex_words-onto_longer zero n acc = omega arith
@@ -92,7 +92,7 @@ hex_words-power_above : (m : ℕ) → 0 < 16 ^ m
 hex_words-power_above zero = omega arith
 hex_words-power_above (suc m) = let above : 16 ^ suc m ≡ 16 * 16 ^ m = grind arith in omega (arith, above, hex_words-power_above m)
 
--- a digit more bounds sixteen times as much
+-- one more digit multiplies the bound by sixteen
 hex_words-next_low : (k m n : ℕ) (acc : List ℕ) → (length (digits_onto k 16 false (n / 16) (digit_glyph false (n % 16) ∷ acc)) ≤ m + suc (length acc) → n / 16 < 16 ^ m)
     → (b : Bool) → (true ≡ b → n / 16 ≡ 0) → length (cond b (digit_glyph false (n % 16) ∷ acc) (digits_onto k 16 false (n / 16) (digit_glyph false (n % 16) ∷ acc))) ≤ suc m + length acc
     → n < 16 ^ suc m
@@ -129,7 +129,7 @@ hex_words-word_low w h =
     let low = hex_words-onto_low 64 16 w [] (omega arith) (omega (arith, few)) in
     omega (arith, low)
 
--- ---- its bytes
+-- ---- the bytes of a word's text are ASCII
 
 abbrev is_small : ℕ → Type 0
 is_small byte = byte < 128

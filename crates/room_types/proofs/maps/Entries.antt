@@ -1,5 +1,5 @@
--- The entries of a finite map: what holds of each of them holds at each key, one more key is one more entry, and a map
--- is known by its entries in whatever order they come.
+-- The entries of a finite map. What holds for each entry holds at each key, a new key adds one entry, and a map is
+-- determined by its entries in any order.
 use Rattle.std.proofs.Common.{◌≡◌, Bool, true, false, List, [], ◌∷◌, map as map_list, Some, None, cond, refl, ap, ◌∙◌, sym, subst, ◌&&◌, T, IsPermutation}
 use Rattle.std.specs.declared.cmp.Ordering.{Ordering}
 use Rattle.std.specs.declared.cmp.Ordering.TheVariants.{Less, Equal, Greater}
@@ -69,7 +69,7 @@ module _ {K X : Type 0} {R : K → K → Ordering} (o : IsTotalOrder R) (exact :
     maps-found_below x v all es (maps-second_holds _ _ b) h.1,
   )
 
-  -- each entry is found at its key
+  -- looking up the key of an entry finds the entry
   pub maps-entries_found : (es : List (K × X)) → T (is_sorted R es) → AllByRecursion (λ e. find R e.0 es ≡ Some e.1) es
   maps-entries_found [] s = tt
   maps-entries_found (e ∷ es) s = (
@@ -77,7 +77,7 @@ module _ {K X : Type 0} {R : K → K → Ordering} (o : IsTotalOrder R) (exact :
     maps-found_below e.0 e.1 es es (maps-first_holds _ _ s) (maps-entries_found es (maps-second_holds _ _ s)),
   )
 
-  -- what is found is an entry
+  -- what holds for each entry holds for whatever a look-up finds
   pub maps-each-find : (P : K → X → Type 0) (es : List (K × X)) (q : K) (v : X) → AllByRecursion (λ e. P e.0 e.1) es → find R q es ≡ Some v → P q v
   maps-each-find P [] q v h f = absurd (cc)
   maps-each-find P (e ∷ es) q v h f =
@@ -90,11 +90,11 @@ module _ {K X : Type 0} {R : K → K → Ordering} (o : IsTotalOrder R) (exact :
         | Greater ↦ λ c m. maps-each-find P es q v h.1 m
       ] refl f
 
-  -- what holds of each entry holds at each key
+  -- what holds for each entry holds at each key
   pub maps-at_keys : (P : K → X → Type 0) (m : FinMap R X) → AllByRecursion (λ e. P e.0 e.1) (map.entries m) → (k : K) (v : X) → map.get m k ≡ Some v → P k v
   maps-at_keys P m h k v e = maps-each-find P (map.entries m) k v h (sym (get-entries m k) ∙ e)
 
-  -- what holds at each key holds of each entry
+  -- what holds at each key holds for each entry
   pub maps-at_entries : (P : K → X → Type 0) (m : FinMap R X) → ((k : K) (v : X) → map.get m k ≡ Some v → P k v) → AllByRecursion (λ e. P e.0 e.1) (map.entries m)
   maps-at_entries P m h =
       maps-each_weaker (λ e. find R e.0 (map.entries m) ≡ Some e.1) (λ e. P e.0 e.1) (λ e f. h e.0 e.1 (get-entries m e.0 ∙ f))
@@ -106,7 +106,7 @@ module _ {K X : Type 0} {R : K → K → Ordering} (o : IsTotalOrder R) (exact :
   pub maps-keys_all : (test : K → X → Bool) (m : FinMap R X) → ((k : K) (v : X) → map.get m k ≡ Some v → test k v ≡ true) → list_all (λ e. test e.0 e.1) (map.entries m) ≡ true
   maps-keys_all test m h = maps-true_all (λ e. test e.0 e.1) (map.entries m) (maps-at_entries (λ k v. test k v ≡ true) m h)
 
-  -- ---- an entry whose key is new is one more
+  -- ---- inserting a new key adds one entry
 
   maps-put-new : (k : K) (v : X) (es : List (K × X)) → find R k es ≡ None → IsPermutation ((k, v) ∷ es) (put R k v es)
   maps-put-new k v [] n = IsPermutation-refl _
@@ -123,14 +123,14 @@ module _ {K X : Type 0} {R : K → K → Ordering} (o : IsTotalOrder R) (exact :
       subst (λ es. IsPermutation ((k, v) ∷ map.entries m) es) (sym (entries-insert o m k v))
       (maps-put-new k v (map.entries m) (sym (get-entries m k) ∙ none))
 
-  -- ---- a map is known by its entries, in whatever order they come
+  -- ---- a map is determined by its entries, in any order
 
   maps-found_in : (m n : FinMap R X) → IsPermutation (map.entries m) (map.entries n) → (k : K) (v : X) → map.get n k ≡ Some v → map.get m k ≡ Some v
   maps-found_in m n same =
       maps-at_keys (λ k v. map.get m k ≡ Some v) n
       (maps-moved_all (λ (e : K × X). map.get m e.0 ≡ Some e.1) (map.entries m) (map.entries n) same (maps-at_entries (λ k v. map.get m k ≡ Some v) m (λ k v f. f)))
 
-  -- maps that find the same are one
+  -- two maps in which every look-up finds the same are equal
   pub maps-same_finds : (m n : FinMap R X) → ((k : K) (v : X) → map.get n k ≡ Some v → map.get m k ≡ Some v) → ((k : K) (v : X) → map.get m k ≡ Some v → map.get n k ≡ Some v) → m ≡ n
   maps-same_finds m n back there = same_map o exact m n (λ q.
       elim (map.get m q) as (λ c. map.get m q ≡ c → c ≡ map.get n q) [
@@ -144,7 +144,7 @@ module _ {K X : Type 0} {R : K → K → Ordering} (o : IsTotalOrder R) (exact :
   pub maps-one_map : (m n : FinMap R X) → IsPermutation (map.entries m) (map.entries n) → m ≡ n
   maps-one_map m n same = maps-same_finds m n (maps-found_in m n same) (maps-found_in n m (IsPermutation-sym _ _ same))
 
-  -- keys of entries differ, in whatever order they come
+  -- the keys of the entries differ
   maps-keys_apart : (x : K) (es : List (K × X)) → T (below_all R x es) → AllByRecursion (λ k. eq_by_cmp R x k ≡ false) (map_list (λ e. e.0) es)
   maps-keys_apart x [] b = tt
   maps-keys_apart x (e ∷ es) b = (ap is_eq (maps-less_from_test _ (maps-first_holds _ _ b)), maps-keys_apart x es (maps-second_holds _ _ b))

@@ -1,4 +1,4 @@
--- What finite maps from texts say after a change: laws for the crates above.
+-- What finite maps from texts contain after a change: lemmas for the crates above.
 use Rattle.std.specs.Prelude.{◌≡◌, ◌+◌, Bool, true, false, ◌&&◌, T, List, [], ◌∷◌, map, Some, None, cond, refl, ◌⊎◌}
 use Rattle.std.proofs.Common.{sym, ap, ◌∙◌, subst, inl, inr}
 use Rattle.std.proofs.lemmas.Bool.{false≢true}
@@ -18,11 +18,11 @@ use Rattle.std.specs.FinMap.{IsAntisymmetric, slice_cmp-IsAntisymmetric, nat_cmp
 use Rattle.room_types.specs.Ascending.{AscendsBy}
 use Rattle.room_types.specs.Texts.{Text, TextMap, text_cmp}
 
--- two texts that tie are the same
+-- two texts that tie are equal
 pub maps-exact_texts : IsAntisymmetric (slice_cmp nat_cmp)
 maps-exact_texts = slice_cmp-IsAntisymmetric nat_cmp-IsAntisymmetric
 
--- two texts are the same, or do not tie
+-- two texts are equal, or do not tie
 pub maps-text_cases : (q k : Text) → (q ≡ k) ⊎ (eq_by_cmp text_cmp q k ≡ false)
 maps-text_cases q k =
     elim (text_cmp q k) as (λ o. text_cmp q k ≡ o → (q ≡ k) ⊎ (is_eq o ≡ false)) [
@@ -36,14 +36,14 @@ maps-tied_text q k ties =
     elim (maps-text_cases q k) as (λ _. q ≡ k)
     [ inl same ↦ same | inr other ↦ absurd (false≢true (sym other ∙ ties)) ]
 
--- not both
+-- equal texts cannot fail to tie
 pub maps-differ : (q k : Text) → q ≡ k → eq_by_cmp text_cmp q k ≡ false → ⊥
 maps-differ q k same other =
     let ties : eq_by_cmp text_cmp q k ≡ true =
     ap (λ p. eq_by_cmp text_cmp p k) same ∙ ap is_eq (tied_itself nat_list_cmp_total k) in
     cc
 
--- a test of two tests
+-- the parts of a conjunction
 pub maps-first_holds : (a b : Bool) → T (a && b) → T a
 maps-first_holds true b h = tt
 maps-first_holds false b h = h
@@ -70,11 +70,11 @@ module _ {X : Type 0} where
   maps-keys_ascend (e ∷ es) up =
       (maps-below_key e.0 es (maps-first_holds _ _ up), maps-keys_ascend es (maps-second_holds _ _ up))
 
-  -- entries ascend by key
+  -- the entries ascend by key
   pub maps-entries_ascend : (m : TextMap X) → AscendsBy (λ e. e.0) (maps.entries m)
   maps-entries_ascend m = maps-keys_ascend (maps.entries m) (entries_sorted m)
 
-  -- and so do rows that are made of them, and show the same key
+  -- rows made from the entries, with the same keys, ascend too
   pub maps-rows_ascend : {Row : Type 0} (row : Text × X → Row) (key : Row → Text)
       → ((e : Text × X) → key (row e) ≡ e.0)
       → (m : TextMap X) → AscendsBy key (map row (maps.entries m))
@@ -103,7 +103,7 @@ module _ {X : Type 0} where
   maps-get-gone_other m k q e = get-remove nat_list_cmp_total m k q
       ∙ ap (λ b. cond b None (maps.get m q)) e
 
-  -- where the old value and the new one are the same
+  -- inserting, under any key, a value equal to the one that a look-up finds leaves the look-up as it is
   pub maps-get-put_either : (m : TextMap X) (k : Text) (v : X) (q : Text) (w : X) → v ≡ w
       → maps.get m q ≡ Some w
       → maps.get (maps.insert m k v) q ≡ Some w
@@ -118,7 +118,7 @@ module _ {X : Type 0} where
       → maps.contains_key (maps.insert m k v) k ≡ true
   maps-contains_key-put_same m k v = ap is_some (maps-get-put_same m k v)
 
-  -- what was known stays known
+  -- a key that the map contains stays in it
   pub maps-contains_key-put : (m : TextMap X) (k : Text) (v : X) (q : Text)
       → maps.contains_key m q ≡ true
       → maps.contains_key (maps.insert m k v) q ≡ true

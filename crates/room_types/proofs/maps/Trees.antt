@@ -13,7 +13,7 @@ use Rattle.std.specs.FinMap.{IsAntisymmetric, find, from_entries, get-from_entri
 use Rattle.std.proofs.lemmas.List.{nil_from_length}
 
 module _ {K X : Type 0} (R : K → K → Ordering) where
-  -- both read the first entry that ties with the key
+  -- both functions find the first entry that ties with the key
   pub maps-find-lookup : (q : K) (es : List (K × X)) → find R q es ≡ lookup (is_at (R q)) es
   maps-find-lookup q [] = refl
   maps-find-lookup q (e ∷ es) = ap (cond (is_at (R q) e.0) (Some e.1)) (maps-find-lookup q es)
@@ -50,7 +50,7 @@ module _ {K X : Type 0} {R : K → K → Ordering} (total : IsTotalOrder R) wher
   pub maps-entries-empty : map.entries (map.empty {X = X} {R = R}) ≡ []
   maps-entries-empty = nil_from_length _ (sym (len-entries (map.empty {X = X} {R = R})) ∙ len-empty R X)
 
-  -- entries in order are those of their map
+  -- entries in strictly ascending order are the entries of the map that they make
   pub maps-entries-sorted : (es : List (K × X)) → IsStrictlySortedBy R (keys_of es) → map.entries (from_entries {R = R} es) ≡ es
   unfolding IsStrictlySortedBy
   maps-entries-sorted [] s = maps-entries-empty
@@ -59,14 +59,14 @@ module _ {K X : Type 0} {R : K → K → Ordering} (total : IsTotalOrder R) wher
       ∙ ap (put R e.0 e.1) (maps-entries-sorted es s.1)
       ∙ maps-put-first e.0 e.1 es s
 
-  -- a tree has the entries of its map
+  -- a tree has the same entries as its map
   pub maps-entries-tree : (m : BTreeMap K X) → tree.IsOrdered R m → map.entries (from_entries {R = R} m.entries) ≡ m.entries
   maps-entries-tree m s = maps-entries-sorted m.entries s
 
   pub maps-len-tree : (m : BTreeMap K X) → tree.IsOrdered R m → map.len (from_entries {R = R} m.entries) ≡ tree.btree_map_len m
   maps-len-tree m s = len-entries _ ∙ ap length (maps-entries-tree m s)
 
--- entries whose parts are the same are the same
+-- entries with equal keys and equal values are equal
 pub maps-same_pairs : {K X : Type 0} (C : K → K → Type 0) (D : X → X → Type 0) → ((x y : K) → C x y → y ≡ x) → ((x y : X) → D x y → y ≡ x)
     → (es fs : List (K × X)) → AllZip (λ p q. C p.0 q.0 × D p.1 q.1) es fs → fs ≡ es
 maps-same_pairs C D c d [] [] h = refl

@@ -1,4 +1,4 @@
--- A search for a repeat, one code at a time.
+-- The search for a repeated code, one code at a time.
 use Rattle.std.proofs.Common.{◌≡◌, ℕ, ◌+◌, ◌<◌, Bool, List, [], length, take, drop, get_or, Some, cond, ap, ◌∙◌, sym, nat_eq}
 use Rattle.std.proofs.lemmas.List.{take_more, drop_more}
 use Rattle.std.specs.Cmp.Lexicographic.{pointwise}

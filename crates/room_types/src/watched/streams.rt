@@ -1,4 +1,4 @@
-//! A stream that is watched.
+//! Monitored streams.
 ghost use Rattle.std.specs.Prelude.{◌≡◌, ◌&&◌, ◌||◌};
 ghost use Rattle.std.specs.Io.{ReadsAtMost, WritesAtMost};
 ghost use Rattle.std.specs.Io.KnownBytes.{Keeps, ReadConsumes, WriteAppends};
@@ -11,7 +11,7 @@ use crate::watched::Watched;
 use std::io::Result;
 
 impl<T: Stream> Watched<T> {
-    /// A read, which keeps what was written.
+    /// Reads once. The bytes written are unchanged.
     pub fn read_some(&mut self, buf: &mut [u8]) -> Result<usize>
         ensures bound { ReadsAtMost result buf.new }
         ensures bytes { ReadConsumes (T.remaining (watched_inner self.old))
@@ -45,7 +45,7 @@ impl<T: Stream> Watched<T> {
         }
     }
 
-    /// A write, which keeps what is left to read.
+    /// Writes once. The bytes left to read are unchanged.
     pub fn write_some(&mut self, buf: &[u8]) -> Result<usize>
         ensures bound { WritesAtMost result buf.now }
         ensures bytes { WriteAppends (T.contents (watched_inner self.old))
@@ -83,7 +83,7 @@ impl<T: Stream> Watched<T> {
         }
     }
 
-    /// A flush, which keeps what was written and what is left to read.
+    /// Flushes once. The bytes written and the bytes left to read are unchanged.
     pub fn flush_all(&mut self) -> Result<()>
         ensures bytes { Keeps (T.contents (watched_inner self.old))
             (T.contents (watched_inner self.new)) }

@@ -1,4 +1,4 @@
--- Lists of people without repeats, and the stage when the front of a line leaves.
+-- Lists of people without repeats, and the stage after the front of a line leaves.
 use Rattle.std.proofs.Common.{◌≡◌, ℕ, zero, suc, ◌+◌, ◌<◌, ◌≤◌, ◌⊎◌, Bool, true, false, not, ◌&&◌, ◌||◌, ◌==◌, List, [], ◌∷◌, ◌++◌, length, Option, Some, None, find, get_or, refl, sym, ap, ◌∙◌, subst, inl, inr, arith, eqb-true, eq-eqb, ne_eqb, get_or-set_same, get_or-set_other, length-set, add-one, add-zero}
 use Rattle.std.specs.List.{range_with_len}
 use Rattle.std.proofs.lemmas.Bool.{cases_Bool, cases_eq, and_left, and_right, or_cases, or_left, or_right, or_parts, false_from_ne_true, both_ways, cond-true, cond-false}
@@ -217,7 +217,7 @@ module _ (m : Market) where
           ∙ searches-and_nots (s.rooms r) (taken m s (among past) r) (is_room r o)
           ∙ ap (λ b. s.rooms r && not b) (sym (askers-taken_push s past d o w l r))
 
-  -- those behind wait on where nobody takes the homes that they wait for
+  -- those behind wait on if nobody takes the homes that they wait for
   pub askers-waits_on : (s : Stage) (k : ℕ → Bool) (a : ℕ) (xs : List ℕ) → ((q h : ℕ) → among (a ∷ xs) q ≡ true → home m q ≡ Some h → taken m s k h ≡ false) → WaitsBehind m s a xs → WaitsBehind m (leave m s k) a xs
   askers-waits_on s k a [] free w = tt
   askers-waits_on s k a (b ∷ r) free w = (
@@ -240,7 +240,7 @@ module _ (m : Market) where
   askers-waits_back s a [] b ys w = w.1
   askers-waits_back s a (x ∷ xs) b ys w = askers-waits_back s x xs b ys w.1
 
-  -- somebody right behind another waits for that one's home
+  -- a person right behind another waits for that one's home
   pub askers-waits_pair : (s : Stage) (a : ℕ) (xs past : List ℕ) (d e : ℕ) (zs : List ℕ) → WaitsBehind m s a xs → a ∷ xs ≡ past ++ (d ∷ e ∷ zs) → wish m s e ≡ home m d
   askers-waits_pair s a [] [] d e zs w q = let z : [] ≡ e ∷ zs = cc in absurd (cc)
   askers-waits_pair s a (x ∷ xs) [] d e zs w q =
@@ -293,7 +293,7 @@ askers-length_without_le t (x ∷ xs) =
       | inr n ↦ let e : length (without t (x ∷ xs)) ≡ suc (length (without t xs)) = ap length (askers-without_miss t x xs n) in omega (arith, askers-length_without_le t xs)
     ]
 
--- taking somebody out makes the list shorter
+-- removing a person makes the list shorter
 pub askers-length_without_lt : (t : ℕ) (xs : List ℕ) → among xs t ≡ true → length (without t xs) < length xs
 askers-length_without_lt t [] h = absurd (both_ways false refl h)
 askers-length_without_lt t (x ∷ xs) h =

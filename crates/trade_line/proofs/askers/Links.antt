@@ -1,4 +1,4 @@
--- A line that is linked by number.
+-- A line linked by numbers.
 use Rattle.std.proofs.Common.{◌≡◌, ℕ, zero, suc, ◌+◌, ◌<◌, ◌≤◌, Bool, true, false, not, ◌==◌, List, [], ◌∷◌, ◌++◌, length, replicate, zero-add, get_or, set, refl, sym, ap, ap₂, ◌∙◌, subst, inl, inr, arith, eqb-true, eq-eqb, ne_eqb, get_or-set_same, get_or-set_other, length-set, length-append}
 use Rattle.std.specs.List.{range_with_len}
 use Rattle.std.proofs.lemmas.Bool.{cases_Bool, cases_eq, both_ways, or_cases, or_parts, or_left, or_right, false_from_ne_true, and_parts, and_left, and_right, cases_lt}
@@ -47,7 +47,7 @@ askers-links_keep next previous next' previous' a (x ∷ xs) z hn hp l = (
       (λ u h. hp u (elim (or_cases (z == u) (among xs u) h) [ inl y ↦ or_left (z == u) (among (x ∷ xs) u) y | inr y ↦ or_right (z == u) (among (x ∷ xs) u) (askers-among_more x xs u y) ])) l.2,
 )
 
--- who is not in the list differs from who is
+-- a number outside the list differs from all in it
 askers-apart_from : (xs : List ℕ) (a b : ℕ) → among xs a ≡ false → among xs b ≡ true → b ≡ a → ⊥
 askers-apart_from xs a b h i e = both_ways (among xs a) h (subst (λ z. among xs z ≡ true) e i)
 

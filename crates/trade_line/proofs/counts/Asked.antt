@@ -1,4 +1,4 @@
--- How many in line have asked.
+-- The number of people in line who have asked.
 use Rattle.std.proofs.Common.{◌≡◌, ℕ, ◌+◌, Bool, true, false, cond, ◌==◌, List, [], ◌∷◌, ◌++◌, length, get_or, set, refl, sym, ap, ap₂, subst, arith, get_or-set_other, zero-add}
 use Rattle.std.proofs.lemmas.Bool.{both_ways, cond-true, cond-false, or_parts}
 use Rattle.trade_line.specs.Member.{among}
@@ -23,7 +23,7 @@ counts-asked_in-append : (asked : List Bool) (xs ys : List ℕ) → asked_in ask
 counts-asked_in-append asked [] ys = sym (zero-add (asked_in asked ys))
 counts-asked_in-append asked (x ∷ xs) ys = let ih : asked_in asked (xs ++ ys) ≡ asked_in asked xs + asked_in asked ys = counts-asked_in-append asked xs ys in omega arith
 
--- of a line in two parts, of which the first has asked
+-- the number for a line in two parts, of which the first has asked
 pub counts-asked_split : (asked : List Bool) (line waiting fresh : List ℕ) → line ≡ waiting ++ fresh → ((p : ℕ) → among waiting p ≡ true → get_or asked p false ≡ true) → ((p : ℕ) → among fresh p ≡ true → get_or asked p false ≡ false) → asked_in asked line ≡ length waiting
 counts-asked_split asked line waiting fresh e all none =
     let a : asked_in asked line ≡ asked_in asked (waiting ++ fresh) = ap (asked_in asked) e in

@@ -70,7 +70,7 @@ counts-skipped_most q (x ∷ xs) =
       | inr f ↦ rw f (let ih : skipped q xs ≤ length xs = counts-skipped_most q xs in omega arith)
     ]
 
--- what was found: where it stands, and what it took
+-- what was found: its place, and how many entries were read
 pub counts-found_at : (q : ℕ → Bool) (xs : List ℕ) (x : ℕ) → find q xs ≡ Some x
     → (skipped q xs < length xs) × (get_or xs (skipped q xs) 0 ≡ x) × (reads q xs ≡ suc (skipped q xs))
 counts-found_at q [] x e = absurd (cc)
@@ -85,7 +85,7 @@ counts-found_at q (y ∷ ys) x e =
           rw f (omega (arith, ih.0), ih.1, ap suc ih.2)
     ]
 
--- where nothing was found the whole list was read
+-- if nothing was found, the whole list was read
 pub counts-none_at : (q : ℕ → Bool) (xs : List ℕ) → find q xs ≡ None
     → (skipped q xs ≡ length xs) × (reads q xs ≡ length xs)
 counts-none_at q [] e = (refl, refl)
@@ -97,7 +97,7 @@ counts-none_at q (y ∷ ys) e =
           rw f (ap suc ih.0, ap suc ih.1)
     ]
 
--- where the first c entries don't pass, the search may begin behind them
+-- if the first c entries don't pass, the search may begin after them
 pub counts-find_on : (q : ℕ → Bool) (xs : List ℕ) (c : ℕ) → ((k : ℕ) → k < c → q (get_or xs k 0) ≡ false)
     → find q xs ≡ find q (drop c xs)
 counts-find_on q xs zero h = refl

@@ -1,4 +1,4 @@
--- How many entries are read: turn by turn, and by a whole run.
+-- The number of entries read: turn by turn, and by a whole run.
 use Rattle.std.proofs.Common.{◌≡◌, ℕ, suc, ◌+◌, ◌<◌, ◌≤◌, Bool, true, false, cond, List, [], ◌∷◌, length, Option, None, get_or, set, sym, ap, ap₂, ◌∙◌, subst, inl, inr, arith, ltb, lt-ltb, le-ltb, get_or-set_same, get_or-set_other}
 use mathlib.Core.Path.{fun_ext}
 use Rattle.std.specs.List.{range_with_len}

@@ -49,7 +49,7 @@ cycles-from_last g a (b ∷ r) w p h =
       | inr f ↦ cycles-from_last g b r w.1 p f
     ]
 
--- whoever is behind points into the chain
+-- everybody behind points into the chain
 cycles-behind_stays : (g : ℕ → ℕ) (a : ℕ) (xs : List ℕ) → Behind g a xs → (p : ℕ) → among xs p ≡ true → among (a ∷ xs) (g p) ≡ true
 cycles-behind_stays g a [] w p h = absurd (both_ways false refl h)
 cycles-behind_stays g a (b ∷ r) w p h =
@@ -153,7 +153,8 @@ module _ (m : Market) where
   abbrev pub only : ℕ → ℕ → Bool
   only a p = a == p
 
-  -- the head of a chain takes a vacant room alone, while the others behind wait on: this is as good as the whole cycle
+  -- the head of a chain takes a vacant room alone while the others behind wait on: the result is the same as
+  -- with the whole cycle
   pub cycles-head_first : IsMarket m → (s : Stage) (a : ℕ) (xs : List ℕ) (v : ℕ) (f : ℕ → Option ℕ)
       → ((p : ℕ) → among (a ∷ xs) p ≡ true → p < m.people) → ((p : ℕ) → among (a ∷ xs) p ≡ true → s.people p ≡ true)
       → among xs a ≡ false → WaitsBehind m s a xs → first m s ≡ last_of a xs
@@ -179,7 +180,7 @@ module _ (m : Market) where
       whole : IsTrade m s (among (a ∷ b ∷ r))
       whole = cycles-ring_trade s a (b ∷ r) known remain (cycles-waits_behind ok s a (b ∷ r) known remain w) (cycles-successor_at m s a (Some v) e ∙ cycles-vacant_holder s v remaining ∙ least)
 
-      -- the home of somebody who remains isn't the vacant room
+      -- the home of a person who remains isn't the vacant room
       free : (q h : ℕ) → q < m.people → home m q ≡ Some h → s.people q ≡ true → taken m s (only a) h ≡ false
       free q h l eh rq = false_from_ne_true (taken m s (only a) h) (λ y.
           let g : (x : ℕ) × (x < m.people) × ((a == x) ≡ true) × (wish m s x ≡ Some h) = cycles-taken_gives m s (only a) h y in

@@ -1,4 +1,5 @@
--- Whole cycles leave the other cycles of their stage as they are, and people who wait for one another's homes are whole cycles.
+-- Whole cycles that leave keep the other cycles of their stage as they are, and people who wish for one
+-- another's homes are whole cycles.
 use Rattle.std.proofs.Common.{◌≡◌, ◌⊎◌, ℕ, zero, suc, ◌+◌, ◌<◌, Bool, true, false, not, ◌==◌, List, [], ◌∷◌, Option, Some, None, refl, sym, ap, ◌∙◌, subst, inl, inr, arith, eqb-true, eq-eqb, le_refl}
 use Rattle.std.proofs.lemmas.Bool.{and_from, cond-false, or_cases, or_left, or_right, both_ways, not_from_false}
 use Rattle.std.specs.Fn.{iterate}
@@ -25,7 +26,7 @@ module _ (g : ℕ → ℕ) where
         let swapped : i + suc n ≡ suc n + i = omega arith in
         counts-times_sum g i (suc n) p ∙ ap (λ k. iterate g k p) swapped ∙ sym (counts-times_sum g (suc n) i p) ∙ ap (iterate g i) back
 
-    -- where two of the turns lead to the same, as many turns as lie between them come back
+    -- if two of the turns lead to the same person, as many turns as lie between them come back
     cycles-back_between : (i j : ℕ) → i < j → iterate g i p ≡ iterate g j p → (k : ℕ) × (k < j) × (iterate g (suc k) p ≡ p)
     cycles-back_between i zero l e = absurd (omega (arith, l))
     cycles-back_between zero (suc j) l e = (j, omega arith, sym e)
@@ -78,7 +79,7 @@ module _ (m : Market) (ok : IsMarket m) (s : Stage) (known : IsStageOf m s) wher
   cycles-points_to : (p q : ℕ) → s.people q ≡ true → WishesForHomeOf m s p q → successor m s p ≡ q
   cycles-points_to p q h w = cycles-successor_at m s p (Some w.0) w.2 ∙ cycles-home_holder m ok s q w.0 (known q h) w.1 h
 
-  -- the first of a row reaches each of them, and each of them goes on to whom the room points
+  -- the first of a row reaches each of them, and each of them reaches the person to whom the room points
   cycles-along : (p : ℕ) (xs : List ℕ) (room q : ℕ) → holder m s room ≡ q → AllRemain s (p ∷ xs) → WishOnTo m s p xs room → (y : ℕ) → among (p ∷ xs) y ≡ true → Reach (successor m s) p y × Reach (successor m s) (successor m s y) q
   cycles-along p [] room q to remain w y h =
       elim (or_cases (p == y) false h) [
@@ -97,7 +98,7 @@ module _ (m : Market) (ok : IsMarket m) (s : Stage) (known : IsStageOf m s) wher
         | inr f ↦ (there (subst (λ z. Reach (successor m s) z y) (sym next) (rest y f).0), (rest y f).1)
       ]
 
-  -- each of them points to another in the row, or to whom the room points
+  -- each of them points to another in the row, or to the person to whom the room points
   cycles-onward : (p : ℕ) (xs : List ℕ) (room q : ℕ) → holder m s room ≡ q → AllRemain s (p ∷ xs) → WishOnTo m s p xs room → (y : ℕ) → among (p ∷ xs) y ≡ true → (among xs (successor m s y) ≡ true) ⊎ (successor m s y ≡ q)
   cycles-onward p [] room q to remain w y h =
       elim (or_cases (p == y) false h) [

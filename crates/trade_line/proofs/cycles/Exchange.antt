@@ -34,7 +34,7 @@ module _ (m : Market) where
       let b : (k t.0 ≡ true) × (is_room r (wish m s t.0) ≡ true) = and_parts (k t.0) (is_room r (wish m s t.0)) t.2 in
       (t.0, t.1, b.0, searches-is_room_gives r (wish m s t.0) b.1)
 
-  -- whoever is in one trade and not in another doesn't point into the other
+  -- a person in one trade and not in another doesn't point into the other
   pub cycles-points_past : (s : Stage) (k l : ℕ → Bool) → IsTrade m s k → IsTrade m s l → (p : ℕ) → l p ≡ true → k p ≡ false → k (successor m s p) ≡ false
   cycles-points_past s k l tk tl p h f =
       false_from_ne_true (k (successor m s p)) (λ t. both_ways (k p) f (cycles-reach_closed (successor m s) k tk.closed (tl.cycle p h) t))

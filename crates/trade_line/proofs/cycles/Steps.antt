@@ -130,7 +130,7 @@ module _ (m : Market) where
   unfolding gets start
   cycles-gets_leads = cycles-within_leads m.people (start m) cycles-start_known (counts-count_most m.people (start m).people)
 
-  -- whatever leads from the start is what the simultaneous steps give
+  -- the result of any removals from the start is that of the simultaneous steps
   pub cycles-leads_gets : (f : ℕ → Option ℕ) → Leads m f (start m) → (p : ℕ) → p < m.people → f p ≡ gets m p
   unfolding start
   cycles-leads_gets f d p h = cycles-wishes_lead_to_one m f (gets m) d cycles-gets_leads p (lt-ltb p m.people h)

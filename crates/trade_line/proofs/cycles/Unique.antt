@@ -19,7 +19,7 @@ module _ (m : Market) where
   unfolding taken
   cycles-taken_from s k r q h t w = searches-some_from m.people (λ p. k p && is_room r (wish m s p)) q h (and_from (k q) (is_room r (wish m s q)) t (searches-is_room_from r (wish m s q) w))
 
-  -- a room that goes with one of two trades goes with the first, or then with what is left of the second
+  -- a room that leaves with one of two trades leaves with the first, or then with what is left of the second
   cycles-taken_later : (s : Stage) (k l : ℕ → Bool) → IsTrade m s k → IsTrade m s l → (r : ℕ) → taken m s l r ≡ true → taken m s k r ≡ false → taken m (leave m s k) (minus k l) r ≡ true
   cycles-taken_later s k l tk tl r t f =
       let g : (q : ℕ) × (q < m.people) × (l q ≡ true) × (wish m s q ≡ Some r) = cycles-taken_gives m s l r t in
@@ -56,7 +56,7 @@ module _ (m : Market) where
       (λ p. cycles-person_order (s.people p) (k p) (l p))
       (λ r. one_truth ((leave m (leave m s k) (minus k l)).rooms r) ((leave m (leave m s l) (minus l k)).rooms r) (cycles-room_order s k l tk tl r) (cycles-room_order s l k tl tk r))
 
-  -- what leads from a stage gives each trade its wishes, and leads from the stage after it
+  -- the result of removals from a stage gives each trade its wishes, and is a result from the stage after it
   pub cycles-trade_removed : (f : ℕ → Option ℕ) {s : Stage} → Leads m f s → (k : ℕ → Bool) → IsTrade m s k → ((p : ℕ) → k p ≡ true → f p ≡ wish m s p) × Leads m f (leave m s k)
   unfolding leave
   cycles-trade_removed f {s} (done none) k tk = (λ p h. searches-clash (s.people p) (tk.remain p h) (none p), done (λ p. ap (λ b. b && not (k p)) (none p)))

@@ -1,4 +1,4 @@
--- The rules of a market that is handed in, as its vectors are looked through.
+-- The rules of a market, checked by going through the vectors that a caller hands in.
 use Rattle.std.proofs.Common.{◌≡◌, ◌≢◌, ℕ, ◌+◌, ◌<◌, ◌⊎◌, Bool, true, false, List, [], ◌∷◌, Option, Some, None, is_some, Vec, Global, length, map, get_or, set, take, drop, ◌++◌, All, AllPairs, IfSome, refl, sym, ap, ◌∙◌, subst, inl, inr, arith, add-one, ne_eqb, get_or-set_same, get_or-set_other, length-set}
 use Rattle.std.proofs.lemmas.Bool.{cases_eq, cases_lt, both_ways}
 use Rattle.std.proofs.lemmas.List.{get_or-map, length-map, append-nil, drop_all, take_all}
@@ -13,7 +13,7 @@ use Rattle.trade_line.proofs.turns.States.{turns-if_some, turns-read_same}
 abbrev pub items_of : Vec ℕ Global → List ℕ
 items_of v = v.items
 
--- the list of p, where the vectors are read
+-- the list of p, as read from the vectors
 pub markets-list_at : (lists : List (Vec ℕ Global)) (p : ℕ) (v : Vec ℕ Global) → p < length lists → get_or (map (λ v. v.items) lists) p [] ≡ (get_or lists p v).items
 markets-list_at lists p v l = get_or-map (λ v. v.items) lists p v [] l
 
@@ -22,7 +22,7 @@ markets-read_list lists xs p v d e l is de =
     let at : p < length lists = subst (λ z. p < length z) e l in
     markets-list_at lists p v at ∙ ap items_of (sym (is ∙ ap (λ z. get_or z p v) e)) ∙ sym de
 
--- a slice of a whole vector that was written back
+-- a slice of a whole vector, written back into it
 pub markets-slice_written_back : (n : ℕ) (new old : List ℕ) → length new ≡ n → length old ≡ n → take n (new ++ drop (length new) old) ≡ new
 markets-slice_written_back n new old e f =
     ap (λ z. take n (new ++ z)) (drop_all (length new) old (omega arith)) ∙ ap (take n) (append-nil new) ∙ take_all n new (omega arith)
@@ -56,7 +56,7 @@ module _ (people rooms : ℕ) (homes : List (Option ℕ)) (lists : List (Vec ℕ
       let y : length (map (λ v. v.items) lists) ≡ length lists = length-map lists (λ v. v.items) in
       subst (All (λ r. r < rooms)) (markets-list_at lists k d l) (ok.lists_known k (omega arith))
 
--- the table of tenants, one home after the other
+-- the table of tenants, filled one home after the other
 module _ (homes : List (Option ℕ)) where
   abbrev lives : ℕ → ℕ → Bool
   lives r p = is_room r (get_or homes p None)
@@ -107,7 +107,7 @@ module _ (homes : List (Option ℕ)) where
                 get_or-set_other tenants room r (Some n) None d ∙ h.housed r (subst (λ z. r < z) (length-set tenants room (Some n)) rl) ∙ sym (rw (add-one, away) (markets-none_twice (first_below n (lives r))))
           ]
 
-  -- somebody before has that home already
+  -- an earlier person already has that home
   pub markets-housed_shared : (tenants : List (Option ℕ)) (n room : ℕ) → AreHoused homes tenants n → get_or homes n None ≡ Some room → room < length tenants → is_some (get_or tenants room None) ≡ true → (p : ℕ) × (p < n) × (get_or homes p None ≡ Some room)
   markets-housed_shared tenants n room h e l some = by_found (get_or tenants room None) refl some
     where

@@ -1,4 +1,4 @@
--- Lists that stand one after the other in one vector.
+-- Lists stored one after the other in one vector.
 use Rattle.std.proofs.Common.{◌≡◌, ℕ, suc, ◌+◌, ◌-◌, ◌<◌, ◌≤◌, List, [], ◌∷◌, ◌++◌, length, map, take, drop, get_or, refl, sym, ap, ap₂, ◌∙◌, subst, inl, inr, arith, length-append, pred, add-one}
 use Rattle.std.specs.List.{range_with_len}
 use Rattle.std.proofs.lemmas.Bool.{cases_lt}
@@ -14,7 +14,7 @@ module _ (entries starts : List ℕ) (lists : List (List ℕ)) (flat : AreFlat e
       ap (λ k. map (piece entries starts) (range_with_len 0 k)) n
       ∙ sym (fill_by_all (piece entries starts) lists (length lists) [] refl (λ k l. sym (flat.lists_are k l)))
 
--- one list more
+-- one more list
 pub markets-flat_more : (entries starts : List ℕ) (lists : List (List ℕ)) (l : List ℕ) → AreFlat entries starts lists
     → AreFlat (entries ++ l) (starts ++ length (entries ++ l) ∷ []) (lists ++ l ∷ [])
 markets-flat_more entries starts lists l flat = record {

@@ -1,4 +1,4 @@
--- The definitions at worked examples: a newcomer asks first, and a tenant who lists a vacant room.
+-- Worked examples of the definitions: a newcomer asks first, and a tenant lists a vacant room.
 use Rattle.std.proofs.Common.{◌≡◌, ℕ, ◌<◌, ◌≤◌, true, [], ◌∷◌, Option, Some, None, refl, sym, ap, ◌∙◌, subst, arith, le_refl}
 use Rattle.trade_line.specs.Market.{Market, home}
 use Rattle.trade_line.specs.Rank.{rank}
@@ -22,7 +22,7 @@ markets-vacant_room_listed_gives : ttc markets-vacant_room_listed ≡ Some 1 ∷
 unfolding markets-vacant_room_listed ttc gets gets_within start wish first holder successor on_cycle taken leave
 markets-vacant_room_listed_gives = refl
 
--- to stay is in the strict core too: where a room is vacant, it may hold several assignments
+-- staying is in the strict core too: if a room is vacant, the strict core may hold several assignments
 markets-stays : ℕ → Option ℕ
 markets-stays p = Some 0
 

@@ -1,4 +1,4 @@
--- The plain program, step for step.
+-- The slow program, step by step.
 use Rattle.std.proofs.Common.{◌≡◌, ℕ, suc, ◌+◌, ◌<◌, ◌≤◌, Bool, true, false, not, ◌&&◌, ◌==◌, cond, List, length, replicate, Option, Some, None, get_or, set, refl, sym, ap, ◌∙◌, subst, inl, inr, arith, add-one, eq-eqb, length-set, get_or-set_same, get_or-set_other, lt-ltb, le-ltb, ltb}
 use Rattle.std.specs.Option.{unwrap_or}
 use Rattle.std.proofs.lemmas.Bool.{cases_Bool, cases_lt, cases_eq, both_ways, cond-true, cond-false, and_from, and_parts, not-true}
@@ -22,7 +22,7 @@ use Rattle.trade_line.proofs.cycles.Unique.{cycles-same_stage}
 pub searches-read_mark : (xs : List Bool) (i : ℕ) (r : Bool) → i < length xs → r ≡ get_or xs i r → get_or xs i false ≡ r
 searches-read_mark xs i r l e = turns-read_same xs i false r l ∙ sym e
 
--- the first that passes
+-- the first number that passes
 pub searches-first_at : (n i : ℕ) (q : ℕ → Bool) → i < n → first_below i q ≡ None → q i ≡ true → first_below n q ≡ Some i
 searches-first_at n i q l none ok =
     let found : (y : ℕ) × (first_below n q ≡ Some y) = searches-first_finds n q i l ok in

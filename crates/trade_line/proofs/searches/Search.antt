@@ -1,4 +1,4 @@
--- Lemmas on searches: `find`, `first_below`, `some_below`, and tests that agree.
+-- Lemmas on searches: `find`, `first_below`, `some_below`, and tests that agree on what they search.
 use Rattle.std.proofs.Common.{◌≡◌, ℕ, zero, suc, ◌<◌, ◌≤◌, Bool, true, false, cond, not, ◌&&◌, ◌||◌, List, [], ◌∷◌, Option, Some, None, find, refl, sym, ap, ◌∙◌, subst, inl, inr, arith, eqb-true, eq-eqb}
 use Rattle.std.proofs.lemmas.Bool.{cases_lt, cases_Bool, or_cases, or_left, or_right, false_from_ne_true, both_ways}
 use Rattle.trade_line.specs.Below.{some_below, first_below, or_else}
@@ -23,7 +23,7 @@ searches-find_passes q (y ∷ ys) x h =
       | inr f ↦ searches-find_passes q ys x (sym (rw f refl) ∙ h)
     ]
 
--- a narrower test finds the same where it passes what was found
+-- a narrower test finds the same if it passes what was found
 pub searches-find_keeps : (q r : ℕ → Bool) (xs : List ℕ) → ((y : ℕ) → r y ≡ true → q y ≡ true) → ((x : ℕ) → find q xs ≡ Some x → r x ≡ true) → find r xs ≡ find q xs
 searches-find_keeps q r [] only same = refl
 searches-find_keeps q r (y ∷ ys) only same =
@@ -123,7 +123,7 @@ searches-is_room_gives r (Some x) h = ap Some (eqb-true x r h)
 pub searches-is_room_from : (r : ℕ) (o : Option ℕ) → o ≡ Some r → is_room r o ≡ true
 searches-is_room_from r o h = rw h (eq-eqb r r refl)
 
--- no number below the one that is found passes
+-- no number below the one found passes
 pub searches-first_is_least : (n : ℕ) (q : ℕ → Bool) (y x : ℕ) → first_below n q ≡ Some y → x < n → q x ≡ true → y ≤ x
 searches-first_is_least zero q y x e l t = absurd (omega arith)
 searches-first_is_least (suc n) q y x e l t = by_found (searches-first_is_least n q y x) (first_below n q) refl e

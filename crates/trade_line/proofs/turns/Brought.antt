@@ -18,7 +18,7 @@ use Rattle.trade_line.proofs.askers.Lines.{askers-among-without, askers-once_wit
 use Rattle.trade_line.proofs.turns.Turns.{marked, brought, turns-marked_stays, turns-marked_unasked, turns-tenant_home}
 
 module _ (m : Market) where
-  -- a tenant who has not asked is taken out of those who have not
+  -- removing a tenant who has not asked from the line removes the tenant from those who have not asked
   pub turns-line_without : (s : State) (a t : ℕ) (ask : Asks m a s) → has_asked s t ≡ false → without t s.line ≡ (a ∷ ask.behind) ++ without t ask.fresh
   turns-line_without s a t ask new = ap (without t) ask.split ∙ askers-without-append t (a ∷ ask.behind) ask.fresh (false_from_ne_true (among (a ∷ ask.behind) t) (λ y. both_ways (has_asked s t) new (ask.waiting_asked t y)))
 

@@ -43,13 +43,13 @@ module _ (m : Market) where
   unfolding leave
   turns-leave_gone s k r h = rw h refl
 
-  -- whoever's cursor is at an entry stays at its room
+  -- a person whose cursor is at an entry stays at its room
   pub turns-stays_at : IsMarket m → (c : List ℕ) (p i x : ℕ) → p < m.people → i < length (list_of m p)
       → get_or (list_of m p) i 0 ≡ x → cursor c p ≡ i → StaysAt m c p (Some x)
   turns-stays_at ok c p i x known l e at =
       (omega arith, welfare-rank_listed m ok p x (counts-among_at (list_of m p) i x l e) ∙ counts-place_is (list_of m p) i x (ok.lists_strict p known) l e ∙ sym at)
 
-  -- other marks and cursors that tell the same of those behind
+  -- other marks and cursors that are the same for those behind
   turns-behind_same : (asked asked' : List Bool) (c c' : List ℕ) (b : ℕ) (xs : List ℕ)
       → ((p : ℕ) → among xs p ≡ true → get_or asked' p false ≡ true → get_or asked p false ≡ true)
       → ((p : ℕ) → among xs p ≡ true → cursor c' p ≡ cursor c p) → StayBehind m asked c b xs
@@ -223,7 +223,7 @@ module _ (m : Market) where
           | inr y ↦ absurd (both_ways (among u.line p) out y)
         ]
 
-  -- the turns, for states that are told part by part
+  -- the turns, for states given part by part
   pub turns-marked_cursors : (s v : State) (a place : ℕ) (c d : List ℕ) → Standing m s → front_of s.line ≡ Some a
       → v.line ≡ s.line → v.asked ≡ set s.asked a true → v.remaining ≡ s.remaining → v.given ≡ s.given
       → AreCursors m s c → d ≡ set c a place

@@ -250,7 +250,7 @@ module _ (m : Market) where
       after_in : (p : ℕ) → among r.after p ≡ true → among u.line p ≡ true
       after_in p h = subst (λ z. among z p ≡ true) (sym c.line_is) (askers-among_left r.after r.asks.fresh p h)
 
-      -- nobody in the loop takes the home of somebody behind it
+      -- nobody in the loop takes the home of a person behind it
       free : (q h : ℕ) → among r.after q ≡ true → home m q ≡ Some h → taken m (stage_at s) (among ring) h ≡ false
       free q h i e = false_from_ne_true (taken m (stage_at s) (among ring) h) (λ y.
           let g : (x : ℕ) × (x < m.people) × (among ring x ≡ true) × (wish m (stage_at s) x ≡ Some h) = cycles-taken_gives m (stage_at s) (among ring) h y in

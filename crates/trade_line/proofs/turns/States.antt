@@ -1,4 +1,4 @@
--- The turns, for states that are told part by part.
+-- The turns, for states given part by part.
 use Rattle.std.proofs.Common.{◌≡◌, ℕ, zero, suc, ◌<◌, Bool, true, false, List, [], ◌∷◌, ◌++◌, length, Option, Some, None, find, get_or, set, refl, sym, ap, ◌∙◌, subst, arith, IfSome}
 use Rattle.trade_line.specs.Below.{or_else}
 use Rattle.trade_line.specs.Market.{Market, home, list_of, tenant}
@@ -65,7 +65,7 @@ module _ (m : Market) where
   turns-granted_onward a room s v k w none x y z u =
       subst (λ q. Onward m s q) (sym (turns-same_state v (granted s a (Some room)) x y z u)) (turns-vacant_onward m s a room k w none)
 
-  -- the room that was found on the list is the wish, and else the floor is
+  -- the room found on the list is the wish; if none is found, the floor is
   pub turns-wish_found : (s : Stage) (p : ℕ) (o : Option ℕ) → find s.rooms (list_of m p) ≡ o → wish m s p ≡ or_else o (home m p)
   unfolding wish
   turns-wish_found s p o e = ap (λ z. or_else z (home m p)) e
@@ -89,7 +89,7 @@ module _ (m : Market) where
   pub turns-vacant_by_none : (s : Stage) (room : ℕ) → tenant m room ≡ None → IsVacant m s room
   turns-vacant_by_none s room e u f = let z : None ≡ Some u = sym e ∙ f in absurd (cc)
 
--- an element that was read, by another default
+-- an element that was read, with another default
 pub turns-asked_true : (xs : List Bool) (i : ℕ) (r : Bool) → r ≡ get_or xs i r → r ≡ true → get_or xs i true ≡ true
 turns-asked_true xs i r e h = sym (ap (get_or xs i) h) ∙ sym e ∙ h
 

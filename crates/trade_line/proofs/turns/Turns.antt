@@ -25,7 +25,7 @@ use Rattle.trade_line.proofs.askers.Lines.{askers-among_self, askers-among_more,
 abbrev pub granted : State → ℕ → Option ℕ → State
 granted s p o = record { line = tail_of s.line; asked = s.asked; remaining = close s.remaining o; given = set s.given p o }
 
--- the state after somebody is noted to have asked
+-- the state after a person is marked as having asked
 abbrev pub marked : State → ℕ → State
 marked s p = record { line = s.line; asked = set s.asked p true; remaining = s.remaining; given = s.given }
 
@@ -64,7 +64,7 @@ module _ (m : Market) where
     given_len = f.given_len;
   }
 
-  -- whoever is marked stays marked
+  -- a marked person stays marked
   pub turns-marked_stays : (s : State) (a p : ℕ) → a < length s.asked → has_asked s p ≡ true → has_asked (marked s a) p ≡ true
   turns-marked_stays s a p l h =
       elim (cases_eq p a) [
@@ -72,7 +72,7 @@ module _ (m : Market) where
         | inr n ↦ get_or-set_other s.asked a p true false n ∙ h
       ]
 
-  -- whoever is a tenant who hasn't asked was one before
+  -- a tenant who hasn't asked had not asked before
   pub turns-marked_unasked : (s : State) (a : ℕ) → a < length s.asked → (y : ℕ) → (is_tenant m y && not (has_asked (marked s a) y)) ≡ true → (is_tenant m y && not (has_asked s y)) ≡ true
   turns-marked_unasked s a l y h =
       let b : (is_tenant m y ≡ true) × (not (has_asked (marked s a) y) ≡ true) = and_parts (is_tenant m y) (not (has_asked (marked s a) y)) h in
@@ -84,7 +84,7 @@ module _ (m : Market) where
       counts-count_le m.people (λ p. is_tenant m p && not (has_asked (marked s a) p)) (λ p. is_tenant m p && not (has_asked s p)) (turns-marked_unasked s a l) in
       omega arith
 
-  -- the front of the line is noted as asking
+  -- the front of the line is marked as having asked
   pub turns-front_asks : (s : State) (a : ℕ) → Standing m s → front_of s.line ≡ Some a → Asks m a (marked s a)
   turns-front_asks s a st e = by_line s.line refl e
     where

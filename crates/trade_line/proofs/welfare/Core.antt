@@ -1,4 +1,5 @@
--- The strict core gives each group of tenants that keeps to itself what the trades give it; where no room is vacant, it is that assignment.
+-- The strict core gives each self-contained group of tenants what the trades give it; if no room is vacant,
+-- it is that assignment.
 use Rattle.std.proofs.Common.{rules, ◌≡◌, ℕ, ◌<◌, ◌≤◌, ◌+◌, ◌⊎◌, Bool, true, false, not, ◌&&◌, ◌||◌, ◌==◌, Option, Some, None, is_some, is_none, length, find, refl, sym, ap, ◌∙◌, subst, inl, inr, arith, eqb-true, eq-eqb, le_refl, ltb, ltb-true, lt-ltb}
 use Rattle.std.proofs.lemmas.Bool.{cases_Bool, cases_lt, or_cases, or_left, or_right, and_parts, and_from, false_from_ne_true, both_ways, cond-true, cond-false, not-true, not_from_false}
 use Rattle.trade_line.specs.Below.{or_else}
@@ -21,7 +22,7 @@ use Rattle.trade_line.proofs.welfare.Ranks.{welfare-wish_is_best, welfare-not_am
 use Rattle.trade_line.proofs.welfare.Welfare.{HomesThere, welfare-homes_stay, welfare-start_homes, welfare-start_has_person, welfare-reach_before, welfare-wish_there, welfare-gets_rational, welfare-gets_assignment, welfare-gets_apart}
 
 module _ (m : Market) (ok : IsMarket m) where
-  -- the wish is no worse than anything that is to be had
+  -- the wish is no worse than anything available
   welfare-wish_least : (s : Stage) (p : ℕ) → p < m.people → (x : Option ℕ) → ((r : ℕ) → x ≡ Some r → s.rooms r ≡ true) → rank m p (wish m s p) ≤ rank m p x
   welfare-wish_least s p l x can =
       elim (cases_lt (rank m p x) (rank m p (wish m s p))) [
@@ -45,7 +46,7 @@ module _ (m : Market) (ok : IsMarket m) where
         | inr ge ↦ core (λ z. z == p) (home m) (welfare-alone_apart p h l e) (λ q y. subst (λ z. rank m z (home m z) ≤ rank m z (f z)) (sym (eqb-true q p y)) ge) p (eq-eqb p p refl)
       ]
 
-  -- two things that rank alike, and no lower than the home, are one
+  -- two rooms that rank equally, and no lower than the home, are one
   welfare-rank_apart : (p : ℕ) → p < m.people → (x y : Option ℕ) → rank m p x ≡ rank m p y → rank m p x ≤ rank m p (home m p) → x ≡ y
   unfolding wish
   welfare-rank_apart p l x y e le =
@@ -66,7 +67,7 @@ module _ (m : Market) (ok : IsMarket m) where
                 | inr i ↦ subst (λ v. rank m p x ≤ rank m p v) (searches-is_room_gives z y i) (omega (arith, e))
               ]
 
-  -- the strict core has no better trade apart, and the other way round
+  -- an assignment in the strict core has no better trade apart, and the other way round
   pub welfare-core_apart : (f : ℕ → Option ℕ) → IsInStrictCore m f → HasNoBetterTradeApart m f
   welfare-core_apart f core group a tr better p gp =
       let t : (h : ℕ) × (home m p ≡ Some h) = tr.tenants p gp in
@@ -81,7 +82,7 @@ module _ (m : Market) (ok : IsMarket m) where
 
   -- a group of tenants who get one another's homes: the trades among them are trades apart
   module _ (g : ℕ → Option ℕ) (group : ℕ → Bool) (tr : TradesApart m group g) where
-    -- members whose homes are still there remain
+    -- members whose homes remain also remain
     abbrev HomesHeld : Stage → Type 0
     HomesHeld s = (t h : ℕ) → group t ≡ true → home m t ≡ Some h → s.rooms h ≡ true → s.people t ≡ true
 
@@ -149,9 +150,10 @@ module _ (m : Market) (ok : IsMarket m) where
           | inr n ↦ welfare-given_out d (cycles-leave_known m s k known) (welfare-homes_stay m ok s k tk known homes) (held_after s k tk gk homes held) t gt (and_from (s.people t) (not (k t)) h (not_from_false (k t) n))
         ]
 
-    -- where no member ranks another room above what they get, an assignment in the strict core gives them the same
+    -- if no member ranks a room outside the group above what they get, an assignment in the strict core gives
+    -- them the same
     module _ (above : (p r : ℕ) → group p ≡ true → rank m p (Some r) < rank m p (g p) → (q : ℕ) × (group q ≡ true) × (home m q ≡ Some r)) (f : ℕ → Option ℕ) (ia : IsAssignment m f) (core : IsInStrictCore m f) where
-      -- what a member gets by f is still there, or no better than what g gives
+      -- what a member gets by f still remains, or is no better than what g gives
       abbrev IsThere : Stage → Type 0
       IsThere s = (p : ℕ) → group p ≡ true → s.people p ≡ true → ((r : ℕ) → f p ≡ Some r → s.rooms r ≡ true) ⊎ (rank m p (g p) ≤ rank m p (f p))
 
@@ -281,7 +283,7 @@ module _ (m : Market) (ok : IsMarket m) where
                   absurd (omega (arith, lt, welfare-gets_rational m ok p l, welfare-rank_home m ok p l))
             ]
 
-    -- where the tenants get all rooms, newcomers get nothing
+    -- if the tenants get all rooms, newcomers get nothing
     welfare-newcomer_none : (f : ℕ → Option ℕ) → IsAssignment m f → IsInStrictCore m f → (p : ℕ) → p < m.people → is_tenant m p ≡ false → f p ≡ None
     welfare-newcomer_none f ia core p l n =
         let never : (r : ℕ) → f p ≡ Some r → ⊥ = λ r e.

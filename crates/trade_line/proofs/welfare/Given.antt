@@ -1,4 +1,4 @@
--- The laws for the list of what each person gets.
+-- The theorems for the list of what each person gets.
 use Rattle.std.proofs.Common.{◌≡◌, ℕ, ◌<◌, ◌≤◌, None, get_or, sym, ◌∙◌, subst, zero-add}
 use Rattle.std.proofs.lemmas.List.FromFn.{get_or-map-range_with_len}
 use Rattle.trade_line.specs.Market.{Market, IsMarket}

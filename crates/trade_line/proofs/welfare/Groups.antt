@@ -1,5 +1,5 @@
--- Other lists of a group: where none of it loses, everybody gets the same. Whoever gets x may as well ask for x alone; then the cycles of
--- the own lists are cycles of those lists too.
+-- Other lists of a group: if none of it loses, everybody gets the same. A person who gets x gets it also by
+-- asking for x alone; then the cycles of the own lists are cycles of those lists too.
 use Rattle.std.proofs.Common.{◌≡◌, ◌≢◌, ℕ, ◌<◌, ◌≤◌, ◌⊎◌, Bool, true, false, cond, not, ◌&&◌, ◌==◌, List, [], ◌∷◌, Option, Some, None, find, map, length, All, AllPairs, refl, sym, ap, ◌∙◌, subst, inl, inr, arith, eqb-true, eq-eqb, zero-add, get_or-set_other, le_refl, slice_set}
 use Rattle.std.specs.List.{range_with_len}
 use Rattle.std.proofs.lemmas.Bool.{cases_Bool, and_from, both_ways, cond-true, cond-false, not_from_false}
@@ -22,7 +22,7 @@ use Rattle.trade_line.proofs.cycles.Steps.{cycles-leave_known, cycles-start_know
 use Rattle.trade_line.proofs.welfare.Ranks.{welfare-wish_is_best}
 use Rattle.trade_line.proofs.welfare.Welfare.{HomesThere, welfare-homes_stay, welfare-there_from, welfare-start_homes, welfare-start_has_person, welfare-gets_assignment}
 
--- the list of somebody with the home h who asks for x alone
+-- the list of a person with the home h who asks for x alone
 abbrev pub aim : Option ℕ → Option ℕ → List ℕ
 aim h None = []
 aim h (Some x) = cond (is_room x h) [] (x ∷ [])
@@ -53,7 +53,7 @@ module _ (m : Market) (lists : List (List ℕ)) where
   unfolding wish
   welfare-wish_kept s q e = ap (λ xs. or_else (find s.rooms xs) (home m q)) e
 
-  -- whoever asks for the wish alone has the same wish
+  -- a person who asks for the wish alone has the same wish
   welfare-wish_aimed : (s : Stage) (q : ℕ) → list_of (with_lists m lists) q ≡ aim (home m q) (wish m s q) → wish (with_lists m lists) s q ≡ wish m s q
   unfolding wish
   welfare-wish_aimed s q e = ap (λ xs. or_else (find s.rooms xs) (home m q)) e ∙ by_found (find s.rooms (list_of m q)) refl
@@ -70,7 +70,7 @@ module _ (m : Market) (lists : List (List ℕ)) where
             | inr n ↦ rw n (rw (searches-find_passes s.rooms (list_of m q) y f) refl)
           ]
 
-  -- a trade whose people keep their wishes is one by the other lists
+  -- a trade whose people keep their wishes is also a trade by the other lists
   module _ (s : Stage) (k : ℕ → Bool) (same : (q : ℕ) → k q ≡ true → wish (with_lists m lists) s q ≡ wish m s q) where
     welfare-successor_same : (q : ℕ) → k q ≡ true → successor (with_lists m lists) s q ≡ successor m s q
     unfolding successor
@@ -93,7 +93,7 @@ module _ (m : Market) (lists : List (List ℕ)) where
         (λ h. let g : (q : ℕ) × (q < m.people) × (k q ≡ true) × (wish m s q ≡ Some r) = cycles-taken_gives m s k r h in
         cycles-taken_from (with_lists m lists) s k r g.0 g.1 g.2 (same g.0 g.2 ∙ g.3))))
 
-  -- what each person gets stays where some ask for it alone
+  -- everybody still gets the same if some ask only for what they get
   welfare-aim_leads : (f : ℕ → Option ℕ) → ((q : ℕ) → q < m.people → (list_of (with_lists m lists) q ≡ list_of m q) ⊎ (list_of (with_lists m lists) q ≡ aim (home m q) (f q))) → {s : Stage} → Leads m f s → Leads (with_lists m lists) f s
   welfare-aim_leads f each (done none) = done none
   welfare-aim_leads f each {s} (trade k tk fk d) =
@@ -104,7 +104,7 @@ module _ (m : Market) (lists : List (List ℕ)) where
       trade k (welfare-trade_same s k same tk) (λ q h. fk q h ∙ sym (same q h))
       (subst (λ z. Leads (with_lists m lists) f z) (sym (welfare-leave_same s k same)) (welfare-aim_leads f each d))
 
--- where some ask for x alone, and rank it no lower than what they get by the own list, everybody gets x
+-- if some ask for x alone, and rank it no lower than what they get with their own list, everybody gets x
 module _ (m : Market) (ok : IsMarket m) (lists : List (List ℕ)) (ok2 : IsMarket (with_lists m lists)) (f x : ℕ → Option ℕ) (each : (q : ℕ) → q < m.people → (list_of (with_lists m lists) q ≡ list_of m q) ⊎ ((list_of (with_lists m lists) q ≡ aim (home m q) (x q)) × (rank m q (x q) ≤ rank m q (f q)))) where
   welfare-same_from : {s : Stage} → Leads m f s → IsStageOf m s → HomesThere m ok s → Leads (with_lists m lists) x s → (p : ℕ) → s.people p ≡ true → x p ≡ f p
   unfolding leave
@@ -126,7 +126,7 @@ module _ (m : Market) (ok : IsMarket m) (lists : List (List ℕ)) (ok2 : IsMarke
       ]
 
 module _ (m : Market) (ok : IsMarket m) (group : ℕ → Bool) (lists : List (List ℕ)) (ok2 : IsMarket (with_lists m lists)) (keep : OthersKeep m group lists) (none : NoneLoses m group lists) where
-  -- each member asks for what they get by the other lists, alone
+  -- each member asks only for what they get with the other lists
   welfare-aimed : List (List ℕ)
   welfare-aimed = map (λ q. cond (group q) (aim (home m q) (gets (with_lists m lists) q)) (list_of m q)) (range_with_len 0 m.people)
 
@@ -182,7 +182,7 @@ module _ (m : Market) (ok : IsMarket m) (group : ℕ → Bool) (lists : List (Li
 pub welfare-group_strategyproof : (m : Market) → IsMarket m → IsGroupStrategyproof m
 welfare-group_strategyproof m ok group lists ok2 keep none p l = welfare-all_same m ok group lists ok2 keep none p l
 
--- one person is a group
+-- one person as a group
 pub welfare-one_is_a_group : (m : Market) → IsMarket m → (p : ℕ) (l : List ℕ) → IsMarket (with_list m p l) → rank m p (gets (with_list m p l) p) ≤ rank m p (gets m p) → (q : ℕ) → q < m.people → gets (with_list m p l) q ≡ gets m q
 welfare-one_is_a_group m ok p l ok2 le =
     welfare-all_same m ok (λ z. z == p) (slice_set m.lists p l) ok2

@@ -1,4 +1,4 @@
--- Another list of one person: nobody gains by it, since by a group that does not lose everybody gets the same.
+-- Another list of one person: nobody gains by it, since everybody gets the same if a group does not lose.
 use Rattle.std.proofs.Common.{◌≡◌, ap, inl, inr, arith}
 use Rattle.std.proofs.lemmas.Bool.{cases_lt}
 use Rattle.trade_line.specs.Market.{Market, IsMarket}

@@ -1,4 +1,4 @@
--- Ranks, and that nothing which is to be had ranks better than the wish.
+-- Ranks, and that nothing available ranks better than the wish.
 use Rattle.std.proofs.Common.{◌≡◌, ℕ, suc, ◌+◌, ◌<◌, ◌≤◌, Bool, true, false, cond, ◌==◌, ◌≢◌, List, [], ◌∷◌, length, Option, Some, None, is_none, find, All, refl, sym, ap, ◌∙◌, subst, inl, inr, arith, eqb-true, eq-eqb, ne_eqb}
 use Rattle.std.proofs.lemmas.Bool.{cases_Bool, or_cases, or_left, or_right, both_ways, cond-true, cond-false}
 use Rattle.trade_line.specs.Below.{or_else}
@@ -38,7 +38,7 @@ welfare-find_none q (z ∷ zs) e r h =
       ]
     ]
 
--- what is found stands before all others that pass
+-- what is found comes before all others that pass
 pub welfare-find_first : (q : ℕ → Bool) (xs : List ℕ) (y r : ℕ) → find q xs ≡ Some y → q r ≡ true → among xs r ≡ true → place r xs ≤ place y xs → r ≡ y
 welfare-find_first q [] y r e t h le = absurd (both_ways false refl h)
 welfare-find_first q (z ∷ zs) y r e t h le =
@@ -85,7 +85,7 @@ module _ (m : Market) (ok : IsMarket m) where
           welfare-rank_unlisted p h (welfare-not_among (list_of m p) h (ok.own_unlisted p h l e))
           ∙ cond-true (is_room h (home m p)) (length (list_of m p)) (length (list_of m p) + 1) (searches-is_room_from h (home m p) e)
 
-  -- nothing that is to be had ranks better than the wish
+  -- nothing available ranks better than the wish
   pub welfare-wish_is_best : (s : Stage) (p : ℕ) → p < m.people → (x : Option ℕ) → ((r : ℕ) → x ≡ Some r → s.rooms r ≡ true) → rank m p x ≤ rank m p (wish m s p) → x ≡ wish m s p
   unfolding wish
   welfare-wish_is_best s p l x can le = by_found (find s.rooms (list_of m p)) refl le

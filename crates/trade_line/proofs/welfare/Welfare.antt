@@ -1,4 +1,5 @@
--- What leads from a stage is rational, an assignment, efficient, and leaves no better trade apart.
+-- The result of removals from a stage is rational, an assignment, efficient, and leaves no better trade
+-- apart.
 use Rattle.std.proofs.Common.{◌≡◌, ℕ, zero, suc, ◌+◌, ◌-◌, ◌<◌, ◌≤◌, ◌⊎◌, Bool, true, false, not, ◌&&◌, Option, Some, None, find, refl, sym, ap, ◌∙◌, subst, inl, inr, arith, lt-ltb, ltb-true}
 use Rattle.std.proofs.lemmas.Bool.{cases_Bool, cases_order, and_parts, and_from, false_from_ne_true, both_ways, not-true, not_from_false}
 use Rattle.std.specs.Fn.{iterate}
@@ -22,7 +23,7 @@ use Rattle.trade_line.proofs.cycles.Steps.{cycles-leave_known, cycles-start_know
 use Rattle.trade_line.proofs.welfare.Ranks.{welfare-place_lt, welfare-find_among, welfare-rank_listed, welfare-rank_home, welfare-wish_is_best}
 
 module _ (m : Market) (ok : IsMarket m) where
-  -- the wish is no worse than anything that is to be had
+  -- the wish is no worse than anything available
   pub welfare-wish_rational : (s : Stage) (p : ℕ) → p < m.people → rank m p (wish m s p) ≤ rank m p (home m p)
   unfolding wish
   welfare-wish_rational s p l = by_found (find s.rooms (list_of m p)) refl
@@ -89,7 +90,7 @@ welfare-same_before g (suc fuel) a b x p q h ep eq gp gq =
       ]
     ]
 
--- in a group that is closed under g, whoever is reached from the group is in it already or right behind somebody
+-- if a group is closed under g, everybody reached from it is in it already or right behind somebody
 pub welfare-reach_before : (g : ℕ → ℕ) (group : ℕ → Bool) → ((p : ℕ) → group p ≡ true → group (g p) ≡ true) → {a b : ℕ} → Reach g a b → group a ≡ true → (a ≡ b) ⊎ ((z : ℕ) × (group z ≡ true) × (g z ≡ b))
 welfare-reach_before g group closed here h = inl refl
 welfare-reach_before g group closed {a} (there r) h =
@@ -105,7 +106,7 @@ module _ (m : Market) (ok : IsMarket m) where
       let b : (n : ℕ) × (iterate (successor m s) n (successor m s q) ≡ q) = counts-reach_times (successor m s) (tk.cycle q hq) in
       welfare-same_before (successor m s) (suc (a.0 + b.0)) a.0 b.0 (successor m s p) p q (omega arith) a.1 (ap (iterate (successor m s) b.0) e ∙ b.1) refl (sym e)
 
-  -- the homes of those who remain are still there
+  -- the homes of those who remain also remain
   abbrev pub HomesThere : Stage → Type 0
   HomesThere s = (t h : ℕ) → s.people t ≡ true → home m t ≡ Some h → s.rooms h ≡ true
 
@@ -128,7 +129,7 @@ module _ (m : Market) (ok : IsMarket m) where
           let z : y ≡ r = cc in
           subst (λ v. s.rooms v ≡ true) z (searches-find_passes s.rooms (list_of m p) y f)
 
-  -- what somebody gets later is still there now
+  -- what a person gets later still remains now
   pub welfare-there_from : (f : ℕ → Option ℕ) {s : Stage} → Leads m f s → IsStageOf m s → HomesThere s → (p r : ℕ) → s.people p ≡ true → f p ≡ Some r → s.rooms r ≡ true
   unfolding leave
   welfare-there_from f {s} (done none) known homes p r h e = searches-clash (s.people p) h (none p)

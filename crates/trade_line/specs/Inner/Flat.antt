@@ -1,8 +1,8 @@
--- Lists that stand one after the other in one vector.
+-- Lists stored one after the other in one vector.
 use Rattle.std.specs.List.{range_with_len}
 use Rattle.std.specs.Prelude.{◌≡◌, ℕ, suc, ◌+◌, ◌-◌, ◌<◌, ◌≤◌, List, [], length, map, take, drop, slice_index_or, pred}
 
--- a list: the entries from its start up to the start of the next
+-- the list of p: the entries from its start up to the start of the next
 abbrev pub piece : List ℕ → List ℕ → ℕ → List ℕ
 piece entries starts p =
     take (slice_index_or starts (p + 1) 0 - slice_index_or starts p 0) (drop (slice_index_or starts p 0) entries)
@@ -11,7 +11,7 @@ piece entries starts p =
 abbrev pub pieces : List ℕ → List ℕ → List (List ℕ)
 pieces entries starts = map (piece entries starts) (range_with_len 0 (pred (length starts)))
 
--- the entries are those of the lists, one list after the other; the last start is the end
+-- the entries are those of the lists, one list after the other, and the last start is the end
 pub record AreFlat (entries : List ℕ) (starts : List ℕ) (lists : List (List ℕ)) : Type 0 where
   pub starts_len : length starts ≡ suc (length lists)
   pub ordered : (p : ℕ) → p < length lists

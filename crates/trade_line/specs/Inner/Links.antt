@@ -1,8 +1,9 @@
--- A line of people as a circular doubly linked list, linked by number. Its sentinel is the number after all people.
+-- A line of people as a circular doubly linked list of numbers. The sentinel is the number after all people.
 use Rattle.std.specs.Prelude.{◌≡◌, ℕ, zero, suc, ◌<◌, ◌==◌, Bool, true, false, cond, List, [], ◌∷◌, length, slice_index_or}
 use Rattle.trade_line.specs.Member.{among, Once}
 
--- from a along xs to z: `next` has the number behind each, and `previous` the one before it
+-- the numbers from a through xs to z are linked: `next` has the one after each, and `previous` the one before
+-- it
 abbrev pub Links : List ℕ → List ℕ → ℕ → List ℕ → ℕ → Type 0
 Links next previous a [] z = (slice_index_or next a 0 ≡ z) × (slice_index_or previous z 0 ≡ a)
 Links next previous a (x ∷ xs) z =
@@ -13,7 +14,7 @@ abbrev pub along : List ℕ → ℕ → ℕ → ℕ → List ℕ
 along next end zero a = []
 along next end (suc k) a = cond (a == end) [] (a ∷ along next end k (slice_index_or next a 0))
 
--- the people in line: those along `next`, once round from the sentinel
+-- the people in line: those along `next`, from the sentinel back to it
 abbrev pub linked_people : List ℕ → List Bool → List ℕ
 linked_people next waits = along next (length waits) (length waits) (slice_index_or next (length waits) 0)
 

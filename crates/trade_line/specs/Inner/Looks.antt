@@ -1,5 +1,5 @@
--- How far each list was read, and how many entries the reading took.
--- A list `c` of cursors has for each person the place on the own list at which they read on.
+-- How far each list is read, and how many entries were read. A list `c` of cursors has, for each person, the
+-- place on their list at which they read on.
 use Rattle.std.specs.Prelude.{◌≡◌, ℕ, suc, ◌+◌, ◌<◌, ◌≤◌, Bool, true, false, cond, nat_lt, Option, Some, List, [], ◌∷◌, length, slice_index_or}
 use Rattle.trade_line.specs.Below.{sum_below}
 use Rattle.trade_line.specs.Market.{Market, home, list_of}
@@ -11,7 +11,7 @@ use Rattle.trade_line.specs.Inner.State.{State, stage_at, given_to}
 abbrev pub cursor : List ℕ → ℕ → ℕ
 cursor c p = slice_index_or c p 0
 
--- the cursor of p stands at the place at which p ranks x
+-- the cursor of p is at the place at which p ranks x
 abbrev pub StandsAt : Market → List ℕ → ℕ → Option ℕ → Type 0
 StandsAt m c p x = rank m p x ≡ cursor c p
 
@@ -19,20 +19,19 @@ StandsAt m c p x = rank m p x ≡ cursor c p
 abbrev pub StaysAt : Market → List ℕ → ℕ → Option ℕ → Type 0
 StaysAt m c p x = (cursor c p < length (list_of m p)) × StandsAt m c p x
 
--- whoever behind a has asked stays at the home of the one before
+-- everybody behind a who has asked has the cursor at the home of the person before them
 abbrev pub StayBehind : Market → List Bool → List ℕ → ℕ → List ℕ → Type 0
 StayBehind m asked c a [] = Unit {0}
 StayBehind m asked c a (b ∷ r) =
     (slice_index_or asked b false ≡ true → StaysAt m c b (home m a)) × StayBehind m asked c b r
 
--- the same of a whole line, of which the front waits for nobody
+-- the same for a whole line, whose first person waits for nobody
 abbrev pub StayInLine : Market → List Bool → List ℕ → List ℕ → Type 0
 StayInLine m asked c [] = Unit {0}
 StayInLine m asked c (a ∷ r) = StayBehind m asked c a r
 
--- between two turns: the entries before each cursor are gone, whoever waits for a room stays at it,
--- and the cursor of whoever
--- was served stands at what they were given
+-- between two turns: the entries before each cursor are gone, the cursor of each person who waits for a room
+-- is at that room, and the cursor of each person who was served is at what they got
 pub record AreCursors (m : Market) (s : State) (c : List ℕ) : Type 0 where
   pub cursors_len : length c ≡ m.people
   pub within : (p : ℕ) → p < m.people → cursor c p ≤ length (list_of m p)
@@ -41,21 +40,20 @@ pub record AreCursors (m : Market) (s : State) (c : List ℕ) : Type 0 where
   pub waiting : StayInLine m s.asked c s.line
   pub served : (p : ℕ) → p < m.people → among s.line p ≡ false → StandsAt m c p (given_to s p)
 
--- how many entries lie before the cursors
+-- the number of entries before the cursors
 abbrev pub cursor_sum : Market → List ℕ → ℕ
 cursor_sum m c = sum_below m.people (cursor c)
 
--- 1 for somebody who left the line with the cursor at the end of the list
+-- 1 for a person who left the line with the cursor at the end of the list, and else 0
 abbrev pub spent : Market → List ℕ → List ℕ → ℕ → ℕ
 spent m line c p = cond (among line p) 0 (cond (nat_lt (cursor c p) (length (list_of m p))) 0 1)
 
--- how many have
+-- the number of such people
 abbrev pub spent_sum : Market → List ℕ → List ℕ → ℕ
 spent_sum m line c = sum_below m.people (spent m line c)
 
--- a turn of a for the room leads from s to t: nobody joins the line, cursors stay right where a
--- stays at the room, and none of
--- those who leave has the cursor at the end of the list
+-- a turn in which a asks for the room leads from s to t: nobody joins the line, the cursors stay right if
+-- that of a is at the room, and none of those who leave has the cursor at the end of the list
 pub record KeepsCursors (m : Market) (a : ℕ) (room : ℕ) (s t : State) : Type 0 where
   pub inside : (p : ℕ) → among t.line p ≡ true → among s.line p ≡ true
   pub cursors : (c : List ℕ) → AreCursors m s c → StaysAt m c a (Some room) → AreCursors m t c
@@ -63,15 +61,14 @@ pub record KeepsCursors (m : Market) (a : ℕ) (room : ℕ) (s t : State) : Type
       (c : List ℕ) → AreCursors m s c → StaysAt m c a (Some room)
       → (p : ℕ) → among s.line p ≡ true → among t.line p ≡ false → cursor c p < length (list_of m p)
 
--- a turn that leads from s to t and moves the cursors from c to d reads `read` entries: those that
--- a cursor passes, and the
--- one at which it stays; none where it is at the end, and its person leaves
+-- a turn that leads from s to t and moves the cursors from c to d reads `read` entries: those that a cursor
+-- passes, and the one at which it stops, unless it stops at the end of the list and its person leaves
 pub record TurnReads (m : Market) (s : State) (c : List ℕ) (t : State) (d : List ℕ) (read : ℕ) : Type 0 where
   pub cursors : AreCursors m t d
   pub reads : read + cursor_sum m c + spent_sum m t.line d
       ≡ suc (cursor_sum m d) + spent_sum m s.line c
 
--- the turns so far took so many asks and looks
+-- the turns so far took this many asks and looks
 pub record ReadSoFar (m : Market) (s : State) (c : List ℕ) (asks : ℕ) (looks : ℕ) : Type 0 where
   pub cursors : AreCursors m s c
   pub reads : looks + spent_sum m s.line c ≡ asks + cursor_sum m c

@@ -7,7 +7,7 @@ use Rattle.trade_line.specs.Market.{Market}
 use Rattle.trade_line.specs.Member.{among}
 use Rattle.trade_line.specs.TopTradingCycles.{wish, leave}
 
--- the front of the line, up to the tenant, is a loop that asks for the room
+-- the people from the front of the line up to the tenant are a loop, whose first person asks for the room
 pub record Ring (m : Market) (tenant : ℕ) (room : ℕ) (s : State) : Type 0 where
   pub person : ℕ
   pub asks : Asks m person s
@@ -17,7 +17,7 @@ pub record Ring (m : Market) (tenant : ℕ) (room : ℕ) (s : State) : Type 0 wh
   pub ends : last_of person others ≡ tenant
   pub first_wish : wish m (stage_at s) person ≡ Some room
 
--- those in `past` have left the loop with their wishes, and the front of the line is to get `next`
+-- those in `past` have left the loop with their wishes, and the first person of the line is to get `next`
 pub record Closing (m : Market) (tenant : ℕ) (room : ℕ) (s t : State) (next : Option ℕ) : Type 0 where
   pub ring : Ring m tenant room s
   pub past : List ℕ

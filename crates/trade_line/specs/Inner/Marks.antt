@@ -1,4 +1,4 @@
--- The marks by which a list is looked through for a room that comes twice.
+-- The marks by which the code finds a room that is on a list twice.
 use Rattle.std.specs.Prelude.{◌≡◌, ◌≢◌, ℕ, ◌<◌, ◌≤◌, ◌⊎◌, List, length, slice_index_or, All, AllPairs}
 use Rattle.trade_line.specs.Market.{Market, list_of}
 
@@ -12,7 +12,7 @@ pub record Marked (list : List ℕ) (old : List ℕ) (last : List ℕ) (person :
   pub kept : (r : ℕ) → r < length old
       → (slice_index_or last r 0 ≡ slice_index_or old r 0) ⊎ (slice_index_or last r 0 ≡ person)
 
--- the lists of the first n people have no room twice, and nobody after them has marked a room
+-- the lists of the first n people have no room twice, and no room is marked by anybody after them
 pub record AreDistinct (m : Market) (last : List ℕ) (n : ℕ) : Type 0 where
   pub same_len : length last ≡ m.rooms
   pub distinct : (p : ℕ) → p < n → AllPairs ◌≢◌ (list_of m p)

@@ -1,11 +1,11 @@
--- The simultaneous steps of the plain program.
+-- The simultaneous steps, as the slow program carries them out.
 use Rattle.std.specs.Prelude.{◌≡◌, ℕ, ◌<◌, ◌≤◌, ◌&&◌, not, true, Bool, Option, None, List, length, slice_index_or, false, cond}
 use Rattle.trade_line.specs.Below.{some_below}
 use Rattle.trade_line.specs.Market.{Market, IsMarket, is_room}
 use Rattle.trade_line.specs.TopTradingCycles.{Stage, wish, on_cycle, gets, gets_within}
 use Rattle.trade_line.specs.declared.plain.Remaining.{Remaining}
 
--- the stage that two vectors of marks tell
+-- the stage of two vectors of marks
 abbrev pub marked_stage : List Bool → List Bool → Stage
 marked_stage people rooms = record { people = λ p. slice_index_or people p false; rooms = λ r. slice_index_or rooms r false }
 
@@ -18,12 +18,12 @@ pub record AreMarks (m : Market) (s : Remaining) : Type 0 where
   pub people_len : length s.people.items ≡ m.people
   pub rooms_len : length s.rooms.items ≡ m.rooms
 
--- everybody on a cycle got the wish, and nobody else got anything
+-- everybody on a cycle got their wish, and nobody else got anything
 abbrev pub Gives : Market → Stage → List (Option ℕ) → List (Option ℕ) → Type 0
 Gives m s old new = (p : ℕ) → p < m.people
     → slice_index_or new p None ≡ cond (on_cycle m s p) (wish m s p) (slice_index_or old p None)
 
--- a step of which the first n people had their turn
+-- a step in which the first n people had their turn
 pub record Stepping (m : Market) (s : Stage) (old : List (Option ℕ)) (given : List (Option ℕ)) (people : List Bool) (rooms : List Bool) (n : ℕ) : Type 0 where
   pub people_len : length people ≡ m.people
   pub rooms_len : length rooms ≡ m.rooms
@@ -38,7 +38,7 @@ pub record Stepping (m : Market) (s : Stage) (old : List (Option ℕ)) (given : 
       → slice_index_or given p None ≡ cond (on_cycle m s p) (wish m s p) (slice_index_or old p None)
   pub kept : (p : ℕ) → n ≤ p → slice_index_or given p None ≡ slice_index_or old p None
 
--- after some steps: whoever is gone was given what they get, and k steps are still to come
+-- after some steps: everybody who is gone was given what they get, and k steps are still to come
 pub record Stepped (m : Market) (s : Stage) (given : List (Option ℕ)) (k : ℕ) : Type 0 where
   pub gone : (p : ℕ) → p < m.people → s.people p ≡ false → gets m p ≡ slice_index_or given p None
   pub there : (p : ℕ) → p < m.people → s.people p ≡ true → gets m p ≡ gets_within m k s p

@@ -1,4 +1,4 @@
--- The line of askers: what is known of it between two turns.
+-- The invariant of the line of askers between two turns.
 use Rattle.std.specs.Prelude.{◌≡◌, ℕ, ◌<◌, ◌≤◌, Bool, true, Option, Some, None, List, [], ◌∷◌, slice_set, slice_index_or, false, ◌++◌}
 use Rattle.trade_line.specs.Inner.Removal.{Leads}
 use Rattle.trade_line.specs.Market.{Market, home}
@@ -14,12 +14,12 @@ abbrev pub Ascends : List ℕ → Type 0
 Ascends [] = Unit {0}
 Ascends (a ∷ r) = AscendsFrom a r
 
--- the last of a and those behind
+-- the last of a and those behind a
 abbrev pub last_of : ℕ → List ℕ → ℕ
 last_of a [] = a
 last_of a (b ∷ r) = last_of b r
 
--- those behind a wait, each for the home of the one before
+-- the people behind a wait, each for the home of the person before them
 abbrev pub WaitsBehind : Market → Stage → ℕ → List ℕ → Type 0
 WaitsBehind m s a [] = Unit {0}
 WaitsBehind m s a (b ∷ r) = ((h : ℕ) × (home m a ≡ Some h) × (wish m s b ≡ Some h))
@@ -38,7 +38,7 @@ LastIsLeast (a ∷ r) line = (p : ℕ) → among line p ≡ true → last_of a r
 abbrev pub stage_of : List ℕ → List Bool → Stage
 stage_of line remaining = record { people = among line; rooms = λ r. slice_index_or remaining r false }
 
--- the line begins with those who asked, each waiting for the home of the one before; the others ascend
+-- the line begins with those who asked, each waiting for the home of the person before; the others ascend
 pub record Queue (m : Market) (line : List ℕ) (asked : List Bool) (remaining : List Bool) : Type 0 where
   pub waiting : List ℕ
   pub fresh : List ℕ
@@ -51,12 +51,13 @@ pub record Queue (m : Market) (line : List ℕ) (asked : List Bool) (remaining :
   pub once : Once line
   pub known : (p : ℕ) → among line p ≡ true → p < m.people
 
--- f gives those who were served what they were given, and leads from here
+-- f gives those who were served what they were given, and those in line what a series of removals from here
+-- gives
 pub record Settles (m : Market) (line : List ℕ) (remaining : List Bool) (given : List (Option ℕ)) (f : ℕ → Option ℕ) : Type 0 where
   pub served : (p : ℕ) → p < m.people → among line p ≡ false → f p ≡ slice_index_or given p None
   pub leads : Leads m f (stage_of line remaining)
 
--- the rooms open after somebody got one
+-- the rooms that remain after somebody got one
 abbrev pub close : List Bool → Option ℕ → List Bool
 close remaining None = remaining
 close remaining (Some r) = slice_set remaining r false

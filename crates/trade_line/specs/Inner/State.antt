@@ -1,4 +1,4 @@
--- What a run has at hand between two turns.
+-- The state of a run between two turns.
 use Rattle.std.specs.Prelude.{◌≡◌, ℕ, Bool, Option, None, List, length, slice_index_or, false}
 use Rattle.trade_line.specs.Inner.Queue.{stage_of}
 use Rattle.trade_line.specs.Market.{Market, IsMarket}

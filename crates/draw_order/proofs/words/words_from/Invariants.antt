@@ -3,7 +3,7 @@ use Rattle.std.specs.Vec.{vec_capacity}
 use Rattle.draw_order.specs.Words.{next_words, stream_after}
 use Rattle.draw_order.proofs.words.words_from.Given as goal
 
--- as many words as places so far, and memory for the others
+-- one word is drawn for each place so far, and the vector has room for all of them
 abbrev pub invariant-loop-place : goal.invariant-loop-place
 invariant-loop-place g l =
     record {

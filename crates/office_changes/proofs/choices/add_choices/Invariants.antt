@@ -8,7 +8,7 @@ use Rattle.office_tables.specs.Tables.{HasTables}
 use Rattle.office_changes.specs.Choosing.{with_choices}
 use Rattle.office_changes.proofs.choices.add_choices.Given as goal
 
--- with the rooms that are left the tables will be as all rooms make them
+-- With the remaining rooms the tables will be as all rooms make them.
 abbrev pub invariant-loop-room : goal.invariant-loop-room
 invariant-loop-room g l = record {
   counted : l.place ≡ l.room-index;

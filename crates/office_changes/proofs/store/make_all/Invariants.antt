@@ -9,7 +9,7 @@ use Rattle.office_tables.specs.Steps.{StaysInside}
 use Rattle.office_tables.specs.Tables.{HoldsOffice}
 use Rattle.office_changes.proofs.store.make_all.Given as goal
 
--- the tables are the rows of an office that the changes which are left lead to where all of them lead
+-- The tables hold the rows of an office from which the remaining changes lead where all changes lead.
 abbrev pub invariant-loop-change : goal.invariant-loop-change
 invariant-loop-change g l = record {
   same_reference : l.tx.conn.ghost_name ≡ l.fn.tx.conn.ghost_name;

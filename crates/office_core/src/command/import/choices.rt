@@ -1,4 +1,4 @@
-//! A list of choices is added.
+//! Adds a list of choices.
 ghost use Rattle.std.specs.Prelude.{◌≡◌, ◌≤◌, IfOk, IfErr, length};
 ghost use Rattle.office_lists.specs.Records.{record_limit};
 ghost use Rattle.office_core.specs.Command.Import.{choices_command, first_denied, list_refusal};
@@ -12,7 +12,12 @@ use office_state::{Change, Office};
 use room_types::OutOfMemory;
 use std::alloc::Global;
 
-/// A change for each person's list; or the first bad record, and where there is none the first that is denied.
+/// Returns a change for each person's list.
+///
+/// # Errors
+///
+/// `BadRecord` for the first bad record, and if there is none for the first that is refused. `OutOfMemory` if an allocation
+/// fails.
 #[tactic(auto, using(crate::proofs::imports::ListChecks::imports_few_told, crate::proofs::imports::ListChecks::imports_few_changes))]
 pub fn choices_added(alloc: Global, office: &Office, bytes: &[u8]) -> Result<Vec<Change>, Refusal>
     ensures added { IfOk result
@@ -25,7 +30,7 @@ pub fn choices_added(alloc: Global, office: &Office, bytes: &[u8]) -> Result<Vec
     each_choices_added(alloc, office, entries.as_slice())
 }
 
-// A change for each of the lists. No list changes what another is refused for, so the office stays as it is.
+// Returns a change for each list. The checks of one do not depend on the others, so each is checked against the same office.
 fn each_choices_added(
     alloc: Global,
     office: &Office,
@@ -48,6 +53,7 @@ fn each_choices_added(
     Ok(changes)
 }
 
+// Returns the change of an entry.
 fn imported_choices_change(entry: &ChoicesEntry) -> Result<Change, OutOfMemory>
     ensures { IfOk result (λ change. change ≡ choices_command.change entry.now) }
 {

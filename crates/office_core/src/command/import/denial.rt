@@ -6,8 +6,8 @@ ghost use Rattle.office_core.specs.Inner.Tries.{denial_of};
 use crate::refusal::Refusal;
 use office_lists::Cause;
 
-/// The refusal of a list whose record of this index, counted from 0, is refused for this. Out of memory stays what it
-/// is.
+/// Returns the refusal of a list for its record at this index, counted from 0, whose own command has this refusal. Returns
+/// `OutOfMemory` unchanged.
 pub(crate) fn import_denial(index: usize, refusal: &Refusal) -> Refusal
     requires { index < record_limit }
     ensures { result ≡ denial_of (index + 1) refusal.now }

@@ -1,4 +1,4 @@
-//! A list of grades is added.
+//! Adds a list of grades.
 ghost use Rattle.std.specs.Prelude.{◌≡◌, ◌≤◌, IfOk, IfErr, length};
 ghost use Rattle.office_lists.specs.Records.{record_limit};
 ghost use Rattle.office_core.specs.Command.Import.{grade_command, first_denied, list_refusal};
@@ -12,7 +12,12 @@ use office_state::{Change, Office};
 use room_types::{GradeRow, OutOfMemory};
 use std::alloc::Global;
 
-/// A change for each person's grade; or the first bad record, and where there is none the first that is denied.
+/// Returns a change for each person's grade.
+///
+/// # Errors
+///
+/// `BadRecord` for the first bad record, and if there is none for the first that is refused. `OutOfMemory` if an allocation
+/// fails.
 #[tactic(auto, using(crate::proofs::imports::ListChecks::imports_few_told, crate::proofs::imports::ListChecks::imports_few_changes))]
 pub fn grades_added(alloc: Global, office: &Office, bytes: &[u8]) -> Result<Vec<Change>, Refusal>
     ensures added { IfOk result
@@ -25,7 +30,7 @@ pub fn grades_added(alloc: Global, office: &Office, bytes: &[u8]) -> Result<Vec<
     each_grade_added(alloc, office, entries.as_slice())
 }
 
-// A change for each of the grades. No grade changes what another is refused for, so the office stays as it is.
+// Returns a change for each grade. The checks of one do not depend on the others, so each is checked against the same office.
 fn each_grade_added(
     alloc: Global,
     office: &Office,
@@ -48,6 +53,7 @@ fn each_grade_added(
     Ok(changes)
 }
 
+// Returns the change of an entry.
 fn imported_grade_change(entry: &GradeRow) -> Result<Change, OutOfMemory>
     ensures { IfOk result (λ change. change ≡ grade_command.change entry.now) }
 {

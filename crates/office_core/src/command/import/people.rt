@@ -1,4 +1,4 @@
-//! A list of people is added.
+//! Adds a list of people.
 ghost use Rattle.std.specs.Prelude.{◌≡◌, ◌≤◌, IfOk, IfErr, length};
 ghost use Rattle.office_lists.specs.Records.{record_limit};
 ghost use Rattle.office_core.specs.Command.Import.{first_denied, list_refusal, person_command};
@@ -17,7 +17,12 @@ use room_types::rows::copy_optional;
 use room_types::{OutOfMemory, RoomCode};
 use std::alloc::Global;
 
-/// A change for each person of the list; or its first bad record, and where there is none the first that is denied.
+/// Returns a change for each person of the list.
+///
+/// # Errors
+///
+/// `BadRecord` for the first bad record, and if there is none for the first that is refused. `OutOfMemory` if an allocation
+/// fails.
 #[tactic(auto, using(crate::proofs::imports::ListChecks::imports_few_told, crate::proofs::imports::ListChecks::imports_few_changes))]
 pub fn people_added(alloc: Global, office: &Office, bytes: &[u8]) -> Result<Vec<Change>, Refusal>
     ensures added { IfOk result
@@ -29,7 +34,7 @@ pub fn people_added(alloc: Global, office: &Office, bytes: &[u8]) -> Result<Vec<
     each_person_added(alloc, office, people.as_slice())
 }
 
-// A change for each of the people, who come one after the other.
+// Returns a change for each person. Each is checked against the office with those before.
 fn each_person_added(
     alloc: Global,
     office: &Office,
@@ -53,7 +58,7 @@ fn each_person_added(
     Ok(changes)
 }
 
-// Passes a person who may be added to an office with the people of the register.
+// Checks that the person may be added to the office, with the people of the register in place of its own.
 fn may_add_person(office: &Office, register: &Register, entry: &PersonEntry) -> Result<(), Refusal>
     requires { IsIndexed register.now }
     ensures { Passes
@@ -76,7 +81,7 @@ fn may_add_person(office: &Office, register: &Register, entry: &PersonEntry) -> 
     Ok(())
 }
 
-// Passes no home, and a room that may be the home of one more of the register's people.
+// Checks that the home, if there is one, may be given to one more person of the register.
 fn may_live_if_any(
     office: &Office,
     register: &Register,
@@ -97,6 +102,7 @@ fn may_live_if_any(
     Ok(())
 }
 
+// Returns the change of an entry.
 fn imported_person_change(entry: &PersonEntry) -> Result<Change, OutOfMemory>
     ensures { IfOk result (λ change. change ≡ person_command.change entry.now) }
 {

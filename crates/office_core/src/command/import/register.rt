@@ -1,4 +1,4 @@
-//! The people of an office with tables of their keys and homes, so that no search goes through the people.
+//! The people of an office with tables of their keys and homes, which replace scans of the people.
 ghost use Rattle.std.specs.Prelude.{◌≡◌, false, IfOk, OnOk};
 ghost use Rattle.std.specs.FinMap as map;
 ghost use Rattle.office_core.specs.Inner.Tries.{HasKeys, IsIndexed, placed};
@@ -10,18 +10,18 @@ use room_types::rows::copy_optional;
 use room_types::{OutOfMemory, PersonId, RoomCode, Table};
 use std::alloc::Global;
 
-/// People, with their keys and homes.
+/// People, indexed by key and by home.
 #[derive(Drop)]
 pub(crate) struct Register {
     pub(crate) people: Table<PersonIds, Person>,
     /// The keys that somebody has.
     pub(crate) keys: Table<Keys, ()>,
-    /// Who lives in each room.
+    /// The tenant of each room that is somebody's home.
     pub(crate) tenants: Table<RoomCodes, PersonId>,
 }
 
 impl Register {
-    /// The people of the office, each table made in one pass over them.
+    /// Makes the register of the office's people. Scans them once for each table.
     pub(crate) fn of(alloc: Global, office: &Office) -> Result<Register, OutOfMemory>
         ensures people { IfOk result (λ register. register.people ≡ office.now.people) }
         ensures indexed { IfOk result IsIndexed }
@@ -33,7 +33,7 @@ impl Register {
         })
     }
 
-    /// One more person, who is not known yet.
+    /// Adds a person who is not known yet.
     #[tactic(auto, using(crate::proofs::imports::Indexed::imports_still_indexed))]
     pub(crate) fn add(&mut self, entry: &PersonEntry) -> Result<(), OutOfMemory>
         requires unknown { map.contains_key self.old.people entry.now.person ≡ false }
@@ -55,7 +55,7 @@ impl Register {
     }
 }
 
-// One more person lives in the room, if any.
+// Records that the person lives in the room, if there is one.
 fn place_in_register(
     tenants: &mut Table<RoomCodes, PersonId>,
     home: &Option<RoomCode>,
@@ -69,7 +69,7 @@ fn place_in_register(
     }
 }
 
-// The keys that somebody has.
+// Returns the keys that somebody has.
 fn keys(alloc: Global, people: &Table<PersonIds, Person>) -> Result<Table<Keys, ()>, OutOfMemory>
     ensures { IfOk result (HasKeys people.now) }
 {

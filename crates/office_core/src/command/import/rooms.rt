@@ -1,4 +1,4 @@
-//! A list of rooms is added.
+//! Adds a list of rooms.
 ghost use Rattle.std.specs.Prelude.{◌≡◌, ◌≤◌, IfOk, IfErr, length};
 ghost use Rattle.office_lists.specs.Records.{record_limit};
 ghost use Rattle.office_core.specs.Command.Import.{first_denied, list_refusal, room_command};
@@ -12,7 +12,12 @@ use office_state::{Change, Office};
 use room_types::{OutOfMemory, RoomCode};
 use std::alloc::Global;
 
-/// A change for each room of the list; or its first bad record, and where there is none the first that is denied.
+/// Returns a change for each room of the list.
+///
+/// # Errors
+///
+/// `BadRecord` for the first bad record, and if there is none for the first that is refused. `OutOfMemory` if an allocation
+/// fails.
 #[tactic(auto, using(crate::proofs::imports::ListChecks::imports_few_told, crate::proofs::imports::ListChecks::imports_few_changes))]
 pub fn rooms_added(alloc: Global, office: &Office, bytes: &[u8]) -> Result<Vec<Change>, Refusal>
     ensures added { IfOk result
@@ -24,7 +29,7 @@ pub fn rooms_added(alloc: Global, office: &Office, bytes: &[u8]) -> Result<Vec<C
     each_room_added(alloc, office, rooms.as_slice())
 }
 
-// A change for each of the rooms, which come one after the other.
+// Returns a change for each room. Each is checked against the office with those before.
 fn each_room_added(
     alloc: Global,
     office: &Office,
@@ -48,6 +53,7 @@ fn each_room_added(
     Ok(changes)
 }
 
+// Returns the change of an entry.
 fn imported_room_change(room: &RoomCode) -> Result<Change, OutOfMemory>
     ensures { IfOk result (λ change. change ≡ room_command.change room.now) }
 {

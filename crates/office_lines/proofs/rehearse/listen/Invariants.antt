@@ -5,7 +5,7 @@ use Rattle.office_lines.specs.Lines.{line_limit}
 use Rattle.office_lines.specs.Sessions.{Listened, state}
 use Rattle.office_lines.proofs.rehearse.listen.Given as goal
 
--- all that was read is heard, and each read gave a byte
+-- All bytes read so far were handled, and each read returned at least one.
 abbrev pub invariant-reads : goal.invariant-reads
 invariant-reads g l =
     let contents = g.W.Write.contents in

@@ -2,7 +2,7 @@ use Rattle.std.proofs.Common.{◌≡◌, drop, length, map}
 use Rattle.office_load.specs.Layout.{is_index_as, pass_all, unique_index}
 use Rattle.office_load.proofs.layout.are_these_indexes.Given as goal
 
--- what is left to be tested tells all
+-- The rest of the lists passes if and only if the whole lists pass.
 abbrev pub invariant-loop-place : goal.invariant-loop-place
 invariant-loop-place l = record {
   left : pass_all is_index_as (drop l.place (map (λ o. unique_index (o.0.now, o.1, o.2, o.3.now)) l.own)) (drop l.place l.indexes)

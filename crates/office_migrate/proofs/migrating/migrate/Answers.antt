@@ -237,7 +237,7 @@ returns-in-Ok-None-clause-taken g c clean layout office h used =
     (version_of layout) c.of-declared.ensures.grade c.of-declared.ensures.going version here in
     absurd (true≢false (sym takes ∙ sym c.takes_name.ensures ∙ c.if-takes_name.false))
 
--- ---- where the name of a table that is lacking is taken
+-- ---- where the name of a missing table is taken
 
 pub returns-then-takes_name-clause-cause : goal.returns-then-takes_name-clause-cause
 returns-then-takes_name-clause-cause g c clean declared =

@@ -44,7 +44,7 @@ returns-clause-found g c clean office lawful spelled kind holds =
           (found_offices-still_has layout start one rows c.held.ensures.reads at_one holds) spelled,
     )
 
--- an office of this version passes the test
+-- An office of this version passes the test.
 pub returns-then-not-is_of_version-clause-found : goal.returns-then-not-is_of_version-clause-found
 returns-then-not-is_of_version-clause-found g c clean office lawful spelled kind holds =
     let layout = c.args.layout in

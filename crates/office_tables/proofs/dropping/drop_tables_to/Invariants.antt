@@ -5,7 +5,7 @@ use Rattle.office_tables.specs.Layouts.{table_count}
 use Rattle.office_tables.specs.Steps.{StaysInside}
 use Rattle.office_tables.proofs.dropping.drop_tables_to.Given as goal
 
--- so many are gone
+-- `step` tables are gone.
 abbrev pub invariant-loop-step : goal.invariant-loop-step
 invariant-loop-step g l = record {
   same_reference : l.tx.conn.ghost_name ≡ l.fn.tx.conn.ghost_name;

@@ -4,7 +4,7 @@ use Rattle.office_tables.specs.Declaring.{FirstStand}
 use Rattle.office_tables.specs.Steps.{StaysInside}
 use Rattle.office_tables.proofs.making.make_tables_from.Given as goal
 
--- those before this place stand
+-- The tables before this place exist.
 abbrev pub invariant-loop-place : goal.invariant-loop-place
 invariant-loop-place g l = record {
   same_reference : l.tx.conn.ghost_name ≡ l.fn.tx.conn.ghost_name;

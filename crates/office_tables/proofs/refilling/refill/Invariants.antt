@@ -7,7 +7,7 @@ use Rattle.office_tables.specs.Steps.{StaysInside}
 use Rattle.office_tables.specs.Tables.{HasTables}
 use Rattle.office_tables.proofs.refilling.refill.Given as goal
 
--- with the rows that are left the tables will be as all rows make them
+-- With the remaining rows the tables will be as all rows make them.
 abbrev pub invariant-loop-row : goal.invariant-loop-row
 invariant-loop-row g l = record {
   same_reference : l.tx.conn.ghost_name ≡ l.fn.tx.conn.ghost_name;

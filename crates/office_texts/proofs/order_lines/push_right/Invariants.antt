@@ -2,7 +2,7 @@ use Rattle.std.proofs.Common.{◌≡◌, ◌-◌, ◌++◌, ◌≤◌, length, r
 use Rattle.std.specs.String.{string_bytes}
 use Rattle.office_texts.proofs.order_lines.push_right.Given as goal
 
--- the spaces so far
+-- the text is the one before, followed by the spaces pushed so far
 abbrev pub invariant-loop-spaces : goal.invariant-loop-spaces
 invariant-loop-spaces l = record {
   within : l.spaces ≤ l.width - length l.cell;

@@ -3,7 +3,7 @@ use Rattle.std.specs.String.{string_bytes}
 use Rattle.office_texts.specs.OrderLines.{order_lines, order_text}
 use Rattle.office_texts.proofs.order_lines.text_of_order.Given as goal
 
--- the lines so far and those of the rows that are left are all lines
+-- the lines so far, followed by those of the remaining rows, are all lines
 abbrev pub invariant-loop-row : goal.invariant-loop-row
 invariant-loop-row l = record {
   next : l.place ≡ l.row-index + 1;

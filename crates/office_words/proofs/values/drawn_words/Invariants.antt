@@ -4,7 +4,7 @@ use Rattle.office_words.specs.Words.{first_in, is_drawn_word}
 use Rattle.office_words.proofs.request_words.Codes.{IsReadTo, texts}
 use Rattle.office_words.proofs.values.drawn_words.Given as goal
 
--- the words so far are read, and the first of them is a word of a draw
+-- the words so far are parsed, and the first of them, if any, is a lottery number
 abbrev pub invariant-loop-word : goal.invariant-loop-word
 invariant-loop-word l = record {
   read : IsReadTo word_of l.words l.word-index l.drawn.items;

@@ -6,7 +6,7 @@ use Rattle.resident_desk.specs.Calls.{Reads}
 use Rattle.resident_desk.specs.Conversations.{IsUntouched}
 use Rattle.resident_desk.proofs.conversation.converse.Given as goal
 
--- the front of the buffer was read, and nothing else was done
+-- A prefix of the buffer was read from the stream, and nothing else was done.
 abbrev pub invariant-reads : goal.invariant-reads
 invariant-reads g l =
     let contents = g.T.Write.contents in

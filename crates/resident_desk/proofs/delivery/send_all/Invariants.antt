@@ -5,7 +5,7 @@ use Rattle.room_types.specs.Streams.{Puts, output_of}
 use Rattle.resident_desk.specs.Calls.{Writes}
 use Rattle.resident_desk.proofs.delivery.send_all.Given as goal
 
--- the first bytes went out
+-- The first `sent` bytes were written.
 abbrev pub invariant-loop-sent : goal.invariant-loop-sent
 invariant-loop-sent g l =
     let contents = g.T.Write.contents in

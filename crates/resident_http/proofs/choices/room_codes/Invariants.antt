@@ -4,6 +4,6 @@ use Rattle.resident_http.specs.Bodies.{codes_in}
 use Rattle.resident_http.proofs.json.CodeLists.{codes_before}
 use Rattle.resident_http.proofs.choices.room_codes.Given as goal
 
--- the codes so far, before those that are left
+-- the codes so far, followed by those of the remaining items, are all codes
 abbrev pub invariant-loop-item : goal.invariant-loop-item
 invariant-loop-item l = codes_before l.codes.items (codes_in (items_view (drop l.item-index l.items))) ≡ codes_in (items_view l.items)

@@ -4,6 +4,6 @@ use Rattle.resident_http.specs.Fields.{values_of}
 use Rattle.resident_http.specs.Found.{Tells}
 use Rattle.resident_http.proofs.fields.find_fields.Given as goal
 
--- the fields so far
+-- the result for the fields so far
 abbrev pub invariant-loop-header : goal.invariant-loop-header
 invariant-loop-header l = Tells l.buf l.found (values_of l.name (map (header_bytes l.buf) (take l.header-index l.headers)))

@@ -3,7 +3,7 @@ use Rattle.room_types.specs.Watched.{watched_failed, watched_flushes, StopsAtFai
 use Rattle.room_types.specs.Streams.{Puts, output_of}
 use Rattle.room_types.proofs.send.send.Given as goal
 
--- the first bytes went out
+-- the first `sent` bytes are written, and no write has failed
 abbrev pub invariant-loop-sent : goal.invariant-loop-sent
 invariant-loop-sent g l =
     let contents = g.W.Write.contents in

@@ -3,7 +3,7 @@ use Rattle.std.specs.FinMap as maps
 use Rattle.office_core.specs.Command.Run.{result_put}
 use Rattle.office_core.proofs.command.run.results_put.Given as goal
 
--- the changes so far and those for the results that are left are all
+-- the changes so far, followed by those for the remaining results, are all changes
 abbrev pub invariant-loop-id : goal.invariant-loop-id
 invariant-loop-id l = record {
   can : (goal.iterator-loop-id).can_next l.id-iterator;

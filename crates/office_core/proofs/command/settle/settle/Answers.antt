@@ -9,7 +9,7 @@ use Rattle.office_core.specs.declared.reply.Reply.TheVariants.{Settled}
 use Rattle.office_core.proofs.settlements.Recorded.{settlements-as_many_settled}
 use Rattle.office_core.proofs.command.settle.settle.Goals as goal
 
--- the changes, as they are added
+-- the list of changes, from its parts in the order in which they are appended
 collected : (left arrived recorded once twice leaves arrivals records : List Change) (clear last : Change)
     → left ≡ leaves → arrived ≡ left ++ arrivals → recorded ≡ arrived ++ records
     → once ≡ recorded ++ clear ∷ [] → twice ≡ once ++ last ∷ []

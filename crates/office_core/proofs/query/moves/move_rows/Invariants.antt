@@ -2,7 +2,7 @@ use Rattle.std.proofs.Common.{◌≡◌, ◌++◌, map}
 use Rattle.office_core.specs.Query.Moves.{move_row, move_rows}
 use Rattle.office_core.proofs.query.moves.move_rows.Given as goal
 
--- the rows so far and those of the moves that are left are all rows
+-- the rows so far, followed by those of the remaining moves, are all rows
 abbrev pub invariant-loop-id : goal.invariant-loop-id
 invariant-loop-id l = record {
   can : (goal.iterator-loop-id).can_next l.id-iterator;

@@ -2,7 +2,7 @@ use Rattle.std.proofs.Common.{◌≡◌, ◌++◌, map}
 use Rattle.office_core.specs.Query.Results.{result_row, result_rows}
 use Rattle.office_core.proofs.query.results.result_rows.Given as goal
 
--- the rows so far and those of the results that are left are all rows
+-- the rows so far, followed by those of the remaining results, are all rows
 abbrev pub invariant-loop-id : goal.invariant-loop-id
 invariant-loop-id l = record {
   can : (goal.iterator-loop-id).can_next l.id-iterator;

@@ -2,7 +2,7 @@ use Rattle.std.proofs.Common.{◌≡◌, ◌++◌, map}
 use Rattle.office_core.specs.Query.Rooms.{room_row, room_rows}
 use Rattle.office_core.proofs.query.rooms.rooms.Given as goal
 
--- the rows so far and those of the rooms that are left are all rows
+-- the rows so far, followed by those of the remaining rooms, are all rows
 abbrev pub invariant-loop-room : goal.invariant-loop-room
 invariant-loop-room l = record {
   can : (goal.iterator-loop-room).can_next l.room-iterator;

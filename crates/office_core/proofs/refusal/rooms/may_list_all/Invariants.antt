@@ -3,7 +3,7 @@ use Rattle.std.specs.List.{flat_map}
 use Rattle.office_core.specs.Refusal.Checks.{first_refusal, room_checks}
 use Rattle.office_core.proofs.refusal.rooms.may_list_all.Given as goal
 
--- the first refusal is that of the rooms that are left
+-- the first refusal is that of the remaining rooms
 abbrev pub invariant-loop-room : goal.invariant-loop-room
 invariant-loop-room l =
     first_refusal (flat_map (room_checks l.office) l.rooms)

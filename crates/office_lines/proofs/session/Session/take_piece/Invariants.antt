@@ -4,7 +4,7 @@ use Rattle.room_types.specs.Watched.{StopsAtFailure}
 use Rattle.office_lines.specs.Sessions.{Heard, state}
 use Rattle.office_lines.proofs.session.Session.take_piece.Given as goal
 
--- the bytes so far are heard
+-- the bytes so far were handled
 abbrev pub invariant-loop-byte : goal.invariant-loop-byte
 invariant-loop-byte g l =
     let contents = g.W.Write.contents in

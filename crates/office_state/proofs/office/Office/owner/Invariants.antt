@@ -4,7 +4,7 @@ use Rattle.room_types.specs.Texts.{text_eq}
 use Rattle.office_state.specs.Office.{first_person}
 use Rattle.office_state.proofs.office.Office.owner.Given as goal
 
--- the person is the first one among those that are left
+-- the person is the first one among the rest
 abbrev pub invariant-loop-id : goal.invariant-loop-id
 invariant-loop-id l = record {
   can : (goal.iterator-loop-id).can_next l.id-iterator;

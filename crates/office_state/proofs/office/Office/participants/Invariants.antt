@@ -3,7 +3,7 @@ use Rattle.std.specs.List.{filter}
 use Rattle.office_state.specs.Office.{participants, sits_out}
 use Rattle.office_state.proofs.office.Office.participants.Given as goal
 
--- those found so far and those among who is left are all
+-- those found so far and those found among the rest are all
 abbrev pub invariant-loop-id : goal.invariant-loop-id
 invariant-loop-id l = record {
   can : (goal.iterator-loop-id).can_next l.id-iterator;

@@ -5,7 +5,7 @@ use Rattle.std.specs.FinMap as map
 use Rattle.office_state.specs.Office.{first_person, has_tenants, lives_in, tenant}
 use Rattle.office_state.proofs.office.Office.tenants.Given as goal
 
--- a room's tenant is the one found so far, or else the first of those who are left
+-- a room's tenant is the one found so far, or else the first one among the rest
 abbrev pub invariant-loop-id : goal.invariant-loop-id
 invariant-loop-id l = record {
   can : (goal.iterator-loop-id).can_next l.id-iterator;

@@ -4,7 +4,7 @@ use Rattle.office_state.specs.Office.{grade_of, sits_out}
 use Rattle.office_state.specs.Round.{lots_of, word_of}
 use Rattle.office_state.proofs.round.people.lots.Given as goal
 
--- those found so far and those among who is left are all
+-- those found so far and those found among the rest are all
 abbrev pub invariant-loop-id : goal.invariant-loop-id
 invariant-loop-id l = record {
   can : (goal.iterator-loop-id).can_next l.id-iterator;

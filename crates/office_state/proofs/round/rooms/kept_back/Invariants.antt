@@ -5,7 +5,7 @@ use Rattle.office_state.specs.Office.{has_withdrawn, lives_in}
 use Rattle.office_state.specs.Round.{is_kept_back}
 use Rattle.office_state.proofs.round.rooms.kept_back.Given as goal
 
--- a room is one found so far, or is that of somebody who is left
+-- a room is kept back if it was found so far, or is the home of one of the rest
 abbrev pub invariant-loop-id : goal.invariant-loop-id
 invariant-loop-id l = record {
   can : (goal.iterator-loop-id).can_next l.id-iterator;

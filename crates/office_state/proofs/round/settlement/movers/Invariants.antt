@@ -4,7 +4,7 @@ use Rattle.office_state.specs.Office.{home_of, has_withdrawn, people_not_withdra
 use Rattle.office_state.specs.Round.Settlement.{has_room, movers, moves_out}
 use Rattle.office_state.proofs.round.settlement.movers.Given as goal
 
--- the movers so far and those among who is left are all
+-- the people found so far and those found among the rest are all
 abbrev pub invariant-loop-id : goal.invariant-loop-id
 invariant-loop-id l = record {
   can : (goal.iterator-loop-id).can_next l.id-iterator;

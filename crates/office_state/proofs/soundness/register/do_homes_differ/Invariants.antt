@@ -3,7 +3,7 @@ use Rattle.std.specs.FinMap as map
 use Rattle.office_state.specs.Inner.Soundness.{differ_from}
 use Rattle.office_state.proofs.soundness.register.do_homes_differ.Given as goal
 
--- whether they differ is whether those that are left do, also from what was seen
+-- all differ if and only if those still to come differ from one another and from what was seen
 abbrev pub invariant-loop-person : goal.invariant-loop-person
 invariant-loop-person l = record {
   can : (goal.iterator-loop-person).can_next l.person-iterator;

@@ -5,7 +5,7 @@ use Rattle.room_types.specs.Texts.{Text}
 use Rattle.office_state.specs.Office.{first_person, holder, is_text}
 use Rattle.office_core.proofs.command.import.register.keys.Given as goal
 
--- a key is somebody's where it was found so far, or is that of somebody who is left
+-- a key is somebody's exactly if it is in the table so far or belongs to one of the remaining people
 abbrev pub invariant-loop-person : goal.invariant-loop-person
 invariant-loop-person l = record {
   can : (goal.iterator-loop-person).can_next l.person-iterator;
