@@ -1,7 +1,7 @@
-"""Runs the gate, and prints what each crate's proof, tests and wrong bodies cost, and which wrong bodies cost most.
+"""Runs the gate, and prints what each crate's proof, tests and mutants cost, and which mutants cost most.
 
 The prover's processes are looked at twice a second: a process names its crate, a check of tests has a flag of its own,
-and a wrong body is checked in a temporary folder, which is told by what stands there. What a process used after the last look at
+and a mutant is checked in a temporary folder, which is told by what stands there. What a process used after the last look at
 it is not counted. The table so far is kept beside the log, once a minute.
 """
 
@@ -37,7 +37,7 @@ class Cost:
 
 @dataclass
 class Tried:
-    """A wrong body that was tried, by its name, and what that took."""
+    """A mutant that was tried, by its name, and what that took."""
 
     name: str
     cost: Cost = field(default_factory=Cost)
@@ -49,7 +49,7 @@ def text_of(path):
 
 
 def edited(edit, crate):
-    """The files of the crate that the wrong body changes, by their paths, with their texts after it."""
+    """The files of the crate that the mutant changes, by their paths, with their texts after it."""
     path, old, texts = "", "", {}
     for line in text_of(edit).split("\n"):
         word, _, rest = line.partition(": ")
@@ -64,7 +64,7 @@ def edited(edit, crate):
 
 
 def name_of(crate, room):
-    """Which wrong body of the crate stands in the folder: the one that makes its files of the crate's. Where none does, the
+    """Which mutant of the crate stands in the folder: the one that makes its files of the crate's. Where none does, the
     crate as it is stands there, or what is there is gone already."""
     bodies = f"crates/{crate}/must-fail"
     for name in sorted(os.listdir(bodies)):
@@ -105,7 +105,7 @@ def part_of(words, folder):
 
 def look(gate, costs, tried, now):
     """Adds what the gate's processes have used to the costs: a child's to those of the check that started it. What is used in a
-    folder of a wrong body is told apart, in `tried`."""
+    folder of a mutant is told apart, in `tried`."""
     seen = {number: rest for number, *rest in processes()}
     for number, (_, used, start, _, _) in seen.items():
         above, part, room = number, None, None
@@ -126,7 +126,7 @@ def minutes(seconds):
 
 
 def dearest(tried):
-    """The wrong bodies that took most of a processor. The first of a crate pays for the proof of the crate itself."""
+    """The mutants that took most of a processor. The first of a crate pays for the proof of the crate itself."""
     firsts = {}
     for body in tried.values():
         crate = re.split(r"[/,]", body.name)[0]
@@ -134,13 +134,13 @@ def dearest(tried):
     rest = [body for body in tried.values() if body not in firsts.values()]
     used = lambda body: sum(body.cost.used.values())
     yield ""
-    yield f"{len(tried)} checks of wrong bodies; but for the first of each crate, those that took most of a processor:"
+    yield f"{len(tried)} checks of mutants; but for the first of each crate, those that took most of a processor:"
     for body in sorted(rest, key=used, reverse=True)[:DEAREST]:
         yield f"{minutes(used(body)):>6}  {body.name}"
 
 
 def table(costs, elapsed):
-    yield "| Crate | Proof | Tests | Wrong bodies | Processor time |"
+    yield "| Crate | Proof | Tests | Mutants | Processor time |"
     yield "|---|---|---|---|---|"
     whole = 0.0
     for crate in dict.fromkeys(crate for crate, _ in costs):

@@ -8,7 +8,7 @@ use office_store::{Desk, DeskFault, Unavailable};
 use sqlite::{Alter, Connection};
 use std::alloc::Global;
 
-/// A desk over the office of an earlier version that the file at this path holds, whose tables are made those of the
+/// Opens a desk over the office of an earlier version in the file at this path, and makes its tables anew in the
 /// version of this program. Opens the file once. Does not create a missing file.
 ///
 /// # Errors

@@ -100,7 +100,7 @@ impl<S: Alter> Desk<S> {
     }
 }
 
-// Why there is no desk, where no tables were made anew.
+// Returns the desk's fault for a failed migration.
 fn migrating_desk_fault(fault: MigrateFault) -> DeskFault
     ensures { result ≡ migrating_fault fault }
 {
