@@ -12,7 +12,7 @@ pub struct OrderRow {
     pub grade: Grade,
 }
 
-/// What a person sees of the office.
+/// The reply to `me`: a person's own record and the round.
 #[derive(Debug, Drop)]
 pub struct Standing {
     pub person: PersonId,

@@ -51,7 +51,8 @@ module _ {S : Type 0} (g : Ghosts S) where
 module _ {F S : Type 0} (access : FileAccess F S) where
   -- The desk uses the database that was opened, which has exactly the tables of an office of the version of this program. It
   -- caches an office. It shows the office that was found, and leaves tables in the layout of this program unchanged, each under
-  -- its own premises (`shows`, `unchanged`).
+  -- its own premises (`shows`, `unchanged`). If the row of table `round` holds another version, the disk did not return what
+  -- was written (`other`).
   pub record BeginsFound (files : F) (path : List ℕ) (desk : DeskState S) (files' : F) : Type 0 where
     pub connection : Held S
     pub opened : access.finds files path connection files'
@@ -60,6 +61,8 @@ module _ {F S : Type 0} (access : FileAccess F S) where
     pub kept : IsSome desk.kept
     pub shows : ShowsFound access.base connection desk
     pub unchanged : StaysFound access.base connection desk
+    pub other : (version : ℤ) → IsFront (state access.base connection).now.schema
+        → IsOfOther (state access.base connection).now version → ¬ HasCleanDisk (state access.base desk.conn)
 
   -- The database that was opened is refused, and its connection is closed.
   pub record ClosesFound (files : F) (path : List ℕ) (fault : DeskFault) (files' : F) : Type 0 where

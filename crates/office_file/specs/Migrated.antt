@@ -7,12 +7,12 @@ use Rattle.office_state.specs.declared.office.Office.{Office}
 use Rattle.office_file.specs.Access.{FileAccess}
 use Rattle.office_load.specs.Finding.{AreDeclared, AreWhole, names_round}
 use Rattle.office_load.specs.Layout.{layout_in}
-use Rattle.office_load.specs.Front.{has_front}
+use Rattle.office_load.specs.Front.{IsFront, has_front}
 use Rattle.office_migrate.specs.Causes.{AreSaidRows, SaysVersion, StandsFirst}
 use Rattle.office_migrate.specs.Names.{is_lacking_name_used}
 use Rattle.office_migrate.specs.Versions.{IsEarlierLayout, IsNoEarlier, IsOfVersion}
 use Rattle.office_store.specs.Desk.{DeskState, Shows}
-use Rattle.office_store.specs.Migrating.{IsFaultOfMigration, MayNotMigrate}
+use Rattle.office_store.specs.Migrating.{IsFaultOfMigration, MayNotMigrate, MayReturnFault}
 use Rattle.office_store.specs.declared.desk.faults.DeskFault.{DeskFault}
 use Rattle.office_store.specs.declared.desk.faults.DeskFault.TheVariants.{AlreadyThere, NotAnOffice, OtherVersion, Unavailable}
 use Rattle.office_tables.specs.Layouts.{version_of}
@@ -32,10 +32,11 @@ module _ {S : Type 0} (g : Ghosts S) where
 
   -- The database of a connection is refused with this fault, and leaves the other connection. The schema allows the fault,
   -- whatever the disk does (`allowed`). If the tables are declared as those of an office and the disk returned what was
-  -- written, the tables give the cause (`cause`). If the database begins with the rows of an office of an earlier version and
-  -- the name of a table that it lacks is taken, the fault is `AlreadyThere` or `Unavailable` (`taken`). It is `AlreadyThere`
-  -- only if the first rows are those of an office (`rows`). If the row of table `round` holds a version that is not an earlier
-  -- one, the fault is that version or `Unavailable` (`other`). The tables are unchanged.
+  -- written, the tables give the cause (`cause`); if the first three are an office's, they allow the fault, whatever follows
+  -- them (`returned`). If the database begins with the rows of an office of an earlier version and the name of a table that it
+  -- lacks is taken, the fault is `AlreadyThere` or `Unavailable` (`taken`). It is `AlreadyThere` only if the first rows are
+  -- those of an office (`rows`). If the row of table `round` holds a version that is not an earlier one, the fault is that
+  -- version or `Unavailable` (`other`). The tables are unchanged.
   pub record RefusesMigration (connection refused : Held S) (fault : DeskFault) : Type 0 where
     pub follows : Follows (state g connection) (state g refused)
     pub undone : IsHonest (state g refused) → (state g refused).now ≡ (state g connection).now
@@ -44,6 +45,8 @@ module _ {S : Type 0} (g : Ghosts S) where
     pub allowed : IsFaultOfMigration (state g connection).now.schema fault
     pub cause : HasCleanDisk (state g refused) → AreDeclared (state g connection).now.schema
         → MayNotMigrate (state g connection).now fault
+    pub returned : HasCleanDisk (state g refused) → IsFront (state g connection).now.schema
+        → MayReturnFault (state g connection).now fault
     pub taken : (layout : Layout) (office : Office) → StandsFirst layout (state g connection).now office
         → IsTrue (is_lacking_name_used (version_of layout) (state g connection).now.schema)
         → HasCleanDisk (state g refused) → (fault ≡ Unavailable) ⊎ (fault ≡ AlreadyThere)
@@ -53,7 +56,9 @@ module _ {S : Type 0} (g : Ghosts S) where
 
 module _ {F S : Type 0} (access : FileAccess F S) where
   -- The desk uses the database that was opened, which had exactly the tables of an earlier version. It caches an office, and
-  -- shows the one that the tables held.
+  -- shows the one that the tables held. The disk did not return what was written if the row of table `round` holds a version
+  -- that is not an earlier one (`other`), or if the database begins with an office of an earlier version and the name of a table
+  -- that it lacks is taken (`taken`).
   pub record BeginsMigrated (files : F) (path : List ℕ) (desk : DeskState S) (files' : F) : Type 0 where
     pub connection : Held S
     pub opened : access.finds files path connection files'
@@ -61,6 +66,11 @@ module _ {F S : Type 0} (access : FileAccess F S) where
     pub follows : Follows (state access.base connection) (state access.base desk.conn)
     pub kept : IsSome desk.kept
     pub shows : ShowsMigrated access.base connection desk
+    pub taken : (layout : Layout) (office : Office) → StandsFirst layout (state access.base connection).now office
+        → IsTrue (is_lacking_name_used (version_of layout) (state access.base connection).now.schema)
+        → ¬ HasCleanDisk (state access.base desk.conn)
+    pub other : (version : ℤ) → SaysVersion (state access.base connection).now version → IsNoEarlier version
+        → ¬ HasCleanDisk (state access.base desk.conn)
 
   -- The database that was opened is refused, and its connection is closed.
   pub record ClosesUnmigrated (files : F) (path : List ℕ) (fault : DeskFault) (files' : F) : Type 0 where

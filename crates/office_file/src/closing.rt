@@ -5,7 +5,7 @@ use crate::files::Closes;
 use office_store::{Desk, DeskFault};
 use sqlite::{Alter, Connection};
 
-/// Closes the desk's file, if there is a desk: its connection is closed as the desk left it.
+/// Closes the desk's connection as the desk left it. Does nothing if `desk` is an error.
 pub fn close<B: Alter, F: Closes<Connection<B>>>(files: &mut F, desk: Result<Desk<B>, DeskFault>)
     ensures closed { IfOk desk (λ desk. F.closes files.old desk.conn files.new) }
     ensures none { OnErr desk (files.new ≡ files.old) }

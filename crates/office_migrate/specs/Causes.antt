@@ -1,5 +1,5 @@
 -- Why tables of an earlier version are not migrated.
-use Rattle.std.specs.Prelude.{◌≡◌, ◌⊎◌, ℕ, ℤ, pos, false, IsTrue, take, ⊤}
+use Rattle.std.specs.Prelude.{◌≡◌, ◌⊎◌, ℕ, ℤ, pos, false, IsSome, IsTrue, take, ⊤}
 use Rattle.sqlite_schema.specs.declared.schema.Schema.{Schema}
 use Rattle.sqlite.specs.Effect.{Database}
 use Rattle.office_state.specs.Office.Invariants.{IsLawful}
@@ -11,6 +11,8 @@ use Rattle.office_tables.specs.Tables.{AreHeldIn, HoldsOfficeIn}
 use Rattle.office_tables.specs.declared.layouts.Layout.{Layout}
 use Rattle.office_load.specs.Finding.{AreWhole, HoldsVersion, names_round}
 use Rattle.office_load.specs.Front.{Begins, IsFront, has_front}
+use Rattle.office_load.specs.Layout.{layout_in}
+use Rattle.office_migrate.specs.First.{first_layout}
 use Rattle.office_migrate.specs.Names.{is_lacking_name_used}
 use Rattle.office_migrate.specs.Versions.{IsEarlier, IsNoEarlier, IsOfVersion}
 use Rattle.office_migrate.specs.declared.migrating.MigrateFault.{MigrateFault}
@@ -35,9 +37,23 @@ pub record StandsFirst (layout : Layout) (db : Database) (office : Office) : Typ
   pub tables : take (table_count layout) db.schema.tables ≡ (schema_of layout).tables
   pub rows : AreHeldIn layout db.trees (rows_at (version_of layout) office)
 
--- The schema begins with the tables of a layout, whatever follows them.
-abbrev pub BeginsKnown : Schema → Type 0
-BeginsKnown schema = (layout : Layout) × Begins layout schema
+-- The schema begins with the tables of a layout of this version, whatever follows them.
+abbrev pub BeginsAt : ℕ → Schema → Type 0
+BeginsAt version schema =
+    (layout : Layout) × (version_of layout ≡ version) × Begins layout schema
+
+-- The schema has the tables of a layout and nothing else, and nothing has the name of a table that this version lacks.
+abbrev pub IsLaid : ℕ → Schema → Type 0
+IsLaid version schema =
+    ((layout : Layout) × (schema ≡ schema_of layout))
+    × (is_lacking_name_used version schema ≡ false)
+
+-- By names and trees alone, the schema begins with the tables of a layout of this version. Or it has those of a layout and
+-- nothing else, and nothing has the name of a table that this version lacks.
+abbrev pub HasKnownNames : ℕ → Schema → Type 0
+HasKnownNames version schema =
+    IsSome (first_layout version schema)
+    ⊎ (IsSome (layout_in schema) × (is_lacking_name_used version schema ≡ false))
 
 -- If the database begins with the tables of a layout of this version, they are the rows of an office of that version.
 abbrev pub AreEarlierRows : ℕ → Database → Type 0
@@ -60,11 +76,13 @@ abbrev pub SaysVersion : Database → ℤ → Type 0
 SaysVersion db version = IsFront db.schema × HoldsVersion db version
 
 -- The row of table `round` holds no other version, and the first tables are not the rows of an office of an earlier version. If
--- the row holds a version, the schema begins with the tables of a layout: an unknown order says nothing about an office.
+-- the row holds a version, the schema begins with the tables of a layout of that version; or it has those of another layout and
+-- nothing else, and no missing name is taken. An unknown order says nothing about an office.
 pub record HoldsNoEarlier (db : Database) : Type 0 where
   pub front : IsFront db.schema
   pub version : (version : ℤ) → IsNoEarlier version → ¬ HoldsVersion db version
-  pub known : (version : ℤ) → HoldsVersion db version → BeginsKnown db.schema
+  pub known : (version : ℕ) → IsEarlier version → HoldsVersion db (pos version)
+      → BeginsAt version db.schema ⊎ IsLaid version db.schema
   pub none : (layout : Layout) (office : Office) → ¬ StandsFirst layout db office
 
 -- The row of table `round` holds an earlier version, the name of a table that it lacks is taken, and the rows are not at fault.
@@ -81,6 +99,19 @@ HasCause db Unavailable = ⊤
 HasCause db (OtherVersion version) = SaysVersion db version × IsNoEarlier version
 HasCause db NotAnOffice = (names_round db.schema ≡ false) ⊎ HoldsNoEarlier db
 HasCause db AlreadyThere = HasNameTaken db
+
+-- The row of table `round` holds no other version. If it holds an earlier one, the names show a layout.
+pub record IsReadAsNone (db : Database) : Type 0 where
+  pub version : (version : ℤ) → IsNoEarlier version → ¬ HoldsVersion db version
+  pub known : (version : ℕ) → IsEarlier version → HoldsVersion db (pos version)
+      → HasKnownNames version db.schema
+
+-- If the first three tables are an office's, whatever follows them, a migration may return this fault only with its cause.
+abbrev pub MayReturn : Database → MigrateFault → Type 0
+MayReturn db Unavailable = ⊤
+MayReturn db (OtherVersion version) = HoldsVersion db version × IsNoEarlier version
+MayReturn db NotAnOffice = IsReadAsNone db
+MayReturn db AlreadyThere = HasNameTaken db
 
 -- Whatever the disk does, the schema allows this fault.
 abbrev pub IsAllowed : Schema → MigrateFault → Type 0

@@ -14,7 +14,7 @@ ghost use Rattle.office_load.specs.Finding.{AreDeclared, AreWhole, HoldsVersion,
 ghost use Rattle.office_load.specs.Layout.{layout_in};
 ghost use Rattle.office_load.specs.Reading.{OnlyReads};
 ghost use Rattle.office_migrate.specs.Causes.{HasCause, HoldsEarlier, IsAllowed, IsOfNumber};
-ghost use Rattle.office_migrate.specs.Causes.{AreSaidRows, SaysVersion, StandsFirst};
+ghost use Rattle.office_migrate.specs.Causes.{AreSaidRows, MayReturn, SaysVersion, StandsFirst};
 ghost use Rattle.office_load.specs.Front.{IsFront, has_front};
 ghost use Rattle.office_migrate.specs.Names.{is_lacking_name_used, takes_name};
 ghost use Rattle.office_migrate.specs.Versions.{IsEarlier, IsEarlierLayout, IsNoEarlier, IsOfVersion};
@@ -77,6 +77,9 @@ pub fn migrate<S: Alter>(alloc: Global, conn: &mut Connection<S>) -> Result<Offi
     ensures cause { IfErr result (λ fault. HasCleanDisk (state S.Store conn.new)
         → AreDeclared (state S.Store conn.old).now.schema
         → HasCause (state S.Store conn.old).now fault) }
+    ensures returned { IfErr result (λ fault. HasCleanDisk (state S.Store conn.new)
+        → IsFront (state S.Store conn.old).now.schema
+        → MayReturn (state S.Store conn.old).now fault) }
     ensures allowed { IfErr result (IsAllowed (state S.Store conn.old).now.schema) }
     ensures absent { names_round (state S.Store conn.old).now.schema ≡ false
         → (result ≡ Err MigrateFault.NotAnOffice) × (conn.new ≡ conn.old) }

@@ -1,5 +1,5 @@
 //! Tables of an earlier version that lack a table whose name is taken.
-ghost use Rattle.std.specs.Prelude.{◌≡◌, ◌⊎◌, false};
+ghost use Rattle.std.specs.Prelude.{◌≡◌, ◌⊎◌, false, IsSome};
 ghost use Rattle.std.specs.Option.{IfSome};
 ghost use Rattle.sqlite.specs.Held.{state};
 ghost use Rattle.sqlite.specs.State.{HasCleanDisk};
@@ -9,7 +9,7 @@ ghost use Rattle.office_tables.specs.declared.layouts.Layout.{Layout as AnyLayou
 ghost use Rattle.office_load.specs.Finding.{AreDeclared};
 ghost use Rattle.office_load.specs.Front.{Begins};
 ghost use Rattle.office_load.specs.Reading.{OnlyReads};
-ghost use Rattle.office_migrate.specs.Causes.{AreEarlierRows, AreNoEarlierRows, BeginsKnown, IsOfName, StandsFirst};
+ghost use Rattle.office_migrate.specs.Causes.{AreEarlierRows, AreNoEarlierRows, BeginsAt, IsOfName, StandsFirst};
 ghost use Rattle.office_migrate.specs.First.{first_layout};
 ghost use Rattle.office_migrate.specs.Versions.{IsEarlier};
 
@@ -38,7 +38,9 @@ pub fn refused_for_name<S: Alter>(
     ensures none { result ≡ MigrateFault.NotAnOffice → HasCleanDisk (state S.Store conn.new)
         → AreNoEarlierRows version (state S.Store conn.old).now }
     ensures known { result ≡ MigrateFault.NotAnOffice → AreDeclared (state S.Store conn.old).now.schema
-        → BeginsKnown (state S.Store conn.old).now.schema }
+        → BeginsAt version (state S.Store conn.old).now.schema }
+    ensures named { result ≡ MigrateFault.NotAnOffice
+        → IsSome (first_layout version (state S.Store conn.old).now.schema) }
     ensures rows { result ≡ MigrateFault.AlreadyThere → HasCleanDisk (state S.Store conn.new)
         → AreEarlierRows version (state S.Store conn.old).now }
     ensures told { HasCleanDisk (state S.Store conn.new) → (layout : AnyLayout) → (office : Books)

@@ -39,8 +39,8 @@ fn fill<G: Grammar, V: Drop>(
     Ok(Some(table))
 }
 
-/// Builds the set that has exactly these keys, in any order. Returns `None` if a key occurs twice. Fails only if an
-/// allocation does, and never without rows.
+/// Builds the set of these keys, given in any order. Returns `None` if a key occurs twice. Fails only if an allocation
+/// does, and cannot fail if `rows` is empty.
 pub fn read_keys<G: Grammar>(
     alloc: Global,
     rows: Vec<Text<G>>,

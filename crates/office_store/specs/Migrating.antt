@@ -3,7 +3,7 @@ use Rattle.std.specs.Prelude.{◌≡◌, ◌⊎◌, false, ⊤}
 use Rattle.sqlite_schema.specs.declared.schema.Schema.{Schema}
 use Rattle.sqlite.specs.Effect.{Database}
 use Rattle.office_load.specs.Finding.{names_round}
-use Rattle.office_migrate.specs.Causes.{HasNameTaken, HoldsNoEarlier, IsAllowed, SaysVersion}
+use Rattle.office_migrate.specs.Causes.{HasNameTaken, HoldsNoEarlier, IsAllowed, MayReturn, SaysVersion}
 use Rattle.office_migrate.specs.Versions.{IsNoEarlier}
 use Rattle.office_migrate.specs.declared.migrating.MigrateFault.{MigrateFault}
 use Rattle.office_migrate.specs.declared.migrating.MigrateFault.TheVariants as migrate
@@ -17,6 +17,14 @@ MayNotMigrate db Unavailable = ⊤
 MayNotMigrate db NotAnOffice = (names_round db.schema ≡ false) ⊎ HoldsNoEarlier db
 MayNotMigrate db (OtherVersion version) = SaysVersion db version × IsNoEarlier version
 MayNotMigrate db AlreadyThere = HasNameTaken db
+
+-- If the first three tables are an office's, whatever follows them, the database may be refused with this fault only as a
+-- migration may refuse it.
+abbrev pub MayReturnFault : Database → DeskFault → Type 0
+MayReturnFault db Unavailable = ⊤
+MayReturnFault db NotAnOffice = MayReturn db migrate.NotAnOffice
+MayReturnFault db (OtherVersion version) = MayReturn db (migrate.OtherVersion version)
+MayReturnFault db AlreadyThere = MayReturn db migrate.AlreadyThere
 
 -- Whatever the disk does, the schema allows this fault only as it allows that of a migration.
 abbrev pub IsFaultOfMigration : Schema → DeskFault → Type 0

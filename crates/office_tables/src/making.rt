@@ -8,7 +8,7 @@ ghost use Rattle.office_tables.specs.Steps.{StaysInside};
 use crate::running::run;
 use sqlite::{Alter, Error, Transaction};
 
-/// Creates the tables from this place on, without rows, provided that exactly those before it exist.
+/// Creates tables `first` to 9 of the schema, without rows, provided that exactly those before `first` exist.
 pub fn make_tables_from<S: Alter>(tx: &mut Transaction<'_, S>, first: usize) -> Result<(), Error>
     requires { first ≤ 10 }
     ensures same_reference { tx.new.conn.ghost_name ≡ tx.old.conn.ghost_name }

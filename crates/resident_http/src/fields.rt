@@ -61,7 +61,7 @@ fn has_digits_alone(text: &[u8]) -> bool
     text.iter().all(|b| b.is_ascii_digit())
 }
 
-/// Returns the number of the digits, or `most` if it is greater.
+/// Parses decimal digits. Returns their value, or `most` if that is smaller.
 pub fn number_up_to(text: &[u8], most: u16) -> usize
     requires { list_all is_ascii_digit text.now ≡ true }
     ensures { result ≡ min (number_of text.now) most }

@@ -10,11 +10,11 @@ use office_state::{Change, Office};
 use room_types::Phase;
 use std::alloc::Global;
 
-/// Decides to make the lists final, and counts the participants.
+/// Returns the decision on `close`: the lists become final, and the reply counts the participants.
 ///
 /// # Errors
 ///
-/// `BadPhase` unless open; `OutOfMemory` if an allocation fails.
+/// `BadPhase` if the round is not open; `OutOfMemory` if an allocation fails.
 pub fn close_round(alloc: Global, office: &Office) -> Result<Decision, Refusal>
     ensures { IsDecided (checks office.now) (reply_to office.now) (changes_of office.now) result }
 {

@@ -16,7 +16,7 @@ use std::alloc::Global;
 ///
 /// # Errors
 ///
-/// `BadPhase` unless the round has run; `OutOfMemory` only if it has and there are results.
+/// `BadPhase` before the round has run. `OutOfMemory` if an allocation fails; without results none is made.
 pub fn results(alloc: Global, office: &Office) -> Result<Reply, Refusal>
     ensures { Tells (told office.now) result }
 {

@@ -36,6 +36,7 @@ module _ {F S : Type 0} (base : Ghosts S) (opens finds : Held S → Type 0) (fai
     kept = h.kept;
     shows = h.shows;
     unchanged = h.unchanged;
+    other = h.other;
   }
   system_files-begins_found (Err fault) h = tt
 
@@ -53,6 +54,8 @@ module _ {F S : Type 0} (base : Ghosts S) (opens finds : Held S → Type 0) (fai
     follows = h.follows;
     kept = h.kept;
     shows = h.shows;
+    taken = h.taken;
+    other = h.other;
   }
   system_files-begins_migrated (Err fault) h = tt
 

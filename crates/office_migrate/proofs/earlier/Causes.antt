@@ -1,5 +1,6 @@
 -- Databases that hold no office of an earlier version.
-use Rattle.std.proofs.Common.{◌≡◌, ◌⊎◌, ℕ, ℤ, pos, Bool, true, false, IsTrue, codes, take, refl, sym, ap, subst, inl, inr, arith}
+use Rattle.std.proofs.Common.{◌≡◌, ◌⊎◌, ℕ, ℤ, pos, Bool, true, false, IsSome, IsTrue, Some, codes, take, refl, sym, ap, ◌∙◌, subst, true≢false, inl, inr, arith}
+use Rattle.std.specs.Option.{is_some}
 use Rattle.sqlite_schema.specs.declared.schema.Schema.{Schema}
 use Rattle.sqlite_schema.specs.Names.{same_name}
 use Rattle.sqlite_catalog.specs.Change.{is_used}
@@ -10,16 +11,19 @@ use Rattle.office_tables.specs.declared.layouts.Layout.{Layout}
 use Rattle.office_tables.specs.declared.layouts.Layout.TheVariants.{Own, Documented, DocumentedSecond}
 use Rattle.office_tables.specs.declared.layouts.Layout.TheVariants.{DocumentedFirst, EarlierFirst}
 use Rattle.office_load.specs.Finding.{HoldsVersion}
-use Rattle.office_load.proofs.found_offices.First.{found_offices-begins_if_laid}
-use Rattle.office_load.proofs.found_offices.Versions.{found_offices-one_version, found_offices-own_version}
+use Rattle.office_load.proofs.found_offices.Versions.{found_offices-one_version, found_offices-own_layout}
+use Rattle.office_load.proofs.found_offices.Versions.{found_offices-own_version}
 use Rattle.office_load.specs.Front.{IsFront, has_front}
-use Rattle.office_migrate.specs.Causes.{AreEarlierRows, AreNoEarlierRows, BeginsKnown, HasCause, HoldsEarlier}
-use Rattle.office_migrate.specs.Causes.{HoldsNoEarlier, IsAllowed, IsOfName, IsOfNumber, StandsFirst}
+use Rattle.office_load.specs.Layout.{layout_in}
+use Rattle.office_migrate.specs.Causes.{AreEarlierRows, AreNoEarlierRows, BeginsAt, HasCause, HasKnownNames, HoldsEarlier}
+use Rattle.office_migrate.specs.Causes.{HoldsNoEarlier, IsAllowed, IsLaid, IsOfName, IsOfNumber, IsReadAsNone, MayReturn, StandsFirst}
+use Rattle.office_migrate.specs.First.{first_layout}
 use Rattle.office_migrate.specs.Names.{is_lacking_name_used, takes_name}
 use Rattle.office_migrate.specs.Versions.{IsEarlier, IsNoEarlier}
 use Rattle.office_migrate.specs.declared.migrating.MigrateFault.{MigrateFault}
 use Rattle.office_migrate.specs.declared.migrating.MigrateFault.TheVariants.{Unavailable, OtherVersion, NotAnOffice, AlreadyThere}
-use Rattle.office_migrate.proofs.earlier.First.{earlier-first_if_holds, earlier-first_is_laid, earlier-holds_if_first}
+use Rattle.office_migrate.proofs.earlier.First.{earlier-first_found, earlier-first_if_holds, earlier-first_is_laid, earlier-holds_if_first}
+use Rattle.office_migrate.proofs.earlier.Front.{earlier-front_named}
 
 -- In a layout of an earlier version, the names of the tables that it lacks are free.
 pub earlier-own_names_free : (layout : Layout) → IsEarlier (version_of layout)
@@ -82,20 +86,24 @@ module _ (db : Database) (front : IsFront db.schema) where
   earlier-none_without_version none_held = record {
     front = front;
     version = λ version other h. none_held version h;
-    known = λ version h. absurd (none_held version h);
+    known = λ version earlier h. absurd (none_held (pos version) h);
     none = λ layout office h. none_held (pos (version_of layout)) (earlier-first_says layout db office h);
   }
 
   module _ (version : ℕ) (is_earlier : IsEarlier version) (holds : HoldsVersion db (pos version)) where
+    -- the row holds no other version
+    earlier-held_one : (other : ℕ) → HoldsVersion db (pos other) → version ≡ other
+    earlier-held_one other h = earlier-pos version other (found_offices-one_version db (pos version) (pos other) holds h)
+
     earlier-same_version : (layout : Layout) (office : Office) → StandsFirst layout db office → version_of layout ≡ version
     earlier-same_version layout office h = earlier-pos (version_of layout) version
         (found_offices-one_version db (pos (version_of layout)) (pos version) (earlier-first_says layout db office h) holds)
 
     -- where the first tables are not the rows of an office of the version in the row of table `round`
-    pub earlier-none_first : BeginsKnown db.schema → AreNoEarlierRows version db → HoldsNoEarlier db
+    pub earlier-none_first : BeginsAt version db.schema ⊎ IsLaid version db.schema → AreNoEarlierRows version db → HoldsNoEarlier db
     earlier-none_first known none = record {
       front = front;
-      known = λ version h. known;
+      known = λ other earlier h. subst (λ v. BeginsAt v db.schema ⊎ IsLaid v db.schema) (earlier-held_one other h) known;
       version = λ other none_earlier h. earlier-not_no version is_earlier
           (subst IsNoEarlier (found_offices-one_version db other (pos version) h holds) none_earlier);
       none = λ layout office h. none layout (earlier-same_version layout office h) office h;
@@ -103,12 +111,35 @@ module _ (db : Database) (front : IsFront db.schema) where
 
     -- the cause for which such tables are refused if the name of a table that they lack is taken
     pub earlier-name_cause : (fault : MigrateFault) → IsOfName fault → IsTrue (is_lacking_name_used version db.schema)
-        → (fault ≡ NotAnOffice → BeginsKnown db.schema) → (fault ≡ NotAnOffice → AreNoEarlierRows version db)
+        → (fault ≡ NotAnOffice → BeginsAt version db.schema) → (fault ≡ NotAnOffice → AreNoEarlierRows version db)
         → (fault ≡ AlreadyThere → AreEarlierRows version db) → HasCause db fault
     earlier-name_cause Unavailable is taken known none rows = tt
     earlier-name_cause (OtherVersion other) is taken known none rows = absurd is
-    earlier-name_cause NotAnOffice is taken known none rows = inr (earlier-none_first (known refl) (none refl))
+    earlier-name_cause NotAnOffice is taken known none rows = inr (earlier-none_first (inl (known refl)) (none refl))
     earlier-name_cause AlreadyThere is taken known none rows = record {
+      version = version;
+      earlier = is_earlier;
+      says = (front, holds);
+      taken = taken;
+      rows = rows refl;
+    }
+
+    -- why they are refused as no office's, where the names show a layout, whatever follows the first three tables
+    pub earlier-read_as_none : HasKnownNames version db.schema → IsReadAsNone db
+    earlier-read_as_none known = record {
+      version = λ other none_earlier h. earlier-not_no version is_earlier
+          (subst IsNoEarlier (found_offices-one_version db other (pos version) h holds) none_earlier);
+      known = λ other earlier h. subst (λ v. HasKnownNames v db.schema) (earlier-held_one other h) known;
+    }
+
+    -- and so where a name is taken
+    pub earlier-name_returned : (fault : MigrateFault) → IsOfName fault → IsTrue (is_lacking_name_used version db.schema)
+        → (fault ≡ NotAnOffice → IsSome (first_layout version db.schema))
+        → (fault ≡ AlreadyThere → AreEarlierRows version db) → MayReturn db fault
+    earlier-name_returned Unavailable is taken named rows = tt
+    earlier-name_returned (OtherVersion other) is taken named rows = absurd is
+    earlier-name_returned NotAnOffice is taken named rows = earlier-read_as_none (inl (named refl))
+    earlier-name_returned AlreadyThere is taken named rows = record {
       version = version;
       earlier = is_earlier;
       says = (front, holds);
@@ -120,7 +151,7 @@ module _ (db : Database) (front : IsFront db.schema) where
         (free : is_lacking_name_used version db.schema ≡ false) where
       -- where the tables of the layout hold no office
       pub earlier-none_in_layout : ((office : Office) → HoldsEarlier layout db office → ⊥) → HoldsNoEarlier db
-      earlier-none_in_layout none = earlier-none_first (layout, found_offices-begins_if_laid layout db.schema has) (λ other same office h.
+      earlier-none_in_layout none = earlier-none_first (inr ((layout, has), free)) (λ other same office h.
           let here = subst (λ v. is_lacking_name_used v (schema_of layout) ≡ false) (sym same)
           (subst (λ (s : Schema). is_lacking_name_used version s ≡ false) has free) in
           let tables = subst (λ (s : Schema). take (table_count other) s.tables ≡ (schema_of other).tables) has h.tables in
@@ -131,6 +162,25 @@ module _ (db : Database) (front : IsFront db.schema) where
       pub earlier-none_of_other : (version_of layout ≡ version → ⊥) → HoldsNoEarlier db
       earlier-none_of_other differs = earlier-none_in_layout (λ office h.
           differs (earlier-same_version layout office (earlier-first_if_holds layout db office h)))
+
+-- the names of the tables of a layout show it
+earlier-known_names : (version : ℕ) (schema : Schema) → IsEarlier version → BeginsAt version schema ⊎ IsLaid version schema
+    → HasKnownNames version schema
+earlier-known_names version schema is (inl begins) =
+    let found = earlier-first_found begins.0 schema (subst IsEarlier (sym begins.1) is) begins.2 in
+    inl (ap is_some (subst (λ v. first_layout v schema ≡ Some begins.0) begins.1 found))
+earlier-known_names version schema is (inr laid) = inr (ap is_some (ap layout_in laid.0.1 ∙ found_offices-own_layout laid.0.0), laid.1)
+
+-- what may be said where each table is declared as an office's may be said whatever follows the first three
+pub earlier-may_return : (db : Database) (fault : MigrateFault) → IsFront db.schema → HasCause db fault → MayReturn db fault
+earlier-may_return db Unavailable front cause = tt
+earlier-may_return db (OtherVersion version) front cause = (cause.0.1, cause.1)
+earlier-may_return db NotAnOffice front (inl unnamed) = absurd (true≢false (sym (earlier-front_named db.schema front) ∙ unnamed))
+earlier-may_return db NotAnOffice front (inr h) = record {
+  version = h.version;
+  known = λ version is holds. earlier-known_names version db.schema is (h.known version is holds);
+}
+earlier-may_return db AlreadyThere front cause = cause
 
 -- whatever the disk does
 pub earlier-name_allowed : (schema : Schema) (version : ℕ) (fault : MigrateFault) → IsOfName fault → IsEarlier version

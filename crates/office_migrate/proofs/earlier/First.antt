@@ -13,7 +13,7 @@ use Rattle.office_tables.specs.Schema.{room}
 use Rattle.office_tables.specs.declared.layouts.Layout.{Layout}
 use Rattle.office_tables.specs.declared.layouts.Layout.TheVariants.{Own, Documented, DocumentedSecond}
 use Rattle.office_tables.specs.declared.layouts.Layout.TheVariants.{DocumentedFirst, EarlierFirst}
-use Rattle.office_load.specs.Front.{Begins, HoldsOfficeFirst, IsFront, begins_with, with_behind}
+use Rattle.office_load.specs.Front.{Begins, IsFront, begins_with, with_behind}
 use Rattle.office_load.specs.Layout.{are_tables}
 use Rattle.office_load.proofs.found_offices.First.{found_offices-begins_if_laid}
 use Rattle.office_load.proofs.found_offices.LayoutTests.{found_offices-tables_pass}

@@ -13,11 +13,11 @@ use Rattle.office_cells.specs.Spelled.{IsSpelled}
 use Rattle.office_rows.specs.Tables.{own_version, rows_at, rows_of}
 use Rattle.office_tables.specs.Steps.{IsHonest}
 use Rattle.office_tables.specs.Tables.{HoldsOffice}
-use Rattle.office_migrate.specs.Causes.{HasCause, IsAllowed}
+use Rattle.office_migrate.specs.Causes.{HasCause, IsAllowed, MayReturn}
 use Rattle.office_migrate.specs.declared.migrating.MigrateFault.{MigrateFault}
 use Rattle.office_migrate.specs.declared.migrating.MigrateFault.TheVariants as migrate
 use Rattle.office_store.specs.Desk.{Shows}
-use Rattle.office_store.specs.Migrating.{IsFaultOfMigration, MayNotMigrate, migrating_fault}
+use Rattle.office_store.specs.Migrating.{IsFaultOfMigration, MayNotMigrate, MayReturnFault, migrating_fault}
 use Rattle.office_store.specs.declared.desk.faults.DeskFault.TheVariants.{AlreadyThere}
 
 -- A fault that a migration may return is one that the desk may return.
@@ -26,6 +26,12 @@ desks-may_not_migrate db migrate.Unavailable cause = tt
 desks-may_not_migrate db (migrate.OtherVersion version) cause = cause
 desks-may_not_migrate db migrate.NotAnOffice cause = cause
 desks-may_not_migrate db migrate.AlreadyThere cause = cause
+
+pub desks-may_return : (db : Database) (fault : MigrateFault) → MayReturn db fault → MayReturnFault db (migrating_fault fault)
+desks-may_return db migrate.Unavailable returned = tt
+desks-may_return db (migrate.OtherVersion version) returned = returned
+desks-may_return db migrate.NotAnOffice returned = returned
+desks-may_return db migrate.AlreadyThere returned = returned
 
 pub desks-fault_of_migration : (schema : Schema) (fault : MigrateFault) → IsAllowed schema fault → IsFaultOfMigration schema (migrating_fault fault)
 desks-fault_of_migration schema migrate.Unavailable allowed = tt

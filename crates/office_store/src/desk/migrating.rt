@@ -10,11 +10,11 @@ ghost use Rattle.office_tables.specs.declared.layouts.Layout.{Layout as AnyLayou
 ghost use Rattle.office_load.specs.Finding.{AreDeclared, AreWhole, names_round};
 ghost use Rattle.office_load.specs.Layout.{layout_in};
 ghost use Rattle.office_migrate.specs.Causes.{AreSaidRows, HoldsEarlier, SaysVersion, StandsFirst};
-ghost use Rattle.office_load.specs.Front.{has_front};
+ghost use Rattle.office_load.specs.Front.{IsFront, has_front};
 ghost use Rattle.office_migrate.specs.Names.{is_lacking_name_used};
 ghost use Rattle.office_migrate.specs.Versions.{IsEarlierLayout, IsNoEarlier, IsOfVersion};
 ghost use Rattle.office_store.specs.Desk.{Shows};
-ghost use Rattle.office_store.specs.Migrating.{IsFaultOfMigration, MayNotMigrate, migrating_fault};
+ghost use Rattle.office_store.specs.Migrating.{IsFaultOfMigration, MayNotMigrate, MayReturnFault, migrating_fault};
 
 use crate::desk::Desk;
 use crate::desk::faults::{Back, DeskFault};
@@ -60,6 +60,9 @@ impl<S: Alter> Desk<S> {
         ensures cause { IfErr result (λ back. HasCleanDisk (state S.Store back.connection)
             → AreDeclared (state S.Store connection).now.schema
             → MayNotMigrate (state S.Store connection).now back.fault) }
+        ensures returned { IfErr result (λ back. HasCleanDisk (state S.Store back.connection)
+            → IsFront (state S.Store connection).now.schema
+            → MayReturnFault (state S.Store connection).now back.fault) }
         ensures unread { has_front (state S.Store connection).now.schema ≡ false → MatchResult result
             (λ desk. desk.conn ≡ connection) (λ back. back.connection ≡ connection) }
         ensures absent { names_round (state S.Store connection).now.schema ≡ false → IsErrAnd result

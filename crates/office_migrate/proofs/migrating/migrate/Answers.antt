@@ -1,4 +1,5 @@
-use Rattle.std.proofs.Common.{◌≡◌, true, false, true≢false, pos, sym, ap, ap₂, ◌∙◌, subst, inl, inr}
+use Rattle.std.proofs.Common.{◌≡◌, true, false, true≢false, pos, IsSome, sym, ap, ap₂, ◌∙◌, subst, inl, inr}
+use Rattle.std.specs.Option.{is_some}
 use Rattle.std.proofs.lemmas.Result.{err_from_is_err_and}
 use Rattle.sqlite.specs.Effect.{Database}
 use Rattle.sqlite.specs.Held.{state}
@@ -16,12 +17,14 @@ use Rattle.office_load.proofs.found_offices.Versions.{found_offices-none_some, f
 use Rattle.office_load.proofs.found_offices.Versions.{found_offices-own_version, found_offices-same_some}
 use Rattle.office_load.proofs.loaded.VersionMeanings.{loaded-front_if_laid}
 use Rattle.office_load.proofs.loaded.WholeRows.{loaded-laid_if_sound}
-use Rattle.office_migrate.specs.Causes.{AreEarlierRows, AreNoEarlierRows, BeginsKnown, HoldsEarlier, IsOfNumber, StandsFirst}
+use Rattle.office_migrate.specs.Causes.{AreEarlierRows, AreNoEarlierRows, BeginsAt, HoldsEarlier, IsOfNumber, StandsFirst}
+use Rattle.office_migrate.specs.First.{first_layout}
 use Rattle.office_migrate.specs.declared.migrating.MigrateFault.TheVariants.{AlreadyThere}
 use Rattle.office_migrate.specs.Names.{is_lacking_name_used, takes_name}
 use Rattle.office_migrate.specs.Versions.{IsOfVersion}
 use Rattle.office_migrate.proofs.earlier.Causes.{earlier-none_in_layout, earlier-none_of_other, earlier-only_unavailable}
-use Rattle.office_migrate.proofs.earlier.Causes.{earlier-name_allowed, earlier-name_cause}
+use Rattle.office_migrate.proofs.earlier.Causes.{earlier-may_return, earlier-name_allowed, earlier-name_cause}
+use Rattle.office_migrate.proofs.earlier.Causes.{earlier-name_returned, earlier-read_as_none}
 use Rattle.office_migrate.proofs.earlier.Causes.{earlier-pos, earlier-takes_none}
 use Rattle.office_migrate.proofs.earlier.Causes.{earlier-first_says, earlier-takes_used}
 use Rattle.office_migrate.proofs.earlier.First.{earlier-begins_front}
@@ -251,7 +254,7 @@ returns-then-takes_name-clause-cause g c clean declared =
     ∙ sym c.takes_name.ensures ∙ c.if-takes_name.true) in
     earlier-name_cause start.now front c.in_ok-version.version c.in_ok-version.ensures.earlier
     (c.in_ok-version.ensures.held clean_one front) c.refused_for_name.result c.refused_for_name.ensures.kind taken
-    (λ is. subst (λ (d : Database). BeginsKnown d.schema) same (c.refused_for_name.ensures.known is
+    (λ is. subst (λ (d : Database). BeginsAt c.in_ok-version.version d.schema) same (c.refused_for_name.ensures.known is
     (subst (λ (d : Database). AreDeclared d.schema) (sym same) declared)))
     (λ is. subst (AreNoEarlierRows c.in_ok-version.version) same (c.refused_for_name.ensures.none is clean))
     (λ is. subst (AreEarlierRows c.in_ok-version.version) same (c.refused_for_name.ensures.rows is clean))
@@ -301,3 +304,57 @@ returns-in_err-version-clause-rows g c =
     rw (p.1, p.2) (λ is clean version earlier holds.
     let there : c.in_err-version.field-0.0 ≡ AlreadyThere = cc in
     absurd (subst IsOfNumber there c.in_err-version.ensures.number))
+
+-- ---- where the first three tables are an office's, whatever follows them
+
+pub returns-then-not-layout_names_round-clause-returned :
+    goal.returns-then-not-layout_names_round-clause-returned
+returns-then-not-layout_names_round-clause-returned g c clean front =
+    let start = state g.S.Store c.args.conn.now in
+    absurd (true≢false (sym (earlier-front_named start.now.schema front) ∙ ap names_round (sym c.schema.ensures.value)
+    ∙ sym c.layout_names_round.ensures ∙ c.if-not-layout_names_round.true))
+
+pub returns-in_err-version-clause-returned : goal.returns-in_err-version-clause-returned
+returns-in_err-version-clause-returned g c =
+    let start = state g.S.Store c.args.conn.now in
+    let p = err_from_is_err_and c.from_residual.result c.from_residual.ensures.1 in
+    rw (p.1, p.2) (λ clean front. earlier-may_return start.now c.in_err-version.field-0.0 front
+    (c.in_err-version.ensures.cause clean front))
+
+pub returns-then-takes_name-clause-returned : goal.returns-then-takes_name-clause-returned
+returns-then-takes_name-clause-returned g c clean front =
+    let start = state g.S.Store c.args.conn.now in
+    let version = c.in_ok-version.version in
+    let clean_one = c.refused_for_name.ensures.reads.follows.clean clean in
+    let same = c.earlier_version.ensures.reads.same (clean_one, c.in_ok-version.ensures.is_open clean_one) in
+    let taken = subst (λ s. is_lacking_name_used version s ≡ true) c.schema-3.ensures.value
+    (ap₂ (λ g n. takes_name g n version) (sym c.of-declared.ensures.grade) (sym c.of-declared.ensures.going)
+    ∙ sym c.takes_name.ensures ∙ c.if-takes_name.true) in
+    earlier-name_returned start.now front version c.in_ok-version.ensures.earlier
+    (c.in_ok-version.ensures.held clean_one front) c.refused_for_name.result c.refused_for_name.ensures.kind taken
+    (λ is. subst (λ (d : Database). IsSome (first_layout version d.schema)) same (c.refused_for_name.ensures.named is))
+    (λ is. subst (AreEarlierRows version) same (c.refused_for_name.ensures.rows is clean))
+
+pub returns-then-version-clause-returned : goal.returns-then-version-clause-returned
+returns-then-version-clause-returned g c clean front =
+    let start = state g.S.Store c.args.conn.now in
+    let laid = ap layout_in (sym c.schema-3.ensures.value) ∙ sym c.of-declared.ensures.layout ∙ c.in-Some.is in
+    let free = subst (λ s. is_lacking_name_used c.in_ok-version.version s ≡ false) c.schema-3.ensures.value
+    (ap₂ (λ g n. takes_name g n c.in_ok-version.version) (sym c.of-declared.ensures.grade) (sym c.of-declared.ensures.going)
+    ∙ sym c.takes_name.ensures ∙ c.if-takes_name.false) in
+    earlier-read_as_none start.now front c.in_ok-version.version c.in_ok-version.ensures.earlier
+    (c.in_ok-version.ensures.held clean front) (inr (ap is_some laid, free))
+
+pub returns-in-Ok-None-clause-returned : goal.returns-in-Ok-None-clause-returned
+returns-in-Ok-None-clause-returned g c clean front =
+    let start = state g.S.Store c.args.conn.now in
+    let one = state g.S.Store c.earlier_version.new.conn in
+    let two = state g.S.Store c.renewed_office.new.conn in
+    let at_one = statements-honest_before one two c.renewed_office.ensures.follows
+    (clean, c.in-Ok-None.ensures.is_open clean) in
+    let laid = ap layout_in (sym c.schema-3.ensures.value) ∙ sym c.of-declared.ensures.layout ∙ c.in-Some.is in
+    let free = subst (λ s. is_lacking_name_used c.in_ok-version.version s ≡ false) c.schema-3.ensures.value
+    (ap₂ (λ g n. takes_name g n c.in_ok-version.version) (sym c.of-declared.ensures.grade) (sym c.of-declared.ensures.going)
+    ∙ sym c.takes_name.ensures ∙ c.if-takes_name.false) in
+    earlier-read_as_none start.now front c.in_ok-version.version c.in_ok-version.ensures.earlier
+    (c.in_ok-version.ensures.held at_one.0 front) (inr (ap is_some laid, free))

@@ -1,4 +1,5 @@
 use Rattle.std.proofs.Common.{◌≡◌, Some, refl, sym, ap, ◌∙◌, subst, true≢false}
+use Rattle.std.specs.Option.{is_some}
 use Rattle.sqlite.specs.Held.{state}
 use Rattle.office_load.specs.Finding.{AreDeclared, AreWhole}
 use Rattle.office_load.specs.Front.{Begins}
@@ -66,9 +67,28 @@ pub returns-in-Ok-None-clause-told : goal.returns-in-Ok-None-clause-told
 returns-in-Ok-None-clause-told g c clean other office same h =
     absurd (returns-in-Ok-None-clause-none g c refl clean other same office h)
 
-pub returns-in-Ok-None-clause-known : goal.returns-in-Ok-None-clause-known
-returns-in-Ok-None-clause-known g c is_none declared = (
+pub returns-else-is_of_version-clause-known : goal.returns-else-is_of_version-clause-known
+returns-else-is_of_version-clause-known g c is_none declared = (
   c.in-Some.layout,
+  c.in-Some.ensures.version,
   subst (λ s. AreDeclared s → Begins c.in-Some.layout s) c.schema.ensures.value
       c.in-Some.ensures.whole declared,
 )
+
+pub returns-in-Ok-None-clause-known : goal.returns-in-Ok-None-clause-known
+returns-in-Ok-None-clause-known g c is_none declared = (
+  c.in-Some.layout,
+  c.in-Some.ensures.version,
+  subst (λ s. AreDeclared s → Begins c.in-Some.layout s) c.schema.ensures.value
+      c.in-Some.ensures.whole declared,
+)
+
+-- ---- the layout that comes first, as far as the names tell
+
+pub returns-else-is_of_version-clause-named : goal.returns-else-is_of_version-clause-named
+returns-else-is_of_version-clause-named g c is_none =
+    ap is_some (ap (first_layout c.args.version) (sym c.schema.ensures.value) ∙ sym c.in-Some.ensures.tested)
+
+pub returns-in-Ok-None-clause-named : goal.returns-in-Ok-None-clause-named
+returns-in-Ok-None-clause-named g c is_none =
+    ap is_some (ap (first_layout c.args.version) (sym c.schema.ensures.value) ∙ sym c.in-Some.ensures.tested)
