@@ -25,7 +25,7 @@ with_sums() {
 }
 
 {
-    tell resident_tests desk::faults cuts_do_not_matter fronts_are_refused stops_where_a_read_fails stops_where_a_write_fails
+    tell resident_tests desk::faults answers_the_same_however_a_request_is_cut refuses_each_incomplete_request stops_where_a_read_fails stops_where_a_write_fails
     tell program_tests streams stops_where_a_read_fails stops_where_a_write_takes_nothing stops_where_a_write_fails
-    tell trade_tests lists::exports a_device_that_is_full each_write_failing_in_turn people_to_a_device_that_fails
+    tell trade_tests lists::exports stops_where_the_device_is_full stops_where_a_write_fails stops_where_the_device_is_full_or_fails
 } | with_sums

@@ -1,4 +1,4 @@
-//! Requests, and desks in memory at which they are made.
+//! Requests, and desks in memory that handle them.
 use office_core::Command;
 use office_state::Office;
 use office_store::{Answer, Desk, Handler, Request};
@@ -16,7 +16,7 @@ pub fn lines_asked(alloc: Global, texts: &[&str]) -> Result<Vec<Request>, OutOfM
     Ok(requests)
 }
 
-/// Adds the requests of these lines.
+/// Appends the requests of these lines.
 pub fn ask_lines(
     alloc: Global,
     requests: &mut Vec<Request>,
@@ -30,7 +30,7 @@ pub fn ask_lines(
     Ok(())
 }
 
-/// Adds the request that this list comes in.
+/// Appends the request to import this list.
 pub fn ask_list(
     alloc: Global,
     requests: &mut Vec<Request>,
@@ -60,12 +60,12 @@ fn list_command(
     })
 }
 
-/// Lets the desk go. Whoever has one hands it on to here, so that it is proved in one place that all its parts can be let go.
+/// Drops the desk. All tests drop theirs here, so that dropping one is proved in one place.
 pub fn let_go(desk: Desk<MemStore>) {
     drop(desk);
 }
 
-/// Whether a request is answered by a reply.
+/// Handles the request and returns whether the answer is a reply.
 pub fn is_replied<H: Handler>(alloc: Global, handler: &mut H, request: &Request) -> bool
     requires { H.is_ready handler.old }
     ensures { H.is_ready handler.new }
@@ -74,7 +74,7 @@ pub fn is_replied<H: Handler>(alloc: Global, handler: &mut H, request: &Request)
     matches!(answer, Answer::Reply(_))
 }
 
-// Whether a request is answered otherwise than that the desk is unavailable.
+// Handles the request and returns whether the answer is anything but unavailable.
 fn is_answered<H: Handler>(alloc: Global, handler: &mut H, request: &Request) -> bool
     requires { H.is_ready handler.old }
     ensures { H.is_ready handler.new }
@@ -83,7 +83,7 @@ fn is_answered<H: Handler>(alloc: Global, handler: &mut H, request: &Request) ->
     !matches!(answer, Answer::Unavailable)
 }
 
-/// Makes these requests, unless memory is refused for one of them.
+/// Handles these requests. Fails at the first answer that is unavailable.
 pub fn furnish(
     alloc: Global,
     desk: &mut Desk<MemStore>,
@@ -97,7 +97,7 @@ pub fn furnish(
     Ok(())
 }
 
-/// The office of a desk in memory at which these requests were made.
+/// The office of a desk in memory after these requests.
 pub fn office_after(alloc: Global, requests: &[Request]) -> Result<Office, OutOfMemory> {
     let Ok(mut desk) = Desk::in_memory(alloc) else {
         return Err(OutOfMemory {});

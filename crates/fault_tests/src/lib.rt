@@ -1,5 +1,5 @@
-//! What comes of calls that fail: files that stop at each of their calls, and memory that is refused at each allocation. And what
-//! must not fail where there is memory: each request in each phase.
+//! Tests of calls that fail: files that stop working at each of their calls, and allocations that fail one by one. And tests of
+//! each request in each phase, which must not fail if no allocation does.
 #![tactic(auto)]
 
 #[cfg(test)]

@@ -1,5 +1,5 @@
-//! Each request in each phase of a round, at a desk of its own with a hundred people and a hundred rooms: it is answered where the
-//! phase allows it, and refused for the phase elsewhere.
+//! Tests of each request in each phase of a round, at a desk of its own with a hundred people and a hundred rooms. The request
+//! gets a reply if the phase allows it, and otherwise a refusal for the phase.
 use crate::asking::{ask_lines, ask_list, is_replied, let_go, lines_asked};
 use office_core::Refusal;
 use office_store::{Answer, Desk, Handler, Request};
@@ -7,10 +7,10 @@ use room_types::{ListKind, OutOfMemory, Phase};
 use sqlite::MemStore;
 use std::alloc::{AllocError, Global};
 
-// How many people there are, and how many rooms.
+// The number of people, and of rooms.
 const MANY: u16 = 100;
 
-// Each phase, and how many of the requests below lead there.
+// Each phase, and the number of the requests below that lead to it.
 const PHASES: [(Phase, usize); 6] = [
     (Phase::Idle, 6),
     (Phase::Opened, 9),
@@ -22,7 +22,7 @@ const PHASES: [(Phase, usize); 6] = [
 
 const ALL: &str = "idle open closed drawn ran published";
 
-// Lines, each with the phases to which it belongs.
+// Lines, each with the phases that allow it.
 const ASKED: [(&str, &str); 26] = [
     ("room H200", "idle open"),
     ("person E200 key0000000000200 Ann Ash", "idle open"),
@@ -61,7 +61,7 @@ fn each_request_is_answered_in_its_phases(rt: HostRuntime) {
     }
 }
 
-// What is asked at each desk that is no line, and the steps that lead through the phases.
+// The requests besides `ASKED`, and the steps that lead through the phases.
 #[derive(Drop)]
 struct Asked {
     steps: Vec<Request>,
@@ -79,7 +79,7 @@ fn all_asked(alloc: Global) -> Result<Asked, OutOfMemory> {
     })
 }
 
-// Which kind of request is not answered as this phase has it, or nothing where all are.
+// The kind of request whose answer does not fit this phase, or an empty text if all fit.
 fn misfit(alloc: Global, asked: &Asked, phase: Phase, made: usize) -> &'static str {
     let reached = Reached {
         steps: &asked.steps,
@@ -99,7 +99,7 @@ fn misfit(alloc: Global, asked: &Asked, phase: Phase, made: usize) -> &'static s
     }
 }
 
-// So many steps are made, and lead to this phase.
+// A number of steps to take, and the phase that they lead to.
 #[derive(Drop)]
 struct Reached<'a> {
     steps: &'a [Request],
@@ -107,8 +107,8 @@ struct Reached<'a> {
     phase: Phase,
 }
 
-// The requests that lead through the phases. A first round is given up, so that it is over and nobody has moved; from the second one
-// somebody leaves the college.
+// The requests that lead through the phases. A first round is cancelled, so that it is over and nobody has moved. In the second
+// round a person leaves the college.
 fn steps(alloc: Global) -> Result<Vec<Request>, OutOfMemory> {
     let mut steps = Vec::new(alloc);
     ask_many(alloc, &mut steps, ListKind::Rooms)?;
@@ -127,7 +127,7 @@ fn ask_many(alloc: Global, requests: &mut Vec<Request>, kind: ListKind) -> Resul
     ask_list(alloc, requests, kind, kind.as_str(), list.as_str())
 }
 
-// A list of so many records. Every second person has a home, and everybody lists the next room and the one after it.
+// A list of `MANY` records. The first half of the people have a home, and each person lists the next room and the one after it.
 fn list(alloc: Global, kind: ListKind) -> Result<String, OutOfMemory> {
     let mut list = String::from_str(
         alloc,
@@ -161,7 +161,7 @@ fn record(alloc: Global, kind: ListKind, number: u16) -> Result<String, AllocErr
     }
 }
 
-// A word for everybody but the leaver.
+// A draw line with a word for each person but the leaver.
 fn draw_line(alloc: Global) -> Result<String, OutOfMemory> {
     let mut line = String::from_str(alloc, "draw")?;
     for number in 1..MANY {
@@ -170,7 +170,7 @@ fn draw_line(alloc: Global) -> Result<String, OutOfMemory> {
     Ok(line)
 }
 
-// Lists of rooms, people and grades that did not come yet.
+// Imports of lists of rooms, people and grades that are not imported yet.
 fn registers(alloc: Global) -> Result<Vec<Request>, OutOfMemory> {
     let people = "person,name,key,home\nE300,Pat,key0000000000300,\n";
     let mut requests = Vec::new(alloc);
@@ -181,7 +181,7 @@ fn registers(alloc: Global) -> Result<Vec<Request>, OutOfMemory> {
     Ok(requests)
 }
 
-// A list of choices that did not come yet.
+// An import of a list of choices that is not imported yet.
 fn choices(alloc: Global) -> Result<Vec<Request>, OutOfMemory> {
     let choices = "person,choices\nE95,H95\n";
     let mut requests = Vec::new(alloc);
@@ -189,7 +189,7 @@ fn choices(alloc: Global) -> Result<Vec<Request>, OutOfMemory> {
     Ok(requests)
 }
 
-// Whether each line is answered as its phases have it.
+// Whether the answer to each line fits the phase.
 fn lines_fit(alloc: Global, reached: &Reached<'_>) -> bool {
     for (line, phases) in &ASKED {
         if !line_fits(alloc, reached, line, phases) {
@@ -206,7 +206,7 @@ fn line_fits(alloc: Global, reached: &Reached<'_>, line: &str, phases: &str) -> 
     }
 }
 
-// Whether each of the requests, at a desk of its own, is answered as these phases have it.
+// Whether the answer to each of the requests, at a desk of its own, fits the phases that allow it.
 fn all_fit(alloc: Global, reached: &Reached<'_>, requests: &[Request], phases: &str) -> bool {
     let phase = reached.phase;
     let belongs = phases.split(' ').any(|word| word == phase.as_str());
@@ -226,7 +226,7 @@ fn fits(answer: &Option<Answer>, phase: Phase, belongs: bool) -> bool {
     }
 }
 
-// The answer of a desk of its own.
+// The answer of a new desk after the steps, or `None` if there is no desk or a step gets no reply.
 fn answer_after(alloc: Global, reached: &Reached<'_>, request: &Request) -> Option<Answer> {
     let Ok(mut desk) = Desk::in_memory(alloc) else {
         return None;
@@ -236,7 +236,7 @@ fn answer_after(alloc: Global, reached: &Reached<'_>, request: &Request) -> Opti
     answer
 }
 
-// The answer once all steps were made.
+// The answer after all steps, or `None` if a step gets no reply.
 fn answer_at(
     alloc: Global,
     desk: &mut Desk<MemStore>,

@@ -1,7 +1,8 @@
-//! Calls of the desk and below it while memory is refused: whichever single allocation it is, each call is answered as with ample
-//! memory after the commands that were accepted before, or out of memory, one of all calls at most; and what the tables hold
-//! afterwards is the office after just the accepted commands. An allocator that refuses is put under these tests from outside
-//! (bench/memory.sh); by themselves they run with ample memory, and then nothing may be answered out of memory.
+//! Tests of calls of the desk and below it while one allocation fails. Whichever allocation it is, each call returns what it
+//! would with enough memory after the commands that were accepted before, or reports that it is out of memory, which at most
+//! one call does; and the tables hold the office after exactly the accepted commands. The failing allocator is put under these
+//! tests from outside (`bench/memory.sh`). Run alone they have enough memory, and then no call may report that it is out of
+//! memory.
 mod adopting;
 mod exporting;
 mod lists;
@@ -28,10 +29,10 @@ use std::env;
 use std::env::VarError;
 use std::test::Fail;
 
-// Requests that are refused at the register.
+// Requests that the office refuses after the register.
 const REFUSED: &str = "room V\nhome N H9\nrun\n";
 
-// Each query, and those that are refused.
+// Each query, also queries that are refused, and the settlement.
 const QUERIES: &str = "\
 rooms\n\
 people\n\
@@ -50,7 +51,8 @@ moves 1\n\
 order\n\
 me key000000000000n\n";
 
-// Rounds that were run, each with what another list would give. N asks first, for a home: its tenant moves with the other one.
+// A round that is run, and queries of what another list would give. N asks first, for a home: its tenant moves with the other
+// one.
 const NEWCOMER_FIRST: &str = "\
 open\n\
 choose T1 H2\n\
@@ -62,7 +64,7 @@ run\n\
 whatif N V\n\
 whatif T1 V H2\n";
 
-// T1 moves out, and its home goes to the first of the others.
+// T1 moves out, and T1's home goes to the first of the others.
 const VACATED: &str = "\
 room H1\n\
 room V\n\
@@ -79,7 +81,7 @@ draw 0000000000000002 0000000000000003 0000000000000001\n\
 run\n\
 whatif N2 V H1\n";
 
-// T2 moves into the vacant room, and T1 after T2.
+// T2 moves into the vacant room, and T1 into T2's.
 const CHAIN: &str = "\
 open\n\
 choose T1 H2\n\
@@ -90,7 +92,7 @@ draw 0000000000000001 0000000000000002\n\
 run\n\
 whatif T1\n";
 
-// A round that is given up, and in which T2 leaves the college.
+// A round in which T2 is to leave the college, and that is cancelled.
 const LEAVERS: &str = "\
 grade N 2\n\
 grade T9 1\n\
@@ -105,7 +107,7 @@ round\n\
 cancel\n\
 round\n";
 
-// What is asked after the next round, in which T2 leaves, and then settles it.
+// Queries after the next round, in which T2 leaves, and its settlement.
 const AFTER_LEAVING: &str = "\
 me key00000000000t2\n\
 order\n\
@@ -114,7 +116,7 @@ settle\n\
 moves 2\n\
 people\n";
 
-// The round goes on.
+// The rest of the round.
 const ROUND_OF_THREE: &str = "\
 close\n\
 draw 0000000000000005 0000000000000006 0000000000000007\n\
@@ -122,13 +124,13 @@ run\n\
 publish\n\
 settle\n";
 
-// The third person is there already.
+// The third person is in the office already.
 const KNOWN_THIRD: &str = "person,name,key,home\n\
 E4,Di Day,key00000000000e4,\n\
 E5,Ed Eel,key00000000000e5,\n\
 E1,Ann Ash,key00000000000e1,H1\n";
 
-// The people with an empty line more.
+// The people with an additional empty line.
 const PEOPLE_AND_A_LINE: &str = "\u{feff}person,name,key,home\r\n\
 E1,Ann Ash,key00000000000e1,H1\r\n\
 E2,\"Bo, B.\",key00000000000e2,\r\n\
@@ -136,7 +138,7 @@ E3,Cy Coy,key00000000000e3,\r\n\n";
 
 const HEADER: &str = "person,name,key,home\n";
 
-// The second person is not there.
+// The second person is unknown.
 const UNKNOWN_SECOND: &str = "person,grade\nE1,1\nE9,1\n";
 
 #[test]
@@ -244,7 +246,7 @@ fn rows_are_written(rt: HostRuntime) {
     assert!(rt; ended_well(&rt, rows_are_sent(rt.alloc())));
 }
 
-// Whether all is right, or out of memory while memory is refused from outside.
+// Whether the scenario passed, or it was out of memory while allocations fail from outside.
 fn ended_well(rt: &HostRuntime, ended: Result<bool, OutOfMemory>) -> bool {
     match ended {
         Ok(is_right) => is_right,
@@ -256,7 +258,7 @@ fn is_memory_refused(rt: &HostRuntime) -> bool {
     !matches!(env::var(rt, "ROOMS_REFUSE"), Err(VarError::NotPresent))
 }
 
-/// What a scenario comes to in which all was right but for so many calls that were answered out of memory.
+/// The verdict on a scenario that passed except for the given number of calls that were out of memory. At most one may be.
 pub fn verdict(wanting: usize) -> Result<bool, OutOfMemory> {
     match wanting {
         0 => Ok(true),
@@ -294,7 +296,7 @@ fn other_list_is_told(alloc: Global, texts: &[&str]) -> Result<bool, OutOfMemory
     are_as_accepted(alloc, &requests, 0)
 }
 
-// Lists come in, and a round goes by; then a list comes again, as it was and not as it was, and others that are bad, or empty.
+// Imports of lists, and a round. Then an import of a known list, unchanged and changed, and of others that are bad or empty.
 fn lists_are_told(alloc: Global) -> Result<bool, OutOfMemory> {
     let mut requests = Vec::new(alloc);
     ask_list(alloc, &mut requests, ListKind::Rooms, "r-1", ROOMS)?;

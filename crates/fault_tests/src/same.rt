@@ -1,8 +1,8 @@
-//! Whether two offices are the same. It takes no memory.
+//! Equality of offices. It does not allocate.
 use office_state::{Assigned, KeptList, Moved, Office, Person, RoundMoves};
 use room_types::{Choices, Grade, Word};
 
-/// Whether both offices have the same rooms, people, round, moves and lists.
+/// Whether both offices have the same register, grades, round, moves and stored imports.
 pub fn is_same_office(one: &Office, other: &Office) -> bool {
     one.number == other.number
         && one.phase == other.phase
@@ -66,7 +66,7 @@ fn has_records(one: &Office, other: &Office) -> bool {
         && has_moves(other, one)
 }
 
-// Whether the other office has the moves of this one.
+// Whether the other office has all moves of this one.
 fn has_moves(one: &Office, other: &Office) -> bool {
     one.moves
         .iter()

@@ -1,6 +1,6 @@
-//! Offices in two files of which one stops working, at each of its calls in turn. Whatever is then left of the two files is opened
-//! again: it is the office before the command that was stopped or the one after it, and the latter where the command was answered. Where
-//! tables of an earlier version are migrated, they are all as before, or all of this version.
+//! Tests of offices in two files of which one stops working, at each of its calls in turn. Everything that may then be left of
+//! the two files is opened again. It holds the office before the command that was stopped or the one after it, and the latter
+//! if the command got a reply. Migrated tables of an earlier version are all as before, or all of this version.
 mod files;
 mod stories;
 mod visits;
@@ -20,7 +20,7 @@ use std::io;
 use std::process::Abort;
 use std::test::Fail;
 
-// No story asks as much of a file.
+// No story makes more calls of a file.
 const MOST_CALLS: u64 = 5_000;
 
 // How far a story came, and its files.
@@ -30,12 +30,12 @@ struct Ran {
     files: Files<StoppingFile>,
 }
 
-// How far a story came.
+// How far a story came, as its caller saw it.
 #[derive(Clone, Copy, Drop)]
 struct Told {
-    // Why there was no desk.
+    // The fault if there was no desk.
     fault: Option<DeskFault>,
-    // How many requests were answered by a reply.
+    // The number of requests that got a reply.
     answered: usize,
 }
 
@@ -46,8 +46,8 @@ impl Told {
     }
 }
 
-// How often a file was stopped, how many offices were found afterwards, and how many of them were those after a command that was not
-// answered, and those before it.
+// The number of stops, of offices found after them, and of those among them that are the office after a command without an
+// answer or the one before it.
 #[derive(Clone, Copy, Drop)]
 struct Count {
     stops: usize,
@@ -104,7 +104,7 @@ fn earlier_versions_are_migrated_whole(rt: HostRuntime) -> Result<(), Fail> {
     Ok(())
 }
 
-// By itself, since each test has its own time.
+// A test of its own, because each test has its own time limit.
 #[test]
 fn tables_of_the_earlier_program_are_migrated_whole(rt: HostRuntime) -> Result<(), Fail> {
     let count = brought_over(&rt, rt.alloc(), &EARLIER_FIRST);
@@ -127,12 +127,12 @@ fn lists_are_stored_whole(rt: HostRuntime) -> Result<(), Fail> {
     Ok(())
 }
 
-// Whether offices were found before commands that were not answered, and after some.
+// Whether offices from before commands without an answer were found, and some from after them.
 fn is_on_both_sides(count: Count) -> bool {
     count.stops > 0 && count.found > count.stops && count.after > 0 && count.before > 0
 }
 
-// Counts are printed, since bench/stops.sh tells them.
+// Prints the counts, which `bench/stops.sh` adds up.
 fn tell(rt: &HostRuntime, what: &str, count: Count) -> io::Result<()> {
     println!(rt;
         "{what}: {} stops, {} offices looked at, {} of them after a command that was not answered",
@@ -140,14 +140,14 @@ fn tell(rt: &HostRuntime, what: &str, count: Count) -> io::Result<()> {
     )
 }
 
-// The story is run with its log stopping, and with its database file stopping.
+// Runs the story with its log stopping, and with its database file stopping.
 fn both_stopped(alloc: Global, story: &Story) -> Result<Count, &'static str> {
     let count = each_stopped(alloc, story, true, NONE)?;
     each_stopped(alloc, story, false, count)
 }
 
-// The story is run with a file that stops at its first call, at its second, and so on until all is answered and both files still
-// work.
+// Runs the story with a file that stops at its first call, at its second, and so on, until all requests get a reply and both
+// files still work.
 fn each_stopped(
     alloc: Global,
     story: &Story,
@@ -169,7 +169,7 @@ fn each_stopped(
     Err("the file is called without end")
 }
 
-// Whether there was a desk, or else the files did not serve: also where the tables may be read and not be made anew.
+// Whether there was a desk, or it was unavailable: also if the tables can be read and cannot be migrated.
 fn is_unavailable_at_most(told: Told) -> bool {
     matches!(told.fault, None | Some(DeskFault::Unavailable))
 }
@@ -212,7 +212,7 @@ fn run(alloc: Global, story: &Story, calls: Calls) -> Option<Ran> {
     Some(Ran { told, files })
 }
 
-// Opens all that may be left of the files.
+// Opens everything that may be left of the files.
 fn looked_at(
     alloc: Global,
     story: &Story,
@@ -231,7 +231,7 @@ fn looked_at(
     Ok(count)
 }
 
-// Opens this log beside each of the database files.
+// Opens this log with each of the database files.
 fn looked_at_with(
     alloc: Global,
     story: &Story,
@@ -246,7 +246,7 @@ fn looked_at_with(
     Ok(count)
 }
 
-// Opens this log beside this database file.
+// Opens this log with this database file.
 fn found_judged(
     alloc: Global,
     story: &Story,
@@ -268,7 +268,7 @@ fn is_earlier(found: &Result<Office, DeskFault>) -> bool {
     matches!(found, Err(DeskFault::OtherVersion(1 | 2)))
 }
 
-// Counts tables of an earlier version, if the office is brought over from there.
+// Counts tables of an earlier version, if they hold the office to be migrated.
 fn earlier_judged(
     story: &Story,
     found: &Result<Office, DeskFault>,
@@ -284,7 +284,7 @@ fn earlier_judged(
     }
 }
 
-// The office that these bytes hold, or why there is none.
+// The office in these bytes, or why there is none. `None` if an allocation fails.
 fn office_in(
     alloc: Global,
     log: &[u8],
@@ -309,7 +309,7 @@ fn office_read(visited: Visited) -> Result<Office, DeskFault> {
     }
 }
 
-// Counts what was found, if it may be there.
+// Counts the office that was found, if the story allows it.
 fn judged(
     story: &Story,
     told: Told,
@@ -335,12 +335,12 @@ fn judged(
     Err("the office is neither the one before the command nor the one after it")
 }
 
-// Whether tables of an earlier version were to be migrated, and nobody was told that they are.
+// Whether tables of an earlier version were to be migrated, and the caller got no desk.
 fn is_brought_over(story: &Story, told: Told) -> bool {
     story.opening == Opening::Earlier && !told.is_open()
 }
 
-// Only an office that was not made to its end may be absent.
+// An office may be missing only if creating it did not succeed.
 fn fault_judged(
     story: &Story,
     told: Told,
@@ -355,7 +355,7 @@ fn fault_judged(
     }
 }
 
-// Whether this is the office after so many requests.
+// Whether this is the office after the given number of requests.
 fn is_nth(story: &Story, made: usize, found: &Office) -> bool {
     match story.offices.get(made) {
         Some(office) => is_same_office(office, found),

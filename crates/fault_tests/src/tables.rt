@@ -1,12 +1,12 @@
-//! Offices that lie in tables of an earlier version, or in the documented order, as statements make them.
+//! Offices in tables of an earlier version, or in the documented order, as statements create them.
 use crate::texts::{REGISTER, ROUND};
 
 /// Tables of an office, and lines that lead to the same office.
 #[derive(Clone, Copy, Drop)]
 pub struct Tables {
-    /// The statements that make them.
+    /// The statements that create them.
     pub statements: &'static [&'static str],
-    /// Whether they are of an earlier version, so that they are migrated, and not adopted.
+    /// Whether they are of an earlier version, so that they have to be migrated and cannot be adopted.
     pub are_earlier: bool,
     pub lines: &'static [&'static str],
 }
@@ -41,7 +41,7 @@ const GRADE_TABLE: &str =
 const GOING_TABLE: &str =
     "CREATE TABLE going(person TEXT PRIMARY KEY NOT NULL REFERENCES person(id)) STRICT;";
 
-// What the register and the round leave.
+// The rows that the register and the round leave.
 const ROWS: &str = "INSERT INTO room VALUES ('H1', 0), ('H2', 0), ('V', 0);
 INSERT INTO person VALUES ('T1', 'Tim Tan', 'key00000000000t1', 'H1', 0);
 INSERT INTO person VALUES ('T2', 'Tom Tao', 'key00000000000t2', 'H2', 0);
@@ -52,7 +52,7 @@ INSERT INTO word VALUES ('N', '0000000000000003'), ('T1', '0000000000000001');
 INSERT INTO word VALUES ('T2', '0000000000000002');
 INSERT INTO result VALUES ('N', 'V'), ('T1', 'H2'), ('T2', 'H1');";
 
-/// The tables of the first version in the documented order.
+/// The tables of version 1 in the documented order.
 pub const FIRST: Tables = Tables {
     statements: &[
         REGISTER_TABLES,
@@ -65,7 +65,7 @@ pub const FIRST: Tables = Tables {
     lines: &[REGISTER, ROUND],
 };
 
-/// Those of the first version in the order in which this program made them.
+/// The tables of version 1 in the order in which this program created them.
 pub const EARLIER_FIRST: Tables = Tables {
     statements: &[
         REGISTER_TABLES,
@@ -78,7 +78,7 @@ pub const EARLIER_FIRST: Tables = Tables {
     lines: &[REGISTER, ROUND],
 };
 
-/// Those of the second version, with a grade.
+/// The tables of version 2, with a grade.
 pub const SECOND: Tables = Tables {
     statements: &[
         REGISTER_TABLES,
@@ -93,7 +93,7 @@ pub const SECOND: Tables = Tables {
     lines: &[REGISTER, "grade N 2\n", ROUND],
 };
 
-/// Those of this version, in the documented order.
+/// The tables of this version in the documented order, with a grade.
 pub const THIRD: Tables = Tables {
     statements: &[
         REGISTER_TABLES,

@@ -1,4 +1,4 @@
-//! Lines that are told, and lists that come in, in several of these tests.
+//! Lines and lists that several of these tests share.
 
 /// Three rooms and three people, of whom two have a home.
 pub const REGISTER: &str = "\
@@ -11,7 +11,7 @@ person N key000000000000n Nia Noor\n\
 home T1 H1\n\
 home T2 H2\n";
 
-/// A round of them in which everybody moves, until the results are published. The order is T1, T2, N.
+/// A round of these people in which everybody moves, until the results are published. The order is T1, T2, N.
 pub const ROUND: &str = "\
 open\n\
 choose T1 H2\n\
@@ -22,8 +22,8 @@ draw 0000000000000003 0000000000000001 0000000000000002\n\
 run\n\
 publish\n";
 
-/// A round of them in which T2 leaves the college, until the results are published. T1 comes to T2's room, and then N, who goes
-/// behind, to T1's.
+/// A round of these people in which T2 leaves the college, until the results are published. T1 gets T2's room. N, who has a
+/// later grade, gets T1's.
 pub const LEAVING: &str = "\
 grade N 2\n\
 grade T1 1\n\
@@ -41,14 +41,14 @@ publish\n";
 /// Two rooms.
 pub const ROOMS: &str = "room\nH1\nH2\n";
 
-/// Three people, of whom one has a home: with a byte order mark, records that end as Windows has it, and quotes.
+/// Three people, of whom one has a home, with a byte order mark, records that end as on Windows, and quotes.
 pub const PEOPLE: &str = "\u{feff}person,name,key,home\r\n\
 E1,Ann Ash,key00000000000e1,H1\r\n\
 E2,\"Bo, B.\",key00000000000e2,\r\n\
 E3,Cy Coy,key00000000000e3,\r\n";
 
-/// Their grades: one stands there twice.
+/// Their grades. One person has two records.
 pub const GRADES: &str = "person,grade\nE2,3\nE1,0\nE3,9\nE2,1\n";
 
-/// What one of them wants.
+/// The list of one of them.
 pub const CHOICES: &str = "person,choices\nE1,H2\n";

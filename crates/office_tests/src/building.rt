@@ -1,4 +1,4 @@
-//! Values and requests as tests write them. Whoever writes a text that spells no value has the test end.
+//! Values and requests as tests write them. A text that is not a value ends the test.
 use office_core::{Command, Office};
 use office_store::{Answer, Desk, Request};
 use office_words::{Sentence, read_line};
@@ -7,12 +7,12 @@ use sqlite::MemStore;
 use std::alloc::Global;
 use std::process::Abort;
 
-/// The value that the text spells.
+/// Parses the text.
 pub fn text<G: Grammar>(rt: &impl Abort, alloc: Global, text: &str) -> Text<G> {
     Text::read(alloc, text).expect(rt, text)
 }
 
-/// The same of a text that may be absent.
+/// Parses the text, if there is one.
 pub fn optional<G: Grammar>(
     rt: &impl Abort,
     alloc: Global,
@@ -24,7 +24,7 @@ pub fn optional<G: Grammar>(
     }
 }
 
-/// A list of these rooms.
+/// A preference list of these rooms.
 pub fn choices(rt: &impl Abort, alloc: Global, codes: &[&str]) -> Choices {
     let mut rooms: Vec<RoomCode> = Vec::new(alloc);
     for code in codes {
@@ -55,12 +55,12 @@ pub fn add_person(
     })
 }
 
-/// A desk in memory, with an empty office.
+/// A desk in memory with an empty office.
 pub fn new_desk(rt: &impl Abort, alloc: Global) -> Desk<MemStore> {
     Desk::in_memory(alloc).expect(rt, "a desk in memory")
 }
 
-/// Whether nothing but rooms is in the office, before its first round.
+/// Whether the office has nothing but rooms, and no round yet.
 pub fn is_bare(office: &Office) -> bool {
     let people = office.people.len() == 0 && office.withdrawn.len() == 0;
     let lists = office.choices.len() == 0 && office.lists.len() == 0;
@@ -89,7 +89,7 @@ fn line_asked(rt: &impl Abort, alloc: Global, line: &str) -> Request {
     }
 }
 
-/// What the desk answers to these requests.
+/// The desk's answers to these requests.
 pub fn answers(
     rt: &impl Abort,
     alloc: Global,

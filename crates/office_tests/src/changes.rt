@@ -1,4 +1,4 @@
-//! The changes of two commands, stored in a database in memory, with ample memory.
+//! Tests of storing two batches of changes, of all kinds but `KeepList`, in a database in memory, with enough memory.
 use crate::asserting::assert_same;
 use crate::building::{choices, text};
 use office_changes::store_changes;
@@ -9,7 +9,7 @@ use sqlite::{Connection, MemStore};
 use std::alloc::Global;
 use std::process::Abort;
 
-// What the tables answer after the changes.
+// Queries, and their counts after the changes.
 const STORED: [(&str, i64); 11] = [
     (
         "SELECT count(*) FROM room WHERE code = 'H1' AND shut = 1",
@@ -76,7 +76,7 @@ fn count(rt: &impl Abort, conn: &mut Connection<MemStore>, query: &str) -> i64 {
     row.get(0).expect(rt, query)
 }
 
-// A person without a home.
+// Adds a person without a home.
 fn newcomer(rt: &impl Abort, alloc: Global, id: &str, key: &str) -> Change {
     Change::PutPerson {
         person: text(rt, alloc, id),

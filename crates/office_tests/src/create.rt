@@ -1,4 +1,4 @@
-//! A new office, and each statement over its tables, with ample memory.
+//! Tests of creating an office, and of each statement over its tables, with enough memory.
 use crate::asserting::assert_same;
 use crate::building::text;
 use office_create::{CreateFault, create};
@@ -36,7 +36,7 @@ fn leaves_what_others_declared(rt: HostRuntime) {
     assert!(rt; count(&rt, &mut conn, others) == 0);
 }
 
-// The name of any table of an office may be taken.
+// Each name of a table of an office may be taken.
 #[test]
 fn finds_names_that_are_taken(rt: HostRuntime) {
     for name in [
@@ -46,7 +46,7 @@ fn finds_names_that_are_taken(rt: HostRuntime) {
     }
 }
 
-// Whether a table of this name keeps an office from being made.
+// Whether a table of this name prevents that an office is created.
 fn is_taken(rt: &impl Abort, alloc: Global, name: &str) -> bool {
     let mut conn = Connection::open_in_memory(alloc).expect(rt, "memory");
     let declared = format!(in alloc; "CREATE TABLE {name}(text TEXT)").expect(rt, "memory");
@@ -55,7 +55,7 @@ fn is_taken(rt: &impl Abort, alloc: Global, name: &str) -> bool {
     outside && create(&mut conn) == Err(CreateFault::AlreadyThere)
 }
 
-// Whether no office can be made there.
+// Whether creating an office there fails as unavailable.
 fn is_refused(conn: &mut Connection<MemStore>) -> bool {
     let outside = conn.is_autocommit();
     outside && create(conn) == Err(CreateFault::Unavailable)
@@ -67,7 +67,7 @@ fn count(rt: &impl Abort, conn: &mut Connection<MemStore>, query: &str) -> i64 {
     row.get(0).expect(rt, query)
 }
 
-// What one row in each table answers.
+// Queries, and their counts once each table has one row.
 const ADDED: [(&str, i64); 9] = [
     (
         "SELECT count(*) FROM room WHERE code = 'H1' AND shut = 0",
@@ -104,7 +104,7 @@ const ADDED: [(&str, i64); 9] = [
     ("SELECT count(*) FROM going WHERE person = 'T1'", 1),
 ];
 
-// What the tables answer once their rows are gone.
+// Queries, and their counts once the rows are cleared.
 const CLEARED: [(&str, i64); 7] = [
     ("SELECT count(*) FROM room WHERE shut = 1", 1),
     ("SELECT count(*) FROM person", 0),
@@ -185,7 +185,7 @@ fn clear(
     Ok(())
 }
 
-// That each query counts so many rows.
+// Asserts that each query counts this number of rows.
 fn has_rows(rt: &impl Abort, tx: &mut Transaction<'_, MemStore>, counts: &[(&str, i64)]) {
     for (query, wanted) in counts {
         let row = tx.query_row(query, &[]).expect(rt, query);

@@ -1,4 +1,4 @@
-//! Offices in files. One call closes each file, since each place where a file may be closed is proved by itself.
+//! Tests of offices in files. One call closes each file, because each place where a file may be closed is proved by itself.
 use crate::asserting::assert_same;
 use crate::building::{add_room, is_bare};
 use office_core::Reply;
@@ -16,7 +16,7 @@ fn make_folder(rt: &HostRuntime, folder: &str) -> io::Result<()> {
     fs::create_dir(rt, folder)
 }
 
-// Why there is no desk, or none where there is one.
+// The fault if there is no desk. Closes the file.
 fn fault(opened: Opened) -> Option<DeskFault> {
     let fault = match &opened {
         Ok(_) => None,
@@ -26,7 +26,7 @@ fn fault(opened: Opened) -> Option<DeskFault> {
     fault
 }
 
-// How many rooms the office has before and after the room H1 is added, if there is a desk.
+// The number of rooms before and after the room H1 is added, if there is a desk. Closes the file.
 fn room_added(rt: &impl Abort, alloc: Global, mut opened: Opened) -> Option<(usize, usize)> {
     let counts = match &mut opened {
         Ok(desk) => Some(counts(rt, alloc, desk)),
@@ -43,14 +43,14 @@ fn counts(rt: &impl Abort, alloc: Global, desk: &mut FileDesk<Wary>) -> (usize, 
     (before, if done { after } else { before })
 }
 
-// Whether the room is added.
+// Adds the room H1 and returns whether the desk accepted it.
 fn adds_room(rt: &impl Abort, alloc: Global, desk: &mut FileDesk<Wary>) -> bool {
     let requests = [add_room(rt, alloc, "H1")];
     let answers = desk.handle_all(alloc, &requests).expect(rt, "memory");
     matches!(answers.as_slice(), [Answer::Reply(Reply::Done)])
 }
 
-// How many rooms the office in the file has. It must have nothing else.
+// The number of rooms of the office in the file. It must have nothing else.
 fn room_count(rt: &impl Abort, alloc: Global, desk: &mut FileDesk<Wary>) -> usize {
     let office = desk.load(alloc).expect(rt, "an office in the file");
     assert_same!(rt; is_bare(&office), true);

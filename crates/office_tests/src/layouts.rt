@@ -1,4 +1,4 @@
-//! The documented statements that make the tables of an office, and the orders in which such tables are made.
+//! The documented statements that create the tables of an office, and the orders in which such tables are created.
 use office_tables::layouts::Layout;
 use sqlite::{Connection, MemStore};
 use std::alloc::Global;
@@ -36,17 +36,17 @@ const GRADE: &str = "CREATE TABLE grade(person TEXT PRIMARY KEY NOT NULL REFEREN
 const GOING: &str =
     "CREATE TABLE going(person TEXT PRIMARY KEY NOT NULL REFERENCES person(id)) STRICT;";
 
-// The order in which a new office has its tables.
+// The order of the tables in a new office.
 const OWN: [&str; 10] = [
     ROOM, PERSON, ROUND, MOVE, LIST, GRADE, WORD, RESULT, CHOICE, GOING,
 ];
 
-// The documented order. The first nine of these are version 2, and the first eight version 1.
+// The documented order. The first nine tables are version 2, and the first eight are version 1.
 const DOCUMENTED: [&str; 10] = [
     ROOM, PERSON, ROUND, CHOICE, WORD, RESULT, MOVE, LIST, GRADE, GOING,
 ];
 
-// The other order in which version 1 was made.
+// The other order of the tables of version 1.
 const EARLIER: [&str; 8] = [ROOM, PERSON, ROUND, MOVE, LIST, WORD, RESULT, CHOICE];
 
 /// A database in memory with the tables of this layout, without rows.

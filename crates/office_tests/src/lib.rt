@@ -1,4 +1,4 @@
-//! What no clause says of the office and of its tables: that calls succeed with ample memory, at worked examples.
+//! Tests of what no contract states about the office and its tables: that calls succeed with enough memory, at worked examples.
 #![tactic(auto)]
 
 #[cfg(test)]

@@ -1,4 +1,4 @@
-//! Loading what the documented statements wrote, in each order of tables, and what is no office.
+//! Tests of loading rows that the documented statements wrote, in each order of tables, and of rows that are no office's.
 use crate::layouts::tables_made;
 use office_core::Office;
 use office_load::held;
@@ -9,7 +9,7 @@ use std::alloc::Global;
 use std::process::Abort;
 
 // An office after its second round is published: T1 moves from H1 to R1, and N1 has withdrawn. In the first round T1 got H1,
-// and somebody who is gone took part in a swap. The people do not stand in the order of their identifiers.
+// and a person who has since left took part in a swap. The rows of the people are not in the order of their identifiers.
 const ROWS: &str = "
 INSERT INTO room VALUES ('H1', 0), ('R1', 0), ('S1', 1);
 INSERT INTO person VALUES ('T1', 'Tim Tan', 'aaaaaaaaaaaaaaaa', 'H1', 0);
@@ -25,12 +25,12 @@ INSERT INTO move VALUES (1, 'N9', 'H1', 'S1', NULL);";
 // The same with two grades.
 const GRADES: &str = "UPDATE round SET version = 2; INSERT INTO grade VALUES ('T1', 9), ('N1', 1);";
 
-// The same where L1 leaves the college, and somebody left it after the first round.
+// The same, but L1 leaves the college, and a person left it after the first round.
 const LEAVERS: &str =
     "UPDATE round SET version = 3; INSERT INTO move VALUES (1, 'N8', 'R1', NULL, 0);
 UPDATE person SET withdrawn = 0 WHERE id = 'L1'; INSERT INTO going VALUES ('L1');";
 
-// Statements that leave no office's rows, each with one that mends it.
+// Statements after which the rows are no office's, each with one that undoes it.
 const BREAKS: [(&str, &str); 3] = [
     (
         "UPDATE result SET room = 'H1'",
@@ -46,7 +46,7 @@ const BREAKS: [(&str, &str); 3] = [
     ),
 ];
 
-// The same in tables with leavers.
+// The same for tables with leavers.
 const LEAVERS_BREAK: [(&str, &str); 3] = [
     (
         "UPDATE person SET withdrawn = 1 WHERE id = 'L1'",
@@ -62,7 +62,7 @@ const LEAVERS_BREAK: [(&str, &str); 3] = [
     ),
 ];
 
-// The tables in this layout, with the rows of the office above.
+// A database with the tables in this layout and the rows of the office above.
 fn office_made(rt: &impl Abort, alloc: Global, layout: Layout) -> Connection<MemStore> {
     let mut conn = tables_made(rt, alloc, layout);
     conn.execute_batch(ROWS).expect(rt, ROWS);
@@ -75,7 +75,7 @@ fn office_made(rt: &impl Abort, alloc: Global, layout: Layout) -> Connection<Mem
     conn
 }
 
-// Whether the tables are those of the office above.
+// Whether the tables hold the office above.
 fn is_office(
     rt: &impl Abort,
     alloc: Global,
@@ -105,7 +105,7 @@ fn is_published(office: &Office, layout: Layout) -> bool {
         && office.withdrawn.len() == 2 - leavers
 }
 
-// That they are, but not while they are broken.
+// Asserts that the tables hold that office, but not while a break is in effect.
 fn stands_and_breaks(
     rt: &impl Abort,
     alloc: Global,

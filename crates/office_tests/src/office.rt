@@ -1,5 +1,5 @@
-//! What no line of input asks for, a home from the start and as many people as there may be, and a small round by
-//! the calls themselves, with a copy of what it leaves.
+//! Tests through calls of `office_core`: what no line of input can request, a home from the start and the largest number of
+//! people; and a small round, with a copy of the office after it.
 ghost use Rattle.std.specs.Prelude.{◌≡◌, IfOk};
 ghost use Rattle.office_state.specs.Change.{applied_all};
 ghost use Rattle.office_state.specs.Office.Invariants.{IsLawful};
@@ -10,7 +10,7 @@ use room_types::{ListKind, Listing, OutOfMemory, Phase, RoomCode, Wave, Word};
 use std::alloc::{AllocError, Global};
 use std::process::Abort;
 
-// Carries a command out on a copy, which takes the office's place.
+// Carries a command out on a copy, which then replaces the office.
 fn carry_out(alloc: Global, office: &mut Office, command: &Command) -> Result<(), Refusal>
     requires { IsLawful office.old }
     ensures { IsLawful office.new }
@@ -20,7 +20,7 @@ fn carry_out(alloc: Global, office: &mut Office, command: &Command) -> Result<()
     Ok(())
 }
 
-// A copy of the office, with the changes applied in turn.
+// A copy of the office with the changes applied in turn.
 fn changed(office: &Office, changes: &[Change]) -> Result<Office, OutOfMemory>
     ensures { IfOk result (λ next. next ≡ applied_all office.now changes.now) }
 {
@@ -31,7 +31,7 @@ fn changed(office: &Office, changes: &[Change]) -> Result<Office, OutOfMemory>
     Ok(next)
 }
 
-// Carries the commands out in turn, each of which must be accepted.
+// Carries the commands out in turn. Each must be accepted.
 fn carry_out_all(rt: &impl Abort, alloc: Global, office: &mut Office, commands: &[Command])
     requires { IsLawful office.old }
     ensures { IsLawful office.new }
@@ -41,7 +41,7 @@ fn carry_out_all(rt: &impl Abort, alloc: Global, office: &mut Office, commands: 
     }
 }
 
-// A person with a home from the start.
+// Adds a person with a home from the start.
 fn tenant(rt: &impl Abort, alloc: Global, id: &str, key: &str, home: &str) -> Command {
     Command::AddPerson {
         person: text(rt, alloc, id),
@@ -51,7 +51,7 @@ fn tenant(rt: &impl Abort, alloc: Global, id: &str, key: &str, home: &str) -> Co
     }
 }
 
-// Two rooms, and a tenant in the first.
+// Adds two rooms, and a tenant in the first.
 fn furnish(rt: &impl Abort, alloc: Global, office: &mut Office)
     requires { IsLawful office.old }
     ensures { IsLawful office.new }
@@ -68,7 +68,7 @@ fn furnish(rt: &impl Abort, alloc: Global, office: &mut Office)
     carry_out_all(rt, alloc, office, &commands);
 }
 
-// The number of the refusal of the command, or 0 for none.
+// The number of the command's refusal, or 0 for none.
 fn refused(alloc: Global, office: &Office, command: &Command) -> u8
     requires { IsLawful office.now }
 {
@@ -78,7 +78,7 @@ fn refused(alloc: Global, office: &Office, command: &Command) -> u8
     }
 }
 
-// The same of a newcomer with this home.
+// The same for adding a newcomer with this home.
 fn refused_home(rt: &impl Abort, alloc: Global, office: &Office, home: &str) -> u8
     requires { IsLawful office.now }
 {
@@ -86,7 +86,7 @@ fn refused_home(rt: &impl Abort, alloc: Global, office: &Office, home: &str) -> 
     refused(alloc, office, &newcomer)
 }
 
-// A home that is not known, one that is shut and one where somebody lives.
+// An unknown home, a shut one, and one where a person lives.
 #[test]
 fn refuses_a_home_from_the_start(rt: HostRuntime) {
     let alloc = rt.alloc();
@@ -99,7 +99,7 @@ fn refuses_a_home_from_the_start(rt: HostRuntime) {
     assert!(rt; refused_home(&rt, alloc, &office, "H") == 8);
 }
 
-// A round of the tenant alone, who asks for the vacant room.
+// A round with the tenant alone, who lists the vacant room.
 fn hold_round(rt: &impl Abort, alloc: Global, office: &mut Office)
     requires { IsLawful office.old }
     ensures { IsLawful office.new }
@@ -119,7 +119,7 @@ fn hold_round(rt: &impl Abort, alloc: Global, office: &mut Office)
     carry_out_all(rt, alloc, office, &commands);
 }
 
-// How many moves the round had.
+// The number of moves of the first round.
 fn move_count(alloc: Global, office: &Office) -> Result<usize, Refusal>
     requires { IsLawful office.now }
 {
@@ -138,10 +138,10 @@ fn moves_into_a_vacant_room(rt: HostRuntime) {
     assert!(rt; matches!(move_count(alloc, &office), Ok(1)));
 }
 
-// The list under a label, which adds a room.
+// A list that adds a room.
 const LIST: &[u8] = b"room\nW\n";
 
-// The list comes in.
+// Imports the list.
 fn import(rt: &impl Abort, alloc: Global, office: &mut Office)
     requires { IsLawful office.old }
     ensures { IsLawful office.new }
@@ -173,7 +173,7 @@ fn is_room(found: &Option<RoomCode>, room: &str) -> bool {
     }
 }
 
-// Whether the tenant is there alone, and lives in V.
+// Whether the tenant is the only person and lives in V.
 fn has_tenant(rt: &impl Abort, alloc: Global, office: &Office) -> bool {
     let id = text(rt, alloc, "T");
     match office.people.get(&id) {
@@ -187,7 +187,7 @@ fn has_tenant(rt: &impl Abort, alloc: Global, office: &Office) -> bool {
     }
 }
 
-// Whether the tenant alone has moved in the round, from H to V.
+// Whether the tenant is the only person who moved in the round, from H to V.
 fn has_move(rt: &impl Abort, alloc: Global, office: &Office) -> bool {
     let id = text(rt, alloc, "T");
     let Some(moves) = office.moves.get(1) else {
@@ -204,7 +204,7 @@ fn has_move(rt: &impl Abort, alloc: Global, office: &Office) -> bool {
     }
 }
 
-// Whether the list is kept alone, as it came.
+// Whether the list is the only stored import, with its bytes unchanged.
 fn has_list(rt: &impl Abort, alloc: Global, office: &Office) -> bool {
     let label = text(rt, alloc, "r-1");
     match office.lists.get(&label) {
@@ -218,7 +218,7 @@ fn has_list(rt: &impl Abort, alloc: Global, office: &Office) -> bool {
     }
 }
 
-// Whether the first round is over, and nothing is left of it but its move.
+// Whether the first round is over, and only its move is left of it.
 fn is_over(office: &Office) -> bool {
     let lists = office.choices.len() == 0 && office.withdrawn.len() == 0;
     let others = office.grades.len() == 0 && office.going.len() == 0;
@@ -226,14 +226,14 @@ fn is_over(office: &Office) -> bool {
     lists && others && draw && office.number == 1 && office.phase == Phase::Idle
 }
 
-// Whether all this is so, which leaves nothing of the office open.
+// Whether all of this holds, which covers each part of the office.
 fn is_settled(rt: &impl Abort, alloc: Global, office: &Office) -> bool {
     let register = has_rooms(rt, alloc, office) && has_tenant(rt, alloc, office);
     let records = has_move(rt, alloc, office) && has_list(rt, alloc, office);
     register && records && is_over(office)
 }
 
-// The copy is the office: each of its parts is what it has to be in both.
+// The copy equals the office: each part has the expected value in both.
 #[test]
 fn copies_lists_and_moves(rt: HostRuntime) {
     let alloc = rt.alloc();
@@ -247,7 +247,7 @@ fn copies_lists_and_moves(rt: HostRuntime) {
     assert!(rt; is_settled(&rt, alloc, &copy));
 }
 
-// Puts a person without a home, whose identifier and key end in this number.
+// Adds a person without a home, whose identifier and key end in this number.
 fn put_person(
     rt: &impl Abort,
     alloc: Global,
@@ -266,7 +266,7 @@ fn put_person(
     Ok(())
 }
 
-// A person without a home.
+// Adds a person without a home.
 fn newcomer(rt: &impl Abort, alloc: Global, id: &str, key: &str) -> Command {
     Command::AddPerson {
         person: text(rt, alloc, id),
@@ -276,7 +276,7 @@ fn newcomer(rt: &impl Abort, alloc: Global, id: &str, key: &str) -> Command {
     }
 }
 
-// The number of the refusal of the person after one more, who must be accepted, or 0 for none.
+// Adds a person, who must be accepted, and returns the number of the refusal of one more, or 0 for none.
 fn refused_next(rt: &impl Abort, alloc: Global, office: &mut Office) -> u8
     requires { IsLawful office.old }
 {
@@ -286,7 +286,7 @@ fn refused_next(rt: &impl Abort, alloc: Global, office: &mut Office) -> u8
     refused(alloc, office, &next)
 }
 
-// The same, or 0 where the office is not lawful.
+// The same, or 0 if the office is not lawful.
 fn refused_person(rt: &impl Abort, alloc: Global, office: &mut Office) -> u8 {
     if sound(alloc, office).expect(rt, "memory") {
         refused_next(rt, alloc, office)
@@ -295,7 +295,7 @@ fn refused_person(rt: &impl Abort, alloc: Global, office: &mut Office) -> u8 {
     }
 }
 
-// All people but the last that there may be come by changes, that one by a command.
+// All people but the last one allowed are added by changes, and that one by a command.
 #[test]
 fn refuses_one_person_too_many(rt: HostRuntime) {
     let alloc = rt.alloc();

@@ -1,4 +1,4 @@
-//! Each reader once with ample memory, on rows out of order.
+//! Tests of each reader once, with enough memory, on rows that are not in order.
 use crate::building::{optional, text};
 use office_rows::{
     ChoiceRecord, OfficeRecords, PersonRecord, RoundRecord, read_choices, read_keys, read_moves,
@@ -9,7 +9,7 @@ use room_types::{Grade, Label, ListKind, Listing, Move, PersonId, Phase, RoomCod
 use std::alloc::Global;
 use std::process::Abort;
 
-// Two rooms, the later one first.
+// Two rooms, of which the later one is first.
 fn rooms(rt: &impl Abort, alloc: Global) -> Vec<(RoomCode, bool)> {
     vec![in alloc;
         (text(rt, alloc, "H2"), false),
@@ -37,7 +37,7 @@ fn person(
     }
 }
 
-// A tenant, who has withdrawn, and a newcomer.
+// A tenant who has withdrawn, and a newcomer.
 fn people(rt: &impl Abort, alloc: Global) -> Vec<PersonRecord> {
     vec![in alloc;
         person(rt, alloc, "T", "key00000000000t1", Some("H1"), true),
@@ -54,12 +54,12 @@ fn choice(rt: &impl Abort, alloc: Global, place: u64, room: &str) -> ChoiceRecor
     }
 }
 
-// The newcomer wants H2 most, and then H1.
+// The newcomer ranks H2 before H1.
 fn choices(rt: &impl Abort, alloc: Global) -> Vec<ChoiceRecord> {
     vec![in alloc; choice(rt, alloc, 1, "H1"), choice(rt, alloc, 0, "H2")].expect(rt, "memory")
 }
 
-// So many times the same move.
+// The same move the given number of times.
 fn moves(rt: &impl Abort, alloc: Global, times: usize) -> Vec<Move> {
     let mut moves = Vec::new(alloc);
     for _ in 0..times {
@@ -116,7 +116,7 @@ fn refuses_a_second_move_of_a_round(rt: HostRuntime) {
     }
 }
 
-// A list that came in under a label and added so many records.
+// A list imported under a label, which added the given number of records.
 fn lists(rt: &impl Abort, alloc: Global, count: u16) -> Vec<(Label, KeptList)> {
     let kept = KeptList {
         kind: ListKind::Rooms,
@@ -140,7 +140,7 @@ fn people_called(rt: &impl Abort, alloc: Global, ids: &[&str]) -> Vec<PersonId> 
     people
 }
 
-// All rows of an office, but perhaps of no lawful one.
+// The rows of all tables. They need not be those of a lawful office.
 fn records(
     rt: &impl Abort,
     alloc: Global,
@@ -162,7 +162,7 @@ fn records(
     }
 }
 
-// Whether these rows are a lawful office's of this version, with so many leavers.
+// Whether these rows are those of a lawful office in tables of this version, with this number of leavers.
 fn is_read(
     rt: &impl Abort,
     alloc: Global,
@@ -179,7 +179,7 @@ fn is_read(
     }
 }
 
-// Between rounds no office has lists.
+// Only an open or closed round may have these rows: between rounds no office has preference lists, and a drawn round has words.
 #[test]
 fn reads_a_lawful_office_alone(rt: HostRuntime) {
     let alloc = rt.alloc();
@@ -192,7 +192,7 @@ fn reads_a_lawful_office_alone(rt: HostRuntime) {
     assert!(rt; read_round(round.as_slice(), 3).is_some());
 }
 
-// A kept list adds 10,000 records at most.
+// An import adds at most 10,000 records.
 #[test]
 fn keeps_lists_of_few_records(rt: HostRuntime) {
     let alloc = rt.alloc();
@@ -211,7 +211,7 @@ fn reads_rows_of_one_version(rt: HostRuntime) {
     }
 }
 
-// Leavers are people who have not withdrawn, each of whom stands there once.
+// A leaver is a person who has not withdrawn, and has one row.
 #[test]
 fn reads_leavers(rt: HostRuntime) {
     let alloc = rt.alloc();

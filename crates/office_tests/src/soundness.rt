@@ -1,9 +1,9 @@
-//! The test of an office, with ample memory.
+//! Tests of `sound` with enough memory.
 use office_core::{Office, sound};
 use room_types::{OutOfMemory, Phase};
 use std::process::Abort;
 
-// Between rounds nothing is left over, and a round has a number.
+// The empty office is lawful. An open round has to have a number.
 #[test]
 fn tells_lawful_offices(rt: HostRuntime) -> Result<(), OutOfMemory> {
     let alloc = rt.alloc();

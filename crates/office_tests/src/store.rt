@@ -1,4 +1,4 @@
-//! Requests with ample memory.
+//! Tests of desks with enough memory.
 mod adopting;
 mod exporting;
 mod importing;
@@ -16,7 +16,7 @@ use sqlite::{Connection, MemStore};
 use std::alloc::Global;
 use std::process::Abort;
 
-// A room is added twice, and the rooms are asked for.
+// Adds a room twice, and queries the rooms.
 fn about_one_room(rt: &impl Abort, alloc: Global) -> Vec<Request> {
     vec![in alloc;
         add_room(rt, alloc, "H1"),
@@ -35,7 +35,7 @@ fn handles_requests_in_turn(rt: HostRuntime) {
     assert!(rt; are_of_one_room(&answers));
 }
 
-// The room is added, is there already, and is shown.
+// Whether the answers say that the room was added, then that it exists already, and then show it.
 fn are_of_one_room(answers: &[Answer]) -> bool {
     match answers {
         [
@@ -47,7 +47,7 @@ fn are_of_one_room(answers: &[Answer]) -> bool {
     }
 }
 
-// The room is shown alone, and is free.
+// Whether the answer shows H1 alone, which is free.
 fn is_one_room(answer: &Answer) -> bool {
     match answer {
         Answer::Reply(Reply::Rooms(rows)) => matches!(rows.as_slice(), [row]
@@ -71,7 +71,7 @@ fn keeps_an_office_in_tables(rt: HostRuntime) {
     assert!(rt; round_number(&rt, alloc, &mut desk) == 1);
 }
 
-// A desk that has made its tables in a new database.
+// A desk that has created its tables in a new database.
 fn created(rt: &impl Abort, alloc: Global) -> Desk<MemStore> {
     let conn = Connection::open_in_memory(alloc).expect(rt, "memory");
     match Desk::create(alloc, conn) {
@@ -86,7 +86,7 @@ fn shows_empty_office(rt: &impl Abort, alloc: Global, desk: &mut Desk<MemStore>)
     office.rooms.len() == 0 && is_bare(&office)
 }
 
-// A room is added, and the first round is open.
+// Whether the answers say that a room was added and the first round is open.
 fn are_of_an_open_round(answers: &[Answer]) -> bool {
     matches!(
         answers,
@@ -97,14 +97,14 @@ fn are_of_an_open_round(answers: &[Answer]) -> bool {
     )
 }
 
-// The number of the round, as the tables have it.
+// The number of the round in the tables.
 fn round_number(rt: &impl Abort, alloc: Global, desk: &mut Desk<MemStore>) -> u16 {
     desk.load(alloc)
         .expect(rt, "an office in the tables")
         .number
 }
 
-// Tables are made once: the connection that comes back still holds the office.
+// A desk creates its tables once: the connection that a second attempt returns still holds the office.
 #[test]
 fn makes_tables_once(rt: HostRuntime) {
     let alloc = rt.alloc();
@@ -117,7 +117,7 @@ fn makes_tables_once(rt: HostRuntime) {
     assert!(rt; holds_one_room(alloc, conn));
 }
 
-// Why no new office is made where this desk has its own, or none if one is, and the connection.
+// Tries to create a new office over the desk's database. Returns the fault, if any, and the connection.
 fn made(alloc: Global, desk: Desk<MemStore>) -> (Option<DeskFault>, Connection<MemStore>) {
     match Desk::create(alloc, desk.release()) {
         Ok(desk) => (None, desk.release()),
@@ -125,7 +125,7 @@ fn made(alloc: Global, desk: Desk<MemStore>) -> (Option<DeskFault>, Connection<M
     }
 }
 
-// Whether a desk adopts the database, and shows one room.
+// Whether a desk adopts the database and shows one room.
 fn holds_one_room(alloc: Global, conn: Connection<MemStore>) -> bool {
     let outside = conn.is_autocommit();
     if !outside {

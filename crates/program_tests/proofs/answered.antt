@@ -1,4 +1,4 @@
--- The rows of the replies that a desk gives ascend.
+-- The rows of each reply of a desk ascend.
 use Rattle.std.proofs.Common.{ℕ, List, [], ◌∷◌, Option, Some, None, Result, Ok, Err, IfOk, All, inl, inr, refl, sym, subst}
 use Rattle.std.proofs.lemmas.List.Elements.{All-cons, All-nil}
 use Rattle.office_state.specs.declared.office.Office.{Office}
@@ -25,12 +25,12 @@ answered-tells : (said : Result CoreReply Refusal) → Tells said said
 answered-tells (Ok reply) = refl
 answered-tells (Err refusal) = inl refl
 
--- the answer to a query
+-- The answer to a query.
 answered-told_ascends : (said : Result CoreReply Refusal) → IfOk said RowsAscend → AnswerAscends (answer_told said)
 answered-told_ascends (Ok reply) ascends = ascends
 answered-told_ascends (Err refusal) ascends = tt
 
--- the reply to a command, which has no rows
+-- The reply to a command, which has no rows.
 answered-added_ascends : (kept : Option KeptList) (bytes : List ℕ) → RowsAscend (reply_where kept bytes)
 answered-added_ascends None bytes = tt
 answered-added_ascends (Some kept) bytes = tt
@@ -61,7 +61,7 @@ answered-but_ascends : (refused : Option Refusal) (reply : CoreReply) → RowsAs
 answered-but_ascends None reply ascends = ascends
 answered-but_ascends (Some refusal) reply ascends = tt
 
--- the answer of an office
+-- The answer of an office.
 answered-office_ascends : (office : Office) (asked : Request) → AnswerAscends (answer_to office asked)
 answered-office_ascends office (request.Office given) =
     answered-but_ascends (accepts office given) (reply_to office given) (answered-reply_ascends office given)
@@ -69,14 +69,14 @@ answered-office_ascends office (request.Ask asked) =
     answered-told_ascends (told office asked)
     (reply_rows-answer_ascends office asked (told office asked) (answered-tells (told office asked)))
 
--- the answer of a desk
+-- The answer of a desk.
 pub answered-desk_ascends : {S : Type 0} (g : Ghosts S) (old : DeskState S) (asked : Request) (answer : Answer) (new : DeskState S) → IsTold g old asked answer new → AnswerAscends answer
 answered-desk_ascends g old asked answer new given = elim given [
   | inl some ↦ subst AnswerAscends (sym some.1.answers) (answered-office_ascends some.0 asked)
   | inr none ↦ subst AnswerAscends (sym none.0) tt
 ]
 
--- all answers of a run
+-- The answers of a run.
 pub answered-run_ascends : {H : Type 0} (handles : H → Request → Answer → H → Type 0)
     → ((old : H) (asked : Request) (answer : Answer) (new : H) → handles old asked answer new → AnswerAscends answer)
     → (old : H) (requests : List Request) (answers : List Answer) (new : H) → IsRun handles old requests answers new → All AnswerAscends answers

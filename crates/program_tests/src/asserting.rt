@@ -1,18 +1,23 @@
-//! Equality as tests assert it: proved here once, so that each assertion is one call where it stands.
+//! Assertions as calls of these functions, so that `assert_eq!` is proved once and not at each place of use.
 use std::fmt::Debug;
 use std::process::Abort;
 
-/// Ends the test unless what was found is what was wanted. The note says what is compared, or in which case.
+/// Ends the test unless `found` equals `wanted`. The note says what is compared, or in which case.
 pub fn same<T: PartialEq + Debug>(rt: &impl Abort, found: &T, wanted: &T, note: &str) {
     assert_eq!(rt; *found, *wanted, "{note}");
 }
 
-/// The same at the case of this number.
+/// The same, with the number of the case for a note.
 pub fn same_at<T: PartialEq + Debug>(rt: &impl Abort, found: &T, wanted: &T, case: usize) {
     assert_eq!(rt; *found, *wanted, "{case}");
 }
 
-/// `assert_eq!` by a call of `same`; in place of a format it takes a text.
+/// The same, with the words that led to `found` for a note.
+pub fn same_of<T: PartialEq + Debug>(rt: &impl Abort, words: &[&str], found: &T, wanted: &T) {
+    assert_eq!(rt; *found, *wanted, "{words:?}");
+}
+
+/// Like `assert_eq!`, but a call of `same`, with a text in place of a format.
 macro_rules! assert_same {
     ($rt:expr; $found:expr, $wanted:expr $(,)?) => {
         $crate::asserting::same(&$rt, &$found, &$wanted, stringify!($found))

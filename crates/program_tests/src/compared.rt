@@ -1,6 +1,5 @@
-//! A round of 200 people with drawn lists, grades and leavers, compared with plain programs of the definitions: the results, and the
-//! day of moving.
-use crate::asserting::assert_same;
+//! Tests of rounds of 200 people with random lists, grades and leavers. The results and the moves are compared with those of
+//! plain programs that follow the definitions.
 use crate::scripts::rehearsed;
 use office_lines::Ending;
 use std::alloc::{AllocError, Global};
@@ -12,12 +11,12 @@ const PEOPLE: usize = 200;
 
 const ROOMS: usize = 210;
 
-// How many people have a home: person i lives in room i.
+// The number of people who have a home. Each of the first people lives in the room of the same number.
 const TENANTS: usize = 140;
 
 const ENTRIES: usize = 12;
 
-// A small generator, for lists and words that are the same each time.
+// A linear congruential generator, so that lists and words are the same in each run.
 #[derive(Drop)]
 struct Dice {
     state: u64,
@@ -33,7 +32,7 @@ impl Dice {
     }
 }
 
-// What is drawn for a person: a list, a word and a grade.
+// A random person: a list, a word, a grade, and whether the person leaves.
 #[derive(Drop)]
 struct Resident {
     list: Vec<usize>,
@@ -43,7 +42,7 @@ struct Resident {
     leaves: bool,
 }
 
-// Most people have grade 0, and some tenants leave the college.
+// Draws a person. Most people have grade 0, and some tenants leave the college.
 fn new_resident(alloc: Global, dice: &mut Dice, person: usize) -> Result<Resident, AllocError> {
     let list = drawn_list(alloc, dice)?;
     let word = dice.throw() % 150;
@@ -57,7 +56,7 @@ fn new_resident(alloc: Global, dice: &mut Dice, person: usize) -> Result<Residen
     })
 }
 
-// Rooms in the order drawn, none twice.
+// Draws a list of rooms without repetitions.
 fn drawn_list(alloc: Global, dice: &mut Dice) -> Result<Vec<usize>, AllocError> {
     let mut list = Vec::new(alloc);
     for _entry in 0..ENTRIES {
@@ -73,7 +72,7 @@ fn home_of(person: usize) -> Option<usize> {
     if person < TENANTS { Some(person) } else { None }
 }
 
-// The list as it counts: what stands before the own room.
+// The entries of the list before the person's home, which are the ones that count.
 fn counted(alloc: Global, person: usize, list: &[usize]) -> Result<Vec<usize>, AllocError> {
     let mut before_own = Vec::new(alloc);
     for room in list {
@@ -85,7 +84,7 @@ fn counted(alloc: Global, person: usize, list: &[usize]) -> Result<Vec<usize>, A
     Ok(before_own)
 }
 
-// The register, the lists, the leavers and the draw, up to the day of moving.
+// The lines of the round, from the register to the moves.
 fn script(alloc: Global, people: &[Resident]) -> Result<String, AllocError> {
     let mut text = String::new(alloc);
     for room in 0..ROOMS {
@@ -122,7 +121,7 @@ fn push_person(text: &mut String, person: usize, drawn: &Resident) -> Result<(),
     Ok(())
 }
 
-// The list of a leaver is recorded, and counts for nothing.
+// Appends the person's list. The list of a leaver is recorded, but has no effect.
 fn push_choice(text: &mut String, person: usize, drawn: &Resident) -> Result<(), AllocError> {
     write!(text, "choose P{person:03}")?;
     for room in &drawn.list {
@@ -135,7 +134,7 @@ fn push_choice(text: &mut String, person: usize, drawn: &Resident) -> Result<(),
     Ok(())
 }
 
-// The participants by grade, by word where grades are equal, and by identifier where words are equal too.
+// The participants by grade, then by word, then by identifier.
 fn drawn_order(alloc: Global, people: &[Resident]) -> Result<Vec<usize>, AllocError> {
     let mut lots = Vec::new(alloc);
     for (person, drawn) in people.iter().enumerate() {
@@ -151,7 +150,7 @@ fn drawn_order(alloc: Global, people: &[Resident]) -> Result<Vec<usize>, AllocEr
     Ok(order)
 }
 
-// The room of each person after the round by the plain program, and none for leavers.
+// The room of each person after the round, `None` for leavers, as the plain program computes it. `None` in all if it fails.
 fn rooms_after(
     alloc: Global,
     people: &[Resident],
@@ -182,8 +181,12 @@ fn rooms_after(
     Ok(Some(rooms))
 }
 
-// What is told of the results and of the day of moving.
-fn told(alloc: Global, people: &[Resident], rooms: &[Option<usize>]) -> Result<String, AllocError> {
+// The output from the results to the moves.
+fn printed(
+    alloc: Global,
+    people: &[Resident],
+    rooms: &[Option<usize>],
+) -> Result<String, AllocError> {
     let mut text = String::from_str(alloc, "person        room\n")?;
     let mut participants = 0usize;
     for (person, (drawn, room)) in people.iter().zip(rooms).enumerate() {
@@ -211,7 +214,7 @@ fn room_or_none(alloc: Global, room: Option<usize>) -> Result<String, AllocError
     }
 }
 
-// A person who moves, from a room and to one, in the wave of a number or in a swap.
+// The move of a person from a room to a room, where `None` is no room. The wave is `None` in a swap.
 #[derive(Drop)]
 struct Mover {
     person: usize,
@@ -236,8 +239,8 @@ fn moves(alloc: Global, rooms: &[Option<usize>]) -> Result<Vec<Mover>, AllocErro
     Ok(moves)
 }
 
-// One more than the wave of whoever leaves the new room; 1 where nobody does, 0 without a new room, and none where this comes
-// back to the person.
+// The wave of a person who moves: 0 without a new room, 1 if nobody leaves the new room, and else one more than the wave of the
+// person who leaves it. `None` if this leads back to the person.
 fn wave_of(rooms: &[Option<usize>], person: usize) -> Option<usize> {
     let mut last = person;
     for steps in 0..PEOPLE {
@@ -252,7 +255,7 @@ fn wave_of(rooms: &[Option<usize>], person: usize) -> Option<usize> {
     None
 }
 
-// The lines of the moves of this wave.
+// Appends the lines of the moves of this wave.
 fn push_moves(
     alloc: Global,
     text: &mut String,
@@ -275,25 +278,30 @@ fn push_moves(
 }
 
 #[test]
-fn a_round_of_200_agrees_with_the_plain_programs(rt: HostRuntime) -> Result<(), Fail> {
-    let alloc = rt.alloc();
+fn agrees_with_the_plain_programs_on_rounds_of_200(rt: HostRuntime) -> Result<(), Fail> {
     for state in [1999, 2038] {
-        let mut dice = Dice { state };
-        let mut people = Vec::new(alloc);
-        for person in 0..PEOPLE {
-            people.push(new_resident(alloc, &mut dice, person)?)?;
-        }
-        let lines = script(alloc, &people)?;
-        let (how, text) = rehearsed(alloc, lines.as_bytes());
-        assert_same!(rt; how.ending, Ending::Ended);
-        assert_same!(rt; how.status, 0);
-        match rooms_after(alloc, &people)? {
-            Some(rooms) => {
-                let told = told(alloc, &people, &rooms)?;
-                assert!(rt; text.as_slice().ends_with(told.as_bytes()));
-            }
-            None => assert!(rt; false),
-        }
+        let agrees = agrees_from(rt.alloc(), Dice { state })?;
+        assert!(rt; agrees, "{state}");
     }
     Ok(())
+}
+
+// Draws the people and returns whether their round ends as the plain programs compute it.
+fn agrees_from(alloc: Global, mut dice: Dice) -> Result<bool, Fail> {
+    let mut people = Vec::new(alloc);
+    for person in 0..PEOPLE {
+        people.push(new_resident(alloc, &mut dice, person)?)?;
+    }
+    agrees(alloc, &people)
+}
+
+fn agrees(alloc: Global, people: &[Resident]) -> Result<bool, Fail> {
+    let Some(rooms) = rooms_after(alloc, people)? else {
+        return Ok(false);
+    };
+    let wanted = printed(alloc, people, &rooms)?;
+    let lines = script(alloc, people)?;
+    let (how, text) = rehearsed(alloc, lines.as_bytes());
+    let ended = how.ending == Ending::Ended && how.status == 0;
+    Ok(ended && text.as_slice().ends_with(wanted.as_bytes()))
 }

@@ -1,8 +1,7 @@
-//! The draw: equal words by identifier, and a wrong number of words before the right one.
-use crate::register::hears;
-use std::test::Fail;
+//! Scripts of draws: equal words, grades, and draws that are refused or malformed.
 
-const DRAW: [(&str, &str); 14] = [
+/// A draw for three people, after draws with too few words and with a malformed word.
+pub const DRAW: [(&str, &str); 14] = [
     ("person E3 key00000000000e3 Cy Coy", "ok\n"),
     ("person E1 key00000000000e1 Ann Ash", "ok\n"),
     ("person E2 key00000000000e2 Bo", "ok\n"),
@@ -31,8 +30,9 @@ const DRAW: [(&str, &str); 14] = [
     ("round", "round 1 idle people 3 withdrawn 0\n"),
 ];
 
-// The same people and the same words, where E3 has grade 1, and then has not. A grade that was taken back does not count.
-const GRADES: [(&str, &str); 23] = [
+/// The same people and words. E3 has grade 1 in the first round, and is removed and added again without a grade before the
+/// second. A grade that is set back to 0 has no effect.
+pub const GRADES: [(&str, &str); 23] = [
     ("person E3 key00000000000e3 Cy Coy", "ok\n"),
     ("person E1 key00000000000e1 Ann Ash", "ok\n"),
     ("person E2 key00000000000e2 Bo", "ok\n"),
@@ -70,19 +70,11 @@ const GRADES: [(&str, &str); 23] = [
     ("round", "round 2 idle people 3 withdrawn 0\n"),
 ];
 
-// Nobody takes part, so there is nothing to print.
-const NOBODY: [(&str, &str); 5] = [
+/// A draw without participants, whose order is empty.
+pub const DRAW_OF_NOBODY: [(&str, &str); 5] = [
     ("open", "round 1 open\n"),
     ("close", "closed 0\n"),
     ("draw", "drawn 0\n"),
     ("order", ""),
     ("cancel", "cancelled\n"),
 ];
-
-#[test]
-fn draws_words(rt: HostRuntime) -> Result<(), Fail> {
-    assert!(rt; hears(&rt, &DRAW, 2)?);
-    assert!(rt; hears(&rt, &GRADES, 1)?);
-    assert!(rt; hears(&rt, &NOBODY, 0)?);
-    Ok(())
-}

@@ -1,9 +1,7 @@
-//! The years of the examples, line by line with their answers.
-use crate::register::hears;
-use std::test::Fail;
+//! The scripts of the examples, each line with its answer.
 
-// The lines of `examples/year.txt`, with the answers of `examples/year.out`.
-const YEAR: [(&str, &str); 36] = [
+/// The lines of `examples/year.txt`, with the answers of `examples/year.out`.
+pub const YEAR: [(&str, &str); 36] = [
     ("# The register: rooms, people, and who lives where.", ""),
     ("room H1", "ok\n"),
     ("room H2", "ok\n"),
@@ -69,14 +67,8 @@ const YEAR: [(&str, &str); 36] = [
     ("round", "round 1 idle people 4 withdrawn 0\n"),
 ];
 
-#[test]
-fn hears_a_whole_year(rt: HostRuntime) -> Result<(), Fail> {
-    assert!(rt; hears(&rt, &YEAR, 0)?);
-    Ok(())
-}
-
-// The lines of `examples/leavers.txt`, with the answers of `examples/leavers.out`.
-const LEAVERS: [(&str, &str); 37] = [
+/// The lines of `examples/leavers.txt`, with the answers of `examples/leavers.out`.
+pub const LEAVERS: [(&str, &str); 37] = [
     (
         "# A year with grades and leavers. The register: rooms, people, who lives where, and a grade.",
         "",
@@ -145,9 +137,3 @@ const LEAVERS: [(&str, &str); 37] = [
     ("remove N", "ok\n"),
     ("round", "round 1 idle people 3 withdrawn 0\n"),
 ];
-
-#[test]
-fn hears_a_year_with_leavers(rt: HostRuntime) -> Result<(), Fail> {
-    assert!(rt; hears(&rt, &LEAVERS, 1)?);
-    Ok(())
-}

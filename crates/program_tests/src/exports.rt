@@ -1,22 +1,23 @@
-//! Exports of an office that has heard lines, at a desk in memory.
-use crate::asserting::assert_same;
+//! Tests of exports at a desk in memory.
+use crate::asserting::same;
 use crate::failing::FailingWriter;
-use office_lines::rehearse::rehearse;
+use crate::scripts::rehearsed_at;
 use office_lists::ExportKind;
 use office_program::at_desk::export_at;
 use office_store::{Desk, DeskFault};
 use room_types::Watched;
 use sqlite::MemStore;
 use std::alloc::Global;
+use std::process::Abort;
 use std::test::Fail;
 
-// T1 and T2 pass their homes to one another, and N moves into the vacant room. X is shut.
+// T1 and T2 swap their homes, and N gets the vacant room. X is shut.
 const YEAR: &str = "room X\nroom H1\nroom H2\nroom V\nshut X\nperson T1 key00000000000t1 Tim Tan\n\
     person T2 key00000000000t2 Tom Tao\nperson N key000000000000n Nan, Now\nhome T1 H1\nhome T2 H2\nopen\n\
     choose T1 H2\nchoose T2 H1\nchoose N H1 V\nclose\n\
     draw 0000000000000003 0000000000000001 0000000000000002\nrun\n";
 
-// T2 leaves the college, and T1 comes to that room.
+// T2 leaves the college, and T1 moves to that room.
 const LEAVING: &str = "room H1\nroom H2\nperson T1 key00000000000t1 Tim Tan\n\
     person T2 key00000000000t2 Tom Tao\nperson N key000000000000n Nan\nhome T1 H1\nhome T2 H2\n\
     grade N 9\nopen\nchoose T1 H2\ngoing T2\nclose\ndraw 0000000000000001 0000000000000002\n\
@@ -29,116 +30,123 @@ const GRADED: &str = "person E3 key00000000000e3 Cy Coy\nperson E1 key0000000000
 
 const MOVES: &str = "round,wave,person,from,to\n1,1,N,,V\n1,swap,T1,H1,H2\n1,swap,T2,H2,H1\n";
 
-// A desk that has heard these lines.
-fn desk_after(alloc: Global, lines: &str) -> Result<Desk<MemStore>, Fail> {
-    let mut desk = Desk::in_memory(alloc)?;
-    hear(alloc, &mut desk, lines);
+// Lines, with the exports after them. A round's moves are exported once it is settled.
+const EXPORTS: [(&[&str], &[(ExportKind, &str)]); 4] = [
+    (
+        &[YEAR],
+        &[(ExportKind::Moves, "round,wave,person,from,to\n")],
+    ),
+    (
+        &[YEAR, "publish\nsettle\n"],
+        &[
+            (ExportKind::Moves, MOVES),
+            (
+                ExportKind::Rooms,
+                "room,state,tenant\nH1,occupied,T2\nH2,occupied,T1\nV,occupied,N\nX,shut,\n",
+            ),
+            (
+                ExportKind::People,
+                "person,name,home\nN,\"Nan, Now\",V\nT1,Tim Tan,H2\nT2,Tom Tao,H1\n",
+            ),
+            (ExportKind::Grades, "person,grade\nN,0\nT1,0\nT2,0\n"),
+        ],
+    ),
+    (
+        &[LEAVING],
+        &[
+            (
+                ExportKind::Moves,
+                "round,wave,person,from,to\n1,1,T1,H1,H2\n1,0,T2,H2,\n",
+            ),
+            (ExportKind::Grades, "person,grade\nN,9\nT1,0\nT2,1\n"),
+        ],
+    ),
+    // The export includes people of grade 0.
+    (
+        &[GRADED],
+        &[(ExportKind::Grades, "person,grade\nE1,0\nE2,0\nE3,1\n")],
+    ),
+];
+
+// A new desk in memory after these lines.
+fn desk_after(alloc: Global, texts: &[&str]) -> Result<Desk<MemStore>, DeskFault> {
+    let Ok(mut desk) = Desk::in_memory(alloc) else {
+        return Err(DeskFault::Unavailable);
+    };
+    for text in texts {
+        rehearsed_at(alloc, &mut desk, text.as_bytes());
+    }
     Ok(desk)
 }
 
-fn hear(alloc: Global, desk: &mut Desk<MemStore>, lines: &str) {
-    let mut input = Watched::new(lines.as_bytes());
-    let mut output = Watched::new(Vec::new(alloc));
-    let _how = rehearse(alloc, desk, &mut input, &mut output);
-}
-
-// The status of an export, and what it writes.
-fn exported(
+// Asserts the status and the output of an export.
+fn assert_export(
+    test: &impl Abort,
     alloc: Global,
     found: &mut Result<Desk<MemStore>, DeskFault>,
     kind: ExportKind,
-) -> (u8, Vec<u8>) {
+    wanted: (u8, &str),
+) {
     let mut output = Watched::new(Vec::new(alloc));
     let status = export_at(alloc, found, kind, &mut output);
-    (status, output.into_inner())
-}
-
-// Moves are there once the round is settled.
-#[test]
-fn exports_a_year(rt: HostRuntime) -> Result<(), Fail> {
-    let alloc = rt.alloc();
-    let mut found = Ok(desk_after(alloc, YEAR)?);
-    let (status, bytes) = exported(alloc, &mut found, ExportKind::Moves);
-    assert_same!(rt; status, 0);
-    assert_same!(rt; bytes.as_slice(), b"round,wave,person,from,to\n".as_slice());
-    if let Ok(desk) = &mut found {
-        hear(alloc, desk, "publish\nsettle\n");
-    }
-    for (kind, text) in [
-        (ExportKind::Moves, MOVES),
-        (
-            ExportKind::Rooms,
-            "room,state,tenant\nH1,occupied,T2\nH2,occupied,T1\nV,occupied,N\nX,shut,\n",
-        ),
-        (
-            ExportKind::People,
-            "person,name,home\nN,\"Nan, Now\",V\nT1,Tim Tan,H2\nT2,Tom Tao,H1\n",
-        ),
-        (ExportKind::Grades, "person,grade\nN,0\nT1,0\nT2,0\n"),
-    ] {
-        let (status, bytes) = exported(alloc, &mut found, kind);
-        assert_same!(rt; status, 0);
-        assert_same!(rt; bytes.as_slice(), text.as_bytes());
-    }
-    Ok(())
+    let (wanted_status, text) = wanted;
+    same(
+        test,
+        &(status, output.into_inner().as_slice()),
+        &(wanted_status, text.as_bytes()),
+        text,
+    );
 }
 
 #[test]
-fn exports_grades_and_moves_of_leavers(rt: HostRuntime) -> Result<(), Fail> {
+fn exports_years(rt: HostRuntime) {
     let alloc = rt.alloc();
-    let mut found = Ok(desk_after(alloc, LEAVING)?);
-    for (kind, text) in [
-        (
-            ExportKind::Moves,
-            "round,wave,person,from,to\n1,1,T1,H1,H2\n1,0,T2,H2,\n",
-        ),
-        (ExportKind::Grades, "person,grade\nN,9\nT1,0\nT2,1\n"),
-    ] {
-        let (status, bytes) = exported(alloc, &mut found, kind);
-        assert_same!(rt; status, 0);
-        assert_same!(rt; bytes.as_slice(), text.as_bytes());
+    for (texts, wanted) in EXPORTS {
+        let mut found = desk_after(alloc, texts);
+        for (kind, text) in wanted {
+            assert_export(&rt, alloc, &mut found, *kind, (0, text));
+        }
     }
-    Ok(())
 }
 
-// Nothing is said behind an export that is cut off.
+// Exports the rooms to a writer that takes `room` bytes and whose flush fails unless `flushes`. Asserts that the status is 3 and
+// that exactly this text is written.
+fn assert_cut_off(
+    test: &impl Abort,
+    alloc: Global,
+    found: &mut Result<Desk<MemStore>, DeskFault>,
+    room: usize,
+    flushes: bool,
+    written: &str,
+) {
+    let mut output = Watched::new(FailingWriter {
+        written: Vec::new(alloc),
+        writes: usize::MAX,
+        room,
+        flushes,
+    });
+    let status = export_at(alloc, found, ExportKind::Rooms, &mut output);
+    same(
+        test,
+        &(status, output.into_inner().written.as_slice()),
+        &(3, written.as_bytes()),
+        written,
+    );
+}
+
+// Nothing is written after an export that is cut off.
 #[test]
-fn tells_an_export_that_is_cut_off(rt: HostRuntime) -> Result<(), Fail> {
+fn fails_where_an_export_is_cut_off(rt: HostRuntime) {
     let alloc = rt.alloc();
-    let mut found = Ok(desk_after(alloc, "room H1\nroom H2\n")?);
-    for (room, flushes, written) in [
-        (20, true, "room,state,tenant\nH1"),
-        (usize::MAX, false, "room,state,tenant\nH1,free,\nH2,free,\n"),
-    ] {
-        let mut output = Watched::new(FailingWriter {
-            written: Vec::new(alloc),
-            writes: usize::MAX,
-            room,
-            flushes,
-        });
-        assert_same!(rt; export_at(alloc, &mut found, ExportKind::Rooms, &mut output), 3);
-        assert_same!(rt; output.into_inner().written.as_slice(), written.as_bytes());
-    }
-    Ok(())
+    let mut found = desk_after(alloc, &["room H1\nroom H2\n"]);
+    assert_cut_off(&rt, alloc, &mut found, 20, true, "room,state,tenant\nH1");
+    let all = "room,state,tenant\nH1,free,\nH2,free,\n";
+    assert_cut_off(&rt, alloc, &mut found, usize::MAX, false, all);
 }
 
 #[test]
-fn tells_why_there_is_no_office_to_export(rt: HostRuntime) -> Result<(), Fail> {
-    let alloc = rt.alloc();
+fn exports_nothing_without_an_office(rt: HostRuntime) {
     let mut found = Err(DeskFault::NotAnOffice);
-    let (status, bytes) = exported(alloc, &mut found, ExportKind::Rooms);
-    assert_same!(rt; status, 1);
-    assert_same!(rt; bytes.as_slice(), b"refused 21 NotAnOffice\n".as_slice());
-    Ok(())
-}
-
-// Everybody stands there, also with grade 0.
-#[test]
-fn exports_the_grades_of_a_draw(rt: HostRuntime) -> Result<(), Fail> {
-    let alloc = rt.alloc();
-    let mut found = Ok(desk_after(alloc, GRADED)?);
-    let (status, bytes) = exported(alloc, &mut found, ExportKind::Grades);
-    assert_same!(rt; status, 0);
-    assert_same!(rt; bytes.as_slice(), b"person,grade\nE1,0\nE2,0\nE3,1\n".as_slice());
-    Ok(())
+    let wanted = (1, "refused 21 NotAnOffice\n");
+    assert_export(&rt, rt.alloc(), &mut found, ExportKind::Rooms, wanted);
 }

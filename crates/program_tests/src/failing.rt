@@ -1,8 +1,8 @@
-//! Streams that fail.
+//! Readers and writers that fail.
 use std::io;
 use std::io::{Error, ErrorKind, Read, Write};
 
-/// A reader of bytes, `piece` at a time. So many reads pass, the next one fails, and it goes on after that.
+/// A reader that gives at most `piece` bytes a read. After `reads` reads one read fails; later ones succeed.
 #[derive(Drop)]
 pub struct FailingReader<'a> {
     pub unread: &'a [u8],
@@ -22,8 +22,8 @@ impl Read for FailingReader<'_> {
     }
 }
 
-/// A writer that keeps what it takes. So many writes pass, the next one fails, and it goes on after that; it takes `room`
-/// bytes in all, and its flushes may fail.
+/// A writer that keeps the bytes that it takes, at most `room` in all. After `writes` writes one write fails; later ones
+/// succeed. Its flushes fail unless `flushes`.
 #[derive(Drop)]
 pub struct FailingWriter {
     pub written: Vec<u8>,

@@ -1,85 +1,86 @@
-//! Which words are a line `rooms import`.
-use crate::asserting::assert_same;
-use crate::file_lines::{carried, make_folder};
+//! Tests of the words of `rooms import`.
+use crate::asserting::same_of;
+use crate::stories::{Step, run_steps};
 use office_program::program::program;
 use office_program::usage::Program;
 use office_words::WordFault;
 use room_types::ListKind;
-use std::fs;
+use std::alloc::Global;
 use std::test::Fail;
-
-const NOT_A_LINE: &str = "rooms: not understood\n";
 
 const OFFICE: &str = "imports_other/office.db";
 
-// Kinds and labels of which one is none.
-const OTHER_LISTS: [(&str, &str); 9] = [
-    ("moves", "r-1"),
-    ("Rooms", "r-1"),
-    ("room", "r-1"),
-    ("", "r-1"),
-    ("rooms", ""),
-    ("rooms", "R-1"),
-    ("rooms", "r 1"),
-    ("rooms", "-1"),
-    ("rooms", "r23456789012345678901234567890123"),
+// All words are checked before a file is opened.
+const NO_LINES: [Step<'_>; 17] = [
+    Step::NoLine(&["import"]),
+    Step::NoLine(&["import", "rooms", "r-1", "list"]),
+    Step::NoLine(&["import", "--db", OFFICE]),
+    Step::NoLine(&["import", "--db", OFFICE, "rooms"]),
+    Step::NoLine(&["import", "--db", OFFICE, "rooms", "r-1"]),
+    Step::NoLine(&["import", "--db", OFFICE, "rooms", "r-1", "list", "list"]),
+    Step::NoLine(&["import", "--db", OFFICE, "rooms", "--", "-1", "list"]),
+    // Wrong kinds and labels.
+    Step::NoLine(&["import", "--db", OFFICE, "moves", "r-1", "list"]),
+    Step::NoLine(&["import", "--db", OFFICE, "Rooms", "r-1", "list"]),
+    Step::NoLine(&["import", "--db", OFFICE, "room", "r-1", "list"]),
+    Step::NoLine(&["import", "--db", OFFICE, "", "r-1", "list"]),
+    Step::NoLine(&["import", "--db", OFFICE, "rooms", "", "list"]),
+    Step::NoLine(&["import", "--db", OFFICE, "rooms", "R-1", "list"]),
+    Step::NoLine(&["import", "--db", OFFICE, "rooms", "r 1", "list"]),
+    Step::NoLine(&["import", "--db", OFFICE, "rooms", "-1", "list"]),
+    Step::NoLine(&[
+        "import",
+        "--db",
+        OFFICE,
+        "rooms",
+        "r23456789012345678901234567890123",
+        "list",
+    ]),
+    Step::Absent(OFFICE),
 ];
 
-/// Whether the program says on standard error, and there alone, that the words are no line of it.
-pub fn is_no_line(rt: &HostRuntime, words: &[&str]) -> bool {
-    let (status, printed, told) = carried(rt, words);
-    status == 2 && printed.is_empty() && told.as_slice() == NOT_A_LINE.as_bytes()
-}
-
-// No file is looked at before all words are in order.
 #[test]
 fn refuses_other_import_lines(rt: HostRuntime) -> Result<(), Fail> {
-    make_folder(&rt, "imports_other")?;
-    for words in [
-        ["import"].as_slice(),
-        ["import", "rooms", "r-1", "list"].as_slice(),
-        ["import", "--db", OFFICE].as_slice(),
-        ["import", "--db", OFFICE, "rooms"].as_slice(),
-        ["import", "--db", OFFICE, "rooms", "r-1"].as_slice(),
-        ["import", "--db", OFFICE, "rooms", "r-1", "list", "list"].as_slice(),
-        ["import", "--db", OFFICE, "rooms", "--", "-1", "list"].as_slice(),
-    ] {
-        assert!(rt; is_no_line(&rt, words));
-    }
-    for (kind, label) in OTHER_LISTS {
-        assert!(rt; is_no_line(&rt, &["import", "--db", OFFICE, kind, label, "list"]));
-    }
-    assert!(rt; !fs::exists(&rt, OFFICE)?);
-    fs::remove_dir_all(&rt, "imports_other")?;
-    Ok(())
+    run_steps(&rt, &rt, "imports_other", &NO_LINES)
 }
 
-// The option may stand anywhere, and a path is any text.
+// The option may be anywhere, and a path may be any text.
+const LINES: [&[&str]; 4] = [
+    &["import", "--db", "o", "people", "p-1", "a list"],
+    &["import", "people", "--db=o", "p-1", "a list"],
+    &["import", "people", "p-1", "a list", "--db", "o"],
+    &["import", "--db", "o", "--", "people", "p-1", "a list"],
+];
+
 #[test]
 fn reads_import_lines(rt: HostRuntime) {
-    for words in [
-        ["import", "--db", "o", "people", "p-1", "a list"].as_slice(),
-        ["import", "people", "--db=o", "p-1", "a list"].as_slice(),
-        ["import", "people", "p-1", "a list", "--db", "o"].as_slice(),
-        ["import", "--db", "o", "--", "people", "p-1", "a list"].as_slice(),
-    ] {
-        match &program(rt.alloc(), words) {
-            Ok(
-                Program::Import {
-                    database,
-                    kind,
-                    label,
-                    list,
-                },
-            ) => {
-                assert_same!(rt; *database, "o");
-                assert_same!(rt; *list, "a list");
-                assert_same!(rt; *kind, ListKind::People);
-                assert_same!(rt; label.as_str(), "p-1");
-            }
-            _ => panic!(rt; "it is no line"),
-        }
+    for words in LINES {
+        same_of(&rt, words, &is_people(rt.alloc(), words), &true);
     }
-    let named = program(rt.alloc(), &["import", "--db", "o", "keys", "p-1", "a"]);
-    assert!(rt; matches!(named, Err(WordFault::NotUnderstood)));
+    let keys = ["import", "--db", "o", "keys", "p-1", "a"];
+    same_of(&rt, &keys, &is_no_line(rt.alloc(), &keys), &true);
+}
+
+// Whether the words import the people of `a list`, under the label `p-1`, into the office in `o`.
+fn is_people(alloc: Global, words: &[&str]) -> bool {
+    match &program(alloc, words) {
+        Ok(
+            Program::Import {
+                database,
+                kind,
+                label,
+                list,
+            },
+        ) => {
+            *database == "o"
+                && *list == "a list"
+                && *kind == ListKind::People
+                && label.as_str() == "p-1"
+        }
+        _ => false,
+    }
+}
+
+fn is_no_line(alloc: Global, words: &[&str]) -> bool {
+    matches!(program(alloc, words), Err(WordFault::NotUnderstood))
 }

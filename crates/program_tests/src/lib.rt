@@ -1,11 +1,13 @@
-//! Worked scripts of lines, rehearsed over a desk in memory and told to offices in files, streams that fail, and the program's
-//! words.
+//! Tests of the program: scripts of lines at desks in memory and over offices in files, devices that fail, and the program's
+//! arguments.
 #![tactic(auto)]
 
 #[cfg(test)]
 mod asserting;
 #[cfg(test)]
 mod at_desks;
+#[cfg(test)]
+mod bad_lists;
 #[cfg(test)]
 mod compared;
 #[cfg(test)]
@@ -43,8 +45,12 @@ mod serve_lines;
 #[cfg(test)]
 mod single_lines;
 #[cfg(test)]
+mod stories;
+#[cfg(test)]
 mod streams;
 #[cfg(test)]
 mod words;
+#[cfg(test)]
+mod worked;
 #[cfg(test)]
 mod years;

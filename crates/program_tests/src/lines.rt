@@ -1,108 +1,140 @@
-//! Ends of lines, comments, words, long lines and long inputs.
+//! Tests of line ends, comments, words, long lines and long inputs.
 use crate::asserting::assert_same;
-use crate::failing::FailingReader;
-use crate::scripts::rehearsed;
-use office_lines::rehearse::rehearse;
-use office_lines::{Ending, Rehearsed};
-use office_store::Desk;
-use room_types::Watched;
+use crate::scripts::assert_rehearsal;
+use crate::streams::{Stopped, rehearsed_by_bytes};
+use office_lines::Ending;
 use std::alloc::{AllocError, Global};
 use std::test::Fail;
 
+// Inputs, each with the status and the output of its rehearsal.
+const REHEARSED: [(&[u8], u8, &str); 8] = [
+    (b"", 0, ""),
+    (
+        b"room H1\nrooms\n",
+        0,
+        "ok\nroom      state     tenant\nH1        free      none\n",
+    ),
+    (
+        b"room A\r\n  room   B  \r\n\n   \n# room C\nrooms",
+        0,
+        "ok\nok\nroom      state     tenant\nA         free      none\nB         free      none\n",
+    ),
+    (b"room A\r", 0, "ok\n"),
+    (b"room A\r\r\n", 2, "not understood\n"),
+    (b" # rooms\n", 2, "not understood\n"),
+    (
+        b"rooms A\nroom\nroom A B\nRooms\n",
+        2,
+        "not understood\nnot understood\nnot understood\nnot understood\n",
+    ),
+    // Bytes that are not UTF-8.
+    (b"room \xff\n#\xff\n", 2, "not understood\n"),
+];
+
 #[test]
 fn reads_lines_and_words(rt: HostRuntime) {
-    for (input, answers, status) in [
-        (
-            "room A\r\n  room   B  \r\n\n   \n# room C\nrooms",
-            "ok\nok\nroom      state     tenant\nA         free      none\nB         free      none\n",
-            0,
-        ),
-        ("room A\r", "ok\n", 0),
-        ("room A\r\r\n", "not understood\n", 2),
-        (" # rooms\n", "not understood\n", 2),
-        (
-            "rooms A\nroom\nroom A B\nRooms\n",
-            "not understood\nnot understood\nnot understood\nnot understood\n",
-            2,
-        ),
-    ] {
-        let (how, text) = rehearsed(rt.alloc(), input.as_bytes());
-        assert_same!(rt; how.ending, Ending::Ended);
-        assert_same!(rt; how.status, status, input);
-        assert_same!(rt; text.as_slice(), answers.as_bytes(), input);
+    for (input, status, answers) in REHEARSED {
+        let wanted = (status, Ending::Ended, answers);
+        assert_rehearsal(&rt, rt.alloc(), input, wanted, answers);
     }
 }
 
-#[test]
-fn hears_bytes_that_are_no_text(rt: HostRuntime) {
-    let (how, text) = rehearsed(rt.alloc(), b"room \xff\n#\xff\n");
-    assert_same!(rt; how.status, 2);
-    assert_same!(rt; text.as_slice(), b"not understood\n".as_slice());
-}
+// Lines that are not understood, each an input of its own.
+const NOT_UNDERSTOOD: [&str; 18] = [
+    "person T1 key00000000000t1",
+    "person T1 key Tim",
+    "person t1 key00000000000t1 Tim",
+    "home T1",
+    "home T1 H1 H2",
+    "leave",
+    "leave T1 T2",
+    "shut h1",
+    "open now",
+    "choose",
+    "choose T1 H1 H1",
+    "choose T1 h1",
+    "moves",
+    "moves 12345",
+    "moves +1",
+    "moves 1 2",
+    "me key",
+    "rooms 1",
+];
 
-// A comment of so many bytes.
-fn comment(alloc: Global, len: usize) -> Result<Vec<u8>, AllocError> {
-    let mut line = Vec::new(alloc);
-    for _ in 0..len {
-        line.push(b'#')?;
+#[test]
+fn understands_no_other_lines(rt: HostRuntime) {
+    for line in NOT_UNDERSTOOD {
+        let wanted = (2, Ending::Ended, "not understood\n");
+        assert_rehearsal(&rt, rt.alloc(), line.as_bytes(), wanted, line);
     }
-    Ok(line)
 }
 
+// A comment of `len` bytes between two texts.
+fn comment(alloc: Global, before: &str, len: usize, behind: &str) -> Result<String, AllocError> {
+    let mut lines = "#".repeat(alloc, len)?;
+    lines.insert_str(0, before)?;
+    lines.push_str(behind)?;
+    Ok(lines)
+}
+
+// Comments: the text before it, its length, the text after it, and the status, the ending and the output. Nothing after a line
+// over the limit is handled.
+const COMMENTS: [(&str, usize, &str, u8, Ending, &str); 4] = [
+    ("", 65_536, "", 0, Ending::Ended, ""),
+    (
+        "",
+        65_536,
+        "\nrooms\n",
+        0,
+        Ending::Ended,
+        "room      state     tenant\n",
+    ),
+    ("room A\n", 65_537, "", 3, Ending::ReadFault, "ok\n"),
+    (
+        "room A\n",
+        65_537,
+        "\nroom B\n",
+        3,
+        Ending::ReadFault,
+        "ok\n",
+    ),
+];
+
 #[test]
-fn hears_lines_up_to_the_limit(rt: HostRuntime) -> Result<(), Fail> {
-    let mut line = comment(rt.alloc(), 65536)?;
-    let (how, text) = rehearsed(rt.alloc(), &line);
-    assert_same!(rt; (how.status, how.ending, text.len()), (0, Ending::Ended, 0));
-    line.extend_from_slice(b"\nrooms\n")?;
-    let (how, text) = rehearsed(rt.alloc(), &line);
-    assert_same!(rt; (how.status, how.ending), (0, Ending::Ended));
-    assert_same!(rt; text.as_slice(), b"room      state     tenant\n".as_slice());
+fn reads_lines_up_to_the_limit(rt: HostRuntime) -> Result<(), Fail> {
+    for (before, len, behind, status, ending, answers) in COMMENTS {
+        let lines = comment(rt.alloc(), before, len, behind)?;
+        let wanted = (status, ending, answers);
+        assert_rehearsal(&rt, rt.alloc(), lines.as_bytes(), wanted, behind);
+    }
     Ok(())
 }
 
-// How a rehearsal ends whose input gives a byte a read, whether a stream failed, and how often the input was read.
-fn heard_by_bytes(alloc: Global, input: &[u8]) -> Result<(Rehearsed, bool, u64), Fail> {
-    let mut desk = Desk::in_memory(alloc)?;
-    let mut input = Watched::new(FailingReader {
-        unread: input,
-        piece: 1,
-        reads: usize::MAX,
-    });
-    let mut output = Watched::new(Vec::new(alloc));
-    let how = rehearse(alloc, &mut desk, &mut input, &mut output);
-    Ok((how, input.failed() || output.failed(), input.reads()))
-}
-
-// It is not the stream that fails.
+// The rehearsal ends with `ReadFault`, but the stream has not failed.
 #[test]
 fn stops_at_a_line_over_the_limit(rt: HostRuntime) -> Result<(), Fail> {
-    let long = comment(rt.alloc(), 65537)?;
-    let mut lines = Vec::from_slice(rt.alloc(), b"room A\n")?;
-    lines.extend_from_slice(&long)?;
-    let (how, text) = rehearsed(rt.alloc(), &lines);
-    assert_same!(rt; (how.status, how.ending), (3, Ending::ReadFault));
-    assert_same!(rt; text.as_slice(), b"ok\n".as_slice());
-    lines.extend_from_slice(b"\nroom B\n")?;
-    let (how, text) = rehearsed(rt.alloc(), &lines);
-    assert_same!(rt; (how.status, how.ending), (3, Ending::ReadFault));
-    assert_same!(rt; text.as_slice(), b"ok\n".as_slice());
-    let (how, failed, _) = heard_by_bytes(rt.alloc(), &lines)?;
-    assert_same!(rt; (how.status, how.ending, failed), (3, Ending::ReadFault, false));
+    let lines = comment(rt.alloc(), "room A\n", 65_537, "\nroom B\n")?;
+    let stopped = rehearsed_by_bytes(rt.alloc(), lines.as_bytes())?;
+    assert_same!(rt; (stopped.status, stopped.ending, stopped.failed), (3, Ending::ReadFault, false));
     Ok(())
 }
 
-// The read that finds the end counts too, and at the limit it is not the stream that fails.
+// The read that finds the end counts too. At the limit the rehearsal ends with `ReadFault`, but the stream has not failed.
 #[test]
-fn reads_up_to_the_limit(rt: HostRuntime) -> Result<(), Fail> {
+fn reads_an_input_up_to_the_limit(rt: HostRuntime) -> Result<(), Fail> {
     let mut lines = "#\n".repeat(rt.alloc(), 524_287)?;
     lines.push_str("#")?;
-    let (how, failed, reads) = heard_by_bytes(rt.alloc(), lines.as_bytes())?;
-    assert_same!(rt; (how.status, how.ending), (0, Ending::Ended));
-    assert_same!(rt; (failed, reads), (false, 1_048_576));
+    assert_same!(rt; rehearsed_by_bytes(rt.alloc(), lines.as_bytes())?, at_the_limit(0, Ending::Ended));
     lines.push_str("\n")?;
-    let (how, failed, reads) = heard_by_bytes(rt.alloc(), lines.as_bytes())?;
-    assert_same!(rt; (how.status, how.ending), (3, Ending::ReadFault));
-    assert_same!(rt; (failed, reads), (false, 1_048_576));
+    assert_same!(rt; rehearsed_by_bytes(rt.alloc(), lines.as_bytes())?, at_the_limit(3, Ending::ReadFault));
     Ok(())
+}
+
+fn at_the_limit(status: u8, ending: Ending) -> Stopped {
+    Stopped {
+        status,
+        ending,
+        failed: false,
+        reads: 1_048_576,
+    }
 }

@@ -1,11 +1,11 @@
-//! Lines of the program over a file with an office of an earlier version, and the call that migrates such a file.
-use crate::asserting::assert_same;
-use crate::file_lines::{carried, make_folder};
+//! Tests of migrating a file with an office of the first version, by a run of the program and by a call of `migrate_file`.
+use crate::asserting::same;
+use crate::stories::{Step, execute, make_folder, run_steps};
 use office_file::{FileDesk, close_file, migrate_file, on_file};
 use office_program::at_desk::do_at;
 use office_store::DeskFault;
 use room_types::Watched;
-use sqlite::{Connection, Wary};
+use sqlite::Wary;
 use std::alloc::Global;
 use std::fs;
 use std::process::Abort;
@@ -13,8 +13,8 @@ use std::test::Fail;
 
 const MIGRATED: &str = "lines_migrate/office.db";
 
-// The tables of the first version in the documented order, with a drawn round: T1 and T2 ask for each other's home, and N
-// comes last and asks for H1 and V.
+// The tables of the first version in the documented order, with a drawn round. T1 and T2 list each other's home; N is last in the
+// order and lists H1 and V.
 const FIRST_VERSION: &str = "CREATE TABLE room(code TEXT PRIMARY KEY NOT NULL,
   shut INTEGER NOT NULL CHECK(shut IN (0, 1))) STRICT;
 CREATE TABLE person(id TEXT PRIMARY KEY NOT NULL, name TEXT NOT NULL,
@@ -42,65 +42,51 @@ INSERT INTO choice VALUES ('T1', 0, 'H2'), ('T2', 0, 'H1'), ('N', 0, 'H1'), ('N'
 INSERT INTO word VALUES ('T1', '0000000000000001'), ('T2', '0000000000000002');
 INSERT INTO word VALUES ('N', '0000000000000003');";
 
-// A file with the tables and rows above.
-fn make_first_version(rt: &HostRuntime, path: &str) -> Result<(), Fail> {
-    let mut connection = Connection::open(rt, path)?;
-    connection.execute_batch(FIRST_VERSION)?;
-    drop(connection);
-    Ok(())
-}
+// A line is refused until the file is migrated, and a second migration is refused.
+const MIGRATION: [Step<'_>; 11] = [
+    Step::Write("lines_migrate/empty", b""),
+    Step::Execute(MIGRATED, FIRST_VERSION),
+    Step::Line(
+        &["do", "--db", MIGRATED, "round"],
+        1,
+        "refused 22 OtherVersion 1\n",
+    ),
+    Step::Line(&["migrate", "--db", MIGRATED], 0, "ok\n"),
+    Step::Line(
+        &["migrate", "--db", MIGRATED],
+        1,
+        "refused 22 OtherVersion 3\n",
+    ),
+    Step::Line(&["do", "--db", MIGRATED, "run"], 0, "ran 3\n"),
+    Step::Line(
+        &["do", "--db", MIGRATED, "results"],
+        0,
+        "person        room\nN             V\nT1            H2\nT2            H1\n",
+    ),
+    Step::Line(
+        &["export", "--db", MIGRATED, "grades"],
+        0,
+        "person,grade\nN,0\nT1,0\nT2,0\n",
+    ),
+    Step::Line(
+        &["migrate", "--db", "lines_migrate/empty"],
+        1,
+        "refused 21 NotAnOffice\n",
+    ),
+    Step::Line(
+        &["migrate", "--db=lines_migrate/missing"],
+        3,
+        "unavailable\n",
+    ),
+    Step::Absent("lines_migrate/missing"),
+];
 
-// Until the file is migrated there is no office of this version in it, and afterwards none of an earlier one.
 #[test]
 fn migrates_an_office(rt: HostRuntime) -> Result<(), Fail> {
-    make_folder(&rt, "lines_migrate")?;
-    fs::write(&rt, "lines_migrate/empty", b"".as_slice())?;
-    make_first_version(&rt, MIGRATED)?;
-    for (words, status, printed) in [
-        (
-            ["do", "--db", MIGRATED, "round"].as_slice(),
-            1,
-            "refused 22 OtherVersion 1\n",
-        ),
-        (["migrate", "--db", MIGRATED].as_slice(), 0, "ok\n"),
-        (
-            ["migrate", "--db", MIGRATED].as_slice(),
-            1,
-            "refused 22 OtherVersion 3\n",
-        ),
-        (["do", "--db", MIGRATED, "run"].as_slice(), 0, "ran 3\n"),
-        (
-            ["do", "--db", MIGRATED, "results"].as_slice(),
-            0,
-            "person        room\nN             V\nT1            H2\nT2            H1\n",
-        ),
-        (
-            ["export", "--db", MIGRATED, "grades"].as_slice(),
-            0,
-            "person,grade\nN,0\nT1,0\nT2,0\n",
-        ),
-        (
-            ["migrate", "--db", "lines_migrate/empty"].as_slice(),
-            1,
-            "refused 21 NotAnOffice\n",
-        ),
-        (
-            ["migrate", "--db=lines_migrate/missing"].as_slice(),
-            3,
-            "unavailable\n",
-        ),
-    ] {
-        let (ended, text, told) = carried(&rt, words);
-        assert_same!(rt; ended, status);
-        assert_same!(rt; text.as_slice(), printed.as_bytes());
-        assert!(rt; told.is_empty());
-    }
-    assert!(rt; !fs::exists(&rt, "lines_migrate/missing")?);
-    fs::remove_dir_all(&rt, "lines_migrate")?;
-    Ok(())
+    run_steps(&rt, &rt, "lines_migrate", &MIGRATION)
 }
 
-// What the desk of the file prints for these lines, or why there is no desk. The file is closed.
+// The output of these lines at the desk of the file, or of the fault for each of them if there is no desk. Closes the file.
 fn printed_at(
     rt: &impl Abort,
     alloc: Global,
@@ -118,27 +104,41 @@ fn printed_at(
     text
 }
 
-// The call that migrates the file of a path gives a desk that goes on, once.
+// Asserts the output of these lines at the desk of the file.
+fn assert_printed(
+    rt: &impl Abort,
+    alloc: Global,
+    opened: Result<FileDesk<Wary>, DeskFault>,
+    lines: &[&str],
+    wanted: &str,
+) {
+    let printed = printed_at(rt, alloc, opened, lines);
+    same(rt, &printed.as_slice(), &wanted.as_bytes(), wanted);
+}
+
+const RUN: &str =
+    "ran 3\nperson        room\nN             V\nT1            H2\nT2            H1\n";
+
+// `migrate_file` returns a desk that handles further lines. A second migration of the file is refused.
 #[test]
 fn migrates_a_file(rt: HostRuntime) -> Result<(), Fail> {
-    make_folder(&rt, "file_migrate")?;
+    let alloc = rt.alloc();
     let path = "file_migrate/office.db";
-    make_first_version(&rt, path)?;
-    let told = printed_at(&rt, rt.alloc(), on_file(&rt, path), &["round"]);
-    assert_same!(rt; told.as_slice(), b"refused 22 OtherVersion 1\n".as_slice());
-    let told = printed_at(
+    make_folder(&rt, "file_migrate")?;
+    execute(&rt, path, FIRST_VERSION)?;
+    let first = "refused 22 OtherVersion 1\n";
+    assert_printed(&rt, alloc, on_file(&rt, path), &["round"], first);
+    assert_printed(
         &rt,
-        rt.alloc(),
+        alloc,
         migrate_file(&rt, path),
         &["run", "results"],
+        RUN,
     );
-    let results =
-        "ran 3\nperson        room\nN             V\nT1            H2\nT2            H1\n";
-    assert_same!(rt; told.as_slice(), results.as_bytes());
-    let told = printed_at(&rt, rt.alloc(), migrate_file(&rt, path), &["round"]);
-    assert_same!(rt; told.as_slice(), b"refused 22 OtherVersion 3\n".as_slice());
-    let told = printed_at(&rt, rt.alloc(), on_file(&rt, path), &["round"]);
-    assert_same!(rt; told.as_slice(), b"round 1 ran people 3 withdrawn 0\n".as_slice());
+    let third = "refused 22 OtherVersion 3\n";
+    assert_printed(&rt, alloc, migrate_file(&rt, path), &["round"], third);
+    let round = "round 1 ran people 3 withdrawn 0\n";
+    assert_printed(&rt, alloc, on_file(&rt, path), &["round"], round);
     fs::remove_dir_all(&rt, "file_migrate")?;
     Ok(())
 }

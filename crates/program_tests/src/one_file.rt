@@ -1,5 +1,5 @@
-//! Lines of the program over a file that is a database in memory, with a list and a port that are no more than scripts. Each line
-//! opens the file once, and closes it once. The list is opened, read and closed once.
+//! Tests of how often the program opens, reads and closes an office file, a list and a port. The file is a database in memory;
+//! the list and the port are stand-ins that count calls.
 ghost use Rattle.std.specs.Prelude.{◌≡◌, false, IfOk, ⊤};
 
 use crate::asserting::assert_same;
@@ -17,7 +17,7 @@ use std::test::Fail;
 
 const OFFICE: &str = "office.db";
 
-// One file, which is made by its first opening: its connection while nobody has it, and how often it was opened and closed.
+// One file, which the first call of `open` creates: its connection while it is closed, and how often it was opened and closed.
 #[derive(Drop)]
 struct OneFile {
     is_made: bool,
@@ -27,7 +27,8 @@ struct OneFile {
 }
 
 impl OneFile {
-    // The file of this path, if nobody has it and it was left outside of a transaction.
+    // Takes the connection. Fails if the path is another one, the file is open already, or its connection is inside a
+    // transaction.
     fn take(&mut self, path: &str) -> Result<Connection<MemStore>, Unavailable>
         ensures { IfOk result (λ connection. connection.in_transaction ≡ false) }
     {
@@ -69,7 +70,7 @@ impl Closes<Connection<MemStore>> for OneFile {
     }
 }
 
-// A list of two rooms, at one path: how often a list was asked for, how often one was closed, and how often it had been read then.
+// A list of two rooms, at one path: the calls of `open` and `close`, and the reads of the lists that were closed.
 #[derive(Drop)]
 struct OneList {
     asked: u32,
@@ -97,8 +98,8 @@ impl Lists for OneList {
     }
 }
 
-// A port at which nobody can be accepted: how often it was listened on, how often an accept was asked for, and how often it was
-// closed.
+// A port at which no connection can be accepted: the successful calls of `listen`, the calls of `accept` at sockets that were
+// stopped, and the calls of `stop`.
 #[derive(Drop)]
 struct OnePort {
     listened: u32,
@@ -106,7 +107,7 @@ struct OnePort {
     stopped: u32,
 }
 
-// A socket of it, and how often an accept was asked for.
+// A socket of the port, and the calls of `accept`.
 #[derive(Drop)]
 struct OneSocket {
     asked: u32,
@@ -153,7 +154,7 @@ impl Ports for OnePort {
     }
 }
 
-// Lines in turn, with their status and what each prints, and how often it opens the file and closes it.
+// Runs of the program in turn, each with its status, its output, and how often it opens the file and closes it.
 const LINES: [(&[&str], u8, &str, u32); 17] = [
     (&["do", "--db", OFFICE, "rooms"], 3, "unavailable\n", 0),
     (&["new", "--db", "other.db"], 3, "unavailable\n", 0),
@@ -209,7 +210,7 @@ const LINES: [(&[&str], u8, &str, u32); 17] = [
     (&["rehearse"], 0, "ok\n", 0),
 ];
 
-// The status of this line, and what it prints.
+// Runs the program and returns its status and its output.
 fn carried(
     alloc: Global,
     words: &[&str],

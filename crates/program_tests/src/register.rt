@@ -1,12 +1,10 @@
-//! The register of rooms and people: a worked script, what a person sees, and lists that are too long.
-use crate::asserting::assert_same;
-use crate::at_desks::is_kept;
-use crate::scripts::{answers_of_script, lines_of_script, rehearsed};
+//! Scripts of the register and of a round until it is closed, and a test of the length of a list.
+use crate::scripts::assert_rehearsal;
 use office_lines::Ending;
 use std::alloc::Global;
 use std::test::Fail;
 
-/// Rooms, people and homes, two rounds begun, and most refusals on the way.
+/// Rooms, people and homes, two rounds that are opened, and refusals in between.
 pub const REGISTER: [(&str, &str); 28] = [
     ("room H1", "ok\n"),
     ("room H2", "ok\n"),
@@ -44,8 +42,8 @@ pub const REGISTER: [(&str, &str); 28] = [
     ("close", "closed 2\n"),
 ];
 
-// A round up to its close: lists, a withdrawal that is repeated, and a room that is shut.
-const ROUND: [(&str, &str); 18] = [
+/// A round until it is closed, with lists, a repeated withdrawal, and a tenant's room that is shut.
+pub const ROUND: [(&str, &str); 18] = [
     ("room H1", "ok\n"),
     ("room H2", "ok\n"),
     ("room V", "ok\n"),
@@ -72,30 +70,7 @@ const ROUND: [(&str, &str); 18] = [
     ("close", "closed 1\n"),
 ];
 
-/// Whether an empty office hears the lines, gives their answers and ends with this status, and a desk that is handed
-/// their requests at once keeps the same office.
-pub fn hears(rt: &HostRuntime, script: &[(&str, &str)], status: u8) -> Result<bool, Fail> {
-    let lines = lines_of_script(rt.alloc(), script)?;
-    let answers = answers_of_script(rt.alloc(), script, script.len())?;
-    let (how, text) = rehearsed(rt.alloc(), lines.as_bytes());
-    let ended = how.ending == Ending::Ended && how.status == status;
-    let told = ended && text.as_slice() == answers.as_bytes();
-    Ok(told && is_kept(rt.alloc(), lines.as_str())?)
-}
-
-#[test]
-fn keeps_a_register(rt: HostRuntime) -> Result<(), Fail> {
-    assert!(rt; hears(&rt, &REGISTER, 1)?);
-    Ok(())
-}
-
-#[test]
-fn hears_a_round(rt: HostRuntime) -> Result<(), Fail> {
-    assert!(rt; hears(&rt, &ROUND, 1)?);
-    Ok(())
-}
-
-// A line that chooses rooms, each in a code of its own.
+// A line in which T1 chooses this number of different rooms.
 fn choosing(alloc: Global, count: u32) -> Result<String, Fail> {
     let mut line = String::from_str(alloc, "choose T1")?;
     for n in 0..count {
@@ -106,41 +81,13 @@ fn choosing(alloc: Global, count: u32) -> Result<String, Fail> {
 
 #[test]
 fn takes_forty_rooms(rt: HostRuntime) -> Result<(), Fail> {
-    let forty = choosing(rt.alloc(), 40)?;
-    let (how, text) = rehearsed(rt.alloc(), forty.as_bytes());
-    assert_same!(rt; how.status, 1);
-    assert_same!(rt; text.as_slice(), b"refused 1 BadPhase idle\n".as_slice());
-    let more = choosing(rt.alloc(), 41)?;
-    let (how, text) = rehearsed(rt.alloc(), more.as_bytes());
-    assert_same!(rt; how.status, 2);
-    assert_same!(rt; text.as_slice(), b"not understood\n".as_slice());
-    Ok(())
-}
-
-#[test]
-fn understands_no_other_words(rt: HostRuntime) {
-    for line in [
-        "person T1 key00000000000t1",
-        "person T1 key Tim",
-        "person t1 key00000000000t1 Tim",
-        "home T1",
-        "home T1 H1 H2",
-        "leave",
-        "leave T1 T2",
-        "shut h1",
-        "open now",
-        "choose",
-        "choose T1 H1 H1",
-        "choose T1 h1",
-        "moves",
-        "moves 12345",
-        "moves +1",
-        "moves 1 2",
-        "me key",
-        "rooms 1",
+    for (count, status, answer) in [
+        (40, 1, "refused 1 BadPhase idle\n"),
+        (41, 2, "not understood\n"),
     ] {
-        let (how, text) = rehearsed(rt.alloc(), line.as_bytes());
-        assert_same!(rt; how.status, 2, line);
-        assert_same!(rt; text.as_slice(), b"not understood\n".as_slice(), line);
+        let line = choosing(rt.alloc(), count)?;
+        let wanted = (status, Ending::Ended, answer);
+        assert_rehearsal(&rt, rt.alloc(), line.as_bytes(), wanted, answer);
     }
+    Ok(())
 }

@@ -1,14 +1,16 @@
-//! Worked scripts.
-use crate::asserting::assert_same;
+//! Rehearsals at desks in memory, and a test of the number of rooms.
+use crate::asserting::same;
 use office_lines::rehearse::rehearse;
 use office_lines::{Ending, Rehearsed};
 use office_store::Desk;
 use room_types::Watched;
+use sqlite::MemStore;
 use std::alloc::{AllocError, Global};
+use std::process::Abort;
 use std::test::Fail;
 
-/// Lines, each with its answer.
-pub const SECOND_SCRIPT: [(&str, &str); 5] = [
+/// Rooms that are added and printed.
+pub const ROOMS: [(&str, &str); 5] = [
     ("rooms", "room      state     tenant\n"),
     ("room H1", "ok\n"),
     ("room H1", "refused 4 DuplicateRoom\n"),
@@ -19,7 +21,7 @@ pub const SECOND_SCRIPT: [(&str, &str); 5] = [
     ),
 ];
 
-/// The lines of a script, each ended by a line feed.
+/// The lines of a script, each with a line feed at its end.
 pub fn lines_of_script(alloc: Global, script: &[(&str, &str)]) -> Result<String, AllocError> {
     let mut text = String::new(alloc);
     for (line, _) in script {
@@ -29,7 +31,7 @@ pub fn lines_of_script(alloc: Global, script: &[(&str, &str)]) -> Result<String,
     Ok(text)
 }
 
-/// The answers of the first lines of a script.
+/// The answers to the first `count` lines of a script.
 pub fn answers_of_script(
     alloc: Global,
     script: &[(&str, &str)],
@@ -42,64 +44,64 @@ pub fn answers_of_script(
     Ok(text)
 }
 
-/// What a new desk in memory makes of the input, and what it writes. Where there is no desk, no memory is told.
-pub fn rehearsed(alloc: Global, input: &[u8]) -> (Rehearsed, Vec<u8>) {
+/// Rehearses the input at this desk. Returns how it ended, and its output.
+pub fn rehearsed_at(
+    alloc: Global,
+    desk: &mut Desk<MemStore>,
+    input: &[u8],
+) -> (Rehearsed, Vec<u8>) {
     let mut input = Watched::new(input);
     let mut output = Watched::new(Vec::new(alloc));
-    let how = match Desk::in_memory(alloc) {
-        Ok(mut desk) => rehearse(alloc, &mut desk, &mut input, &mut output),
-        Err(_) => Rehearsed {
-            status: 3,
-            ending: Ending::NoMemory { sent: 0 },
-        },
-    };
+    let how = rehearse(alloc, desk, &mut input, &mut output);
     (how, output.into_inner())
 }
 
-const fn ended(status: u8) -> Rehearsed {
-    Rehearsed {
-        status,
-        ending: Ending::Ended,
+/// The same at a new desk in memory. If no desk can be made, returns `NoMemory` and no output.
+pub fn rehearsed(alloc: Global, input: &[u8]) -> (Rehearsed, Vec<u8>) {
+    match Desk::in_memory(alloc) {
+        Ok(mut desk) => rehearsed_at(alloc, &mut desk, input),
+        Err(_) => (ended(3, Ending::NoMemory { sent: 0 }), Vec::new(alloc)),
     }
 }
 
-#[test]
-fn hears_the_first_script(rt: HostRuntime) {
-    let (how, text) = rehearsed(rt.alloc(), b"room H1\nrooms\n");
-    assert_same!(rt; how, ended(0));
-    assert_same!(rt; text.as_slice(), b"ok\nroom      state     tenant\nH1        free      none\n".as_slice());
+/// Rehearses the input at a new desk in memory. Asserts the status, the ending and the output. The note names the case.
+pub fn assert_rehearsal(
+    test: &impl Abort,
+    alloc: Global,
+    input: &[u8],
+    wanted: (u8, Ending, &str),
+    note: &str,
+) {
+    let (how, text) = rehearsed(alloc, input);
+    let (status, ending, answers) = wanted;
+    same(
+        test,
+        &(how, text.as_slice()),
+        &(ended(status, ending), answers.as_bytes()),
+        note,
+    );
 }
 
-#[test]
-fn hears_the_second_script(rt: HostRuntime) -> Result<(), Fail> {
-    let lines = lines_of_script(rt.alloc(), &SECOND_SCRIPT)?;
-    let answers = answers_of_script(rt.alloc(), &SECOND_SCRIPT, 5)?;
-    let (how, text) = rehearsed(rt.alloc(), lines.as_bytes());
-    assert_same!(rt; how, ended(2));
-    assert_same!(rt; text.as_slice(), answers.as_bytes());
-    Ok(())
+fn ended(status: u8, ending: Ending) -> Rehearsed {
+    Rehearsed { status, ending }
 }
 
-#[test]
-fn hears_nothing(rt: HostRuntime) {
-    let (how, text) = rehearsed(rt.alloc(), b"");
-    assert_same!(rt; how, ended(0));
-    assert_same!(rt; text.len(), 0);
+// Lines that add this number of different rooms, and one more.
+fn rooms_and_one(alloc: Global, count: u32) -> Result<String, AllocError> {
+    let mut lines = String::new(alloc);
+    for n in 0..count {
+        writeln!(lines, "room R{n}")?;
+    }
+    lines.push_str("room A\n")?;
+    Ok(lines)
 }
 
 #[test]
 fn refuses_one_room_too_many(rt: HostRuntime) -> Result<(), Fail> {
-    let mut lines = String::new(rt.alloc());
-    let mut answers = String::new(rt.alloc());
-    for n in 1..2001 {
-        let line = format!(in rt.alloc(); "room R{n}\n")?;
-        lines.push_str(line.as_str())?;
-        answers.push_str("ok\n")?;
-    }
-    lines.push_str("room A\n")?;
+    let lines = rooms_and_one(rt.alloc(), 2_000)?;
+    let mut answers = "ok\n".repeat(rt.alloc(), 2_000)?;
     answers.push_str("refused 13 LimitReached\n")?;
-    let (how, text) = rehearsed(rt.alloc(), lines.as_bytes());
-    assert_same!(rt; how, ended(1));
-    assert_same!(rt; text.as_slice(), answers.as_bytes());
+    let wanted = (1, Ending::Ended, answers.as_str());
+    assert_rehearsal(&rt, rt.alloc(), lines.as_bytes(), wanted, "rooms");
     Ok(())
 }

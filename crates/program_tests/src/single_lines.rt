@@ -1,5 +1,5 @@
-//! Single lines at a desk in memory, as they stand among the words of the program.
-use crate::asserting::assert_same;
+//! Tests of single lines at a desk in memory, which the program gets as its arguments.
+use crate::asserting::same_of;
 use crate::failing::FailingWriter;
 use office_lines::do_line::{do_line, do_words};
 use office_program::desk_faults::refuse_desk;
@@ -7,115 +7,159 @@ use office_store::{Desk, DeskFault};
 use room_types::Watched;
 use sqlite::MemStore;
 use std::alloc::Global;
+use std::process::Abort;
 use std::test::Fail;
 
 const H1_ALONE: &str = "room      state     tenant\nH1        free      none\n";
 
-// The status of the line that these words are, and what is printed.
-fn done(alloc: Global, desk: &mut Desk<MemStore>, words: &[&str]) -> (u8, Vec<u8>) {
+// Words of lines in turn, each with the status and the output.
+const LINES: [(&[&str], u8, &str); 16] = [
+    (&["room", "H1"], 0, "ok\n"),
+    (&["room H1"], 1, "refused 4 DuplicateRoom\n"),
+    (&["room", "h1"], 2, "not understood\n"),
+    (&["help"], 2, "not understood\n"),
+    (&["moves", "2"], 1, "refused 17 NoSuchRound\n"),
+    (&["# room", "H2"], 0, ""),
+    (&[""], 0, ""),
+    (&["", " "], 0, ""),
+    (&["room", "H2\n"], 2, "not understood\n"),
+    (&["room H2\nroom H3"], 2, "not understood\n"),
+    (&["\n"], 2, "not understood\n"),
+    (&["rooms"], 0, H1_ALONE),
+    (&["rooms\r"], 0, H1_ALONE),
+    (&["rooms\r\r"], 2, "not understood\n"),
+    (
+        &["person", "T1", "key00000000000t1", "Tim ", " Tan"],
+        0,
+        "ok\n",
+    ),
+    (
+        &["people"],
+        0,
+        "person        home      name\nT1            none      Tim Tan\n",
+    ),
+];
+
+// Carries out the line of these words. Asserts the status and the output.
+fn assert_done(
+    test: &impl Abort,
+    alloc: Global,
+    desk: &mut Desk<MemStore>,
+    words: &[&str],
+    wanted: (u8, &str),
+) {
     let mut output = Watched::new(Vec::new(alloc));
     let status = do_words(alloc, desk, words, &mut output);
-    (status, output.into_inner())
+    let (wanted_status, printed) = wanted;
+    same_of(
+        test,
+        words,
+        &(status, output.into_inner().as_slice()),
+        &(wanted_status, printed.as_bytes()),
+    );
 }
 
 #[test]
 fn does_lines_of_words(rt: HostRuntime) -> Result<(), Fail> {
     let mut desk = Desk::in_memory(rt.alloc())?;
-    for (words, status, printed) in [
-        (["room", "H1"].as_slice(), 0, "ok\n"),
-        (["room H1"].as_slice(), 1, "refused 4 DuplicateRoom\n"),
-        (["room", "h1"].as_slice(), 2, "not understood\n"),
-        (["help"].as_slice(), 2, "not understood\n"),
-        (["moves", "2"].as_slice(), 1, "refused 17 NoSuchRound\n"),
-        (["# room", "H2"].as_slice(), 0, ""),
-        ([""].as_slice(), 0, ""),
-        (["", " "].as_slice(), 0, ""),
-        (["room", "H2\n"].as_slice(), 2, "not understood\n"),
-        (["room H2\nroom H3"].as_slice(), 2, "not understood\n"),
-        (["\n"].as_slice(), 2, "not understood\n"),
-        (["rooms"].as_slice(), 0, H1_ALONE),
-        (["rooms\r"].as_slice(), 0, H1_ALONE),
-        (["rooms\r\r"].as_slice(), 2, "not understood\n"),
-        (
-            ["person", "T1", "key00000000000t1", "Tim ", " Tan"].as_slice(),
-            0,
-            "ok\n",
-        ),
-        (
-            ["people"].as_slice(),
-            0,
-            "person        home      name\nT1            none      Tim Tan\n",
-        ),
-    ] {
-        let (ended, text) = done(rt.alloc(), &mut desk, words);
-        assert_same!(rt; ended, status);
-        assert_same!(rt; text.as_slice(), printed.as_bytes());
+    for (words, status, printed) in LINES {
+        assert_done(&rt, rt.alloc(), &mut desk, words, (status, printed));
     }
     Ok(())
 }
 
-// A comment of 65,536 bytes is passed over, and a byte more is too long.
+// A comment of 65,536 bytes is skipped, and a line with one byte more is refused. With a line feed it is not understood.
 #[test]
-fn hears_no_line_that_is_too_long(rt: HostRuntime) -> Result<(), Fail> {
+fn refuses_a_line_that_is_too_long(rt: HostRuntime) -> Result<(), Fail> {
     let mut desk = Desk::in_memory(rt.alloc())?;
-    let mut line = String::new(rt.alloc());
-    line.push_str("#")?;
-    for _ in 0..65_535 {
-        line.push_str("a")?;
-    }
-    assert_same!(rt; line.len(), 65_536);
-    let (status, text) = done(rt.alloc(), &mut desk, &[line.as_str()]);
-    assert_same!(rt; (status, text.len()), (0, 0));
+    let mut line = "#".repeat(rt.alloc(), 65_536)?;
+    assert_done(&rt, rt.alloc(), &mut desk, &[line.as_str()], (0, ""));
     line.push_str("a")?;
-    let (status, text) = done(rt.alloc(), &mut desk, &[line.as_str()]);
-    assert_same!(rt; (status, text.len()), (3, 0));
+    assert_done(&rt, rt.alloc(), &mut desk, &[line.as_str()], (3, ""));
     line.push_str("\n")?;
-    let (status, text) = done(rt.alloc(), &mut desk, &[line.as_str()]);
-    assert_same!(rt; status, 2);
-    assert_same!(rt; text.as_slice(), b"not understood\n".as_slice());
+    assert_done(
+        &rt,
+        rt.alloc(),
+        &mut desk,
+        &[line.as_str()],
+        (2, "not understood\n"),
+    );
     Ok(())
 }
 
-// What was handled stands where its answer does not go out.
+// Carries out the line with a writer that takes a number of bytes and whose flush may fail. Asserts that the status is 3, that
+// the writer failed, and that exactly this text is written.
+fn assert_cut_off(
+    test: &impl Abort,
+    alloc: Global,
+    desk: &mut Desk<MemStore>,
+    line: &str,
+    writer: (usize, bool),
+    sent: &str,
+) {
+    let (room, flushes) = writer;
+    let mut output = Watched::new(FailingWriter {
+        written: Vec::new(alloc),
+        writes: usize::MAX,
+        room,
+        flushes,
+    });
+    let status = do_line(alloc, desk, line.as_bytes(), &mut output);
+    let failed = output.failed();
+    same_of(
+        test,
+        &[line],
+        &(status, failed, output.into_inner().written.as_slice()),
+        &(3, true, sent.as_bytes()),
+    );
+}
+
+// A command takes effect even if its answer can't be written.
 #[test]
 fn does_lines_where_the_writer_fails(rt: HostRuntime) -> Result<(), Fail> {
-    let mut desk = Desk::in_memory(rt.alloc())?;
-    for (line, room, flushes, sent) in [
-        ("room H1", 2, true, "ok"),
-        ("rooms", 7, true, "room   "),
-        ("rooms", usize::MAX, false, H1_ALONE),
-    ] {
-        let mut output = Watched::new(FailingWriter {
-            written: Vec::new(rt.alloc()),
-            writes: usize::MAX,
-            room,
-            flushes,
-        });
-        assert_same!(rt; do_line(rt.alloc(), &mut desk, line.as_bytes(), &mut output), 3);
-        assert!(rt; output.failed());
-        assert_same!(rt; output.into_inner().written.as_slice(), sent.as_bytes());
-    }
-    let (status, text) = done(rt.alloc(), &mut desk, &["rooms"]);
-    assert_same!(rt; status, 0);
-    assert_same!(rt; text.as_slice(), H1_ALONE.as_bytes());
+    let alloc = rt.alloc();
+    let mut desk = Desk::in_memory(alloc)?;
+    assert_cut_off(&rt, alloc, &mut desk, "room H1", (2, true), "ok");
+    assert_cut_off(&rt, alloc, &mut desk, "rooms", (7, true), "room   ");
+    assert_cut_off(
+        &rt,
+        alloc,
+        &mut desk,
+        "rooms",
+        (usize::MAX, false),
+        H1_ALONE,
+    );
+    assert_done(&rt, alloc, &mut desk, &["rooms"], (0, H1_ALONE));
     Ok(())
 }
 
+// Faults of opening a desk, each with the status and the output.
+const FAULTS: [(DeskFault, u8, &str); 5] = [
+    (DeskFault::Unavailable, 3, "unavailable\n"),
+    (DeskFault::NotAnOffice, 1, "refused 21 NotAnOffice\n"),
+    (DeskFault::OtherVersion(9), 1, "refused 22 OtherVersion 9\n"),
+    (
+        DeskFault::OtherVersion(-1),
+        1,
+        "refused 22 OtherVersion -1\n",
+    ),
+    (DeskFault::AlreadyThere, 1, "refused 23 AlreadyThere\n"),
+];
+
 #[test]
-fn tells_why_there_is_no_desk(rt: HostRuntime) {
-    for (fault, status, printed) in [
-        (DeskFault::Unavailable, 3, "unavailable\n"),
-        (DeskFault::NotAnOffice, 1, "refused 21 NotAnOffice\n"),
-        (DeskFault::OtherVersion(9), 1, "refused 22 OtherVersion 9\n"),
-        (
-            DeskFault::OtherVersion(-1),
-            1,
-            "refused 22 OtherVersion -1\n",
-        ),
-        (DeskFault::AlreadyThere, 1, "refused 23 AlreadyThere\n"),
-    ] {
-        let mut output = Watched::new(Vec::new(rt.alloc()));
-        assert_same!(rt; refuse_desk(rt.alloc(), fault, &mut output), status);
-        assert_same!(rt; output.into_inner().as_slice(), printed.as_bytes());
+fn says_why_there_is_no_desk(rt: HostRuntime) {
+    for (fault, status, printed) in FAULTS {
+        assert_refused(&rt, rt.alloc(), fault, status, printed);
     }
+}
+
+fn assert_refused(test: &impl Abort, alloc: Global, fault: DeskFault, status: u8, printed: &str) {
+    let mut output = Watched::new(Vec::new(alloc));
+    let ended = refuse_desk(alloc, fault, &mut output);
+    same_of(
+        test,
+        &[printed],
+        &(ended, output.into_inner().as_slice()),
+        &(status, printed.as_bytes()),
+    );
 }

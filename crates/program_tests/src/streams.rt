@@ -1,6 +1,6 @@
-//! Streams that fail while a register is told: what was handled before stands.
+//! Tests of devices that fail during a rehearsal of the register. Lines that were handled before keep their effect.
 use crate::asserting::same_at;
-use crate::at_desks::{is_told_after, shown};
+use crate::at_desks::{is_shown_after, shown};
 use crate::failing::{FailingReader, FailingWriter};
 use crate::register::REGISTER;
 use crate::scripts::{answers_of_script, lines_of_script};
@@ -11,7 +11,7 @@ use room_types::Watched;
 use std::alloc::Global;
 use std::test::Fail;
 
-// Bytes that a reader gives at a time.
+// The most bytes that the reader gives a read.
 const PIECE: usize = 7;
 
 // A writer that never fails.
@@ -32,8 +32,8 @@ fn good_reader<'a>(unread: &'a [u8]) -> FailingReader<'a> {
     }
 }
 
-// What a new desk in memory makes of the input, whether the reader and whether the writer failed, what was written, and what the
-// desk then tells of its office.
+// Rehearses the input at a new desk in memory. Returns how it ended, whether the reader and whether the writer failed, what was
+// written, and what the desk then shows of its office.
 fn rehearsed<'a>(
     alloc: Global,
     reader: FailingReader<'a>,
@@ -48,8 +48,8 @@ fn rehearsed<'a>(
     Ok((how, failed, output.into_inner().written, kept))
 }
 
-// Whether a rehearsal of the register by this writer, which alone fails, ends so, has written this front of the answers, and
-// leaves the office of so many lines.
+// Whether a rehearsal of the register with this writer, where only the writer fails, ends with `WriteFault`, has written exactly
+// the first `sent` bytes of the answers, and leaves the office of the first `handled` lines.
 fn stops_at(
     alloc: Global,
     writer: FailingWriter,
@@ -61,17 +61,18 @@ fn stops_at(
     let (how, failed, text, kept) = rehearsed(alloc, good_reader(lines.as_bytes()), writer)?;
     let ending = Ending::WriteFault { sent: sent as u128 };
     let stopped = how.status == 3 && how.ending == ending && failed == (false, true);
-    let told = text.len() == sent && answers.as_bytes().starts_with(&text);
-    Ok(stopped && told && is_kept_after(alloc, handled, &kept)?)
+    let answered = text.len() == sent && answers.as_bytes().starts_with(&text);
+    Ok(stopped && answered && is_kept_after(alloc, handled, &kept)?)
 }
 
-// Whether this is told of the office after the first lines of the register.
+// Whether a desk shows this of its office after the first `handled` lines of the register.
 fn is_kept_after(alloc: Global, handled: usize, kept: &[u8]) -> Result<bool, Fail> {
     let lines = lines_of_script(alloc, &REGISTER[..handled.min(REGISTER.len())])?;
-    is_told_after(alloc, lines.as_str(), kept)
+    is_shown_after(alloc, lines.as_str(), kept)
 }
 
-// How many lines are handled where a writer takes so many bytes and no more: those whose answers it takes, and the next one.
+// The number of lines that are handled if the writer takes only `taken` bytes: those whose answers fit, and the next one, if
+// there is one.
 fn handled_for(taken: usize) -> usize {
     let mut rest = taken;
     for (handled, (_, answer)) in REGISTER.iter().enumerate() {
@@ -83,7 +84,7 @@ fn handled_for(taken: usize) -> usize {
     REGISTER.len()
 }
 
-// Each line that has come whole before a read fails is answered and stands.
+// Each line that was read completely before a read fails is answered and takes effect.
 #[test]
 fn stops_where_a_read_fails(rt: HostRuntime) -> Result<(), Fail> {
     let lines = lines_of_script(rt.alloc(), &REGISTER)?;
@@ -96,19 +97,47 @@ fn stops_where_a_read_fails(rt: HostRuntime) -> Result<(), Fail> {
     Ok(())
 }
 
-// Whether a rehearsal of the register by a reader that alone fails, after so many reads, tells and leaves what came in time.
+// Whether a rehearsal of the register, where only the reader fails, after `passed` reads, answers the lines that were read
+// completely and leaves the office of these lines.
 fn stops_at_read(alloc: Global, lines: &[u8], passed: usize) -> Result<bool, Fail> {
     let mut reader = good_reader(lines);
     reader.reads = passed;
-    let heard = lines_before(lines, passed.saturating_mul(PIECE));
-    let answers = answers_of_script(alloc, &REGISTER, heard)?;
+    let whole = lines_before(lines, passed.saturating_mul(PIECE));
+    let answers = answers_of_script(alloc, &REGISTER, whole)?;
     let (how, failed, text, kept) = rehearsed(alloc, reader, good_writer(alloc))?;
     let stopped = how.status == 3 && how.ending == Ending::ReadFault && failed == (true, false);
-    let told = text.as_slice() == answers.as_bytes();
-    Ok(stopped && told && is_kept_after(alloc, heard, &kept)?)
+    let answered = text.as_slice() == answers.as_bytes();
+    Ok(stopped && answered && is_kept_after(alloc, whole, &kept)?)
 }
 
-// How many lines end in the first bytes of the text.
+/// How a rehearsal ended, whether the reader or the writer failed, and the number of reads of the input.
+#[derive(Clone, Copy, Debug, PartialEq, Eq)]
+pub struct Stopped {
+    pub status: u8,
+    pub ending: Ending,
+    pub failed: bool,
+    pub reads: u64,
+}
+
+/// Rehearses these bytes, which the reader gives one at a time, at a new desk in memory.
+pub fn rehearsed_by_bytes(alloc: Global, input: &[u8]) -> Result<Stopped, Fail> {
+    let mut desk = Desk::in_memory(alloc)?;
+    let mut input = Watched::new(FailingReader {
+        unread: input,
+        piece: 1,
+        reads: usize::MAX,
+    });
+    let mut output = Watched::new(good_writer(alloc));
+    let how = rehearse(alloc, &mut desk, &mut input, &mut output);
+    Ok(Stopped {
+        status: how.status,
+        ending: how.ending,
+        failed: input.failed() || output.failed(),
+        reads: input.reads(),
+    })
+}
+
+// The number of lines that end in the first `length` bytes of the text.
 fn lines_before(text: &[u8], length: usize) -> usize {
     text.iter()
         .take(length)

@@ -1,6 +1,7 @@
-//! The words after the program's name.
+//! Tests of the arguments after the program's name, and of rehearsals.
 use crate::asserting::assert_same;
 use crate::failing::FailingReader;
+use crate::stories::{Step, assert_line, run_steps};
 use office_core::{Command, Query};
 use office_program::carry_out::carry_out;
 use office_program::program::program;
@@ -8,69 +9,49 @@ use office_program::usage::Program;
 use office_store::Request;
 use office_words::{WordFault, words_to_command};
 use room_types::Watched;
+use std::alloc::Global;
 use std::test::Fail;
+
+const LINES: [Step<'_>; 10] = [
+    Step::Line(&[], 0, "ok\n"),
+    Step::Line(&["rehearse"], 0, "ok\n"),
+    Step::NoLine(&["--help"]),
+    Step::NoLine(&["-h"]),
+    Step::NoLine(&["help"]),
+    Step::NoLine(&["--version"]),
+    Step::NoLine(&["--"]),
+    Step::NoLine(&["room"]),
+    Step::NoLine(&["rehearse", "--help"]),
+    Step::NoLine(&["rehearse", "now"]),
+];
 
 #[test]
 fn carries_out_lines(rt: HostRuntime) -> Result<(), Fail> {
-    let none: &[&str] = &[];
-    for (words, status, printed, told) in [
-        (none, 0, "ok\n", ""),
-        (["rehearse"].as_slice(), 0, "ok\n", ""),
-        (["--help"].as_slice(), 2, "", "rooms: not understood\n"),
-        (["-h"].as_slice(), 2, "", "rooms: not understood\n"),
-        (["help"].as_slice(), 2, "", "rooms: not understood\n"),
-        (["--version"].as_slice(), 2, "", "rooms: not understood\n"),
-        (["--"].as_slice(), 2, "", "rooms: not understood\n"),
-        (["room"].as_slice(), 2, "", "rooms: not understood\n"),
-        (
-            ["rehearse", "--help"].as_slice(),
-            2,
-            "",
-            "rooms: not understood\n",
-        ),
-        (
-            ["rehearse", "now"].as_slice(),
-            2,
-            "",
-            "rooms: not understood\n",
-        ),
-    ] {
-        let mut input = Watched::new(b"room H1\n".as_slice());
-        let mut output = Watched::new(Vec::new(rt.alloc()));
-        let mut error = Watched::new(Vec::new(rt.alloc()));
-        assert_same!(rt; carry_out(&rt, words, &mut input, &mut output, &mut error), status);
-        assert_same!(rt; output.into_inner().as_slice(), printed.as_bytes());
-        assert_same!(rt; error.into_inner().as_slice(), told.as_bytes());
-    }
-    Ok(())
+    run_steps(&rt, &rt, "words", &LINES)
 }
 
-// A rehearsal's status is the program's.
+// Standard inputs of a rehearsal, each with the status and the output.
+const REHEARSALS: [(&str, u8, &str); 4] = [
+    ("", 0, ""),
+    ("rooms\n", 0, "room      state     tenant\n"),
+    ("moves 1\n", 1, "refused 17 NoSuchRound\n"),
+    (
+        "room h1\nmoves 1\n",
+        2,
+        "not understood\nrefused 17 NoSuchRound\n",
+    ),
+];
+
+// The program exits with the status of the rehearsal.
 #[test]
-fn carries_out_rehearsals(rt: HostRuntime) -> Result<(), Fail> {
-    let rooms = "room      state     tenant\n";
-    for (lines, status, printed) in [
-        ("", 0, ""),
-        ("rooms\n", 0, rooms),
-        ("moves 1\n", 1, "refused 17 NoSuchRound\n"),
-        (
-            "room h1\nmoves 1\n",
-            2,
-            "not understood\nrefused 17 NoSuchRound\n",
-        ),
-    ] {
-        let mut input = Watched::new(lines.as_bytes());
-        let mut output = Watched::new(Vec::new(rt.alloc()));
-        let mut error = Watched::new(Vec::new(rt.alloc()));
-        assert_same!(rt; carry_out(&rt, &["rehearse"], &mut input, &mut output, &mut error), status);
-        assert_same!(rt; output.into_inner().as_slice(), printed.as_bytes());
-        assert!(rt; error.into_inner().is_empty());
+fn carries_out_rehearsals(rt: HostRuntime) {
+    for (input, status, printed) in REHEARSALS {
+        assert_line(&rt, &rt, &["rehearse"], input, (status, printed, ""));
     }
-    Ok(())
 }
 
 #[test]
-fn tells_where_standard_input_fails(rt: HostRuntime) {
+fn fails_where_standard_input_fails(rt: HostRuntime) {
     let mut input = Watched::new(FailingReader {
         unread: b"rooms\nrooms\n".as_slice(),
         piece: 6,
@@ -83,7 +64,7 @@ fn tells_where_standard_input_fails(rt: HostRuntime) {
 }
 
 #[test]
-fn tells_where_standard_error_fails(rt: HostRuntime) {
+fn fails_where_standard_error_fails(rt: HostRuntime) {
     let mut input = Watched::new(b"".as_slice());
     let mut output = Watched::new(Vec::new(rt.alloc()));
     let mut closed = [0; 0];
@@ -94,21 +75,30 @@ fn tells_where_standard_error_fails(rt: HostRuntime) {
 
 #[test]
 fn reads_words(rt: HostRuntime) {
-    assert!(rt; matches!(program(rt.alloc(), &["rehearse"]), Ok(Program::Rehearse)));
-    assert!(rt;
-        matches!(
-            words_to_command(rt.alloc(), &["rooms"]),
-            Ok(Request::Ask(Query::Rooms))
-        )
-    );
-    match &words_to_command(rt.alloc(), &["room", "H1"]) {
-        Ok(Request::Office(Command::AddRoom { room })) => assert_same!(rt; room.as_str(), "H1"),
-        _ => panic!(rt; "room H1 is no request"),
+    let alloc = rt.alloc();
+    assert_same!(rt; matches!(program(alloc, &["rehearse"]), Ok(Program::Rehearse)), true);
+    assert_same!(rt; asks_for_rooms(alloc, &["rooms"]), true);
+    assert_same!(rt; adds_h1(alloc, &["room", "H1"]), true);
+    assert_same!(rt; is_no_request(alloc, &["room", "-"]), true);
+}
+
+fn asks_for_rooms(alloc: Global, words: &[&str]) -> bool {
+    matches!(
+        words_to_command(alloc, words),
+        Ok(Request::Ask(Query::Rooms))
+    )
+}
+
+fn adds_h1(alloc: Global, words: &[&str]) -> bool {
+    match &words_to_command(alloc, words) {
+        Ok(Request::Office(Command::AddRoom { room })) => room.as_str() == "H1",
+        _ => false,
     }
-    assert!(rt;
-        matches!(
-            words_to_command(rt.alloc(), &["room", "-"]),
-            Err(WordFault::NotUnderstood)
-        )
-    );
+}
+
+fn is_no_request(alloc: Global, words: &[&str]) -> bool {
+    matches!(
+        words_to_command(alloc, words),
+        Err(WordFault::NotUnderstood)
+    )
 }

@@ -1,8 +1,7 @@
-//! Whole rounds: nobody takes part, withdrawn and displaced tenants, days of moving, and other lists.
-use crate::register::hears;
-use std::test::Fail;
+//! Scripts of rounds: without participants, with withdrawn and displaced tenants, with moves, and with queries about other lists.
 
-const NOBODY: [(&str, &str); 10] = [
+/// A round without participants.
+pub const NOBODY: [(&str, &str); 10] = [
     ("room A", "ok\n"),
     ("open", "round 1 open\n"),
     ("close", "closed 0\n"),
@@ -15,7 +14,8 @@ const NOBODY: [(&str, &str); 10] = [
     ("round", "round 1 idle people 0 withdrawn 0\n"),
 ];
 
-const WITHDRAWN_TENANT: [(&str, &str); 20] = [
+/// A tenant withdraws, twice.
+pub const WITHDRAWN_TENANT: [(&str, &str); 20] = [
     ("room H1", "ok\n"),
     ("room H2", "ok\n"),
     ("person T1 key00000000000t1 Tim Tan", "ok\n"),
@@ -38,7 +38,8 @@ const WITHDRAWN_TENANT: [(&str, &str); 20] = [
     ("round", "round 1 idle people 2 withdrawn 0\n"),
 ];
 
-const DISPLACED_TENANT: [(&str, &str); 14] = [
+/// A tenant's room is shut after the tenant's list is recorded.
+pub const DISPLACED_TENANT: [(&str, &str); 14] = [
     ("room H1", "ok\n"),
     ("room V", "ok\n"),
     ("room W", "ok\n"),
@@ -58,8 +59,8 @@ const DISPLACED_TENANT: [(&str, &str); 14] = [
     ),
 ];
 
-// A swap with a newcomer behind it, up to the day of moving, with what T1 sees on the way.
-const SWAP: [(&str, &str); 30] = [
+/// T1 and T2 swap, and a newcomer, who lists H1 and V, gets V. T1 asks for the result before and after it is published.
+pub const SWAP: [(&str, &str); 30] = [
     ("room H1", "ok\n"),
     ("room H2", "ok\n"),
     ("room V", "ok\n"),
@@ -107,7 +108,8 @@ const SWAP: [(&str, &str); 30] = [
     ("cancel", "cancelled\n"),
 ];
 
-const CHAIN: [(&str, &str); 17] = [
+/// T1 moves after T2.
+pub const CHAIN: [(&str, &str); 17] = [
     ("room H1", "ok\n"),
     ("room H2", "ok\n"),
     ("room V", "ok\n"),
@@ -130,8 +132,8 @@ const CHAIN: [(&str, &str); 17] = [
     ),
 ];
 
-// A vacated room goes by priority, and the last newcomer gets none, by another list too.
-const NO_ROOM: [(&str, &str); 15] = [
+/// The vacated room goes to the first of two newcomers. The second gets none, and would get none with another list.
+pub const NO_ROOM: [(&str, &str); 15] = [
     ("room H1", "ok\n"),
     ("room V", "ok\n"),
     ("person T1 key00000000000t1 Tim Tan", "ok\n"),
@@ -155,8 +157,8 @@ const NO_ROOM: [(&str, &str); 15] = [
     ("whatif N2 V H1", "would get none\n"),
 ];
 
-// Three rounds of one office: one is given up after its run, somebody is taken out and added again, and two are settled.
-const ROUND_AFTER_ROUND: [(&str, &str); 38] = [
+/// Three rounds of one office. The first is cancelled after it ran, N is removed and added again, and the other two are settled.
+pub const ROUND_AFTER_ROUND: [(&str, &str); 38] = [
     ("room H1", "ok\n"),
     ("room V", "ok\n"),
     ("person T1 key00000000000t1 Tim Tan", "ok\n"),
@@ -215,8 +217,8 @@ const ROUND_AFTER_ROUND: [(&str, &str); 38] = [
     ("round", "round 3 idle people 2 withdrawn 0\n"),
 ];
 
-// T2 leaves the college, and T1 comes to that room.
-const LEAVER: [(&str, &str); 29] = [
+/// T2 leaves the college, and T1 moves to that room.
+pub const LEAVER: [(&str, &str); 29] = [
     ("room H1", "ok\n"),
     ("room H2", "ok\n"),
     ("person T1 key00000000000t1 Tim Tan", "ok\n"),
@@ -256,26 +258,3 @@ const LEAVER: [(&str, &str); 29] = [
     ("open", "round 2 open\n"),
     ("going T1", "going\n"),
 ];
-
-#[test]
-fn hears_round_after_round(rt: HostRuntime) -> Result<(), Fail> {
-    assert!(rt; hears(&rt, &ROUND_AFTER_ROUND, 0)?);
-    Ok(())
-}
-
-#[test]
-fn hears_whole_rounds(rt: HostRuntime) -> Result<(), Fail> {
-    assert!(rt; hears(&rt, &NOBODY, 0)?);
-    assert!(rt; hears(&rt, &WITHDRAWN_TENANT, 1)?);
-    assert!(rt; hears(&rt, &DISPLACED_TENANT, 0)?);
-    assert!(rt; hears(&rt, &NO_ROOM, 0)?);
-    Ok(())
-}
-
-#[test]
-fn hears_days_of_moving(rt: HostRuntime) -> Result<(), Fail> {
-    assert!(rt; hears(&rt, &SWAP, 1)?);
-    assert!(rt; hears(&rt, &CHAIN, 0)?);
-    assert!(rt; hears(&rt, &LEAVER, 1)?);
-    Ok(())
-}

@@ -1,4 +1,4 @@
-//! Conversations over a desk in memory.
+//! Tests of serving single connections over a desk in memory.
 mod failing;
 mod faults;
 mod lists;
@@ -19,7 +19,7 @@ use std::alloc::Global;
 use std::io::Read;
 use std::process::Abort;
 
-// The round is open: T1 lives in H1 and T2 in H2, V is vacant, and T2 lists H1.
+// The round is open. T1 lives in H1 and T2 in H2, V is vacant, and T2 lists H1.
 const OPEN_ROUND: &str = "\
 room H1\n\
 room H2\n\
@@ -31,7 +31,7 @@ home T2 H2\n\
 open\n\
 choose T2 H1\n";
 
-// T1 hands in a list.
+// T1 hands in the list H2.
 const REQUEST: &str = "PUT /me/choices HTTP/1.1\r\n\
     Host: a\r\n\
     Room-Key: key00000000000t1\r\n\
@@ -39,7 +39,7 @@ const REQUEST: &str = "PUT /me/choices HTTP/1.1\r\n\
     \r\n\
     [\"H2\"]";
 
-// The answer to it.
+// The response to that request.
 const ANSWER: &str = "HTTP/1.1 200 OK\r\n\
     Content-Type: application/json\r\n\
     Content-Length: 18\r\n\
@@ -47,12 +47,12 @@ const ANSWER: &str = "HTTP/1.1 200 OK\r\n\
     \r\n\
     {\"choices\":[\"H2\"]}";
 
-// A conversation that went well.
+// How serving a connection ends after a success.
 const WELL: Served = Served::Answered {
     status: StatusCode::OK,
 };
 
-// How a conversation ended, whether its stream failed, how often it was read and flushed, and what was written.
+// How serving a connection ended, whether its stream failed, the number of its reads and flushes, and the bytes written.
 #[derive(Drop)]
 struct Talk {
     how: Served,
@@ -62,19 +62,19 @@ struct Talk {
     written: Vec<u8>,
 }
 
-// A desk in an open round.
+// A desk with an open round.
 fn open_round(rt: &impl Abort, alloc: Global) -> Desk<MemStore> {
     let mut desk = Desk::in_memory(alloc).expect(rt, "a desk in memory");
     handle_lines(rt, alloc, &mut desk, OPEN_ROUND);
     desk
 }
 
-/// Lets the desk go. Whoever has one hands it on to here, so that it is proved in one place that all its parts can be let go.
+/// Drops the desk. All tests drop theirs here, so that dropping one is proved in one place.
 pub fn let_go(desk: Desk<MemStore>) {
     drop(desk);
 }
 
-// Has these lines of the office handled at the desk.
+// Handles these lines of the office at the desk.
 fn handle_lines(rt: &impl Abort, alloc: Global, desk: &mut Desk<MemStore>, lines: &str) {
     for line in lines.lines() {
         let sentence = read_line(alloc, line.as_bytes()).expect(rt, "memory");
@@ -88,12 +88,12 @@ fn handle_sentence(alloc: Global, desk: &mut Desk<MemStore>, sentence: Sentence)
     }
 }
 
-// The conversation with this reader.
+// Serves a connection with this reader.
 fn served<R: Read + Drop>(alloc: Global, desk: &mut Desk<MemStore>, reader: R) -> Talk {
     served_on(alloc, desk, reader, NarrowWriter::wide(alloc))
 }
 
-// The conversation with this reader and this writer.
+// Serves a connection with this reader and this writer.
 fn served_on<R: Read + Drop>(
     alloc: Global,
     desk: &mut Desk<MemStore>,
@@ -111,7 +111,7 @@ fn served_on<R: Read + Drop>(
     }
 }
 
-// That this request has this answer to the byte.
+// Asserts that exactly these bytes are the response to this request.
 fn is_answered(
     rt: &impl Abort,
     alloc: Global,
@@ -124,7 +124,7 @@ fn is_answered(
     assert_same!(rt; talk.written.as_slice(), answer.as_bytes(), request);
 }
 
-/// All that is left to read.
+/// Reads everything up to the end.
 pub fn read_whole(rt: &impl Abort, alloc: Global, reader: &mut impl Read) -> Vec<u8> {
     let mut bytes = Vec::new(alloc);
     reader.read_to_end(&mut bytes).expect(rt, "bytes");

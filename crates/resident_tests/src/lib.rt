@@ -1,4 +1,5 @@
-//! Residents' requests and their answers to the byte, conversations over a desk in memory, and connections in turn.
+//! Tests of residents' requests and of the exact bytes of the responses, over a desk in memory, and over several connections in
+//! turn.
 #![tactic(auto)]
 
 #[cfg(test)]

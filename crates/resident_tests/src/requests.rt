@@ -1,4 +1,4 @@
-//! Worked requests and answers to the byte, with ample memory.
+//! Tests of worked requests, and of the exact bytes of responses, with enough memory.
 mod answers;
 mod asks;
 mod routes;

@@ -1,4 +1,4 @@
-//! Residents, served over connections that are scripted, and over a socket.
+//! Tests of serving residents over scripted connections, and over a socket.
 ghost use Rattle.std.specs.Prelude.{⊤};
 
 use crate::asserting::assert_same;
@@ -14,8 +14,8 @@ use std::io::Write;
 use std::net::{Ipv4Addr, Shutdown, SocketAddr, TcpListener, TcpStream};
 use std::process::Abort;
 
-// Connections that come one after the other, each with what is read from it, or fail to come, and what was written to those
-// that were closed.
+// A script of connections: for each, the bytes to read from it, or `None` if accepting it fails. Keeps what was written to the
+// connections that were closed.
 #[derive(Drop)]
 struct Script<'a> {
     coming: &'a [Option<&'a [u8]>],
@@ -80,20 +80,20 @@ const COMING: [Option<&[u8]>; 5] = [
 const TIM_TAN: &[u8] =
     b"person T1\nname Tim Tan\nhome H1\nround 1 open\nchoices H2\nwithdrawn yes\ngoing no\nresult hidden\n";
 
-// What the office says to this line.
+// The printed answer of the office to this line.
 fn said(alloc: Global, desk: &mut Desk<MemStore>, line: &str) -> Vec<u8> {
     let mut output = Watched::new(Vec::new(alloc));
     do_line(alloc, desk, line.as_bytes(), &mut output);
     output.into_inner()
 }
 
-// That the office says this to the line.
+// Asserts that this is the printed answer of the office to the line.
 fn is_said(rt: &impl Abort, alloc: Global, desk: &mut Desk<MemStore>, line: &str, wanted: &[u8]) {
     let said = said(alloc, desk, line);
     assert_same!(rt; said.as_slice(), wanted, line);
 }
 
-// An office with a round that is open, and Tim Tan in it.
+// A desk with an open round and Tim Tan.
 fn open_desk(rt: &impl Abort, alloc: Global) -> Desk<MemStore> {
     let mut desk = Desk::in_memory(alloc).expect(rt, "a desk in memory");
     for line in [
@@ -108,7 +108,7 @@ fn open_desk(rt: &impl Abort, alloc: Global) -> Desk<MemStore> {
     desk
 }
 
-// What came of a server: its exit status, how often it flushed, and what it said.
+// How a server ended: its exit status, the number of its flushes, and its output.
 #[derive(Drop)]
 struct Ended {
     status: u8,
@@ -154,7 +154,8 @@ fn served_four(rt: &impl Abort, ended: &Ended) {
     );
 }
 
-// That this was written to three connections: that H2 is recorded, nothing, and another answer.
+// Asserts that three connections were closed, that the first got the response that H2 is recorded, and that nothing was written
+// to the second.
 fn are_written(rt: &impl Abort, written: &[Vec<u8>]) {
     assert_same!(rt; written.len(), 3);
     assert_same!(rt;
@@ -164,7 +165,7 @@ fn are_written(rt: &impl Abort, written: &[Vec<u8>]) {
     assert_same!(rt; written.get(1).map(|bytes| bytes.len()), Some(0));
 }
 
-// Where it cannot be said that the server listens, nobody is served.
+// If the server cannot print that it listens, it serves nobody.
 #[test]
 fn serves_nobody_where_output_fails(rt: HostRuntime) {
     let alloc = rt.alloc();
@@ -185,7 +186,7 @@ fn serves_nobody_where_output_fails(rt: HostRuntime) {
     let_go(desk);
 }
 
-// The exit status of a server whose output takes nothing, and whether the output failed.
+// The exit status of a server whose output takes no bytes, and whether the output failed.
 fn served_unheard<L: Listener>(
     alloc: Global,
     desk: &mut Desk<MemStore>,
@@ -197,7 +198,7 @@ fn served_unheard<L: Listener>(
     (status, output.failed())
 }
 
-// A socket's connection is served: it waits in the queue of the system until it is accepted.
+// The server accepts a connection that waits in the queue of the system.
 #[test]
 fn serves_over_a_socket(rt: HostRuntime) {
     let place = SocketAddr::from((Ipv4Addr::LOCALHOST, 0));
@@ -212,13 +213,13 @@ fn serves_over_a_socket(rt: HostRuntime) {
     let_go(desk);
 }
 
-// The resident sends a list, and no more.
+// The resident sends a list and then shuts the sending side.
 fn hands_in(rt: &impl Abort, resident: &mut TcpStream) {
     resident.write_all(HANDS_IN_H2).expect(rt, "a request");
     resident.shutdown(Shutdown::Write).expect(rt, "an end");
 }
 
-// That the resident is told that the list is recorded.
+// Asserts that the response to the resident says that the list is recorded.
 fn is_recorded(rt: &impl Abort, alloc: Global, resident: &mut TcpStream) {
     let answer = read_whole(rt, alloc, resident);
     assert_same!(rt; answer.as_slice(), H2_IS_RECORDED);

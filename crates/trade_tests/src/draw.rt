@@ -11,7 +11,7 @@ use std::marker::Model;
 use std::process::Abort;
 use std::test::Fail;
 
-// Gives 1, 2, 3 and so on, as words of 32 bits.
+// A generator of 1, 2, 3 and so on, as words of 32 bits.
 #[derive(Drop)]
 struct Counting {
     last: u32,
@@ -85,7 +85,7 @@ fn equal_words_by_identifier(rt: HostRuntime) -> Result<(), Fail> {
     Ok(())
 }
 
-// The same draw, where who has the least word has grade 1.
+// The same draw, but the person with the least word has grade 1.
 #[test]
 fn a_smaller_grade_before_a_smaller_word(rt: HostRuntime) -> Result<(), Fail> {
     let alloc = rt.alloc();

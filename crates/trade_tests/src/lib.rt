@@ -1,5 +1,5 @@
-//! What no clause says of values, lists, the draw and the trade: that calls succeed, and that the definitions give what they should
-//! at worked examples.
+//! Tests of what no contract states about values, lists, the draw and the trade: that calls succeed, and that the definitions
+//! give the expected values at worked examples.
 #![tactic(auto)]
 
 #[cfg(test)]

@@ -142,7 +142,7 @@ fn waves_of_a_chain(rt: HostRuntime) -> Result<(), Fail> {
     Ok(())
 }
 
-// T2 leaves the college, and T1 comes to that room.
+// T2 leaves the college, and T1 moves into the room.
 #[test]
 fn waves_and_move_day_of_somebody_who_leaves(rt: HostRuntime) -> Result<(), Fail> {
     let alloc = rt.alloc();

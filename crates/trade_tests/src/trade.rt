@@ -1,4 +1,4 @@
-//! What no clause says: that the definitions give what they should at worked examples, and that calls succeed.
+//! Tests of what no contract states: that calls succeed, and that the definitions give the expected values at worked examples.
 mod compared;
 mod faults;
 mod groups;

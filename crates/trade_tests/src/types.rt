@@ -1,4 +1,4 @@
-//! Each call once with ample memory, and worked values.
+//! Tests of `room_types` with enough memory, and of worked values.
 use crate::asserting::assert_same;
 use room_types::grammars::RoomCodes;
 use room_types::rows::copy_optional;
@@ -22,7 +22,7 @@ fn compares_by_bytes(rt: HostRuntime) -> Result<(), TypeFault> {
     Ok(())
 }
 
-// The codes R and a number, from 1 up to so many.
+// The codes R1, R2 and so on, `count` of them.
 fn codes(alloc: Global, count: usize) -> Result<Vec<RoomCode>, TypeFault> {
     let mut codes = Vec::new(alloc);
     for number in 1..=count {
@@ -66,7 +66,7 @@ fn keeps_tables(rt: HostRuntime) -> Result<(), TypeFault> {
     Ok(())
 }
 
-// Twelve codes, of which this one alone has the value true.
+// A table of the codes R1 to R12, all with the value false, in which the given code then gets true.
 fn twelve_codes(alloc: Global, code: &RoomCode) -> Result<Table<RoomCodes, bool>, TypeFault> {
     let mut table = Table::new(alloc);
     for other in codes(alloc, 12)? {
@@ -76,7 +76,7 @@ fn twelve_codes(alloc: Global, code: &RoomCode) -> Result<Table<RoomCodes, bool>
     Ok(table)
 }
 
-// The keys in the order of the table.
+// The keys, joined in the order of the table.
 fn ascending(alloc: Global, table: &Table<RoomCodes, bool>) -> Result<String, AllocError> {
     let mut keys = String::new(alloc);
     for (room, _) in table.iter() {
@@ -95,7 +95,7 @@ fn keeps_listings(rt: HostRuntime) -> Result<(), TypeFault> {
     Ok(())
 }
 
-// A device that counts the calls of it and the bytes that they lend, and fails at its second call alone.
+// A device that counts its calls and the bytes of their buffers, and fails only at its second call.
 #[derive(Drop)]
 struct Faulty {
     calls: u32,
@@ -144,7 +144,7 @@ fn kind<T: Drop>(answer: io::Result<T>) -> Option<ErrorKind> {
     answer.err().map(|error| error.kind())
 }
 
-// What a call of a faulty device is to answer, the first being 1.
+// The error that a call of the faulty device has to return, if any. The first call is 1.
 fn wanted_at(call: u32) -> Option<ErrorKind> {
     if call == 2 {
         return Some(ErrorKind::Other);
@@ -152,8 +152,8 @@ fn wanted_at(call: u32) -> Option<ErrorKind> {
     None
 }
 
-// Each of ten calls of a watched device, also after a failure, is one of the device, with all bytes, and has its
-// answer. A failure that one more call would hide is told.
+// Each of ten calls of a `Watched`, also those after a failure, makes one call of the device with the whole buffer, and returns
+// what the device returned. That the device was called again after its failure shows as wasted.
 #[test]
 fn passes_calls_on(rt: HostRuntime) {
     let mut input = watched_faulty();

@@ -1,4 +1,4 @@
-//! A desk lets its database go, and another one takes it over; and desks take over databases that statements made.
+//! Desks over the database of another desk, or over one that statements created, while an allocation fails.
 ghost use Rattle.std.specs.Prelude.{◌≡◌, false, IfErr, IfOk};
 
 use crate::asking::{furnish, let_go, lines_asked, office_after};
@@ -11,8 +11,8 @@ use room_types::OutOfMemory;
 use sqlite::{Connection, MemStore};
 use std::alloc::Global;
 
-/// Whether a desk that takes over the database of another one shows the office after the lines of these texts. Where it does not take
-/// it over, memory is wanting, and the database comes back as it was: the next desk takes it over.
+/// Whether a desk that adopts the database of another desk shows the office after the lines of these texts. If it does not
+/// adopt it, it was out of memory, and the connection is returned unchanged: the next desk adopts it.
 pub fn office_is_adopted(alloc: Global, texts: &[&str]) -> Result<bool, OutOfMemory> {
     let requests = lines_asked(alloc, texts)?;
     let office = office_after(alloc, &requests)?;
@@ -20,7 +20,7 @@ pub fn office_is_adopted(alloc: Global, texts: &[&str]) -> Result<bool, OutOfMem
     taken_judged(alloc, connection, false, &office)
 }
 
-/// The same of a database in which these tables are made.
+/// The same for a database in which these tables are created.
 pub fn office_is_brought_over(alloc: Global, tables: &Tables) -> Result<bool, OutOfMemory> {
     let requests = lines_asked(alloc, tables.lines)?;
     let office = office_after(alloc, &requests)?;
@@ -61,7 +61,7 @@ fn taken_judged(
     }
 }
 
-// The desk that adopts the database, or migrates it where its tables are of an earlier version.
+// The desk that adopts the database, or migrates it if its tables are of an earlier version.
 fn taken(
     alloc: Global,
     connection: Connection<MemStore>,
@@ -77,7 +77,7 @@ fn taken(
     }
 }
 
-// The database of a desk at which these requests were made.
+// The database of a desk after these requests.
 fn connection_after(
     alloc: Global,
     requests: &[Request],
@@ -113,7 +113,7 @@ fn back_judged(
     }
 }
 
-// Whether the desk shows the office. So often was memory wanting before.
+// Whether the desk shows the office. `wanting` calls before were out of memory.
 fn shown_judged(
     alloc: Global,
     mut desk: Desk<MemStore>,

@@ -1,4 +1,4 @@
-//! Exports are written, from the tables of a desk.
+//! Exports from the tables of a desk while an allocation fails.
 use crate::asking::{furnish, let_go, lines_asked, office_after};
 use crate::refused::verdict;
 use crate::same::is_same_office;
@@ -9,7 +9,7 @@ use room_types::{OutOfMemory, Watched};
 use sqlite::MemStore;
 use std::alloc::Global;
 
-// What is exported after the year in which T2 leaves.
+// The exports after the year in which T2 leaves.
 const EXPORTS: [(ExportKind, &str); 4] = [
     (
         ExportKind::Rooms,
@@ -26,7 +26,8 @@ const EXPORTS: [(ExportKind, &str); 4] = [
     (ExportKind::Grades, "person,grade\nN,2\nT1,0\nT2,0\n"),
 ];
 
-/// Whether the exports after the lines of these texts are written, each whole or a front of it that is told, and the office stays.
+/// Whether each export after the lines of these texts is written completely, or a prefix of it whose length is reported, and
+/// the office is unchanged.
 pub fn exports_are_told(alloc: Global, texts: &[&str]) -> Result<bool, OutOfMemory> {
     let requests = lines_asked(alloc, texts)?;
     let office = office_after(alloc, &requests)?;
@@ -79,14 +80,14 @@ fn office_judged(
     }
 }
 
-// Whether the whole export is written, or out of memory where the front of it is that is told.
+// Whether the whole export is written. Out of memory if a prefix of it is, whose length is reported.
 fn is_exported(
     alloc: Global,
     desk: &mut Desk<MemStore>,
     kind: ExportKind,
     wanted: &[u8],
 ) -> Result<bool, OutOfMemory> {
-    // No memory is taken for what is written.
+    // Writing into this capacity does not allocate.
     let mut output = Watched::new(Vec::with_capacity(alloc, 1_024)?);
     let ended = desk.export(alloc, kind, &mut output);
     let written = output.into_inner();

@@ -1,4 +1,4 @@
-//! Lists are read, good and bad ones.
+//! Reading lists, good and bad ones, while an allocation fails.
 use crate::refused::verdict;
 use office_lists::{
     ChoicesEntry, ListFault, PersonEntry, or_none, read_choices, read_grades, read_people,
@@ -7,7 +7,7 @@ use office_lists::{
 use room_types::{GradeRow, ListKind, OutOfMemory, RoomCode};
 use std::alloc::{AllocError, Global};
 
-// Lists, and what is read of them.
+// Lists, and the result of reading them, as a text.
 const LISTS: [(ListKind, &str, &str); 8] = [
     (ListKind::Rooms, "room\nH1\nH2\n", "H1;H2;"),
     (
@@ -59,7 +59,7 @@ pub fn lists_are_read(alloc: Global) -> Result<bool, OutOfMemory> {
     verdict(wanting)
 }
 
-// What is read of the list, as a text.
+// The result of reading the list, as a text.
 fn read_as(alloc: Global, kind: ListKind, list: &[u8]) -> Result<String, OutOfMemory> {
     match kind {
         ListKind::Rooms => rooms_text(alloc, list),
@@ -76,7 +76,7 @@ fn rooms_text(alloc: Global, list: &[u8]) -> Result<String, OutOfMemory> {
     }
 }
 
-// Each room, and this behind it.
+// Each room, with this end after it.
 fn rooms_joined(alloc: Global, rooms: &[RoomCode], end: &str) -> Result<String, OutOfMemory> {
     let mut text = String::new(alloc);
     for room in rooms {

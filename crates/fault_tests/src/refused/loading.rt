@@ -1,4 +1,4 @@
-//! An office is read from its tables, twice, and tested.
+//! An office loaded twice from its tables, and checked, while an allocation fails.
 use crate::asking::{furnish, let_go, lines_asked, office_after};
 use crate::refused::verdict;
 use crate::same::is_same_office;
@@ -8,21 +8,21 @@ use room_types::OutOfMemory;
 use sqlite::MemStore;
 use std::alloc::Global;
 
-// What is read of an office at two times, if it could be read.
+// The office as loaded at two times, if that succeeded.
 #[derive(Drop)]
 struct Read {
     first: Option<Office>,
     second: Option<Office>,
 }
 
-/// Whether the office after the lines of these texts is read each time, and is lawful.
+/// Whether the office after the lines of these texts is loaded correctly each time, and is lawful.
 pub fn office_is_read(alloc: Global, texts: &[&str]) -> Result<bool, OutOfMemory> {
     let requests = lines_asked(alloc, texts)?;
     let read = read_twice(alloc, &requests)?;
     read_judged(alloc, &read, &requests)
 }
 
-// Whether what was read is the office after these requests.
+// Whether the offices loaded are the one after these requests.
 fn read_judged(alloc: Global, read: &Read, requests: &[Request]) -> Result<bool, OutOfMemory> {
     let office = office_after(alloc, requests)?;
     counts_judged(judged(alloc, read, &office))
@@ -36,7 +36,7 @@ fn counts_judged((is_right, wanting): (bool, usize)) -> Result<bool, OutOfMemory
     }
 }
 
-// Whether nothing wrong was read, and how often memory was wanting.
+// Whether nothing wrong was loaded, and the number of calls that were out of memory.
 fn judged(alloc: Global, read: &Read, office: &Office) -> (bool, usize) {
     let (is_right, wanting) = counted(&read.first, office, 0);
     let (is_right_again, wanting) = counted(&read.second, office, wanting);

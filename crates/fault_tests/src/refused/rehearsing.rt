@@ -1,4 +1,4 @@
-//! A rehearsal while memory is refused.
+//! A rehearsal while an allocation fails.
 use crate::asking::let_go;
 use office_lines::rehearse::rehearse;
 use office_lines::{Ending, Rehearsed};
@@ -7,22 +7,23 @@ use room_types::{OutOfMemory, Watched};
 use sqlite::MemStore;
 use std::alloc::Global;
 
-// How a rehearsal ended, and what was written.
+// How a rehearsal ended, and its output.
 #[derive(Drop)]
 struct Told {
     how: Rehearsed,
     text: Vec<u8>,
 }
 
-/// Whether two rehearsals of these lines, all of them accepted, tell the same; or one of them ends for want of memory, after just as
-/// many bytes as it says, and these begin what the other tells; or one line is told to be unavailable.
+/// Whether two rehearsals of these lines, all of them accepted, print the same. One of them may be out of memory instead: then
+/// it ends after exactly as many bytes as it reports, which are a prefix of the other's output, or one of its lines is printed
+/// as unavailable.
 pub fn is_rehearsed(alloc: Global, lines: &str) -> Result<bool, OutOfMemory> {
     let told = told_of(alloc, lines)?;
     let again = told_of(alloc, lines)?;
     Ok(is_told(&told, &again)? && is_told(&again, &told)?)
 }
 
-// What one rehearsal tells, as judged by the other one. At most one of the two wanted memory.
+// The verdict on one rehearsal, compared with the other. At most one of the two was out of memory.
 fn is_told(told: &Told, other: &Told) -> Result<bool, OutOfMemory> {
     match told.how.ending {
         Ending::NoMemory { sent } => {
@@ -40,7 +41,7 @@ fn is_told(told: &Told, other: &Told) -> Result<bool, OutOfMemory> {
     }
 }
 
-// Whether both tell the same, and something.
+// Whether both printed the same, and not nothing.
 fn is_same_text(told: &Told, other: &Told) -> bool {
     !told.text.is_empty() && told.text.as_slice() == other.text.as_slice()
 }
@@ -68,7 +69,7 @@ fn told_of(alloc: Global, lines: &str) -> Result<Told, OutOfMemory> {
 
 fn told_at(alloc: Global, desk: &mut Desk<MemStore>, lines: &str) -> Result<Told, OutOfMemory> {
     let mut input = Watched::new(lines.as_bytes());
-    // No memory is taken for what is written.
+    // Writing into this capacity does not allocate.
     let mut output = Watched::new(Vec::with_capacity(alloc, 4_096)?);
     let how = rehearse(alloc, desk, &mut input, &mut output);
     Ok(Told {

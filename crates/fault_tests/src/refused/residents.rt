@@ -1,4 +1,4 @@
-//! What residents send, while memory is refused.
+//! Requests of residents while an allocation fails.
 use crate::asking::{ask_lines, furnish, let_go, lines_asked, office_after};
 use crate::refused::verdict;
 use crate::same::is_same_office;
@@ -11,7 +11,7 @@ use room_types::{OutOfMemory, Watched};
 use sqlite::MemStore;
 use std::alloc::{AllocError, Global};
 
-// A round is open: T1 lives in H1 and T2 in H2, V is vacant, and T2 lists H1.
+// The round is open. T1 lives in H1 and T2 in H2, V is vacant, and T2 lists H1.
 const OPEN_ROUND: &str = "\
 room H1\n\
 room H2\n\
@@ -23,7 +23,7 @@ home T2 H2\n\
 open\n\
 choose T2 H1\n";
 
-// What the office records of a list that T1 hands in.
+// What the office records for a list that T1 hands in.
 const CHOOSES: &str = "choose T1 H2\n";
 
 const UNAVAILABLE: &str = "HTTP/1.1 503 Service Unavailable\r\n\
@@ -33,7 +33,8 @@ const UNAVAILABLE: &str = "HTTP/1.1 503 Service Unavailable\r\n\
     \r\n\
     {\"error\":\"Unavailable\"}";
 
-/// What the office does, what then comes from a resident, with so many spaces behind it, the answer, and what the office records.
+/// Lines of the office, then the request of a resident with this number of spaces after it, the response, and what the office
+/// records.
 #[derive(Clone, Copy)]
 pub struct Step {
     lines: &'static str,
@@ -41,7 +42,7 @@ pub struct Step {
     spaces: usize,
     status: StatusCode,
     reason: &'static str,
-    // a field of its own, with its end
+    // a header field of its own, with its line end, or empty
     allow: &'static str,
     body: &'static str,
     records: &'static str,
@@ -124,7 +125,7 @@ pub const FAULTS: [Step; 5] = [
     },
 ];
 
-// T1 asks what the office knows of T1.
+// T1 asks for T1's own standing.
 const SHOWN: Step = Step {
     lines: "choose T1 H2\nclose\ndraw 0000000000000001 0000000000000002\nrun\n",
     request: "GET /me HTTP/1.1\r\nHost: a\r\nRoom-Key: key00000000000t1\r\n\r\n",
@@ -133,7 +134,7 @@ const SHOWN: Step = Step {
     ..RECORDED
 };
 
-/// T1 asks before the results are published, and after it.
+/// T1 asks before the results are published, and after that.
 pub const RESULTS: [Step; 2] = [
     SHOWN,
     Step {
@@ -143,7 +144,8 @@ pub const RESULTS: [Step; 2] = [
     },
 ];
 
-// What the office was asked, how many answers were that the desk is unavailable, and the office afterwards, if it could be read.
+// The requests that the office carried out, the number of responses that the desk is unavailable, and the office afterwards, if
+// it could be loaded.
 #[derive(Drop)]
 struct Told {
     requests: Vec<Request>,
@@ -151,7 +153,7 @@ struct Told {
     office: Option<Office>,
 }
 
-// How a resident was answered.
+// The response to a resident.
 #[derive(Clone, Copy, PartialEq, Eq)]
 enum Answered {
     AsWorked,
@@ -159,7 +161,8 @@ enum Answered {
     Otherwise,
 }
 
-/// Whether each resident has the answer and the office the record of it, or neither: then the answer is that the desk is unavailable.
+/// Whether each resident gets the response and the office has the record of it, or neither: then the response is that the desk
+/// is unavailable.
 pub fn are_served(alloc: Global, steps: &[Step]) -> Result<bool, OutOfMemory> {
     let Ok(mut desk) = Desk::in_memory(alloc) else {
         return Err(OutOfMemory {});
@@ -172,7 +175,7 @@ pub fn are_served(alloc: Global, steps: &[Step]) -> Result<bool, OutOfMemory> {
     }
 }
 
-// None where an answer is neither of the two.
+// `None` if a response is neither of the two.
 fn told_in_turn(
     alloc: Global,
     desk: &mut Desk<MemStore>,
@@ -197,7 +200,7 @@ fn told_in_turn(
     }))
 }
 
-// The office does what these lines ask, which is noted.
+// Handles these lines of the office, and notes their requests.
 fn does(
     alloc: Global,
     desk: &mut Desk<MemStore>,
@@ -216,7 +219,7 @@ fn answer_of(
 ) -> Result<Answered, OutOfMemory> {
     let request = request_text(alloc, step)?;
     let answer = answer_text(alloc, step)?;
-    // No memory is taken for what is written.
+    // Writing into this capacity does not allocate.
     let writer = Vec::with_capacity(alloc, 1_024)?;
     let mut stream = Watched::new(Pair {
         reader: request.as_bytes(),
@@ -233,7 +236,7 @@ fn answer_of(
     })
 }
 
-// Whether the answer of this status went out, to the byte.
+// Whether exactly this response, with this status, was written.
 fn is_answer(how: &Served, written: &[u8], status: StatusCode, answer: &str) -> bool {
     *how == Served::Answered { status } && written == answer.as_bytes()
 }
@@ -252,7 +255,7 @@ fn answer_text(alloc: Global, step: &Step) -> Result<String, AllocError> {
     )
 }
 
-// Whether the office after all that was done is read afterwards.
+// Whether the office loaded afterwards is the one after all of these requests.
 fn office_judged(alloc: Global, told: &Told) -> Result<bool, OutOfMemory> {
     let office = office_after(alloc, &told.requests)?;
     match &told.office {

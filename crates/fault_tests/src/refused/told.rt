@@ -1,4 +1,4 @@
-//! Requests at a desk, and at another one that is asked only what the first one did.
+//! Requests at a desk, replayed at another desk without those that were out of memory.
 use crate::asking::let_go;
 use crate::refused::verdict;
 use crate::same::is_same_office;
@@ -8,15 +8,16 @@ use room_types::OutOfMemory;
 use sqlite::MemStore;
 use std::alloc::Global;
 
-// The answers to requests, and the office that is read afterwards, if it could be read.
+// The answers to requests, and the office loaded afterwards, if that succeeded.
 #[derive(Drop)]
 struct Told {
     answers: Vec<Answer>,
     office: Option<Office>,
 }
 
-/// Whether a desk answers these requests as another one does that is asked only those which the first did not answer out of memory,
-/// and both then hold the same office; so many of the requests are refused by the office.
+/// Whether a desk answers these requests as another desk does that gets only those which the first did not answer as
+/// unavailable, and both hold the same office afterwards; and whether the office refuses the given number of requests, unless
+/// one was unavailable.
 pub fn are_as_accepted(
     alloc: Global,
     requests: &[Request],
@@ -34,7 +35,7 @@ pub fn are_as_accepted(
     }
 }
 
-// Where all requests were refused at once, none of them was handled.
+// If the desk was out of memory for all requests at once, it handled none of them.
 fn nothing_judged(alloc: Global, told: &Told) -> Result<bool, OutOfMemory> {
     match &told.office {
         Some(found) if is_same_office(&Office::empty(alloc), found) => verdict(1),
@@ -42,7 +43,7 @@ fn nothing_judged(alloc: Global, told: &Told) -> Result<bool, OutOfMemory> {
     }
 }
 
-// The answers of both are the same.
+// The verdict if both desks gave the same answers.
 fn answers_judged(told: &Told, again: &Told, refusals: usize) -> Result<bool, OutOfMemory> {
     let wanting = wanting_in(&told.answers);
     if wanting == 0 && refusals_in(&told.answers) != refusals {
@@ -51,7 +52,7 @@ fn answers_judged(told: &Told, again: &Told, refusals: usize) -> Result<bool, Ou
     office_judged(told, again, wanting)
 }
 
-// Whether both read the same office. `wanting` of the answers before were out of memory.
+// Whether both loaded the same office. `wanting` answers before were out of memory.
 fn office_judged(told: &Told, again: &Told, wanting: usize) -> Result<bool, OutOfMemory> {
     match (&told.office, &again.office) {
         (Some(found), Some(office)) => {
@@ -103,7 +104,8 @@ fn text(alloc: Global, answer: &Answer) -> Result<String, OutOfMemory> {
     Ok(text?)
 }
 
-// What a new desk tells; where the answers of another desk are given, without what that one answered out of memory.
+// The answers and the office of a new desk. If the answers of another desk are given, the requests that it answered as
+// unavailable are left out.
 fn told_by_new_desk(
     alloc: Global,
     requests: &[Request],
@@ -129,7 +131,7 @@ fn told_at(alloc: Global, desk: &mut Desk<MemStore>, requests: &[Request]) -> To
     Told { answers, office }
 }
 
-// Memory that is refused here is wanting for the comparison.
+// If an allocation fails here, the comparison is out of memory.
 fn told_without(
     alloc: Global,
     desk: &mut Desk<MemStore>,

@@ -1,4 +1,4 @@
-//! Rows are written as exports, one of each kind.
+//! Writing rows as exports, one of each kind, while an allocation fails.
 use crate::refused::verdict;
 use office_lists::{WriteEnd, write_grades, write_moves, write_people, write_rooms};
 use room_types::{
@@ -15,7 +15,7 @@ const MOVE: &[u8] = b"round,wave,person,from,to\n1,swap,T1,H1,H2\n";
 
 const GRADE: &[u8] = b"person,grade\nT1,0\n";
 
-/// Whether each export is written, whole or a front of it that is told.
+/// Whether each export is written completely, or a prefix of it whose length is reported.
 pub fn rows_are_sent(alloc: Global) -> Result<bool, OutOfMemory> {
     let mut all = 0usize;
     for wanting in [
@@ -32,7 +32,8 @@ pub fn rows_are_sent(alloc: Global) -> Result<bool, OutOfMemory> {
     verdict(all)
 }
 
-// How often memory was wanting, or none where something else was written than the export, or than the front of it that is told.
+// The number of calls that were out of memory, or `None` if something else was written than the export, or than the prefix of
+// it whose length is reported.
 fn wanting_in(ended: &Result<(), WriteEnd>, written: &[u8], wanted: &[u8]) -> Option<usize> {
     match ended {
         Ok(()) if written == wanted => Some(0),
@@ -42,7 +43,7 @@ fn wanting_in(ended: &Result<(), WriteEnd>, written: &[u8], wanted: &[u8]) -> Op
     }
 }
 
-// A device for which no memory is taken later.
+// An output whose capacity is large enough that writing does not allocate.
 fn output(alloc: Global) -> Result<Watched<Vec<u8>>, OutOfMemory> {
     Ok(Watched::new(Vec::with_capacity(alloc, 1_024)?))
 }

@@ -3,10 +3,10 @@ use sqlite::Files;
 use sqlite_disk::{Crash, Disk, Fuse, Memory};
 use std::alloc::Global;
 
-/// A file that stops working after so many calls.
+/// A file that stops working after a given number of calls.
 pub type StoppingFile = Fuse<Memory>;
 
-// How many bytes of a write a device finishes together.
+// The number of bytes of a write that a device finishes together.
 const SECTOR: usize = 512;
 
 /// The bytes of a log and of its database file.
@@ -16,7 +16,7 @@ pub struct Held {
     pub database: Vec<u8>,
 }
 
-/// How many calls the log and the database file answer.
+/// The number of calls after which the log and the database file stop.
 #[derive(Clone, Copy, Drop)]
 pub struct Calls {
     pub log: u64,
@@ -31,7 +31,7 @@ impl Calls {
     };
 }
 
-/// Files that hold these bytes, and answer so many calls.
+/// Files that hold these bytes, and stop after these numbers of calls.
 pub fn files_of(
     alloc: Global,
     log: &[u8],
@@ -55,8 +55,8 @@ pub fn is_working(file: &mut StoppingFile) -> bool {
     file.may_be_used() && file.len().is_ok()
 }
 
-/// What may be left of a file: all that was written; and where not all of it was synced, only what was; or that with every
-/// second sector of what was written since.
+/// The contents that may be left of a file: all bytes written; and if not all were synced, only the synced ones, or these with
+/// every second sector as written since.
 pub fn contents_left(alloc: Global, mut file: StoppingFile) -> Option<Vec<Vec<u8>>> {
     let written = Vec::from_slice(alloc, file.inner().bytes()).ok()?;
     file.crash();
@@ -72,7 +72,7 @@ fn one_content(alloc: Global, content: Vec<u8>) -> Option<Vec<Vec<u8>>> {
     vec![in alloc; content].ok()
 }
 
-// The bytes that were written in every second sector, and else those before, or zero past their end.
+// The written bytes in every second sector, and elsewhere the synced ones, or zero past their end.
 fn torn(alloc: Global, written: &[u8], synced: &[u8]) -> Option<Vec<u8>> {
     let mut torn = Vec::new(alloc);
     for (at, byte) in written.iter().enumerate() {

@@ -1,4 +1,4 @@
-//! What an office is asked while one of its files stops.
+//! Stories: requests to an office of which a file stops.
 use crate::asking::{ask_lines, ask_list, lines_asked, office_after};
 use crate::stops::files::{Calls, Held, StoppingFile, files_of};
 use crate::stops::visits::{Opening, Visit, visit_files, write_files};
@@ -10,18 +10,18 @@ use room_types::{ListKind, OutOfMemory};
 use sqlite::Files;
 use std::alloc::Global;
 
-/// What is asked of an office, and what the office is before and after each request.
+/// Requests to an office, and the office before all of them and after each.
 #[derive(Drop)]
 pub struct Story {
-    /// What the files hold at first.
+    /// The bytes of the files at the start.
     pub held: Held,
-    /// How the desk comes to its office.
+    /// How the desk opens its office.
     pub opening: Opening,
     pub requests: Vec<Request>,
     pub offices: Vec<Office>,
 }
 
-/// An office is made in empty files.
+/// Creates an office in empty files.
 pub fn making(alloc: Global) -> Option<Story> {
     let requests = Vec::new(alloc);
     let offices = offices_of(alloc, &requests).ok()?;
@@ -33,19 +33,19 @@ pub fn making(alloc: Global) -> Option<Story> {
     })
 }
 
-/// A small year, a command at a time. A room is out of use for a while.
+/// A small year, one command at a time. A room is shut for a while.
 pub fn small_year(alloc: Global) -> Option<Story> {
     let texts = [REGISTER, "shut V\nreopen V\n", ROUND, "settle\n"];
     story_of(alloc, lines_asked(alloc, &texts).ok()?)
 }
 
-/// A year with grades in which somebody leaves the college, and a round that is given up, in which somebody would have.
+/// A year with grades in which a person leaves the college, and a cancelled round from which another person would have left.
 pub fn year_of_leavers(alloc: Global) -> Option<Story> {
     let texts = [REGISTER, LEAVING, "settle\nopen\ngoing T1\ncancel\n"];
     story_of(alloc, lines_asked(alloc, &texts).ok()?)
 }
 
-/// An office comes out of these tables, and the round is settled.
+/// Opens the office in these tables, and settles the round.
 pub fn bringing_over(alloc: Global, tables: &Tables) -> Option<Story> {
     let files = files_of(alloc, b"", b"", Calls::ALL)?;
     let held = held_in(alloc, write_files(alloc, files, tables.statements)?)?;
@@ -72,7 +72,7 @@ fn settled_office(alloc: Global, tables: &Tables) -> Option<Office> {
     office_after(alloc, &requests).ok()
 }
 
-/// Lists that come in, two of them twice.
+/// Imports of lists, two of them twice.
 pub fn coming_lists(alloc: Global) -> Option<Story> {
     story_of(alloc, lists_coming(alloc).ok()?)
 }
@@ -89,7 +89,7 @@ fn lists_coming(alloc: Global) -> Result<Vec<Request>, OutOfMemory> {
     Ok(requests)
 }
 
-// The requests are made at the empty office.
+// A story of these requests to the empty office.
 fn story_of(alloc: Global, requests: Vec<Request>) -> Option<Story> {
     let offices = offices_of(alloc, &requests).ok()?;
     let held = empty_office_held(alloc)?;
@@ -101,7 +101,7 @@ fn story_of(alloc: Global, requests: Vec<Request>) -> Option<Story> {
     })
 }
 
-// The office before all requests, and after each, as desks in memory have it.
+// The office before all requests, and after each, as desks in memory compute it.
 fn offices_of(alloc: Global, requests: &[Request]) -> Result<Vec<Office>, OutOfMemory> {
     let mut offices = Vec::new(alloc);
     for made in 0..requests.len() {
@@ -118,7 +118,7 @@ fn nothing_held(alloc: Global) -> Held {
     }
 }
 
-// What the files of an empty office hold.
+// The bytes of the files of an empty office.
 fn empty_office_held(alloc: Global) -> Option<Held> {
     let files = files_of(alloc, b"", b"", Calls::ALL)?;
     let making = Visit {

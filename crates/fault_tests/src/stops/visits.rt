@@ -1,5 +1,4 @@
-//! Desks over two files. What is done there is done at a desk of any store, so that no more than one function has to know that this
-//! one lies in files.
+//! Desks over two files. The work is done at a desk of any store, so that only one function depends on the files.
 ghost use Rattle.std.specs.Prelude.{◌≡◌, false};
 
 use crate::asking::is_replied;
@@ -17,36 +16,36 @@ const OPTIONS: Options = Options {
     seed: 7,
 };
 
-/// How a desk comes to the office in its files.
+/// How a desk opens the office in its files.
 #[derive(Clone, Copy, PartialEq, Eq, Drop)]
 pub enum Opening {
-    /// The office is made there.
+    /// It creates the office.
     Made,
-    /// It is the one that they hold.
+    /// It adopts the office that they hold.
     Held,
-    /// It is the one that they hold in tables of an earlier version.
+    /// It migrates the office that they hold in tables of an earlier version.
     Earlier,
 }
 
-/// What is done at a desk over two files.
+/// The work of a desk over two files.
 #[derive(Clone, Copy, Drop)]
 pub struct Visit<'a> {
-    /// How the desk comes to its office.
+    /// How the desk opens its office.
     pub opening: Opening,
-    /// What is asked, until a request is not answered by a reply.
+    /// The requests, which are handled up to the first that gets no reply.
     pub requests: &'a [Request],
-    /// Whether the office is read at the end.
+    /// Whether the office is loaded at the end.
     pub is_read: bool,
 }
 
-/// What came of it.
+/// The outcome of a visit.
 #[derive(Drop)]
 pub struct Visited {
-    /// Why there was no desk.
+    /// The fault if there was no desk.
     pub fault: Option<DeskFault>,
-    /// How many requests were answered by a reply.
+    /// The number of requests that got a reply.
     pub answered: usize,
-    /// The office, if it was to be read and could be.
+    /// The office, if it was to be loaded and could be.
     pub office: Option<Office>,
 }
 
@@ -58,7 +57,7 @@ fn no_desk(fault: DeskFault) -> Visited {
     }
 }
 
-/// Does this at a desk over these files, and gives them back. What is not committed is lost.
+/// Does this work at a desk over these files, and returns them. What is not committed is lost.
 pub fn visit_files(
     alloc: Global,
     files: Files<StoppingFile>,
@@ -106,7 +105,7 @@ fn desk_over<S: Alter + Drop>(
     }
 }
 
-/// Has these statements done over the files, and gives them back.
+/// Runs these statements over the files, and returns them.
 pub fn write_files(
     alloc: Global,
     files: Files<StoppingFile>,
@@ -144,7 +143,7 @@ fn visit_desk<S: Alter + Drop>(alloc: Global, desk: &mut Desk<S>, visit: Visit<'
     }
 }
 
-// How many of these requests are answered by a reply, until one is not.
+// The number of these requests that get a reply before the first that does not.
 fn answered_at<S: Alter + Drop>(alloc: Global, desk: &mut Desk<S>, requests: &[Request]) -> usize {
     let mut answered = 0usize;
     for request in requests {

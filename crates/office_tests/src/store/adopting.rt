@@ -1,4 +1,4 @@
-//! Desks over databases that are handed in, with ample memory.
+//! Tests of desks over existing databases, with enough memory.
 use crate::asserting::assert_same;
 use crate::building::{add_person, add_room, answers, choices, new_desk, text};
 use office_core::{Command, Office, Query, Reply};
@@ -8,7 +8,7 @@ use sqlite::{Connection, MemStore};
 use std::alloc::Global;
 use std::process::Abort;
 
-// Statements that leave no office's rows after the round below has run, each with one that mends it.
+// Statements after which the tables hold no office, run after the round below, each with one that undoes it.
 const BREAKS: [(&str, &str); 12] = [
     (
         "UPDATE result SET room = NULL WHERE person = 'N'",
@@ -57,7 +57,7 @@ const BREAKS: [(&str, &str); 12] = [
     ),
 ];
 
-// Statements over the tables of a desk in turn, each with the fault of the database that it leaves.
+// Statements to run in turn over the tables of a desk, each with the fault of the database that it leaves, if any.
 const DECLARED: [(&str, Option<DeskFault>); 9] = [
     (
         "UPDATE round SET version = 9",
@@ -123,7 +123,7 @@ fn takes_the_rows_of_an_office_alone(rt: HostRuntime) {
     }
 }
 
-// The desk over the database that another desk left.
+// The desk that adopts the database of another desk.
 pub(super) fn adopted(rt: &impl Abort, alloc: Global, desk: Desk<MemStore>) -> Desk<MemStore> {
     match Desk::adopt(alloc, desk.release()) {
         Ok(desk) => desk,
@@ -131,7 +131,7 @@ pub(super) fn adopted(rt: &impl Abort, alloc: Global, desk: Desk<MemStore>) -> D
     }
 }
 
-// The connection, on which the statements have run, after which it was tried with this end.
+// Runs the statements, and asserts that adopting the database then ends with this fault, or with none. Returns the connection.
 pub(super) fn tried_after(
     rt: &impl Abort,
     alloc: Global,
@@ -145,7 +145,7 @@ pub(super) fn tried_after(
     conn
 }
 
-// Why no desk adopts the database, or none if one does, and the connection.
+// Tries to adopt the database. Returns the fault, if any, and the connection.
 fn tried(alloc: Global, conn: Connection<MemStore>) -> (Option<DeskFault>, Connection<MemStore>) {
     let outside = conn.is_autocommit();
     if !outside {
@@ -177,7 +177,7 @@ fn is_row(row: &ResultRow, person: &str, room: &str) -> bool {
     }
 }
 
-// T1 and T2 live in H1 and H2, and ask for each other's room; N comes last and asks for H1 and V.
+// T1 and T2 live in H1 and H2 and list each other's room. N is last and lists H1 and V.
 fn desk_after_run(rt: &impl Abort, alloc: Global) -> Desk<MemStore> {
     let mut desk = new_desk(rt, alloc);
     for requests in [entered(rt, alloc), held(rt, alloc)] {

@@ -1,4 +1,4 @@
-//! Exports of desks in memory.
+//! Tests of exports by desks in memory.
 use crate::asserting::assert_same;
 use crate::building::{add_person, add_room, answers, new_desk};
 use office_lists::ExportKind;
@@ -10,7 +10,7 @@ use std::io;
 use std::io::{Error, ErrorKind, Write};
 use std::process::Abort;
 
-// A writer that takes so many bytes and then fails.
+// A writer that takes `room` bytes and then fails.
 #[derive(Drop)]
 struct Narrow {
     written: Vec<u8>,
@@ -33,7 +33,7 @@ impl Write for Narrow {
     }
 }
 
-// H1, in which E1 lives, and H2. E2 has a name that needs quotes, and E3 has no home either.
+// H1, in which E1 lives, and H2. E2 and E3 have no home, and E2 has a name that needs quotes.
 fn requests(rt: &impl Abort, alloc: Global) -> Vec<Request> {
     vec![in alloc;
         add_room(rt, alloc, "H2"),
@@ -55,7 +55,7 @@ fn furnished(rt: &impl Abort, alloc: Global) -> Desk<MemStore> {
     desk
 }
 
-// That the desk exports these bytes, and flushes nothing.
+// Asserts that the desk exports these bytes and does not flush.
 pub(super) fn exports(
     rt: &impl Abort,
     alloc: Global,
@@ -92,7 +92,7 @@ fn exports_rooms_and_people(rt: HostRuntime) {
     }
 }
 
-// The moves and the grades of an empty office are the header alone.
+// The exports of the moves and grades of an empty office are only the header.
 #[test]
 fn exports_an_empty_office(rt: HostRuntime) {
     let alloc = rt.alloc();
@@ -103,7 +103,7 @@ fn exports_an_empty_office(rt: HostRuntime) {
     exports(&rt, alloc, &mut desk, ExportKind::Grades, header);
 }
 
-// The rooms are exported to a writer that takes 20 bytes.
+// Exports the rooms to a writer that takes 20 bytes.
 fn fills_a_writer(rt: &impl Abort, alloc: Global, desk: &mut Desk<MemStore>) {
     let mut output = Watched::new(Narrow {
         written: Vec::new(alloc),
@@ -117,7 +117,7 @@ fn fills_a_writer(rt: &impl Abort, alloc: Global, desk: &mut Desk<MemStore>) {
     );
 }
 
-// After 20 bytes the writer fails, and the desk goes on.
+// The writer fails after 20 bytes. The desk works on after that.
 #[test]
 fn tells_how_much_was_sent(rt: HostRuntime) {
     let alloc = rt.alloc();

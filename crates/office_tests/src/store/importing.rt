@@ -1,4 +1,4 @@
-//! Lists that come in at desks in memory, and what is printed of the answers.
+//! Tests of imports at desks in memory, by the printed answers.
 use super::adopting::adopted;
 use super::exporting::exports;
 use crate::asserting::assert_same;
@@ -14,26 +14,26 @@ use std::process::Abort;
 
 const ROOMS: &[u8] = b"room\nH1\nH2\n";
 
-// With a byte order mark, records that end as Windows has it, quotes, and people without a home.
+// With a byte order mark, records that end as on Windows, quotes, and people without a home.
 const PEOPLE: &[u8] = b"\xEF\xBB\xBFperson,name,key,home\r\n\
     E1,Ann Ash,key00000000000e1,H1\r\n\
     E2,\"Bo, B.\",key00000000000e2,\r\n\
     E3,Cy Coy,key00000000000e3,\r\n";
 
-// E3 stands there twice.
+// E3 has two records.
 const GRADES: &[u8] = b"person,grade\nE3,1\nE1,4\nE3,2\n";
 
 const HEADER: &[u8] = b"person,name,key,home\n";
 
 const NO_BYTES: &[u8] = b"";
 
-// The third person is there already.
+// The third person is in the office already.
 const KNOWN_THIRD: &[u8] = b"person,name,key,home\n\
     E4,Di Day,key00000000000e4,\n\
     E5,Ed Eel,key00000000000e5,H1\n\
     E1,Ann Ash,key00000000000e1,H1\n";
 
-// The request that this list comes in.
+// The request to import this list.
 fn import(rt: &impl Abort, alloc: Global, label: &str, kind: ListKind, list: &[u8]) -> Request {
     Request::Office(Command::Import {
         label: text(rt, alloc, label),
@@ -42,7 +42,7 @@ fn import(rt: &impl Abort, alloc: Global, label: &str, kind: ListKind, list: &[u
     })
 }
 
-// Adds what the desk answers to this request, as it is printed.
+// Appends the desk's printed answer to this request.
 fn say(
     rt: &impl Abort,
     alloc: Global,
@@ -55,7 +55,7 @@ fn say(
     text.push_str(said.as_str()).expect(rt, "memory");
 }
 
-// What the desk answers to these requests in turn, as it is printed.
+// The desk's printed answers to these requests, in turn.
 fn said(rt: &impl Abort, alloc: Global, desk: &mut Desk<MemStore>, requests: &[Request]) -> String {
     let mut text = String::new(alloc);
     for request in requests {
@@ -64,7 +64,7 @@ fn said(rt: &impl Abort, alloc: Global, desk: &mut Desk<MemStore>, requests: &[R
     text
 }
 
-// That this is what the desk answers to the requests.
+// Asserts that these are the desk's printed answers to the requests.
 pub(super) fn says(
     rt: &impl Abort,
     alloc: Global,
@@ -75,7 +75,7 @@ pub(super) fn says(
     assert_same!(rt; said(rt, alloc, desk, requests).as_str(), told);
 }
 
-// The same of lists that come in, each under its label.
+// Asserts that these are the desk's printed answers to imports of the lists, each under its label.
 pub(super) fn says_of_lists(
     rt: &impl Abort,
     alloc: Global,
@@ -92,7 +92,7 @@ pub(super) fn says_of_lists(
     assert_same!(rt; text.as_str(), told);
 }
 
-// A desk with two rooms, and three people of whom one has a home.
+// A desk with two rooms, and with three people of whom one has a home.
 fn furnished(rt: &impl Abort, alloc: Global) -> Desk<MemStore> {
     let mut desk = new_desk(rt, alloc);
     says_of_lists(
@@ -155,7 +155,7 @@ fn adds_what_lists_tell(rt: HostRuntime) {
     }
 }
 
-// A desk at which that round was held.
+// A desk after that round.
 fn settled(rt: &impl Abort, alloc: Global) -> Desk<MemStore> {
     let mut desk = furnished(rt, alloc);
     let requests = round(rt, alloc);
@@ -164,7 +164,7 @@ fn settled(rt: &impl Abort, alloc: Global) -> Desk<MemStore> {
     desk
 }
 
-// That lists under known labels still have their answers.
+// Asserts that imports under known labels still have their answers.
 fn knows_its_lists(rt: &impl Abort, alloc: Global, desk: &mut Desk<MemStore>) {
     let longer = [PEOPLE, b"\n".as_slice()]
         .concat(alloc)
@@ -178,8 +178,8 @@ fn knows_its_lists(rt: &impl Abort, alloc: Global, desk: &mut Desk<MemStore>) {
     says_of_lists(rt, alloc, desk, ListKind::People, &again, told);
 }
 
-// After a round a list that is known still has its first answer and moves nobody back, also at the next desk over the
-// same database. One that is refused is not kept, and adds nobody.
+// After a round, importing a known list again still has its first answer and moves nobody back, also at the next desk over the
+// same database. A list that is refused is not stored and adds nobody.
 #[test]
 fn keeps_lists_under_their_labels(rt: HostRuntime) {
     let alloc = rt.alloc();
@@ -201,7 +201,7 @@ fn keeps_lists_under_their_labels(rt: HostRuntime) {
     );
 }
 
-// Lists of choices in no round come too early. Then each of these is refused for itself.
+// Without a round, a list of choices is too early. In an open round, each of these lists is refused for its own fault.
 #[test]
 fn refuses_lists_of_choices(rt: HostRuntime) {
     let alloc = rt.alloc();
@@ -224,7 +224,7 @@ fn refuses_lists_of_choices(rt: HostRuntime) {
     says_of_lists(&rt, alloc, &mut desk, ListKind::Choices, &lists, told);
 }
 
-// Lists of grades, of which the second comes again, and those after it are refused.
+// Lists of grades. The second is the first again, and those after it are refused.
 const LISTS_OF_GRADES: [(&str, &[u8]); 5] = [
     ("g-1", GRADES),
     ("g-1", GRADES),
@@ -233,7 +233,7 @@ const LISTS_OF_GRADES: [(&str, &[u8]); 5] = [
     ("p-1", GRADES),
 ];
 
-// The later record of a person counts. Whoever is taken out and added again has grade 0.
+// The last record of a person counts. A person who is removed and added again has grade 0.
 #[test]
 fn keeps_grades_of_lists(rt: HostRuntime) {
     let alloc = rt.alloc();
@@ -257,7 +257,7 @@ fn keeps_grades_of_lists(rt: HostRuntime) {
     exports(&rt, alloc, &mut desk, ExportKind::Grades, grades);
 }
 
-// In an open round grades still count, and then no more.
+// Grades may be imported while the round is open, and not after that.
 #[test]
 fn takes_grades_until_lists_are_final(rt: HostRuntime) {
     let alloc = rt.alloc();
@@ -275,11 +275,11 @@ fn takes_grades_until_lists_are_final(rt: HostRuntime) {
     }
 }
 
-// The rooms, and what is told of a list that is known.
+// The printed rooms, and the answer to a list that is known.
 const ROOMS_TOLD: &str = "room      state     tenant\nH1        occupied  E1\n\
     H2        free      none\nadded 1\n";
 
-// A list of rooms that is one longer than there may be, beside the two.
+// A list of rooms that is one too long for an office with two rooms.
 fn too_many_rooms(alloc: Global) -> Result<Vec<u8>, AllocError> {
     let mut many = Vec::from_slice(alloc, b"room\n")?;
     for number in 3..2_002u16 {
@@ -288,7 +288,7 @@ fn too_many_rooms(alloc: Global) -> Result<Vec<u8>, AllocError> {
     Ok(many)
 }
 
-// Requests of which those that are no lists are accepted, and each list is refused for one of its records.
+// Requests of which the commands are accepted, and each import is refused for one of its records.
 fn refused(rt: &impl Abort, alloc: Global, many: &[u8]) -> Vec<Request> {
     let in_shut_room = b"person,name,key,home\nE4,Di Day,key00000000000e4,H2\n";
     let in_taken_room = b"person,name,key,home\nE4,Di Day,key00000000000e4,H1\n";
@@ -321,7 +321,7 @@ fn refused(rt: &impl Abort, alloc: Global, many: &[u8]) -> Vec<Request> {
     .expect(rt, "memory")
 }
 
-// A record whose own command is refused is told with the number of that refusal.
+// If the command of a record would be refused, the import is refused with that refusal's number.
 #[test]
 fn refuses_records_as_their_commands_are_refused(rt: HostRuntime) {
     let alloc = rt.alloc();
@@ -334,7 +334,7 @@ fn refuses_records_as_their_commands_are_refused(rt: HostRuntime) {
     says(&rt, alloc, &mut desk, &requests, told);
 }
 
-// A list of so many people without a home.
+// A list of the given number of people without a home.
 fn many_people(alloc: Global, count: u16) -> Result<Vec<u8>, AllocError> {
     let mut many = Vec::from_slice(alloc, HEADER)?;
     for number in 0..count {
@@ -344,8 +344,8 @@ fn many_people(alloc: Global, count: u16) -> Result<Vec<u8>, AllocError> {
     Ok(many)
 }
 
-// Beside the three people a list of one too many is refused at its last record. It adds nobody, and is not kept: its first
-// record comes in under the same label.
+// With three people in the office, a list of one too many is refused at its last record. It adds nobody and is not stored: its
+// first record is imported under the same label.
 #[test]
 fn refuses_people_over_the_limit(rt: HostRuntime) {
     let alloc = rt.alloc();
@@ -366,8 +366,8 @@ fn refuses_people_over_the_limit(rt: HostRuntime) {
     }
 }
 
-// After the command, which is answered by `done`, a known label has its first answer, another list under it differs, and
-// a new list is answered by `late`.
+// Runs the command and asserts that its answer is `done`. Then a known label still has its first answer, another list under it
+// differs, and a new list has the answer `late`.
 fn looks_at_labels(
     rt: &impl Abort,
     alloc: Global,
@@ -392,7 +392,7 @@ fn looks_at_labels(
     );
 }
 
-// In each phase a known label has its first answer, another list under it differs, and a new one comes too late.
+// In each phase a known label has its first answer, another list under it differs, and a new list is refused.
 #[test]
 fn looks_at_labels_before_the_phase(rt: HostRuntime) {
     let alloc = rt.alloc();
@@ -428,7 +428,7 @@ fn looks_at_labels_before_the_phase(rt: HostRuntime) {
     }
 }
 
-// 200 labels can be given; those that are given still have their answers.
+// An office takes 200 labels. Once they are used up, known labels still have their answers.
 #[test]
 fn gives_two_hundred_labels(rt: HostRuntime) {
     let alloc = rt.alloc();

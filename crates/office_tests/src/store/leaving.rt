@@ -1,4 +1,4 @@
-//! Lists of choices in which somebody stands who leaves the college.
+//! Tests of lists of choices with a record of a person who leaves the college.
 use super::importing::{says, says_of_lists};
 use crate::building::{lines_asked, new_desk};
 use room_types::ListKind;
@@ -8,7 +8,8 @@ const LEAVING: &str = "room H1\nroom H2\nperson E1 key00000000000e1 Ann Ash\n\
 
 const LEAVING_TOLD: &str = "ok\nok\nok\nok\nok\nround 1 open\ngoing\n";
 
-// Where the leaver stands in a list it adds nobody's choices; without that record it comes in under the same label.
+// A list with a record of the leaver is refused and adds nobody's choices. Without that record it is imported under the same
+// label.
 #[test]
 fn refuses_choices_of_leavers(rt: HostRuntime) {
     let alloc = rt.alloc();

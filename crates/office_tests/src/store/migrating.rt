@@ -1,4 +1,4 @@
-//! Desks over the tables of earlier versions, and over tables in the documented order, with ample memory.
+//! Tests of desks over tables of earlier versions, and over tables in the documented order, with enough memory.
 use super::adopting::{adopted, tried_after};
 use super::importing::{says, says_of_lists};
 use crate::asserting::assert_same;
@@ -11,7 +11,7 @@ use sqlite::{Connection, MemStore};
 use std::alloc::Global;
 use std::process::Abort;
 
-// T1 and T2 live in H1 and H2, and ask for each other's room; N comes last and asks for H1 and V.
+// T1 and T2 live in H1 and H2 and list each other's room. N is last and lists H1 and V.
 const ROWS: &str = "INSERT INTO room VALUES ('H1', 0), ('H2', 0), ('V', 0);
 INSERT INTO person VALUES ('T2', 'Tom Tao', 'key00000000000t2', 'H2', 0);
 INSERT INTO person VALUES ('T1', 'Tim Tan', 'key00000000000t1', 'H1', 0);
@@ -22,13 +22,13 @@ INSERT INTO word VALUES ('T1', '0000000000000001'), ('T2', '0000000000000002');
 INSERT INTO word VALUES ('N', '0000000000000003');
 INSERT INTO list VALUES ('r-1', 'rooms', x'726f6f6d0a56', 1);";
 
-// The same with a grade, and with a list of grades that added nobody's.
+// The same with a grade, and with an imported list of grades that set nobody's grade.
 const GRADES: &str = "UPDATE round SET version = 2; INSERT INTO grade VALUES ('N', 4);
 INSERT INTO list VALUES ('g-1', 'grades', x'706572736f6e2c67726164650a', 0);";
 
 const HEADER: &[u8] = b"person,grade\n";
 
-// Statements that bring the round into a phase, lines that are told there, and the answers.
+// Statements that bring the round into a phase, lines to handle there, and the printed answers.
 const PHASES: [(&str, &str, &str); 7] = [
     (
         "DELETE FROM word; DELETE FROM choice; UPDATE round SET number = 0, phase = 'idle'",
@@ -83,7 +83,8 @@ const PHASES: [(&str, &str, &str); 7] = [
     ),
 ];
 
-// Statements, each with one that takes it back, and the fault in between: those in tables of either version, and of one.
+// Statements, each with one that undoes it, and the fault in between. The first array is for tables of both versions, the
+// others for those of one.
 const FAULTS: [(&str, &str, DeskFault); 7] = [
     (
         "UPDATE round SET phase = 'open'",
@@ -179,7 +180,7 @@ const EARLIER: [Layout; 3] = [
     Layout::DocumentedSecond,
 ];
 
-// The tables in this layout, of an earlier version, with the rows above, after these statements.
+// A database with the tables in this layout of an earlier version and the rows above, after these statements.
 fn earlier_made(
     rt: &impl Abort,
     alloc: Global,
@@ -195,7 +196,7 @@ fn earlier_made(
     conn
 }
 
-// Why no desk migrates the database, or none if one does, and the connection.
+// Tries to migrate the database. Returns the fault, if any, and the connection.
 fn tried(alloc: Global, conn: Connection<MemStore>) -> (Option<DeskFault>, Connection<MemStore>) {
     let outside = conn.is_autocommit();
     if !outside {
@@ -207,7 +208,7 @@ fn tried(alloc: Global, conn: Connection<MemStore>) -> (Option<DeskFault>, Conne
     }
 }
 
-// The connection, on which the statements have run, after which no desk migrated it for this fault.
+// Runs the statements, and asserts that migrating the database then fails with this fault. Returns the connection.
 fn refused_after(
     rt: &impl Abort,
     alloc: Global,
@@ -231,14 +232,14 @@ fn migrated(rt: &impl Abort, alloc: Global, conn: Connection<MemStore>) -> Desk<
     }
 }
 
-// That the desk has these answers to the lines.
+// Asserts that these are the desk's printed answers to the lines.
 fn tells(rt: &impl Abort, alloc: Global, desk: &mut Desk<MemStore>, lines: &str, told: &str) {
     let requests = lines_asked(rt, alloc, lines);
     says(rt, alloc, desk, &requests, told);
 }
 
-// Before, no desk adopts the tables. A desk migrates them and goes on, another one adopts them then, and none migrates them
-// again.
+// At first no desk adopts the tables. A desk migrates them and handles the lines. Then another desk adopts them, and none
+// migrates them again.
 fn is_migrated(
     rt: &impl Abort,
     alloc: Global,
@@ -275,7 +276,7 @@ fn migrates_each_phase(rt: HostRuntime) {
     }
 }
 
-// The faults leave the tables as they are: they are migrated afterwards.
+// A failed migration leaves the tables as they were: afterwards they are migrated.
 #[test]
 fn migrates_the_rows_of_an_office_alone(rt: HostRuntime) {
     let alloc = rt.alloc();
@@ -313,7 +314,7 @@ fn migrates_no_other_database(rt: HostRuntime) {
     let _conn = refused_after(&rt, alloc, conn, view, DeskFault::Unavailable);
 }
 
-// Grades, and lists of them, came with version 2.
+// Grades and lists of grades exist from version 2 on.
 #[test]
 fn keeps_grades_of_the_second_version(rt: HostRuntime) {
     let alloc = rt.alloc();
@@ -327,12 +328,12 @@ fn keeps_grades_of_the_second_version(rt: HostRuntime) {
     says_of_lists(&rt, alloc, &mut desk, ListKind::Grades, &known, "added 0\n");
 }
 
-// Statements that make the drawn round one of this version that is open, and T2 a leaver.
+// Statements that make the drawn round an open one of this version, with T2 as a leaver.
 const LEAVER: &str =
     "UPDATE round SET version = 3; DELETE FROM word; UPDATE round SET phase = 'open';
 INSERT INTO going VALUES ('T2'); INSERT INTO grade VALUES ('N', 1)";
 
-// N has the first word and goes behind T1, who comes to the leaver's room.
+// N has the first word but a later grade than T1, who gets the leaver's room.
 const LEAVERS_ROUND: &str =
     "round\nclose\ndraw 0000000000000001 0000000000000002\norder\nrun\nresults\npublish\nsettle\nmoves 1\n";
 
@@ -360,7 +361,7 @@ fn adopts_tables_in_the_documented_order(rt: HostRuntime) {
     }
 }
 
-// The desk that takes the database over.
+// The desk that adopts the database.
 fn taken(rt: &impl Abort, alloc: Global, conn: Connection<MemStore>) -> Desk<MemStore> {
     let outside = conn.is_autocommit();
     assert!(rt; outside);
@@ -370,8 +371,8 @@ fn taken(rt: &impl Abort, alloc: Global, conn: Connection<MemStore>) -> Desk<Mem
     }
 }
 
-// Rows of version 1 in the tables of version 2: there they lack a table of a name that is taken. With 2 in the row of the round
-// they are those of an office of version 2.
+// Rows of version 1 in the tables of version 2. A migration from version 1 fails, because the name of the table that it adds is
+// taken. With 2 in the row of the round they are the rows of an office of version 2.
 #[test]
 fn tells_of_the_first_version_in_tables_of_the_second(rt: HostRuntime) {
     let alloc = rt.alloc();

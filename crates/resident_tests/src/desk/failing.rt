@@ -1,9 +1,10 @@
-//! Streams that come in pieces, and that fail.
+//! Streams that pass bytes in chunks, and that fail.
 use std::alloc::Global;
 use std::io;
 use std::io::{Error, ErrorKind, Read, Write};
 
-/// A reader of bytes, `piece` at the first read and `later` at each other. So many reads pass, and the next one fails.
+/// A reader that passes at most `piece` bytes at the first read and at most `later` at each other one. After `reads` reads one
+/// read fails.
 #[derive(Drop)]
 pub struct PiecewiseReader<'a> {
     pub unread: &'a [u8],
@@ -25,8 +26,8 @@ impl Read for PiecewiseReader<'_> {
     }
 }
 
-/// A writer that keeps what it takes, at most `piece` bytes a write. After `room` bytes a write is refused: it fails, or it
-/// takes no byte. From then on there is room for `later` bytes. Its flushes may fail.
+/// A writer that keeps the bytes that it takes, at most `piece` a write. After `room` bytes it refuses one write: the write
+/// fails, or takes no byte. After that it takes `later` more bytes. Its flushes may fail.
 #[derive(Drop)]
 pub struct NarrowWriter {
     pub written: Vec<u8>,
@@ -38,7 +39,7 @@ pub struct NarrowWriter {
 }
 
 impl NarrowWriter {
-    /// A writer that takes all.
+    /// A writer that takes everything.
     pub fn wide(alloc: Global) -> Self {
         NarrowWriter {
             written: Vec::new(alloc),

@@ -1,4 +1,4 @@
-//! Streams in pieces, at their end, and that fail.
+//! Tests of streams that pass bytes in chunks, that end early, and that fail.
 use super::failing::{NarrowWriter, PiecewiseReader};
 use super::told::{LISTS_H2, NO_LIST, is_told};
 use super::{ANSWER, REQUEST, Talk, WELL, let_go, open_round, served, served_on};
@@ -15,7 +15,7 @@ const REFUSED: Served = Served::Answered {
     status: StatusCode::BAD_REQUEST,
 };
 
-// The answer to a request that is not whole.
+// The response to an incomplete request.
 const BAD_REQUEST: &str = "HTTP/1.1 400 Bad Request\r\n\
     Content-Type: application/json\r\n\
     Content-Length: 22\r\n\
@@ -23,7 +23,7 @@ const BAD_REQUEST: &str = "HTTP/1.1 400 Bad Request\r\n\
     \r\n\
     {\"error\":\"BadRequest\"}";
 
-// How a device refuses a write, by failing or by taking nothing, and how much room it has afterwards.
+// How a device refuses a write, by failing or by taking no byte, and how many bytes it takes afterwards.
 const REFUSALS: [(bool, usize); 4] = [
     (true, 0),
     (true, usize::MAX),
@@ -31,7 +31,7 @@ const REFUSALS: [(bool, usize); 4] = [
     (false, usize::MAX),
 ];
 
-// That a conversation ended like this, with this written, on a stream that failed just where the ending is a fault.
+// Asserts how serving a connection ended and what was written, and that the stream failed if and only if that is a fault.
 fn is_talk(rt: &impl Abort, talk: &Talk, how: Served, written: &[u8], case: usize) {
     same_at(rt, &talk.how, &how, case);
     same_at(rt, &talk.failed, &is_fault(how), case);
@@ -42,7 +42,7 @@ fn is_fault(how: Served) -> bool {
     matches!(how, Served::ReadFault | Served::WriteFault { .. })
 }
 
-// However the request is cut in two pieces, and where each read gives a byte, the answer is the same.
+// The response is the same however the request is cut into two chunks, and if each read gives one byte.
 #[test]
 fn cuts_do_not_matter(rt: HostRuntime) -> io::Result<()> {
     for cut in 0..REQUEST.len() {
@@ -62,7 +62,7 @@ fn cut_does_not_matter(rt: &impl Abort, alloc: Global, cut: usize) {
     let_go(desk);
 }
 
-// The request in two pieces; where the first would be empty, a byte at each read.
+// A reader of the request in two chunks. If the first would be empty, each read gives one byte.
 fn reader_cut_at(cut: usize) -> PiecewiseReader<'static> {
     PiecewiseReader {
         unread: REQUEST.as_bytes(),
@@ -72,7 +72,7 @@ fn reader_cut_at(cut: usize) -> PiecewiseReader<'static> {
     }
 }
 
-// A request that ends too early is refused, and nothing changes; where nothing comes, nothing is said.
+// A request that ends too early is refused, and nothing changes. If no byte arrives, nothing is written.
 #[test]
 fn fronts_are_refused(rt: HostRuntime) -> io::Result<()> {
     let mut desk = open_round(&rt, rt.alloc());
@@ -95,7 +95,7 @@ fn front_is_refused(rt: &impl Abort, alloc: Global, desk: &mut Desk<MemStore>, f
     is_told(rt, alloc, desk, NO_LIST, front.len());
 }
 
-// Where a read fails, nothing is written, and nothing changes.
+// If a read fails, nothing is written, and nothing changes.
 #[test]
 fn stops_where_a_read_fails(rt: HostRuntime) -> io::Result<()> {
     let mut desk = open_round(&rt, rt.alloc());
@@ -119,8 +119,8 @@ fn stops_at_read(rt: &impl Abort, alloc: Global, desk: &mut Desk<MemStore>, pass
     is_told(rt, alloc, desk, NO_LIST, passed);
 }
 
-// Where a write fails or takes nothing, or the flush fails, a front of the answer was written, and the list stands; also
-// where the device would go on afterwards.
+// If a write fails or takes no byte, or the flush fails, a prefix of the response has been written, and the list stays
+// recorded, even if the device works again afterwards.
 #[test]
 fn stops_where_a_write_fails(rt: HostRuntime) -> io::Result<()> {
     for sent in 0..ANSWER.len() + 1 {
@@ -133,7 +133,7 @@ fn stops_where_a_write_fails(rt: HostRuntime) -> io::Result<()> {
     )
 }
 
-// That no more than this front is written where there is room for no more, however a write is refused.
+// Asserts that exactly this prefix is written if the writer has room for no more, however it refuses a write.
 fn stops_after(rt: &impl Abort, alloc: Global, front: &[u8]) {
     for (fails, later) in REFUSALS {
         let writer = NarrowWriter {
@@ -148,7 +148,7 @@ fn stops_after(rt: &impl Abort, alloc: Global, front: &[u8]) {
     }
 }
 
-// That this front of the answer is written by a writer that takes no more.
+// Asserts that this writer takes exactly this prefix of the response.
 fn stops_on(rt: &impl Abort, alloc: Global, writer: NarrowWriter, front: &[u8]) {
     let sent = front.len();
     let mut desk = open_round(rt, alloc);
@@ -158,8 +158,8 @@ fn stops_on(rt: &impl Abort, alloc: Global, writer: NarrowWriter, front: &[u8]) 
     let_go(desk);
 }
 
-// A head of 8,192 bytes without an end is refused by the read that brings its last byte. The longest request, a byte a read,
-// is answered after as many reads as it has bytes.
+// A head of 8,192 bytes without an end is refused by the read that brings its last byte. The longest request, read one byte at
+// a time, takes as many reads as it has bytes.
 #[test]
 fn reads_no_more_than_it_may(rt: HostRuntime) {
     let mut desk = open_round(&rt, rt.alloc());
@@ -197,7 +197,7 @@ fn longest_is_answered(rt: &impl Abort, alloc: Global, desk: &mut Desk<MemStore>
     same(rt, &counts, &(9_216, 9_216, 1), "bytes, reads, flushes");
 }
 
-// T1 hands in a list by a head of 8,192 bytes and a body of 1,024.
+// A request in which T1 hands in a list, with a head of 8,192 bytes and a body of 1,024.
 fn longest_request(rt: &impl Abort, alloc: Global) -> String {
     let front = "PUT /me/choices HTTP/1.1\r\nHost: a\r\nRoom-Key: key00000000000t1\r\n\
         Content-Length: 1024\r\nX: ";

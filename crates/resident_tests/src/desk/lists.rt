@@ -1,4 +1,4 @@
-//! Lists of rooms up to their limit, and beyond it.
+//! Tests of lists of rooms up to the limit and beyond it.
 use super::{handle_lines, is_answered, let_go, open_round};
 use crate::requests::{fault_text, listed};
 use office_store::Desk;
@@ -16,8 +16,8 @@ room A40\n";
 
 const TOO_MANY: Option<(&str, &str)> = Some(("422 Unprocessable Entity", "TooManyChoices"));
 
-// What the office does, how many rooms T1 lists then, and the status and the name of the fault, or none where the list is
-// recorded.
+// Lines of the office, the number of rooms that T1 lists then, and the status and the name of the error, or `None` if the list
+// is recorded.
 const LISTS: [(&str, usize, Option<(&str, &str)>); 6] = [
     ("", 40, Some(("422 Unprocessable Entity", "UnknownRoom"))),
     ("", 41, TOO_MANY),
@@ -27,7 +27,7 @@ const LISTS: [(&str, usize, Option<(&str, &str)>); 6] = [
     ("", 41, TOO_MANY),
 ];
 
-// Forty rooms are a list; that they are more is told before the phase and before the rooms that nobody knows.
+// A list may have forty rooms. A longer one is refused for its length before the phase and the rooms are checked.
 #[test]
 fn lists_up_to_their_limit(rt: HostRuntime) {
     let alloc = rt.alloc();
@@ -39,7 +39,7 @@ fn lists_up_to_their_limit(rt: HostRuntime) {
     let_go(desk);
 }
 
-// That a list of so many rooms has this fault, or is recorded.
+// Asserts that a list of this number of rooms gets this error, or is recorded.
 fn list_is_answered(
     rt: &impl Abort,
     alloc: Global,
@@ -56,7 +56,7 @@ fn list_is_answered(
     is_answered(rt, alloc, desk, request.as_str(), answer.as_str());
 }
 
-// T1 hands in this list.
+// The request in which T1 hands in this list.
 fn request_with(rt: &impl Abort, alloc: Global, list: &str) -> String {
     let length = list.len();
     format!(in alloc;
@@ -64,7 +64,7 @@ fn request_with(rt: &impl Abort, alloc: Global, list: &str) -> String {
     ).expect(rt, "memory")
 }
 
-// The answer that this list is recorded.
+// The response that this list is recorded.
 fn recorded_text(rt: &impl Abort, alloc: Global, list: &str) -> String {
     let length = list.len() + 12;
     format!(in alloc;

@@ -1,4 +1,4 @@
-//! A conversation over a real socket, both of whose ends are in this process.
+//! Tests of serving a connection over a real socket, with both ends in this process.
 use super::{ANSWER, REQUEST, WELL, let_go, open_round, read_whole};
 use crate::asserting::assert_same;
 use office_store::Desk;
@@ -20,7 +20,7 @@ fn answers_over_a_socket(rt: HostRuntime) {
     let_go(desk);
 }
 
-// That the resident, whose connection waits at the listener, is answered.
+// Asserts that the resident, whose connection waits at the listener, gets the response.
 fn is_answered(
     rt: &impl Abort,
     alloc: Global,
@@ -37,7 +37,7 @@ fn is_answered(
     assert_same!(rt; answer.as_slice(), ANSWER.as_bytes());
 }
 
-// How the conversation on this stream ended; it is let go.
+// Serves a connection on this stream, drops the stream, and returns how it ended.
 fn served_on<T: Stream + Drop>(alloc: Global, desk: &mut Desk<MemStore>, stream: T) -> Served {
     let mut stream = Watched::new(stream);
     let how = serve_one(alloc, desk, &mut stream);

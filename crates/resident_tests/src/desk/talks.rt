@@ -1,4 +1,4 @@
-//! Worked conversations with residents, and what the office does between them.
+//! Tests of worked requests of residents and of the office's lines between them.
 use super::told::{LISTS_H2, is_told};
 use super::{ANSWER, REQUEST, Talk, WELL, handle_lines, is_answered, let_go, open_round, served};
 use crate::asserting::{assert_same, holds, same_at};
@@ -10,7 +10,7 @@ use sqlite::MemStore;
 use std::alloc::Global;
 use std::process::Abort;
 
-// What the office does, as lines; or what a resident sends, with the status and the body of the answer.
+// Lines of the office, or the request of a resident with the status and the body of the response.
 enum Step {
     Office(&'static str),
     Talk(&'static str, u16, &'static str),
@@ -178,7 +178,7 @@ const STORY: [Step; 38] = [
     ),
 ];
 
-// In the first round T2 withdraws twice, and hands in a list too late.
+// In the first round T2 withdraws twice, and then hands in a list, which is too late.
 const WITHDRAWALS: [Step; 3] = [
     Step::Talk(
         "POST /me/withdraw HTTP/1.1\r\nHost: a\r\nRoom-Key: key00000000000t2\r\n\r\n",
@@ -197,8 +197,8 @@ const WITHDRAWALS: [Step; 3] = [
     ),
 ];
 
-// Before the results T2, who has a home, leaves the college. Then T2 hands in no list and does not withdraw, and goes on seeing
-// the recorded list, but no result.
+// T2, who has a home, leaves the college before the results. After that T2 can hand in no list and cannot withdraw, and still
+// sees the recorded list, but no result.
 const LEAVING: [Step; 9] = [
     Step::Office("going T2\n"),
     Step::Talk(
@@ -235,7 +235,7 @@ const LEAVING: [Step; 9] = [
     ),
 ];
 
-// The answer to a wrong method.
+// The response to a wrong method.
 const WRONG_METHOD: &str = "HTTP/1.1 405 Method Not Allowed\r\n\
     Content-Type: application/json\r\n\
     Content-Length: 28\r\n\
@@ -244,7 +244,7 @@ const WRONG_METHOD: &str = "HTTP/1.1 405 Method Not Allowed\r\n\
     \r\n\
     {\"error\":\"MethodNotAllowed\"}";
 
-// The status that was answered, or none on another ending.
+// The status of the response, or `None` if serving the connection ended otherwise.
 fn status_told(how: &Served) -> Option<u16> {
     match how {
         Served::Answered { status } => Some(status.as_u16()),
@@ -252,7 +252,7 @@ fn status_told(how: &Served) -> Option<u16> {
     }
 }
 
-// Each story begins at a desk of its own.
+// Each story begins with a new desk.
 #[test]
 fn tells_stories(rt: HostRuntime) {
     for story in [STORY.as_slice(), WITHDRAWALS.as_slice(), LEAVING.as_slice()] {
@@ -279,7 +279,7 @@ fn take_step(rt: &impl Abort, alloc: Global, desk: &mut Desk<MemStore>, step: &S
     }
 }
 
-// Whether the answer ends in an empty line and this body.
+// Whether the response ends in an empty line and this body.
 fn has_body(written: &[u8], body: &str) -> bool {
     match written.strip_suffix(body.as_bytes()) {
         Some(head) => head.ends_with(b"\r\n\r\n"),
@@ -287,7 +287,7 @@ fn has_body(written: &[u8], body: &str) -> bool {
     }
 }
 
-// That the answer to this request has this status, which it also begins with.
+// Asserts that the response to this request has this status, and begins with it.
 fn has_status(rt: &impl Abort, alloc: Global, talk: &Talk, status: u16, request: &str) {
     let front = format!(in alloc; "HTTP/1.1 {status} ").expect(rt, "memory");
     assert_same!(rt; status_told(&talk.how), Some(status), request);
@@ -295,7 +295,8 @@ fn has_status(rt: &impl Abort, alloc: Global, talk: &Talk, status: u16, request:
     holds(rt, begins && !talk.failed, request);
 }
 
-// To the byte: the answer to a list, and the one to a wrong method. A call for desks in memory alone gives the first too.
+// The exact bytes of the response to a list and of the one to a wrong method. The call for desks in memory gives the first one
+// too.
 #[test]
 fn answers_to_the_byte(rt: HostRuntime) {
     let alloc = rt.alloc();
@@ -307,7 +308,7 @@ fn answers_to_the_byte(rt: HostRuntime) {
     is_answered_in_memory(&rt, alloc);
 }
 
-// That the call for desks in memory answers the request, and records the list.
+// Asserts that the call for desks in memory gives the response to the request, and records the list.
 fn is_answered_in_memory(rt: &impl Abort, alloc: Global) {
     let mut desk = open_round(rt, alloc);
     let mut stream = Watched::new(Pair {
@@ -322,7 +323,7 @@ fn is_answered_in_memory(rt: &impl Abort, alloc: Global) {
     let_go(desk);
 }
 
-// A body of 1,024 bytes is read whole; so is one in a head with 64 fields, and 65 are too many.
+// A body of 1,024 bytes is read completely. A head may have 64 fields, and not 65.
 #[test]
 fn takes_all_that_may_come(rt: HostRuntime) {
     let alloc = rt.alloc();
@@ -339,7 +340,7 @@ fn front_of_request() -> &'static str {
     REQUEST.strip_suffix("6\r\n\r\n[\"H2\"]").unwrap_or("")
 }
 
-// That the request is answered with a body of 1,024 bytes.
+// Asserts that the request with a body of 1,024 bytes gets the same response.
 fn is_answered_at_length(rt: &impl Abort, alloc: Global, desk: &mut Desk<MemStore>) {
     let front = front_of_request();
     let spaces = " ".repeat(alloc, 1_018).expect(rt, "memory");
@@ -347,7 +348,7 @@ fn is_answered_at_length(rt: &impl Abort, alloc: Global, desk: &mut Desk<MemStor
     is_answered(rt, alloc, desk, longest.as_str(), ANSWER);
 }
 
-// That the request is answered by this status with so many fields more.
+// Asserts that the request with this number of additional fields gets this status.
 fn has_status_with(
     rt: &impl Abort,
     alloc: Global,

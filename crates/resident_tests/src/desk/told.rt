@@ -1,4 +1,4 @@
-//! All that the office tells of its open round.
+//! The printed answers that show the whole office in an open round.
 use crate::asserting::same_at;
 use office_lines::rehearse::rehearse;
 use office_store::Desk;
@@ -7,16 +7,16 @@ use sqlite::MemStore;
 use std::alloc::Global;
 use std::process::Abort;
 
-/// T1's line where no list of T1 is recorded.
+/// T1's line if no list of T1 is recorded.
 pub const NO_LIST: &str = "choices\n";
 
-/// T1's line where T1 lists H2.
+/// T1's line if T1 lists H2.
 pub const LISTS_H2: &str = "choices H2\n";
 
-// Lines that tell all of the office: its rooms, its people, its round, and what each person is told.
+// Lines that query the whole office: its rooms, people and round, and what each person sees.
 const ASKS: &str = "rooms\npeople\nround\nme key00000000000t1\nme key00000000000t2\n";
 
-// What they tell before T1's list.
+// The printed answers up to T1's list.
 const FRONT: &str = "\
 room      state     tenant\n\
 H1        occupied  T1\n\
@@ -31,7 +31,7 @@ name Tim Tan\n\
 home H1\n\
 round 1 open\n";
 
-// What they tell after it.
+// The printed answers after T1's list.
 const REST: &str = "\
 withdrawn no\n\
 going no\n\
@@ -45,14 +45,14 @@ withdrawn no\n\
 going no\n\
 result hidden\n";
 
-/// That the office tells just this of its open round, with this line for T1's list.
+/// Asserts that the office, in its open round, prints exactly this, with the given line for T1's list.
 pub fn is_told(rt: &impl Abort, alloc: Global, desk: &mut Desk<MemStore>, list: &str, case: usize) {
     let wanted = format!(in alloc; "{FRONT}{list}{REST}").expect(rt, "memory");
     let told = told(alloc, desk);
     same_at(rt, &told.as_slice(), &wanted.as_bytes(), case);
 }
 
-// What the office tells.
+// The printed answers to those lines.
 fn told(alloc: Global, desk: &mut Desk<MemStore>) -> Vec<u8> {
     let mut input = Watched::new(ASKS.as_bytes());
     let mut output = Watched::new(Vec::new(alloc));

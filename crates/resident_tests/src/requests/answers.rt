@@ -1,4 +1,4 @@
-//! The bytes of answers, and the bodies of requests.
+//! Tests of the bytes of responses, and of the bodies of requests.
 ghost use Rattle.std.specs.Prelude.{◌≡◌, true};
 ghost use Rattle.resident_http.specs.Faults.{names_fault};
 
@@ -16,7 +16,7 @@ use room_types::{
 use std::alloc::Global;
 use std::process::Abort;
 
-// The reason and each name of the statuses whose faults have several names.
+// The reason and each name of the statuses that have several error names.
 const NAMED_FAULTS: [(StatusCode, &str, &str); 7] = [
     (StatusCode::CONFLICT, "409 Conflict", "BadPhase"),
     (StatusCode::CONFLICT, "409 Conflict", "Withdrawn"),
@@ -43,7 +43,7 @@ const NAMED_FAULTS: [(StatusCode, &str, &str); 7] = [
     ),
 ];
 
-// The reason and the name of each status whose faults have one name; 405 has a test of its own.
+// The reason and the name of each status with a single error name, except 405, which has a test of its own.
 const FAULTS: [(StatusCode, &str, &str); 7] = [
     (StatusCode::BAD_REQUEST, "400 Bad Request", "BadRequest"),
     (StatusCode::FORBIDDEN, "403 Forbidden", "Forbidden"),
@@ -70,7 +70,7 @@ const FAULTS: [(StatusCode, &str, &str); 7] = [
     ),
 ];
 
-// The value that the text spells.
+// Parses the text.
 fn text<G: Grammar>(rt: &impl Abort, alloc: Global, text: &str) -> Text<G> {
     Text::read(alloc, text).expect(rt, text)
 }
@@ -83,7 +83,7 @@ fn rooms(rt: &impl Abort, alloc: Global, codes: &[&str]) -> Vec<RoomCode> {
     all
 }
 
-// What Tim Tan sees, who lives in H1 and lists H2.
+// The standing of Tim Tan, who lives in H1 and lists H2.
 fn standing(
     rt: &impl Abort,
     alloc: Global,
@@ -112,7 +112,7 @@ const WRONG_METHOD: &[u8] = b"HTTP/1.1 405 Method Not Allowed\r\n\
     Content-Type: application/json\r\nContent-Length: 28\r\nAllow: PUT\r\n\
     Connection: close\r\n\r\n{\"error\":\"MethodNotAllowed\"}";
 
-// That an answer has these bytes.
+// Asserts that the response has these bytes.
 fn is_written(rt: &impl Abort, alloc: Global, answer: &HttpAnswer, wanted: &[u8]) {
     let bytes = answer_bytes(alloc, answer).expect(rt, "memory");
     assert_same!(rt; bytes.as_slice(), wanted);
@@ -153,7 +153,7 @@ fn a_desk_that_is_unavailable(rt: HostRuntime) {
     assert_same!(rt; body.as_slice(), b"{\"error\":\"Unavailable\"}".as_slice());
 }
 
-// That the fault's answer has this status line, and this name in its body.
+// Asserts that the error response has this status line, and this name in its body.
 fn is_fault(rt: &impl Abort, alloc: Global, status: StatusCode, line: &str, name: &str)
     requires { names_fault status name.now ≡ true }
 {
@@ -162,7 +162,7 @@ fn is_fault(rt: &impl Abort, alloc: Global, status: StatusCode, line: &str, name
     is_written(rt, alloc, &answer, wanted.as_bytes());
 }
 
-/// The text of a fault's answer without the field `Allow`.
+/// The text of an error response without the field `Allow`.
 pub fn fault_text(rt: &impl Abort, alloc: Global, line: &str, name: &str) -> String {
     let length = name.len() + 12;
     format!(in alloc;
@@ -178,7 +178,7 @@ fn faults_with_several_names(rt: HostRuntime) {
     }
 }
 
-// The body of what Tim Tan sees after the run.
+// The body with Tim Tan's standing after the run.
 const RAN: &[u8] = b"{\"choices\":[\"H2\"],\"going\":false,\"home\":\"H1\",\"name\":\"Tim Tan\",\
     \"person\":\"T1\",\"phase\":\"ran\",\"result\":null,\"round\":1,\"shown\":false,\
     \"withdrawn\":false}";
@@ -192,7 +192,7 @@ const PUBLISHED: &[u8] =
 const ROOMS: &[u8] = b"[{\"room\":\"H1\",\"state\":\"occupied\"},\
     {\"room\":\"H2\",\"state\":\"occupied\"},{\"room\":\"V\",\"state\":\"free\"}]";
 
-// That there is a body, and that it is this one.
+// Asserts that there is a body, and that it is this one.
 fn is_body(rt: &impl Abort, body: Result<Listing<u8>, OutOfMemory>, wanted: &[u8]) {
     let body = body.expect(rt, "memory");
     assert_same!(rt; body.as_slice(), wanted);
@@ -254,7 +254,7 @@ const BAD_BODIES: [&[u8]; 12] = [
     b"[\"H2\" \"H1\"]",
 ];
 
-// Bodies in which H2 stands twice.
+// Bodies that list H2 twice.
 const REPEATED: [&[u8]; 2] = [b"[\"H2\",\"H2\"]", b"[\"H2\",\"V\",\"H2\"]"];
 
 #[test]
@@ -267,14 +267,14 @@ fn lists_of_rooms_are_read(rt: HostRuntime) {
     assert_same!(rt; longest_list(&rt, alloc), 40);
 }
 
-// That a body lists these rooms.
+// Asserts that a body lists these rooms.
 fn is_list(rt: &impl Abort, alloc: Global, body: &[u8], codes: &[&str]) {
     let found = choices_of_body(alloc, body).expect(rt, "a list of rooms");
     let wanted = rooms(rt, alloc, codes);
     assert_same!(rt; found.as_slice(), wanted.as_slice());
 }
 
-// How many rooms are read of a list of forty.
+// The number of rooms that are read from a list of forty.
 fn longest_list(rt: &impl Abort, alloc: Global) -> usize {
     let body = listed(rt, alloc, 40, "]");
     let found = choices_of_body(alloc, body.as_bytes()).expect(rt, "a list of rooms");
@@ -301,7 +301,7 @@ fn repeated_rooms_are_refused(rt: HostRuntime) {
     }
 }
 
-// That a body is refused with this fault.
+// Asserts that a body is refused with this fault.
 fn is_refused(rt: &impl Abort, alloc: Global, body: &[u8], wanted: &TypeFault) {
     match choices_of_body(alloc, body) {
         Err(fault) => same(rt, &fault, wanted, "fault"),
@@ -309,13 +309,13 @@ fn is_refused(rt: &impl Abort, alloc: Global, body: &[u8], wanted: &TypeFault) {
     }
 }
 
-// That a body of 41 rooms with this end is refused with this fault.
+// Asserts that a body of 41 rooms with this end is refused with this fault.
 fn is_refused_with_rooms(rt: &impl Abort, alloc: Global, end: &str, wanted: &TypeFault) {
     let body = listed(rt, alloc, 41, end);
     is_refused(rt, alloc, body.as_bytes(), wanted);
 }
 
-/// A body of so many different rooms, and then the end.
+/// A body of the given number of distinct rooms, and then the end.
 pub fn listed(rt: &impl Abort, alloc: Global, count: usize, end: &str) -> String {
     let mut body = String::from_str(alloc, "[\"A0\"").expect(rt, "memory");
     for i in 1..count {

@@ -1,11 +1,11 @@
-//! What bytes ask: requests that are read, and the first fault of others.
+//! Tests of parsing bytes: complete requests, and the first fault of others.
 use crate::asserting::{assert_same, same_at};
 use resident_http::ask::{AskState, HEAD_LIMIT, read_ask};
 use resident_http::choices::choices_of_body;
 use std::alloc::Global;
 use std::process::Abort;
 
-// A list of rooms is handed in.
+// A request to record a list of rooms.
 const REQUEST: &[u8] = b"PUT /me/choices HTTP/1.1\r\n\
     Host: a\r\n\
     Room-Key: key00000000000t1\r\n\
@@ -13,7 +13,7 @@ const REQUEST: &[u8] = b"PUT /me/choices HTTP/1.1\r\n\
     \r\n\
     [\"H2\"]";
 
-// Heads without a body, and the status with which each is refused.
+// Heads without a body, each with the status of its refusal.
 const FAULTS: [(&[u8], u16); 25] = [
     (b"GET /me HTTP/1.1\r\nExpect: 100-continue\r\n\r\n", 400),
     (b"GET /me HTTP/1.1\r\nHost: a\r\nHost: a\r\n\r\n", 400),
@@ -81,7 +81,7 @@ const FAULTS: [(&[u8], u16); 25] = [
     (b"GET /\xff HTTP/1.1\r\nHost: a\r\n\r\n", 400),
 ];
 
-// Heads without a body, with the path and the key that each asks by.
+// Heads without a body, each with the path and the key of its request.
 const READ: [(&[u8], &str, Option<&str>); 9] = [
     (b"GET /me HTTP/1.0\r\n\r\n", "/me", None),
     (b"\r\nGET /me HTTP/1.1\r\nHost:\r\n\r\n", "/me", None),
@@ -110,14 +110,14 @@ const READ: [(&[u8], &str, Option<&str>); 9] = [
     ),
 ];
 
-// What bytes ask, in short.
+// The result of parsing bytes, in short.
 #[derive(Clone, Copy, PartialEq, Eq, Debug)]
 enum Asked {
-    // More bytes are to come.
+    // More bytes are needed.
     More,
-    // A whole request, whose body has so many bytes.
+    // A complete request, whose body has this number of bytes.
     Whole(usize),
-    // They are refused with this status.
+    // The bytes are refused with this status.
     Refused(u16),
 }
 
@@ -129,7 +129,7 @@ fn in_short(bytes: &[u8]) -> Asked {
     }
 }
 
-// The body of a whole request.
+// The body of a complete request.
 fn body_of(bytes: &[u8]) -> Option<&[u8]> {
     match read_ask(bytes) {
         AskState::Ask { body, .. } => Some(body),
@@ -137,7 +137,7 @@ fn body_of(bytes: &[u8]) -> Option<&[u8]> {
     }
 }
 
-// The path and the key of a whole request.
+// The path and the key of a complete request.
 fn path_and_key(bytes: &[u8]) -> Option<(&str, Option<&str>)> {
     match read_ask(bytes) {
         AskState::Ask { path, key, .. } => Some((path, key)),
@@ -186,7 +186,7 @@ fn paths_and_keys(rt: HostRuntime) {
     }
 }
 
-// Requests and their bodies: bytes after the body are ignored, and the length may begin with zeros.
+// Requests and their bodies. Bytes after the body are ignored, and the length may begin with zeros.
 const BODIES: [(&[u8], &[u8]); 3] = [
     (
         b"PUT / HTTP/1.1\r\nHost: a\r\nContent-Length: 0006\r\n\r\n[\"H2\"]",
@@ -206,7 +206,7 @@ fn bodies_by_their_length(rt: HostRuntime) {
     }
 }
 
-// The front, and then a byte so many times.
+// The prefix, and after it the byte the given number of times.
 fn padded(rt: &impl Abort, alloc: Global, front: &[u8], byte: u8, times: usize) -> Vec<u8> {
     let mut bytes = Vec::from_slice(alloc, front).expect(rt, "memory");
     for _ in 0..times {
@@ -215,7 +215,7 @@ fn padded(rt: &impl Abort, alloc: Global, front: &[u8], byte: u8, times: usize) 
     bytes
 }
 
-// A list with so many spaces after it, of what is to have 1,024 bytes.
+// A request whose body is a list and this number of spaces. Its length is given as 1,024 bytes.
 fn spaced_list(rt: &impl Abort, alloc: Global, spaces: usize) -> Vec<u8> {
     let front = b"PUT /me/choices HTTP/1.1\r\nHost: a\r\nContent-Length: 1024\r\n\r\n[\"H2\"]";
     padded(rt, alloc, front, b' ', spaces)
@@ -231,14 +231,14 @@ fn the_longest_body(rt: HostRuntime) {
     assert_same!(rt; rooms_listed(&rt, alloc, &whole), 1);
 }
 
-// How many rooms the body of a request lists.
+// The number of rooms that the body of a request lists.
 fn rooms_listed(rt: &impl Abort, alloc: Global, bytes: &[u8]) -> usize {
     let body = body_of(bytes).expect(rt, "a whole request");
     let choices = choices_of_body(alloc, body).expect(rt, "a list of rooms");
     choices.as_slice().len()
 }
 
-// Heads up to their limits and beyond them: how many bytes come before the end, the end, and what they ask.
+// Heads up to the limit and beyond it: the number of bytes before the end, the end, and the result of parsing.
 const HEADS: [(usize, &[u8], Asked); 6] = [
     (HEAD_LIMIT - 4, b"", Asked::More),
     (HEAD_LIMIT - 4, b"\r\n\r\n", Asked::Whole(0)),
@@ -260,7 +260,7 @@ fn heads_up_to_their_limits(rt: HostRuntime) {
     }
 }
 
-// What a head asks that has so many bytes before this end.
+// The result of parsing a head with this number of bytes before this end.
 fn asked_by_head(rt: &impl Abort, alloc: Global, length: usize, end: &[u8]) -> Asked {
     let front = b"GET / HTTP/1.1\r\nHost: ".as_slice();
     let letters = length.saturating_sub(front.len());
@@ -269,7 +269,7 @@ fn asked_by_head(rt: &impl Abort, alloc: Global, length: usize, end: &[u8]) -> A
     in_short(&head)
 }
 
-// A head with a field `Host` and so many others.
+// A head with a field `Host` and this number of other fields.
 fn head_of_fields(rt: &impl Abort, alloc: Global, others: usize) -> Vec<u8> {
     let mut head = Vec::from_slice(alloc, b"GET / HTTP/1.1\r\nHost: a\r\n").expect(rt, "memory");
     for _ in 0..others {
@@ -287,8 +287,8 @@ fn fields_up_to_their_limit(rt: HostRuntime) {
     assert_same!(rt; in_short(&more), Asked::Refused(400));
 }
 
-// Of bytes that come to be refused with 400: none of their fronts is a request, and once a front is refused, all longer
-// ones are.
+// Whether no prefix of the bytes is a complete request, the bytes themselves are refused with 400, and once a prefix is
+// refused, so are all longer ones.
 fn is_refused_from_some_front(bytes: &[u8]) -> bool {
     let mut refused = false;
     for length in 0..bytes.len() + 1 {
@@ -301,7 +301,7 @@ fn is_refused_from_some_front(bytes: &[u8]) -> bool {
     refused
 }
 
-// Whether a front may ask this after one that was refused, or that was not.
+// Whether a prefix may have this result, depending on whether the one before it was refused.
 fn may_follow(refused: bool, asked: Asked) -> bool {
     match asked {
         Asked::More => !refused,

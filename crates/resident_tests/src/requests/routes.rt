@@ -1,10 +1,10 @@
-//! What requests ask for.
+//! Tests of routing.
 use crate::asserting::assert_same;
 use resident_http::routes::{Route, Routed, route_request};
 use std::alloc::Global;
 use std::process::Abort;
 
-// A row is a method, a path, a key or none, and what is asked for.
+// A row has a method, a path, a key or `-` for none, and where the request is routed.
 const ROUTES: &str = "\
 GET /me key00000000000t1 standing\n\
 PUT /me/choices key00000000000t1 choices\n\
@@ -53,12 +53,12 @@ fn is_told(rt: &impl Abort, alloc: Global, row: &str) {
     assert_same!(rt; word_for(routed), wanted, row);
 }
 
-// The key that this cell stands for.
+// The key in this cell, if any.
 fn key_in(cell: &str) -> Option<&str> {
     if cell == "-" { None } else { Some(cell) }
 }
 
-// What a request asks for, in one word.
+// Where a request is routed, in one word.
 fn word_for(routed: Routed<'_>) -> &'static str {
     match routed {
         Routed::Unknown => "unknown",

@@ -1,4 +1,4 @@
-//! Exports, as they are written to memory and to a device that fails.
+//! Tests of exports to memory and to a device that fails.
 ghost use Rattle.std.specs.Prelude.{◌≡◌, IfOk};
 ghost use Rattle.office_lists.specs.Exports.{AscendByRound};
 ghost use Rattle.room_types.specs.Ascending.{AscendsBy};
@@ -18,7 +18,7 @@ use std::test::Fail;
 
 const ROOMS: &[u8] = b"room,state,tenant\nH1,occupied,E1\nH2,free,\n";
 
-// What Python's csv writes of these fields.
+// The bytes that Python's `csv` module writes for these fields.
 const PEOPLE: &[u8] = b"person,name,home\nE1,Ann Ash,H1\nE2,\"Bo, B.\",\nE3,\"Cy \"\"C\"\" Coy\",\n\
     E4,J\xC3\xB6rg M\xC3\xBCller,\n";
 
@@ -73,7 +73,7 @@ fn moves_of_two_rounds(rt: HostRuntime) -> Result<(), Fail> {
     Ok(())
 }
 
-// Read again as a list, the export tells the same grades.
+// If the export is read as a list, the grades are the same.
 #[test]
 fn grades_of_people(rt: HostRuntime) -> Result<(), Fail> {
     let alloc = rt.alloc();
@@ -130,7 +130,7 @@ fn exports_without_rows(rt: HostRuntime) -> Result<(), Fail> {
     Ok(())
 }
 
-// What Python's csv writes of these names, with a line feed at the end of each record.
+// The bytes that Python's `csv` module writes for these names, with a line feed at the end of each record.
 #[test]
 fn names_with_and_without_quotes(rt: HostRuntime) -> Result<(), Fail> {
     let alloc = rt.alloc();
@@ -173,7 +173,7 @@ fn a_device_that_is_full(rt: HostRuntime) -> Result<(), Fail> {
     Ok(())
 }
 
-// The device takes a byte a write, and goes on after the write that fails.
+// The device takes one byte a write, and works again after the write that fails.
 #[test]
 fn each_write_failing_in_turn(rt: HostRuntime) -> Result<(), Fail> {
     let alloc = rt.alloc();
@@ -191,7 +191,7 @@ fn each_write_failing_in_turn(rt: HostRuntime) -> Result<(), Fail> {
     Ok(())
 }
 
-// The device is full after so many bytes, or it is the write after them that fails.
+// Either the device is full after `sent` bytes, or the next write fails.
 #[test]
 fn people_to_a_device_that_fails(rt: HostRuntime) -> Result<(), Fail> {
     let alloc = rt.alloc();
@@ -214,8 +214,8 @@ fn people_to_a_device_that_fails(rt: HostRuntime) -> Result<(), Fail> {
     Ok(())
 }
 
-// A device that takes at most a byte a write. So many writes pass, the next one fails, and it goes on after that; it
-// takes `room` bytes in all.
+// A device that takes at most one byte a write. After `writes` writes one write fails, and then it works again. It takes `room`
+// bytes in all.
 #[derive(Drop)]
 struct Device {
     written: Vec<u8>,

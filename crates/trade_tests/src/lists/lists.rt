@@ -1,4 +1,4 @@
-//! Lists as other programs write them, good and bad.
+//! Tests of lists as other programs write them, good and bad.
 use crate::asserting::assert_same;
 use office_lists::{
     Cause, ListFault, PersonEntry, read_choices, read_grades, read_people, read_rooms,
@@ -30,7 +30,7 @@ fn are_codes(rooms: &[RoomCode], first: &str, second: &str) -> bool {
     matches!(rooms, [a, b] if a.as_str() == first && b.as_str() == second)
 }
 
-// As Python's csv writes it, with the mark of utf-8-sig.
+// As Python's `csv` module writes it, with the byte order mark of `utf-8-sig`.
 #[test]
 fn a_list_of_people(rt: HostRuntime) -> Result<(), Fail> {
     let list =
@@ -62,7 +62,7 @@ fn people_of_a_first_import(rt: HostRuntime) -> Result<(), Fail> {
     Ok(())
 }
 
-// The second list as Python's csv writes it, with every field in quotes.
+// The second list is as Python's `csv` module writes it with every field in quotes.
 #[test]
 fn a_list_of_choices(rt: HostRuntime) -> Result<(), Fail> {
     let alloc = rt.alloc();
@@ -179,7 +179,7 @@ fn bad_rooms(rt: HostRuntime) -> Result<(), Fail> {
     Ok(())
 }
 
-// The third list has a line feed in a name, as Python's csv writes it.
+// The third list has a line feed in a name, as Python's `csv` module writes it.
 #[test]
 fn bad_people(rt: HostRuntime) -> Result<(), Fail> {
     let alloc = rt.alloc();
@@ -208,7 +208,7 @@ fn bad_choices(rt: HostRuntime) -> Result<(), Fail> {
     Ok(())
 }
 
-// A list of choices with one record, of so many rooms.
+// A list of choices with one record, of the given number of rooms.
 fn list_of_choices(alloc: Global, rooms: u8) -> Result<Vec<u8>, AllocError> {
     let mut list = Vec::from_slice(alloc, b"person,choices\nT1,R0")?;
     for number in 1..rooms {
@@ -227,7 +227,7 @@ fn choices_up_to_the_limit(rt: HostRuntime) -> Result<(), Fail> {
     Ok(())
 }
 
-// The header, and the record as often as there may be records.
+// The header, and the record 10,000 times, which is the limit.
 fn longest(alloc: Global, header: &[u8], record: &[u8]) -> Result<Vec<u8>, AllocError> {
     let mut list = Vec::from_slice(alloc, header)?;
     for _ in 0..10_000 {
@@ -252,7 +252,7 @@ fn long_lists(rt: HostRuntime) -> Result<(), Fail> {
     Ok(())
 }
 
-// Also the longest of these lists has less than 262,144 bytes.
+// Even the longest of these lists has fewer than 262,144 bytes.
 #[test]
 fn long_lists_of_people_choices_and_grades(rt: HostRuntime) -> Result<(), Fail> {
     let alloc = rt.alloc();
@@ -273,7 +273,7 @@ fn long_lists_of_people_choices_and_grades(rt: HostRuntime) -> Result<(), Fail> 
     Ok(())
 }
 
-// What was read, of a list that is good.
+// The entries of a list that has to be good.
 fn read<T: Drop>(rt: &impl Abort, list: Result<Vec<T>, ListFault>) -> Vec<T> {
     match list {
         Ok(entries) => entries,
@@ -281,7 +281,7 @@ fn read<T: Drop>(rt: &impl Abort, list: Result<Vec<T>, ListFault>) -> Vec<T> {
     }
 }
 
-// The list is bad in this record, for this cause.
+// Asserts that the list is bad in this record, for this cause.
 fn expect<T: Drop>(rt: &impl Abort, list: Result<Vec<T>, ListFault>, at: u32, cause: Cause) {
     match list {
         Ok(_) => panic!(rt; "the list is bad"),

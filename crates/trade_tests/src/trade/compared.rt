@@ -1,4 +1,4 @@
-//! The line gives the rooms of the plain program.
+//! Compares the rooms of `run` over both lines with the rooms of the plain program.
 ghost use Rattle.std.specs.Prelude.{◌<◌};
 
 use super::{outcome_over, problem_of, rooms_of};
@@ -8,7 +8,7 @@ use std::test::Fail;
 use trade_line::plain::top_trading_cycles;
 use trade_line::{LinkedLine, Problem, TradeFault, VecLine};
 
-// All lists of different rooms out of three.
+// All lists of distinct rooms out of three.
 const LISTS: [&[usize]; 16] = [
     &[],
     &[0],
@@ -30,18 +30,18 @@ const LISTS: [&[usize]; 16] = [
 
 const HOMES: [Option<usize>; 4] = [None, Some(0), Some(1), Some(2)];
 
-// A home and a list for one person.
+// The number of combinations of a home and a list for one person.
 const CHOICES: usize = HOMES.len() * LISTS.len();
 
-// How many problems there are of at most three people and three rooms.
+// The number of problems of at most three people and three rooms.
 const SMALL_PROBLEMS: u64 = 25_148;
 
-// How many problems of at most twelve people are drawn, and how many of thirty.
+// The number of drawn problems of at most twelve people, and of those of thirty.
 const DRAWN_PROBLEMS: usize = 10_000;
 
 const DRAWN_LARGE_PROBLEMS: usize = 200;
 
-// Whether both lines give the rooms of the plain program, by equal asks and looks.
+// Whether runs over both lines give the rooms of the plain program, with equal numbers of asks and looks.
 fn agree(alloc: Global, problem: &Problem) -> Result<bool, TradeFault> {
     let outcome = outcome_over::<VecLine>(alloc, problem)?;
     let linked = outcome_over::<LinkedLine>(alloc, problem)?;
@@ -55,7 +55,7 @@ fn agree(alloc: Global, problem: &Problem) -> Result<bool, TradeFault> {
     )
 }
 
-// The problem with this number: each digit, to the base of the choices, is the choice of one person.
+// The problem with this number: each digit, in base `CHOICES`, is the home and list of one person.
 fn numbered(
     alloc: Global,
     people: usize,
@@ -98,7 +98,7 @@ fn on_every_problem_of_three_people_and_three_rooms(rt: HostRuntime) -> Result<(
     Ok(())
 }
 
-// A small generator: Knuth's linear congruential one, of which the high bits are taken.
+// Knuth's linear congruential generator, of which the high bits are used.
 #[derive(Drop)]
 struct Generator(u64);
 
@@ -114,7 +114,7 @@ impl Generator {
     }
 }
 
-// A problem in which two of three people live somewhere, where the room that is drawn for them is free.
+// A problem in which a room is drawn for each person: with chance 2/3 the person lives there, unless somebody else does.
 fn drawn(
     alloc: Global,
     generator: &mut Generator,

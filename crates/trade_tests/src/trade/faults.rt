@@ -1,11 +1,11 @@
-//! The faults of problems and lists.
+//! Tests of the faults of problems and lists.
 use super::{outcome_over, problem_of, rooms_of};
 use crate::asserting::assert_same;
 use std::alloc::Global;
 use std::test::Fail;
 use trade_line::{OutOfMemory, TradeFault, VecLine, run_with_list};
 
-// Homes and lists of two rooms, and the fault that is found first.
+// Homes and lists over two rooms, and the first fault.
 const BAD: [(&[Option<usize>], &[&[usize]], TradeFault); 7] = [
     (&[None, None], &[&[2], &[]], TradeFault::BadIndex),
     (&[Some(2), None], &[&[], &[]], TradeFault::BadIndex),

@@ -1,4 +1,4 @@
-//! The calls of a line, through the bound.
+//! Tests of the calls of a line, made through the trait.
 use crate::asserting::assert_same;
 use std::alloc::Global;
 use std::process::Abort;
@@ -6,7 +6,7 @@ use trade_line::{Line, LinkedLine, OutOfMemory, VecLine};
 
 const PEOPLE: usize = 5;
 
-// Those who are left in the line, in order.
+// The people left in the line, in order.
 fn left<L: Line>(alloc: Global, mut line: L) -> Result<Vec<usize>, OutOfMemory> {
     let mut people = Vec::new(alloc);
     for _ in 0..PEOPLE {
@@ -18,7 +18,7 @@ fn left<L: Line>(alloc: Global, mut line: L) -> Result<Vec<usize>, OutOfMemory> 
     Ok(people)
 }
 
-// Nobody is brought to the front or dropped who isn't there.
+// A whole line after `front` was brought to the front and `gone` was dropped. Nobody outside the line is brought or dropped.
 fn moved<L: Line>(alloc: Global, front: usize, gone: usize) -> Result<L, OutOfMemory> {
     let mut line = L::whole(alloc, PEOPLE)?;
     if line.holds(front) {
@@ -30,13 +30,13 @@ fn moved<L: Line>(alloc: Global, front: usize, gone: usize) -> Result<L, OutOfMe
     Ok(line)
 }
 
-// That 3 is at the front, 4 is there and 1 is not.
+// Whether 3 is at the front, 4 is in the line and 1 is not.
 fn is_moved<L: Line>(line: &L) -> bool {
     let holds = line.holds(4) && !line.holds(1) && !line.holds(usize::MAX);
     holds && line.front() == Some(3) && !line.is_empty()
 }
 
-// Who is brought to the front, who is dropped, and who is left.
+// The person to bring to the front, the person to drop, and the people left.
 const MOVED: [(usize, usize, &[usize]); 4] = [
     (3, 1, &[3, 0, 2, 4]),
     (4, 0, &[4, 1, 2, 3]),

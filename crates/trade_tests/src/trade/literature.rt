@@ -7,7 +7,7 @@ use std::test::Fail;
 use trade_line::plain::top_trading_cycles;
 use trade_line::{Line, LinkedLine, Problem, VecLine};
 
-// What was found by hand.
+// A solution by hand.
 #[derive(Clone, Copy)]
 struct Solution<'a> {
     gets: &'a [Option<usize>],
@@ -44,13 +44,13 @@ fn is_found(
     Ok(())
 }
 
-// Four tenants and a newcomer rank all rooms. Below, person 1 is the first in the order, and lives in room 1; the lists of the
-// test have those ranked above the own room, and numbers from 0.
+// Four tenants and a newcomer rank all rooms. Below, person 1 is the first in the order and lives in room 1. The lists of the
+// test have only the rooms that each person ranks above the own one, and they count from 0.
 //
 //     1: room 2, 6, 5        2: room 7, 1, 6, 5, 4, 3        3: room 2, 1, 4, 7        4: room 2
 //     5 (a newcomer): room 4, 3, 7, 1, 2, 5, 6
 //
-// 1 asks for room 2, so 2 goes first, asks for room 7, which is vacant, and gets it; 1 asks again and gets room 2. Room 2 is
+// 1 asks for room 2, so 2 goes first, asks for room 7, which is vacant, and gets it. 1 asks again and gets room 2. Room 2 is
 // gone for 3, who gets room 1, which 1 has left. Room 2 is gone for 4 too, who stays in room 4. Room 4 is gone for 5, who gets
 // room 3. By steps of the definition: 1 and 2 leave by the cycle 1, room 2, 2, room 7; then 3 with room 1 and 4 with room 4;
 // then 5. Asks: 1, 2, 1, 3, 4, 5. Looks: 1, 1, 1, 2, 1, 2.
@@ -117,10 +117,10 @@ fn nine_tenants_and_seven_newcomers(rt: HostRuntime) -> Result<(), Fail> {
     is_found(&rt, alloc, &problem, &solution)
 }
 
-// Tenants alone, 1 to 6 in the order, who live in rooms 6, 4, 5, 1, 2, 3. By steps of the definition: 4, 5 and 6 point at one
-// another in a ring and move; then 2 and 3, whose first choices are gone, swap; then 1 has nothing left but the own room.
+// Only tenants, 1 to 6 in the order, who live in rooms 6, 4, 5, 1, 2, 3. By steps of the definition: 4, 5 and 6 point at one
+// another in a cycle and move; then 2 and 3, whose first choices are gone, swap; then nothing is left for 1 but the own room.
 // By turns, with the number of looks of each: 1 asks for room 3 (1), 6 for room 1 (1), 4 for room 2 (1), 5 for room 3 (1) and
-// closes the ring; 1 asks for room 5 (2), 3 for room 4 (2), 2 for room 5 (2) and closes the swap; 1 stays (1).
+// closes the cycle; 1 asks for room 5 (2), 3 for room 4 (2), 2 for room 5 (2) and closes the swap; 1 stays (1).
 #[test]
 fn six_tenants_alone(rt: HostRuntime) -> Result<(), Fail> {
     let alloc = rt.alloc();

@@ -1,4 +1,4 @@
-//! Worked runs: the rooms, asks and looks of the line, and the rooms of the plain program.
+//! Worked runs: the rooms, asks and looks of runs over both lines, and the rooms of the plain program.
 use super::{outcome_over, problem_of, rooms_of};
 use crate::asserting::assert_same;
 use std::alloc::Global;
@@ -17,7 +17,7 @@ struct Worked<'a> {
     looks: u128,
 }
 
-// What a person gets by another list than the one that is recorded.
+// The room that a person would get by another list than the recorded one.
 struct OtherList<'a> {
     rooms: usize,
     homes: &'a [Option<usize>],

@@ -1,4 +1,4 @@
-//! A reader and a writer as one stream.
+//! Tests of a reader and a writer as one stream.
 use super::{Faulty, kind, new_device, wanted_at};
 use crate::asserting::assert_same;
 use room_types::send::send;
@@ -49,7 +49,7 @@ fn faulty_pair() -> Pair<Faulty, Faulty> {
     }
 }
 
-// That these are ten calls of the reader, with three bytes each, ten of the writer, with two, and ten flushes.
+// Whether the devices counted ten calls of the reader with three bytes each, ten of the writer with two, and ten flushes.
 fn are_all_passed_on(
     input: Pair<Faulty, Faulty>,
     output: Pair<Faulty, Faulty>,
@@ -61,7 +61,7 @@ fn are_all_passed_on(
     read && written && cleared
 }
 
-// Each call of a pair is one of its reader or of its writer alone, also after a failure, and has its answer.
+// Each call of a pair, also one after a failure, makes one call of its reader or of its writer, and returns what that returned.
 #[test]
 fn pairs_pass_calls_on(rt: HostRuntime) {
     let mut input = faulty_pair();
@@ -76,7 +76,7 @@ fn pairs_pass_calls_on(rt: HostRuntime) {
     assert!(rt; are_all_passed_on(input, output, flushed));
 }
 
-// The same of the calls of a stream that is watched.
+// The same for a pair inside a `Watched`.
 #[test]
 fn watched_pairs_pass_calls_on(rt: HostRuntime) {
     let mut input = Watched::new(faulty_pair());

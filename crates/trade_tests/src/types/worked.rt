@@ -1,4 +1,4 @@
-//! Worked values: how a type reads a text, what the value is printed as, or why there is none.
+//! Worked values: a text that a type reads, and the printed value or the error.
 use crate::asserting::assert_same;
 use room_types::grammars::{Keys, Labels, Names, PersonIds, RoomCodes};
 use room_types::{
@@ -7,8 +7,7 @@ use room_types::{
 use std::alloc::{AllocError, Global};
 use std::process::Abort;
 
-// A row is a type, a text, and the value as it is printed, or the fault after a `!`. The codes of a list stand apart by
-// one space.
+// A row has a type, a text, and the printed value, or `!` and the error. One space separates the codes of a list.
 const WORKED: &str = "\
 room|H1|H1\n\
 room|A|A\n\
@@ -124,7 +123,7 @@ list|R1 R2 R3 R4 R5 R6 R7 R8 R9 R10 R11 R12 R13 R14 R15 R16 R17 R18 R19 R20 R21 
 list|H1 V H1|!RoomRepeated H1\n\
 list|H1 V X V H1|!RoomRepeated V";
 
-// What is told of a value whose copy is another.
+// The outcome if a copy differs from its original.
 const OTHER_COPY: &str = "!OtherCopy";
 
 #[test]
@@ -166,7 +165,7 @@ fn words_for_values(rt: HostRuntime) -> Result<(), AllocError> {
     Ok(())
 }
 
-// What reading the text comes to.
+// The outcome of reading the text: the printed value or the error.
 fn told(alloc: Global, kind: &str, text: &str) -> Result<String, AllocError> {
     match printed(alloc, kind, text) {
         Ok(value) => Ok(value),
@@ -177,7 +176,7 @@ fn told(alloc: Global, kind: &str, text: &str) -> Result<String, AllocError> {
     }
 }
 
-// The value that the text spells, as it is printed. A copy of it has to be equal.
+// The value of the text, as printed. A copy of the value has to be equal to it.
 fn printed(alloc: Global, kind: &str, text: &str) -> Result<String, TypeFault> {
     match kind {
         "room" => printed_text::<RoomCodes>(alloc, text),

@@ -7,7 +7,7 @@ use Rattle.room_types.specs.declared.moves.Move.{Move}
 use Rattle.office_lists.specs.Exports.{AscendByRound, by_round}
 use Rattle.trade_tests.proofs.lists.exports.moves.Goals as goal
 
--- a move is below another where its round and person are
+-- one move is below another if its round and person are
 below : (a b : Move) (m n : ℕ) (p q : Text) → a.round ≡ m → a.person ≡ p → b.round ≡ n → b.person ≡ q
     → ordering_then (nat_cmp m n) (text_cmp p q) ≡ Less → by_round a b ≡ Less
 below a b m n p q a_round a_person b_round b_person less = rw (a_round, a_person, b_round, b_person) less
