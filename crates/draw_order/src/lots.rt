@@ -3,7 +3,7 @@ ghost use Rattle.std.specs.Prelude.{◌≡◌, ◌<◌, List, IfOk, OnErr, lengt
 ghost use Rattle.std.specs.List.Sorted.{IsPermutation, IsSorted};
 ghost use Rattle.std.specs.Ordering.{on};
 ghost use Rattle.draw_order.specs.Draw.{Lot, IsDrawnOrder, HasOneDrawnOrder, drawn_order, lot_cmp};
-ghost use Rattle.draw_order.specs.Turns.{lot_of};
+ghost use Rattle.draw_order.specs.Inner.Turns.{lot_of};
 
 use room_types::{Grade, OutOfMemory, PersonId, Word};
 use std::alloc::Global;

@@ -1,3 +1,2 @@
 pub mod Carries
-pub mod Choosing
-pub mod Grading
+pub mod Inner

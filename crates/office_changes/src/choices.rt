@@ -4,7 +4,7 @@ ghost use Rattle.sqlite.specs.Held.{state};
 ghost use Rattle.office_state.specs.declared.change.Change.TheVariants.{PutChoices};
 ghost use Rattle.office_tables.specs.Steps.{StaysInside};
 ghost use Rattle.office_changes.specs.Carries.{CarriesAlways, Turns};
-ghost use Rattle.office_changes.specs.Choosing.{with_choices};
+ghost use Rattle.office_changes.specs.Inner.Choosing.{with_choices};
 
 use crate::cells::know_changed_row_text;
 use office_tables::choices::{add_choice, drop_choices};

@@ -4,7 +4,7 @@ ghost use Rattle.sqlite.specs.Held.{state};
 ghost use Rattle.office_state.specs.declared.change.Change.TheVariants.{PutGoing, PutGrade};
 ghost use Rattle.office_tables.specs.Steps.{StaysInside};
 ghost use Rattle.office_changes.specs.Carries.{CarriesAlways, Turns};
-ghost use Rattle.office_changes.specs.Grading.{with_grade_recorded};
+ghost use Rattle.office_changes.specs.Inner.Grading.{with_grade_recorded};
 
 use crate::cells::{know_changed_row_grade, know_changed_row_text};
 use office_tables::going::add_going;

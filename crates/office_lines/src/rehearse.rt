@@ -6,7 +6,7 @@ ghost use Rattle.room_types.specs.Watched.{watched_inner, watched_failed, watche
 ghost use Rattle.room_types.specs.Watched.{StopsAtEnd, StopsAtFailure};
 ghost use Rattle.office_lines.specs.Lines.{read_limit};
 ghost use Rattle.office_lines.specs.Rehearsals.{Rehearses};
-ghost use Rattle.office_lines.specs.Sessions.{Listened, Stopped, OnlyWhereFailed, state};
+ghost use Rattle.office_lines.specs.Inner.Sessions.{Listened, Stopped, OnlyWhereFailed, state};
 
 use crate::ending::{Ending, Rehearsed};
 use crate::limits::{PIECE_LIMIT, READ_LIMIT};

@@ -25,7 +25,7 @@ impl Session {
     ghost use Rattle.std.specs.Prelude.{◌≡◌, ◌+◌, ◌*◌, ◌^◌, ◌<◌, OnOk, IfErr, false, length, [], ◌∷◌};
     ghost use Rattle.room_types.specs.Streams.{output_of};
     ghost use Rattle.room_types.specs.Watched.{watched_failed, watched_flushes, watched_pending, counted, StopsAtFailure};
-    ghost use Rattle.office_lines.specs.Sessions.{Answered, Broken, Finished, Heard, Halted, OnlyWhereFailed, Unfinished, state};
+    ghost use Rattle.office_lines.specs.Inner.Sessions.{Answered, Broken, Finished, Heard, Halted, OnlyWhereFailed, Unfinished, state};
 
     /// A session before any input.
     pub fn new(alloc: Global) -> Self

@@ -1,6 +1,6 @@
 pub mod Entries
 pub mod Exports
-pub mod Followers
+pub mod Inner
 pub mod MoveDay
 pub mod Records
 pub mod Tables

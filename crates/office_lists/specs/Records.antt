@@ -6,13 +6,11 @@ use Rattle.std.specs.Str.{is_utf8}
 use Rattle.csv.specs.Reading.{default_config, records, strip_bom}
 use Rattle.csv.specs.Records.{field_at}
 use Rattle.room_types.specs.Texts.{Text, text_eq}
-use Rattle.room_types.specs.declared.fault.TypeFault.{TypeFault}
 use Rattle.room_types.specs.declared.fault.TypeFault.TheVariants as type
 use Rattle.office_lists.specs.declared.fault.Cause.{Cause}
 use Rattle.office_lists.specs.declared.fault.Cause.TheVariants.{Header, NotText, FieldCount, BadField, TooMany}
 use Rattle.office_lists.specs.declared.fault.ListFault.{ListFault}
 use Rattle.office_lists.specs.declared.fault.ListFault.TheVariants as list
-use Rattle.office_lists.specs.declared.fault.RecordFault.{RecordFault}
 use Rattle.office_lists.specs.declared.fault.RecordFault.TheVariants as one
 
 -- a record: its fields, each as its bytes
@@ -91,24 +89,3 @@ pub record Tells {X : Type 0} (form : ListForm X) (bytes : List ℕ) (entries : 
 abbrev pub Fails : {X : Type 0} → ListForm X → List ℕ → ListFault → Type 0
 Fails form bytes fault =
     ((fault ≡ list.OutOfMemory) × (0 < length bytes)) ⊎ (list_fault form (records_of bytes) ≡ Some fault)
-
--- the error of a list whose record `at` has this fault
-abbrev pub fault_at : ℕ → RecordFault → ListFault
-fault_at at (one.Bad cause) = list.Bad at cause
-fault_at at one.OutOfMemory = list.OutOfMemory
-
--- the fault of a record whose field `number` has this fault
-abbrev pub field_fault : ℕ → TypeFault → RecordFault
-field_fault number type.OutOfMemory = one.OutOfMemory
-field_fault number type.BadValue = one.Bad (BadField number)
-field_fault number type.TooManyChoices = one.Bad (BadField number)
-field_fault number (type.RoomRepeated code) = one.Bad (BadField number)
-
--- the record is not read, for this cause or out of memory
-abbrev pub FailsFor : Option Cause → RecordFault → Type 0
-FailsFor cause fault = (fault ≡ one.OutOfMemory) ⊎ (option_map (λ why. one.Bad why) cause ≡ Some fault)
-
--- field `number` is not read: it is outside its grammar, or memory runs out
-abbrev pub FailsAt : ℕ → Bool → RecordFault → Type 0
-FailsAt number in_grammar fault =
-    (fault ≡ one.OutOfMemory) ⊎ ((fault ≡ one.Bad (BadField number)) × (in_grammar ≡ false))

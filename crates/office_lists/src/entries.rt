@@ -2,7 +2,8 @@
 ghost use Rattle.std.specs.Prelude.{◌≡◌, IfOk, IfErr, None};
 ghost use Rattle.csv.specs.Records.{fields_of};
 ghost use Rattle.office_lists.specs.Entries.{choices_list, grades_list, people_list, room_list};
-ghost use Rattle.office_lists.specs.Records.{FailsFor, ListForm, field_cause, same_fields};
+ghost use Rattle.office_lists.specs.Records.{ListForm, field_cause, same_fields};
+ghost use Rattle.office_lists.specs.Inner.RecordFaults.{FailsFor};
 
 use crate::fault::RecordFault;
 use crate::fields::{choices, field, grade, has_fields, optional_room, value};

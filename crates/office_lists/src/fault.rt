@@ -1,6 +1,6 @@
 //! What can be wrong with a list.
 ghost use Rattle.std.specs.Prelude.{◌≡◌};
-ghost use Rattle.office_lists.specs.Records.{fault_at};
+ghost use Rattle.office_lists.specs.Inner.RecordFaults.{fault_at};
 
 /// What is wrong with a record of a list.
 #[derive(Clone, Copy, Debug, PartialEq, Eq, Drop)]

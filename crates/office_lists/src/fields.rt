@@ -5,7 +5,8 @@ ghost use Rattle.csv.specs.Records.{fields_of};
 ghost use Rattle.room_types.specs.Grades.{grade_of};
 ghost use Rattle.room_types.specs.Grammars.{is_room_code};
 ghost use Rattle.office_lists.specs.Entries.{codes_in, is_choices, is_optional_room_code, optional};
-ghost use Rattle.office_lists.specs.Records.{FailsAt, field, field_fault, same_fields};
+ghost use Rattle.office_lists.specs.Records.{field, same_fields};
+ghost use Rattle.office_lists.specs.Inner.RecordFaults.{FailsAt, field_fault};
 
 use crate::fault::{Cause, RecordFault};
 use csv::{ByteRecord, StringRecord};

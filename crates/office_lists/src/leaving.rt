@@ -3,7 +3,7 @@ ghost use Rattle.std.specs.Prelude.{◌≡◌, ◌<◌, ◌≤◌, ℕ, List, So
 ghost use Rattle.std.specs.BTreeMap.{get_by};
 ghost use Rattle.room_types.specs.Texts.{Text, text_cmp};
 ghost use Rattle.office_lists.specs.Waves.{Mover as AnyMover, NewRoomsDiffer, AreWaves, HaveOneWaveEach, end_numbers, leaver, leavers as leavers_of, followed, move_limit, own_number, waves_of};
-ghost use Rattle.office_lists.specs.Followers.{AreApart, AreFollowers, NumbersChain};
+ghost use Rattle.office_lists.specs.Inner.Followers.{AreApart, AreFollowers, NumbersChain};
 
 use room_types::{OutOfMemory, PersonId, RoomCode, Wave};
 use std::alloc::{AllocError, Global};

@@ -7,7 +7,8 @@ ghost use Rattle.csv.specs.Records.{fields_of};
 ghost use Rattle.csv.specs.declared.parser.State.TheVariants as st;
 ghost use Rattle.csv.specs.declared.reader.Trim.TheVariants as trim;
 ghost use Rattle.office_lists.specs.Entries.{choices_list, grades_list, people_list, room_list};
-ghost use Rattle.office_lists.specs.Records.{Fails, FailsFor, Tells, cause_of};
+ghost use Rattle.office_lists.specs.Records.{Fails, Tells, cause_of};
+ghost use Rattle.office_lists.specs.Inner.RecordFaults.{FailsFor};
 
 use crate::entries::{ChoicesEntry, ListEntry, PersonEntry};
 use crate::fault::{Cause, ListFault, RecordFault};

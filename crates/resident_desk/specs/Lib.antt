@@ -1,6 +1,6 @@
 pub mod Calls
 pub mod Conversations
 pub mod Dues
-pub mod Letters
+pub mod Inner
 pub mod OwnReply
 pub mod Serving

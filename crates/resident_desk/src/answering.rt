@@ -4,7 +4,7 @@ ghost use Rattle.resident_http.specs.Asks.{HasEarlyStatus, seen};
 ghost use Rattle.resident_http.specs.Bodies.{choices_of_body};
 ghost use Rattle.resident_http.specs.Routes.{seen_wanted, wanted_of};
 ghost use Rattle.resident_desk.specs.Dues.{list_fault, rooms_answer, standing_answer};
-ghost use Rattle.resident_desk.specs.Letters.{WithAnswer};
+ghost use Rattle.resident_desk.specs.Inner.Letters.{WithAnswer};
 ghost use Rattle.resident_desk.specs.Serving.{Admits, Answers, AnswersWanted, Commands, Does, Greets, IsDue};
 ghost use Rattle.resident_desk.specs.Serving.{ListsRooms, Records, Withdraws};
 

@@ -1,6 +1,6 @@
 //! The responses that a command can get, prepared before the desk handles it.
 ghost use Rattle.resident_desk.specs.Dues.{command_answer};
-ghost use Rattle.resident_desk.specs.Letters.{AreDrafts, WithAnswer};
+ghost use Rattle.resident_desk.specs.Inner.Letters.{AreDrafts, WithAnswer};
 
 use crate::letters::{Letter, NoLetter, fault_letter, success_letter};
 use http::StatusCode;

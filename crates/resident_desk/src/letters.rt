@@ -3,7 +3,7 @@ ghost use Rattle.std.specs.Prelude.{◌≡◌, ◌==◌, IfOk, true, false};
 ghost use Rattle.resident_http.specs.Faults.{fault_answer, is_one_fault, names_fault};
 ghost use Rattle.resident_http.specs.Faults.{success_answer, wrong_method_answer};
 ghost use Rattle.resident_desk.specs.Dues.{one_fault};
-ghost use Rattle.resident_desk.specs.Letters.{IsLetter};
+ghost use Rattle.resident_desk.specs.Inner.Letters.{IsLetter};
 
 use http::StatusCode;
 use resident_http::{HttpAnswer, Method, answer_bytes, http_fault_name};

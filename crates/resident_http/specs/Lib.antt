@@ -3,6 +3,5 @@ pub mod Asks
 pub mod Bodies
 pub mod Faults
 pub mod Fields
-pub mod Found
-pub mod RouteRows
+pub mod Inner
 pub mod Routes

@@ -5,7 +5,7 @@ ghost use Rattle.std.specs.Char.{is_ascii_digit};
 ghost use Rattle.std.specs.Str.{str_eq_ignore_ascii_case};
 ghost use Rattle.httparse.specs.Spans.{IsHeaderWithin, header_bytes, span_bytes};
 ghost use Rattle.resident_http.specs.Fields.{values_of, is_decimal, number_of};
-ghost use Rattle.resident_http.specs.Found.{Tells};
+ghost use Rattle.resident_http.specs.Inner.Found.{Tells};
 
 use httparse::spans::{HeaderSpan, Span};
 

@@ -1,6 +1,6 @@
 //! The paths of requests.
 ghost use Rattle.std.specs.Prelude.{◌≡◌, IfOk, option_map};
-ghost use Rattle.resident_http.specs.RouteRows.{route_rows};
+ghost use Rattle.resident_http.specs.Inner.RouteRows.{route_rows};
 ghost use Rattle.resident_http.specs.Routes.{method_of, route_of, seen_wanted, wanted_of, with_method};
 
 use crate::method::Method;

@@ -23,8 +23,8 @@ use Rattle.office_tables.specs.Edits.{with_word, with_result, with_move, with_ke
 use Rattle.office_tables.specs.Makes.{Makes}
 use Rattle.office_tables.specs.Steps.{StaysInside}
 use Rattle.office_changes.specs.Carries.{Turns, CarriesOne, CarriesAlways}
-use Rattle.office_changes.specs.Choosing.{with_choices}
-use Rattle.office_changes.specs.Grading.{with_grade_recorded}
+use Rattle.office_changes.specs.Inner.Choosing.{with_choices}
+use Rattle.office_changes.specs.Inner.Grading.{with_grade_recorded}
 use Rattle.office_changes.proofs.changed_rows.Carried.{changed_rows-carries, changed_rows-turns, changed_rows-turns_then}
 use Rattle.office_changes.proofs.changed_rows.Changes.{changed_rows-room_added, changed_rows-room_shut}
 use Rattle.office_changes.proofs.changed_rows.Changes.{changed_rows-person_added, changed_rows-person_gone}

@@ -34,8 +34,8 @@ use Rattle.office_rows.specs.Tables.{Tables, rows_at, rows_of}
 use Rattle.office_rows.specs.declared.records.ChoiceRecord.{ChoiceRecord}
 use Rattle.office_rows.specs.declared.records.PersonRecord.{PersonRecord}
 use Rattle.office_rows.proofs.rows_read.Moving.{rows_read-rows_more}
-use Rattle.office_changes.specs.Choosing.{with_choices}
-use Rattle.office_changes.specs.Grading.{with_grade_recorded}
+use Rattle.office_changes.specs.Inner.Choosing.{with_choices}
+use Rattle.office_changes.specs.Inner.Grading.{with_grade_recorded}
 use Rattle.office_tables.specs.Edits.{with_room, with_shut, with_person, without_person, with_home, with_withdrawn}
 use Rattle.office_tables.specs.Edits.{without_withdrawn, with_round, with_choice, without_choices_of, without_round_tables}
 use Rattle.office_tables.specs.Edits.{with_word, with_result, with_move, with_kept, with_grade, without_grade_of}

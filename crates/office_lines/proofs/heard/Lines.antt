@@ -2,7 +2,7 @@
 use Rattle.std.proofs.Common.{◌≡◌, ℕ, Bool, true, false, cond, eqb, List, [], ◌∷◌, ◌++◌, refl, sym, ap, ◌∙◌, append_assoc, append-nil}
 use Rattle.std.specs.List.{onto_first}
 use Rattle.office_lines.specs.Lines.{parts_of, front, last, ended_lines, last_part}
-use Rattle.office_lines.specs.Sessions.{ended_from, partial_from}
+use Rattle.office_lines.specs.Inner.Sessions.{ended_from, partial_from}
 
 -- the parts, with these bytes prepended to the first one
 heard-prefixed : List ℕ → List (List ℕ) → List (List ℕ)

@@ -17,7 +17,7 @@ use Rattle.room_types.specs.Streams.{Input, Output}
 use Rattle.room_types.specs.Watched.{counted}
 use Rattle.office_texts.specs.Texts.{text_of}
 use Rattle.office_lines.specs.Runs.{texts_of, greatest_status}
-use Rattle.office_lines.specs.Sessions.{ended_from, partial_from, State, Heard, Suits, Halted, Answered, Broken, Finished, Unfinished, Listened, Stopped, OnlyWhereFailed}
+use Rattle.office_lines.specs.Inner.Sessions.{ended_from, partial_from, State, Heard, Suits, Halted, Answered, Broken, Finished, Unfinished, Listened, Stopped, OnlyWhereFailed}
 use Rattle.office_lines.proofs.heard.Lines.{heard-ended_from-append, heard-partial_from-append}
 use Rattle.office_lines.proofs.rehearsals.Runs.{rehearsals-Run-append, rehearsals-greatest_status-append, rehearsals-texts_of-append, rehearsals-texts_front-within, rehearsals-texts_front-append, rehearsals-texts_front-more, rehearsals-last_is_made-append}
 use Rattle.room_types.proofs.watched_bytes.Streams.{watched_bytes-Puts-nil, watched_bytes-Puts-trans, watched_bytes-Puts-kept}

@@ -15,7 +15,7 @@ use Rattle.office_lines.specs.Lines.{is_short, line_limit, piece_limit, lines_of
 use Rattle.room_types.specs.Streams.{Input, Output}
 use Rattle.office_lines.specs.Runs.{texts_of, greatest_status}
 use Rattle.office_lines.specs.Rehearsals.{WholeInput, PartOfInput, WholeLines, WantsMemory, Rehearses}
-use Rattle.office_lines.specs.Sessions.{ended_from, partial_from, State, Heard, Halted, Finished, Unfinished, Listened, Stopped, Cut, OnlyWhereFailed}
+use Rattle.office_lines.specs.Inner.Sessions.{ended_from, partial_from, State, Heard, Halted, Finished, Unfinished, Listened, Stopped, Cut, OnlyWhereFailed}
 use Rattle.office_lines.proofs.heard.Lines.{heard-ended_lines-is, heard-last_part-is}
 use Rattle.office_lines.proofs.rehearsals.Runs.{rehearsals-Run-append, rehearsals-greatest_status-append, rehearsals-texts_of-append, rehearsals-texts_front-append, rehearsals-texts_front-more, rehearsals-last_is_made-append}
 use Rattle.office_lines.proofs.heard.Sessions.{heard-short_unended}

@@ -14,7 +14,8 @@ use Rattle.csv.specs.declared.reader.Reader.{Reader}
 use Rattle.csv.specs.declared.reader.Trim.TheVariants as trim
 use Rattle.csv.proofs.ReadFacts.{rows-end, rows-more}
 use Rattle.office_lists.proofs.csv.Reaching.{csv-all_records, csv-reached_rest}
-use Rattle.office_lists.specs.Records.{Fails, FailsFor, ListForm, Record, Tells, cause_of, data_records, fault_at, first_bad, list_fault, record_limit, records_of, same_fields}
+use Rattle.office_lists.specs.Records.{Fails, ListForm, Record, Tells, cause_of, data_records, first_bad, list_fault, record_limit, records_of, same_fields}
+use Rattle.office_lists.specs.Inner.RecordFaults.{FailsFor, fault_at}
 use Rattle.office_lists.specs.declared.fault.Cause.{Cause}
 use Rattle.office_lists.specs.declared.fault.Cause.TheVariants.{Header, TooMany}
 use Rattle.office_lists.specs.declared.fault.ListFault.{ListFault}

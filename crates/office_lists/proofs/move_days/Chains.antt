@@ -8,7 +8,7 @@ use Rattle.std.proofs.Math.ListN.{get_or-eq_default}
 use Rattle.room_types.specs.declared.moves.Wave.{Wave}
 use Rattle.room_types.specs.declared.moves.Wave.TheVariants.{Swap, Nth}
 use Rattle.office_lists.specs.Waves.{next, own_number, followed, HasNumber, IsWave, wave_of}
-use Rattle.office_lists.specs.Followers.{AreApart, AreFollowers, IsNumbered, NumbersChain}
+use Rattle.office_lists.specs.Inner.Followers.{AreApart, AreFollowers, IsNumbered, NumbersChain}
 use Rattle.office_lists.proofs.move_days.Following.{move_days-followed-beyond, move_days-number-end, move_days-number-none, move_days-number-later, move_days-number-back, move_days-one_wave, move_days-some_wave}
 
 pub move_days-next-within : (ls : List (Option ℕ)) (i j : ℕ) → next ls i ≡ Some j → i < length ls

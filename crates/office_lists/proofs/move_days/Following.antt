@@ -12,7 +12,7 @@ use Rattle.std.proofs.lemmas.Map.Steps.{length-le_from_distinct_below}
 use Rattle.room_types.specs.declared.moves.Wave.{Wave}
 use Rattle.room_types.specs.declared.moves.Wave.TheVariants.{Swap, Nth}
 use Rattle.office_lists.specs.Waves.{next, own_number, followed, Returns, HasNumber, IsWave, chain_number, wave_of}
-use Rattle.office_lists.specs.Followers.{AreApart}
+use Rattle.office_lists.specs.Inner.Followers.{AreApart}
 
 move_days-any_below : (q n : ℕ) (xs : List ℕ) → AllByRecursion (λ x. x < n) xs → list_any (eqb q) xs ≡ true → q < n
 move_days-any_below q n [] h e = absurd (false≢true e)

@@ -15,7 +15,7 @@ use Rattle.room_types.specs.declared.moves.Wave.{Wave}
 use Rattle.room_types.specs.declared.moves.Wave.TheVariants.{Swap, Nth}
 use Rattle.room_types.proofs.options.Options.{options-option_or-none}
 use Rattle.std.proofs.lemmas.List.FromFn.{fill_by_all, length-map-range_with_len}
-use Rattle.office_lists.specs.Followers.{AreApart, AreFollowers}
+use Rattle.office_lists.specs.Inner.Followers.{AreApart, AreFollowers}
 use Rattle.office_lists.proofs.move_days.Following.{move_days-one_wave, move_days-some_wave}
 use Rattle.office_lists.proofs.move_days.Chains.{move_days-next-within, AreNumberedTo, move_days-wave_at}
 

@@ -5,7 +5,7 @@ use Rattle.office_store.specs.declared.requests.Request.{Request}
 use Rattle.resident_http.specs.Answers.{Answer}
 use Rattle.resident_http.specs.Routes.{Wanted, forbidden, unknown, wanted, wrong_method}
 use Rattle.resident_desk.specs.Dues.{unavailable_answer}
-use Rattle.resident_desk.specs.Letters.{WithAnswer}
+use Rattle.resident_desk.specs.Inner.Letters.{WithAnswer}
 use Rattle.resident_desk.specs.Serving.{AnswersWanted}
 use Rattle.resident_desk.specs.declared.letters.Letter.{Letter}
 use Rattle.resident_desk.specs.declared.letters.NoLetter.{NoLetter}

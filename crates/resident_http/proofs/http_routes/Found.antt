@@ -7,7 +7,7 @@ use Rattle.matchit.specs.Router.{RouteOf}
 use Rattle.matchit.specs.Seek.{first}
 use Rattle.resident_http.specs.declared.routes.Route.{Route}
 use Rattle.resident_http.specs.Routes.{route_of}
-use Rattle.resident_http.specs.RouteRows.{route_rows}
+use Rattle.resident_http.specs.Inner.RouteRows.{route_rows}
 use Rattle.resident_http.proofs.http_routes.Literal.{IsLiteral, http_routes-seek_literal}
 
 http_routes-literal : (text : List ℕ) → list_all (λ b. nat_lt b 256) text ≡ true → IsLiteral text

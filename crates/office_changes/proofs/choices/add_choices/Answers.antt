@@ -5,7 +5,7 @@ use Rattle.office_cells.specs.Spelled.{IsSpelled}
 use Rattle.office_tables.specs.Edits.{with_choice}
 use Rattle.office_tables.specs.Tables.{HasTables}
 use Rattle.office_tables.proofs.statements.Steps.{statements-inside_then, statements-inside_none}
-use Rattle.office_changes.specs.Choosing.{with_choices}
+use Rattle.office_changes.specs.Inner.Choosing.{with_choices}
 use Rattle.office_changes.proofs.alike_tables.Spelled.{alike_tables-choice_spelled}
 use Rattle.office_changes.proofs.choices.add_choices.Goals as goal
 use Rattle.office_changes.proofs.changed_rows.Turns.{changed_rows-next_of}

@@ -5,7 +5,7 @@ use Rattle.office_cells.specs.Spelled.{IsSpelled}
 use Rattle.office_rows.specs.Tables.{Tables}
 use Rattle.office_tables.specs.Steps.{StaysInside}
 use Rattle.office_tables.specs.Tables.{HasTables}
-use Rattle.office_changes.specs.Choosing.{with_choices}
+use Rattle.office_changes.specs.Inner.Choosing.{with_choices}
 use Rattle.office_changes.proofs.choices.add_choices.Given as goal
 
 -- With the remaining rooms the tables will be as all rooms make them.

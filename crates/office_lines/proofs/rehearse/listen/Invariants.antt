@@ -2,7 +2,7 @@ use Rattle.std.proofs.Common.{◌≡◌, ◌*◌, ◌^◌, ◌≤◌, length}
 use Rattle.room_types.specs.Streams.{output_of}
 use Rattle.room_types.specs.Watched.{watched_inner, watched_failed, watched_reads, watched_ended, StopsAtEnd, StopsAtFailure}
 use Rattle.office_lines.specs.Lines.{line_limit}
-use Rattle.office_lines.specs.Sessions.{Listened, state}
+use Rattle.office_lines.specs.Inner.Sessions.{Listened, state}
 use Rattle.office_lines.proofs.rehearse.listen.Given as goal
 
 -- All bytes read so far were handled, and each read returned at least one.

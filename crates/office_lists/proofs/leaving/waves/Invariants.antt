@@ -1,6 +1,6 @@
 use Rattle.std.proofs.Common.{◌≡◌}
 use Rattle.office_lists.specs.Waves.{leavers, end_numbers}
-use Rattle.office_lists.specs.Followers.{AreFollowers}
+use Rattle.office_lists.specs.Inner.Followers.{AreFollowers}
 use Rattle.office_lists.proofs.move_days.Chains.{AreNumberedTo}
 use Rattle.office_lists.proofs.leaving.waves.Given as goal
 

@@ -1,7 +1,8 @@
 use Rattle.std.proofs.Common.{◌≡◌, ◌∙◌, ◌<◌, ◌+◌, ◌++◌, ℕ, List, [], ◌∷◌, true, length, sym, subst, arith}
 use Rattle.std.specs.Result.{is_ok}
 use Rattle.csv.specs.Records.{fields_of}
-use Rattle.office_lists.specs.Records.{Fails, fault_at}
+use Rattle.office_lists.specs.Records.{Fails}
+use Rattle.office_lists.specs.Inner.RecordFaults.{fault_at}
 use Rattle.office_lists.proofs.csv.Records.{HasGiven, IsReadTo, csv-all_read, csv-fails_for_memory, csv-reader_gives, csv-no_bytes, csv-no_header, csv-no_records, csv-none_read, csv-one_fails, csv-one_read, csv-one_too_many, csv-same_width, csv-some_bytes, csv-reader_started}
 use Rattle.office_lists.proofs.reading.read_list.Goals as goal
 

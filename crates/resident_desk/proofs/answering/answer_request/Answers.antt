@@ -1,6 +1,6 @@
 use Rattle.std.proofs.Common.{subst}
 use Rattle.std.proofs.lemmas.Result.{err_from_is_err_and}
-use Rattle.resident_desk.specs.Letters.{WithAnswer}
+use Rattle.resident_desk.specs.Inner.Letters.{WithAnswer}
 use Rattle.resident_desk.specs.Serving.{AnswersWanted}
 use Rattle.resident_desk.proofs.desk_letters.Letters.{desk_letters-wanted-unavailable}
 use Rattle.resident_desk.proofs.answering.answer_request.Goals as goal

@@ -1,7 +1,7 @@
 use Rattle.std.proofs.Common.{take, map}
 use Rattle.httparse.specs.Spans.{header_bytes}
 use Rattle.resident_http.specs.Fields.{values_of}
-use Rattle.resident_http.specs.Found.{Tells}
+use Rattle.resident_http.specs.Inner.Found.{Tells}
 use Rattle.resident_http.proofs.fields.find_fields.Given as goal
 
 -- the result for the fields so far

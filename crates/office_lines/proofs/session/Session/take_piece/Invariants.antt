@@ -1,7 +1,7 @@
 use Rattle.std.proofs.Common.{◌+◌, ◌*◌, ◌^◌, ◌≤◌, take}
 use Rattle.room_types.specs.Streams.{output_of}
 use Rattle.room_types.specs.Watched.{StopsAtFailure}
-use Rattle.office_lines.specs.Sessions.{Heard, state}
+use Rattle.office_lines.specs.Inner.Sessions.{Heard, state}
 use Rattle.office_lines.proofs.session.Session.take_piece.Given as goal
 
 -- the bytes so far were handled

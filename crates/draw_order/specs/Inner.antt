@@ -1,0 +1,2 @@
+-- Definitions that only inner contracts, invariants and proofs use.
+pub mod Turns
