@@ -23,12 +23,12 @@ pub fn words_from<R: Rng>(
     // All memory is allocated first, so that no word is drawn in vain.
     let mut words = Vec::with_capacity(alloc, count)?;
     for _place in 0..count {
-        words.push(next_draw_word(generator))?;
+        words.push(next_word(generator))?;
     }
     Ok(words)
 }
 
-fn next_draw_word<R: Rng>(generator: &mut R) -> Word
+fn next_word<R: Rng>(generator: &mut R) -> Word
     ensures { (result, R.stream generator.new) ≡ next_u64 (R.stream generator.old) }
 {
     Word::new(generator.next_u64())

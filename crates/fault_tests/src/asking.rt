@@ -2,13 +2,13 @@
 use office_core::Command;
 use office_state::Office;
 use office_store::{Answer, Desk, Handler, Request};
-use office_words::{Sentence, read_line};
+use office_words::{ParsedLine, parse_line};
 use room_types::{Label, ListKind, Listing, OutOfMemory};
 use sqlite::MemStore;
 use std::alloc::Global;
 
 /// The requests of the lines of these texts.
-pub fn lines_asked(alloc: Global, texts: &[&str]) -> Result<Vec<Request>, OutOfMemory> {
+pub fn parse_requests(alloc: Global, texts: &[&str]) -> Result<Vec<Request>, OutOfMemory> {
     let mut requests = Vec::new(alloc);
     for text in texts {
         ask_lines(alloc, &mut requests, text)?;
@@ -23,7 +23,7 @@ pub fn ask_lines(
     lines: &str,
 ) -> Result<(), OutOfMemory> {
     for line in lines.lines() {
-        if let Sentence::Asks(request) = read_line(alloc, line.as_bytes())? {
+        if let ParsedLine::Valid(request) = parse_line(alloc, line.as_bytes())? {
             requests.push(request)?;
         }
     }
@@ -61,7 +61,7 @@ fn list_command(
 }
 
 /// Drops the desk. All tests drop theirs here, so that dropping one is proved in one place.
-pub fn let_go(desk: Desk<MemStore>) {
+pub fn drop_desk(desk: Desk<MemStore>) {
     drop(desk);
 }
 
@@ -103,7 +103,7 @@ pub fn office_after(alloc: Global, requests: &[Request]) -> Result<Office, OutOf
         return Err(OutOfMemory {});
     };
     let office = furnished_office(alloc, &mut desk, requests);
-    let_go(desk);
+    drop_desk(desk);
     office
 }
 

@@ -1,6 +1,6 @@
 //! Tests of each request in each phase of a round, at a desk of its own with a hundred people and a hundred rooms. The request
 //! gets a reply if the phase allows it, and otherwise a refusal for the phase.
-use crate::asking::{ask_lines, ask_list, is_replied, let_go, lines_asked};
+use crate::asking::{ask_lines, ask_list, drop_desk, is_replied, parse_requests};
 use office_core::Refusal;
 use office_store::{Answer, Desk, Handler, Request};
 use room_types::{ListKind, OutOfMemory, Phase};
@@ -53,7 +53,7 @@ const ASKED: [(&str, &str); 26] = [
 ];
 
 #[test]
-fn each_request_is_answered_in_its_phases(rt: HostRuntime) {
+fn answers_each_request_only_in_its_phases(rt: HostRuntime) {
     let asked = all_asked(rt.alloc()).expect(&rt, "memory");
     for (phase, made) in &PHASES {
         let misfit = misfit(rt.alloc(), &asked, *phase, *made);
@@ -75,7 +75,7 @@ fn all_asked(alloc: Global) -> Result<Asked, OutOfMemory> {
         steps: steps(alloc)?,
         registers: registers(alloc)?,
         choices: choices(alloc)?,
-        draw: lines_asked(alloc, &[draw_line(alloc)?.as_str()])?,
+        draw: parse_requests(alloc, &[draw_line(alloc)?.as_str()])?,
     })
 }
 
@@ -200,7 +200,7 @@ fn lines_fit(alloc: Global, reached: &Reached<'_>) -> bool {
 }
 
 fn line_fits(alloc: Global, reached: &Reached<'_>, line: &str, phases: &str) -> bool {
-    match lines_asked(alloc, &[line]) {
+    match parse_requests(alloc, &[line]) {
         Ok(requests) => requests.len() == 1 && all_fit(alloc, reached, &requests, phases),
         Err(_) => false,
     }
@@ -221,7 +221,7 @@ fn all_fit(alloc: Global, reached: &Reached<'_>, requests: &[Request], phases: &
 fn fits(answer: &Option<Answer>, phase: Phase, belongs: bool) -> bool {
     match answer {
         Some(Answer::Reply(_)) => belongs,
-        Some(Answer::Refused(Refusal::BadPhase(told))) => !belongs && *told == phase,
+        Some(Answer::Refused(Refusal::BadPhase(observed))) => !belongs && *observed == phase,
         _ => false,
     }
 }
@@ -232,7 +232,7 @@ fn answer_after(alloc: Global, reached: &Reached<'_>, request: &Request) -> Opti
         return None;
     };
     let answer = answer_at(alloc, &mut desk, reached, request);
-    let_go(desk);
+    drop_desk(desk);
     answer
 }
 

@@ -8,18 +8,18 @@ mod exporting;
 mod lists;
 mod loading;
 mod rehearsing;
+mod replay;
 mod residents;
-mod told;
 mod writing;
 
-use crate::asking::{ask_lines, ask_list, lines_asked};
-use crate::refused::adopting::{office_is_adopted, office_is_brought_over};
-use crate::refused::exporting::exports_are_told;
+use crate::asking::{ask_lines, ask_list, parse_requests};
+use crate::refused::adopting::{office_is_adopted, office_is_opened};
+use crate::refused::exporting::exports_match;
 use crate::refused::lists::lists_are_read;
 use crate::refused::loading::office_is_read;
 use crate::refused::rehearsing::is_rehearsed;
+use crate::refused::replay::matches_replay;
 use crate::refused::residents::{FAULTS, LIST, LIST_AGAIN, LONGEST_LIST, RESULTS, are_served};
-use crate::refused::told::are_as_accepted;
 use crate::refused::writing::rows_are_sent;
 use crate::tables::{EARLIER_FIRST, FIRST, SECOND, THIRD};
 use crate::texts::{CHOICES, GRADES, LEAVING, PEOPLE, REGISTER, ROOMS, ROUND};
@@ -142,107 +142,107 @@ const HEADER: &str = "person,name,key,home\n";
 const UNKNOWN_SECOND: &str = "person,grade\nE1,1\nE9,1\n";
 
 #[test]
-fn a_year_is_told(rt: HostRuntime) {
-    assert!(rt; ended_well(&rt, year_is_told(rt.alloc())));
+fn handles_a_year(rt: HostRuntime) {
+    assert!(rt; ended_well(&rt, year_matches(rt.alloc())));
 }
 
 #[test]
-fn leavers_are_told_of(rt: HostRuntime) {
-    assert!(rt; ended_well(&rt, leavers_are_told(rt.alloc())));
+fn handles_leavers(rt: HostRuntime) {
+    assert!(rt; ended_well(&rt, leavers_match(rt.alloc())));
 }
 
 #[test]
-fn lists_come_twice(rt: HostRuntime) {
-    assert!(rt; ended_well(&rt, lists_are_told(rt.alloc())));
+fn imports_lists_twice(rt: HostRuntime) {
+    assert!(rt; ended_well(&rt, imports_match(rt.alloc())));
 }
 
 #[test]
-fn queries_are_answered(rt: HostRuntime) {
-    assert!(rt; ended_well(&rt, queries_are_told(rt.alloc())));
+fn answers_queries(rt: HostRuntime) {
+    assert!(rt; ended_well(&rt, queries_match(rt.alloc())));
 }
 
 #[test]
-fn other_lists_are_tried(rt: HostRuntime) {
-    assert!(rt; ended_well(&rt, other_lists_are_told(rt.alloc())));
+fn answers_what_another_list_would_give(rt: HostRuntime) {
+    assert!(rt; ended_well(&rt, other_lists_match(rt.alloc())));
 }
 
 #[test]
-fn a_resident_is_served(rt: HostRuntime) {
+fn records_a_list_of_a_resident(rt: HostRuntime) {
     assert!(rt; ended_well(&rt, are_served(rt.alloc(), &LIST)));
 }
 
 #[test]
-fn a_list_comes_again(rt: HostRuntime) {
+fn records_the_same_list_again(rt: HostRuntime) {
     assert!(rt; ended_well(&rt, are_served(rt.alloc(), &LIST_AGAIN)));
 }
 
 #[test]
-fn a_long_list_comes(rt: HostRuntime) {
+fn records_a_list_in_the_longest_body(rt: HostRuntime) {
     assert!(rt; ended_well(&rt, are_served(rt.alloc(), &LONGEST_LIST)));
 }
 
 #[test]
-fn residents_are_refused(rt: HostRuntime) {
+fn refuses_bad_requests_of_residents(rt: HostRuntime) {
     assert!(rt; ended_well(&rt, are_served(rt.alloc(), &FAULTS)));
 }
 
 #[test]
-fn a_resident_is_told_of_the_results(rt: HostRuntime) {
+fn shows_a_resident_the_results(rt: HostRuntime) {
     assert!(rt; ended_well(&rt, are_served(rt.alloc(), &RESULTS)));
 }
 
 #[test]
-fn a_register_is_rehearsed(rt: HostRuntime) {
+fn rehearses_a_register(rt: HostRuntime) {
     assert!(rt; ended_well(&rt, is_rehearsed(rt.alloc(), REGISTER)));
 }
 
 #[test]
-fn an_office_is_read(rt: HostRuntime) {
+fn loads_an_office(rt: HostRuntime) {
     assert!(rt; ended_well(&rt, office_is_read(rt.alloc(), &[REGISTER, ROUND])));
 }
 
 #[test]
-fn lists_are_read_in_whole(rt: HostRuntime) {
+fn reads_lists_to_the_end(rt: HostRuntime) {
     assert!(rt; ended_well(&rt, lists_are_read(rt.alloc())));
 }
 
 #[test]
-fn exports_are_written(rt: HostRuntime) {
+fn writes_exports(rt: HostRuntime) {
     assert!(rt;
         ended_well(
             &rt,
-            exports_are_told(rt.alloc(), &[REGISTER, LEAVING, "settle\n"])
+            exports_match(rt.alloc(), &[REGISTER, LEAVING, "settle\n"])
         )
     );
 }
 
 #[test]
-fn an_office_is_adopted(rt: HostRuntime) {
+fn adopts_an_office(rt: HostRuntime) {
     assert!(rt; ended_well(&rt, office_is_adopted(rt.alloc(), &[REGISTER, ROUND])));
 }
 
 #[test]
-fn the_first_version_is_migrated(rt: HostRuntime) {
-    assert!(rt; ended_well(&rt, office_is_brought_over(rt.alloc(), &FIRST)));
+fn migrates_the_first_version(rt: HostRuntime) {
+    assert!(rt; ended_well(&rt, office_is_opened(rt.alloc(), &FIRST)));
 }
 
 #[test]
-fn the_first_version_of_this_program_is_migrated(rt: HostRuntime) {
-    assert!(rt; ended_well(&rt, office_is_brought_over(rt.alloc(), &EARLIER_FIRST)));
+fn migrates_the_first_version_of_this_program(rt: HostRuntime) {
+    assert!(rt; ended_well(&rt, office_is_opened(rt.alloc(), &EARLIER_FIRST)));
 }
 
 #[test]
-fn the_second_version_is_migrated(rt: HostRuntime) {
-    assert!(rt; ended_well(&rt, office_is_brought_over(rt.alloc(), &SECOND)));
+fn migrates_the_second_version(rt: HostRuntime) {
+    assert!(rt; ended_well(&rt, office_is_opened(rt.alloc(), &SECOND)));
 }
 
 #[test]
-fn the_documented_order_is_adopted(rt: HostRuntime) {
-    assert!(rt; ended_well(&rt, office_is_brought_over(rt.alloc(), &THIRD)));
+fn adopts_the_documented_order(rt: HostRuntime) {
+    assert!(rt; ended_well(&rt, office_is_opened(rt.alloc(), &THIRD)));
 }
 
 #[test]
-fn rows_are_written(rt: HostRuntime) {
+fn writes_rows(rt: HostRuntime) {
     assert!(rt; ended_well(&rt, rows_are_sent(rt.alloc())));
 }
 
@@ -250,54 +250,54 @@ fn rows_are_written(rt: HostRuntime) {
 fn ended_well(rt: &HostRuntime, ended: Result<bool, OutOfMemory>) -> bool {
     match ended {
         Ok(is_right) => is_right,
-        Err(_) => is_memory_refused(rt),
+        Err(_) => allocations_fail(rt),
     }
 }
 
-fn is_memory_refused(rt: &HostRuntime) -> bool {
+fn allocations_fail(rt: &HostRuntime) -> bool {
     !matches!(env::var(rt, "ROOMS_REFUSE"), Err(VarError::NotPresent))
 }
 
 /// The verdict on a scenario that passed except for the given number of calls that were out of memory. At most one may be.
-pub fn verdict(wanting: usize) -> Result<bool, OutOfMemory> {
-    match wanting {
+pub fn verdict(failures: usize) -> Result<bool, OutOfMemory> {
+    match failures {
         0 => Ok(true),
         1 => Err(OutOfMemory {}),
         _ => Ok(false),
     }
 }
 
-fn year_is_told(alloc: Global) -> Result<bool, OutOfMemory> {
-    let requests = lines_asked(alloc, &[REGISTER, REFUSED, ROUND, "settle\n"])?;
-    are_as_accepted(alloc, &requests, 3)
+fn year_matches(alloc: Global) -> Result<bool, OutOfMemory> {
+    let requests = parse_requests(alloc, &[REGISTER, REFUSED, ROUND, "settle\n"])?;
+    matches_replay(alloc, &requests, 3)
 }
 
-fn leavers_are_told(alloc: Global) -> Result<bool, OutOfMemory> {
-    let requests = lines_asked(alloc, &[REGISTER, LEAVERS, LEAVING, AFTER_LEAVING])?;
-    are_as_accepted(alloc, &requests, 5)
+fn leavers_match(alloc: Global) -> Result<bool, OutOfMemory> {
+    let requests = parse_requests(alloc, &[REGISTER, LEAVERS, LEAVING, AFTER_LEAVING])?;
+    matches_replay(alloc, &requests, 5)
 }
 
-fn queries_are_told(alloc: Global) -> Result<bool, OutOfMemory> {
-    let requests = lines_asked(alloc, &[REGISTER, ROUND, QUERIES])?;
-    are_as_accepted(alloc, &requests, 5)
+fn queries_match(alloc: Global) -> Result<bool, OutOfMemory> {
+    let requests = parse_requests(alloc, &[REGISTER, ROUND, QUERIES])?;
+    matches_replay(alloc, &requests, 5)
 }
 
-fn other_lists_are_told(alloc: Global) -> Result<bool, OutOfMemory> {
+fn other_lists_match(alloc: Global) -> Result<bool, OutOfMemory> {
     for texts in &[[REGISTER, NEWCOMER_FIRST], ["", VACATED], [REGISTER, CHAIN]] {
-        if !other_list_is_told(alloc, texts)? {
+        if !other_list_matches(alloc, texts)? {
             return Ok(false);
         }
     }
     Ok(true)
 }
 
-fn other_list_is_told(alloc: Global, texts: &[&str]) -> Result<bool, OutOfMemory> {
-    let requests = lines_asked(alloc, texts)?;
-    are_as_accepted(alloc, &requests, 0)
+fn other_list_matches(alloc: Global, texts: &[&str]) -> Result<bool, OutOfMemory> {
+    let requests = parse_requests(alloc, texts)?;
+    matches_replay(alloc, &requests, 0)
 }
 
 // Imports of lists, and a round. Then an import of a known list, unchanged and changed, and of others that are bad or empty.
-fn lists_are_told(alloc: Global) -> Result<bool, OutOfMemory> {
+fn imports_match(alloc: Global) -> Result<bool, OutOfMemory> {
     let mut requests = Vec::new(alloc);
     ask_list(alloc, &mut requests, ListKind::Rooms, "r-1", ROOMS)?;
     ask_list(alloc, &mut requests, ListKind::People, "p-1", PEOPLE)?;
@@ -322,5 +322,5 @@ fn lists_are_told(alloc: Global) -> Result<bool, OutOfMemory> {
         ask_list(alloc, &mut requests, ListKind::Grades, label, list)?;
     }
     ask_lines(alloc, &mut requests, "people\n")?;
-    are_as_accepted(alloc, &requests, 5)
+    matches_replay(alloc, &requests, 5)
 }

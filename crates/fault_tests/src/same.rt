@@ -1,5 +1,5 @@
 //! Equality of offices. It does not allocate.
-use office_state::{Assigned, KeptList, Moved, Office, Person, RoundMoves};
+use office_state::{Assigned, Moved, Office, Person, RoundMoves, StoredImport};
 use room_types::{Choices, Grade, Word};
 
 /// Whether both offices have the same register, grades, round, moves and stored imports.
@@ -61,7 +61,7 @@ fn has_records(one: &Office, other: &Office) -> bool {
         && one
             .lists
             .iter()
-            .all(|(label, kept)| is_list(other.lists.get(label), kept))
+            .all(|(label, stored)| is_list(other.lists.get(label), stored))
         && has_moves(one, other)
         && has_moves(other, one)
 }
@@ -117,12 +117,12 @@ fn is_assigned(found: Option<&Assigned>, assigned: &Assigned) -> bool {
     }
 }
 
-fn is_list(found: Option<&KeptList>, kept: &KeptList) -> bool {
+fn is_list(found: Option<&StoredImport>, stored: &StoredImport) -> bool {
     match found {
         Some(found) => {
-            found.kind == kept.kind
-                && found.count == kept.count
-                && found.bytes.as_slice() == kept.bytes.as_slice()
+            found.kind == stored.kind
+                && found.count == stored.count
+                && found.bytes.as_slice() == stored.bytes.as_slice()
         }
         None => false,
     }

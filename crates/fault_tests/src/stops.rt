@@ -8,7 +8,7 @@ mod visits;
 use crate::same::is_same_office;
 use crate::stops::files::{Calls, StoppingFile, contents_left, files_of, is_working};
 use crate::stops::stories::{
-    Story, bringing_over, coming_lists, making, small_year, year_of_leavers,
+    Story, creation, imports, small_year, story_from_tables, year_of_leavers,
 };
 use crate::stops::visits::{Opening, Visit, Visited, visit_files};
 use crate::tables::{EARLIER_FIRST, FIRST, SECOND, THIRD, Tables};
@@ -26,20 +26,20 @@ const MOST_CALLS: u64 = 5_000;
 // How far a story came, and its files.
 #[derive(Drop)]
 struct Ran {
-    told: Told,
+    observed: Observed,
     files: Files<StoppingFile>,
 }
 
 // How far a story came, as its caller saw it.
 #[derive(Clone, Copy, Drop)]
-struct Told {
+struct Observed {
     // The fault if there was no desk.
     fault: Option<DeskFault>,
     // The number of requests that got a reply.
     answered: usize,
 }
 
-impl Told {
+impl Observed {
     // Whether there was a desk.
     fn is_open(self) -> bool {
         self.fault.is_none()
@@ -64,66 +64,66 @@ const NONE: Count = Count {
 };
 
 #[test]
-fn a_new_office_is_there_or_not(rt: HostRuntime) -> Result<(), Fail> {
-    let story = making(rt.alloc()).expect(&rt, "no office is made");
+fn creates_an_office_whole_or_not_at_all(rt: HostRuntime) -> Result<(), Fail> {
+    let story = creation(rt.alloc()).expect(&rt, "no office is made");
     let count = both_stopped(rt.alloc(), &story).expect(&rt, "a new office");
     assert!(rt; count.stops > 0 && count.found > count.stops);
-    tell(&rt, "a new office", count)?;
+    print_count(&rt, "a new office", count)?;
     Ok(())
 }
 
 #[test]
-fn commands_are_stored_whole(rt: HostRuntime) -> Result<(), Fail> {
+fn stores_each_command_whole(rt: HostRuntime) -> Result<(), Fail> {
     let story = small_year(rt.alloc()).expect(&rt, "no year is told");
     let count = both_stopped(rt.alloc(), &story).expect(&rt, "a small year");
     assert!(rt; is_on_both_sides(count));
-    tell(&rt, "a small year", count)?;
+    print_count(&rt, "a small year", count)?;
     Ok(())
 }
 
 #[test]
-fn leavers_are_stored_whole(rt: HostRuntime) -> Result<(), Fail> {
+fn stores_leavers_whole(rt: HostRuntime) -> Result<(), Fail> {
     let story = year_of_leavers(rt.alloc()).expect(&rt, "no year is told");
     let count = both_stopped(rt.alloc(), &story).expect(&rt, "a year of leavers");
     assert!(rt; is_on_both_sides(count));
-    tell(&rt, "a year of leavers", count)?;
+    print_count(&rt, "a year of leavers", count)?;
     Ok(())
 }
 
 #[test]
-fn earlier_versions_are_migrated_whole(rt: HostRuntime) -> Result<(), Fail> {
+fn migrates_earlier_versions_whole(rt: HostRuntime) -> Result<(), Fail> {
     for (what, tables) in [
         ("version 1", FIRST),
         ("version 2", SECOND),
         ("the documented order", THIRD),
     ] {
-        let count = brought_over(&rt, rt.alloc(), &tables);
+        let count = count_from_tables(&rt, rt.alloc(), &tables);
         assert!(rt; is_on_both_sides(count));
-        tell(&rt, what, count)?;
+        print_count(&rt, what, count)?;
     }
     Ok(())
 }
 
 // A test of its own, because each test has its own time limit.
 #[test]
-fn tables_of_the_earlier_program_are_migrated_whole(rt: HostRuntime) -> Result<(), Fail> {
-    let count = brought_over(&rt, rt.alloc(), &EARLIER_FIRST);
+fn migrates_tables_of_the_earlier_program_whole(rt: HostRuntime) -> Result<(), Fail> {
+    let count = count_from_tables(&rt, rt.alloc(), &EARLIER_FIRST);
     assert!(rt; is_on_both_sides(count));
-    tell(&rt, "version 1 of this program", count)?;
+    print_count(&rt, "version 1 of this program", count)?;
     Ok(())
 }
 
-fn brought_over(rt: &impl Abort, alloc: Global, tables: &Tables) -> Count {
-    let story = bringing_over(alloc, tables).expect(rt, "no tables are made");
+fn count_from_tables(rt: &impl Abort, alloc: Global, tables: &Tables) -> Count {
+    let story = story_from_tables(alloc, tables).expect(rt, "no tables are made");
     both_stopped(alloc, &story).expect(rt, "tables")
 }
 
 #[test]
-fn lists_are_stored_whole(rt: HostRuntime) -> Result<(), Fail> {
-    let story = coming_lists(rt.alloc()).expect(&rt, "no lists come in");
+fn stores_imports_whole(rt: HostRuntime) -> Result<(), Fail> {
+    let story = imports(rt.alloc()).expect(&rt, "no lists come in");
     let count = both_stopped(rt.alloc(), &story).expect(&rt, "lists");
     assert!(rt; is_on_both_sides(count));
-    tell(&rt, "lists", count)?;
+    print_count(&rt, "lists", count)?;
     Ok(())
 }
 
@@ -133,7 +133,7 @@ fn is_on_both_sides(count: Count) -> bool {
 }
 
 // Prints the counts, which `bench/stops.sh` adds up.
-fn tell(rt: &HostRuntime, what: &str, count: Count) -> io::Result<()> {
+fn print_count(rt: &HostRuntime, what: &str, count: Count) -> io::Result<()> {
     println!(rt;
         "{what}: {} stops, {} offices looked at, {} of them after a command that was not answered",
         count.stops, count.found, count.after
@@ -156,7 +156,7 @@ fn each_stopped(
 ) -> Result<Count, &'static str> {
     for passed in 0..MOST_CALLS {
         let mut ran = run(alloc, story, calls_of(is_log, passed)).ok_or("memory is wanting")?;
-        if !is_unavailable_at_most(ran.told) {
+        if !may_be_unavailable(ran.observed) {
             return Err("a file that stops is refused for another cause");
         }
         let is_whole = is_whole(story, &mut ran);
@@ -170,8 +170,8 @@ fn each_stopped(
 }
 
 // Whether there was a desk, or it was unavailable: also if the tables can be read and cannot be migrated.
-fn is_unavailable_at_most(told: Told) -> bool {
-    matches!(told.fault, None | Some(DeskFault::Unavailable))
+fn may_be_unavailable(observed: Observed) -> bool {
+    matches!(observed.fault, None | Some(DeskFault::Unavailable))
 }
 
 fn calls_of(is_log: bool, passed: u64) -> Calls {
@@ -190,8 +190,8 @@ fn calls_of(is_log: bool, passed: u64) -> Calls {
 
 // Whether nothing was stopped.
 fn is_whole(story: &Story, ran: &mut Ran) -> bool {
-    ran.told.is_open()
-        && ran.told.answered == story.requests.len()
+    ran.observed.is_open()
+        && ran.observed.answered == story.requests.len()
         && is_working(&mut ran.files.log)
         && is_working(&mut ran.files.db)
 }
@@ -205,11 +205,11 @@ fn run(alloc: Global, story: &Story, calls: Calls) -> Option<Ran> {
         is_read: false,
     };
     let (visited, files) = visit_files(alloc, files, asking);
-    let told = Told {
+    let observed = Observed {
         fault: visited.fault,
         answered: visited.answered,
     };
-    Some(Ran { told, files })
+    Some(Ran { observed, files })
 }
 
 // Opens everything that may be left of the files.
@@ -220,13 +220,13 @@ fn looked_at(
     mut count: Count,
 ) -> Result<Count, &'static str> {
     let Ran {
-        told,
+        observed,
         files: Files { log, db },
     } = ran;
     let logs = contents_left(alloc, log).ok_or("memory is wanting")?;
     let databases = contents_left(alloc, db).ok_or("memory is wanting")?;
     for log in &logs {
-        count = looked_at_with(alloc, story, told, log.as_slice(), &databases, count)?;
+        count = looked_at_with(alloc, story, observed, log.as_slice(), &databases, count)?;
     }
     Ok(count)
 }
@@ -235,13 +235,13 @@ fn looked_at(
 fn looked_at_with(
     alloc: Global,
     story: &Story,
-    told: Told,
+    observed: Observed,
     log: &[u8],
     databases: &[Vec<u8>],
     mut count: Count,
 ) -> Result<Count, &'static str> {
     for database in databases {
-        count = found_judged(alloc, story, told, log, database.as_slice(), count)?;
+        count = found_judged(alloc, story, observed, log, database.as_slice(), count)?;
     }
     Ok(count)
 }
@@ -250,17 +250,17 @@ fn looked_at_with(
 fn found_judged(
     alloc: Global,
     story: &Story,
-    told: Told,
+    observed: Observed,
     log: &[u8],
     database: &[u8],
     count: Count,
 ) -> Result<Count, &'static str> {
     let found = office_in(alloc, log, database, Opening::Held).ok_or("memory is wanting")?;
-    if is_earlier(&found) && story.opening == Opening::Earlier && !told.is_open() {
+    if is_earlier(&found) && story.opening == Opening::Earlier && !observed.is_open() {
         let found = office_in(alloc, log, database, Opening::Earlier).ok_or("memory is wanting")?;
         return earlier_judged(story, &found, count);
     }
-    judged(story, told, &found, count)
+    judged(story, observed, &found, count)
 }
 
 // Whether the tables are of an earlier version.
@@ -312,23 +312,23 @@ fn office_read(visited: Visited) -> Result<Office, DeskFault> {
 // Counts the office that was found, if the story allows it.
 fn judged(
     story: &Story,
-    told: Told,
+    observed: Observed,
     found: &Result<Office, DeskFault>,
     mut count: Count,
 ) -> Result<Count, &'static str> {
     count.found = count.found.saturating_add(1);
     let Ok(found) = found else {
-        return fault_judged(story, told, found, count);
+        return fault_judged(story, observed, found, count);
     };
-    if is_brought_over(story, told) && is_nth(story, 0, found) {
+    if is_unreported_migration(story, observed) && is_nth(story, 0, found) {
         count.after = count.after.saturating_add(1);
         return Ok(count);
     }
-    if is_nth(story, told.answered, found) {
+    if is_nth(story, observed.answered, found) {
         count.before = count.before.saturating_add(1);
         return Ok(count);
     }
-    if told.is_open() && is_nth(story, told.answered.saturating_add(1), found) {
+    if observed.is_open() && is_nth(story, observed.answered.saturating_add(1), found) {
         count.after = count.after.saturating_add(1);
         return Ok(count);
     }
@@ -336,19 +336,19 @@ fn judged(
 }
 
 // Whether tables of an earlier version were to be migrated, and the caller got no desk.
-fn is_brought_over(story: &Story, told: Told) -> bool {
-    story.opening == Opening::Earlier && !told.is_open()
+fn is_unreported_migration(story: &Story, observed: Observed) -> bool {
+    story.opening == Opening::Earlier && !observed.is_open()
 }
 
 // An office may be missing only if creating it did not succeed.
 fn fault_judged(
     story: &Story,
-    told: Told,
+    observed: Observed,
     found: &Result<Office, DeskFault>,
     count: Count,
 ) -> Result<Count, &'static str> {
     let is_absent = matches!(found, Err(DeskFault::NotAnOffice));
-    if is_absent && story.opening == Opening::Made && !told.is_open() {
+    if is_absent && story.opening == Opening::Made && !observed.is_open() {
         Ok(count)
     } else {
         Err("the office is lost")

@@ -29,7 +29,7 @@ const DRAWN_TABLES: &str =
 CREATE TABLE result(person TEXT PRIMARY KEY NOT NULL REFERENCES person(id),
   room TEXT UNIQUE REFERENCES room(code)) STRICT;";
 
-const KEPT_TABLES: &str = "CREATE TABLE move(round INTEGER NOT NULL, person TEXT NOT NULL,
+const RECORD_TABLES: &str = "CREATE TABLE move(round INTEGER NOT NULL, person TEXT NOT NULL,
   from_room TEXT, to_room TEXT, wave INTEGER, PRIMARY KEY(round, person)) STRICT;
 CREATE TABLE list(label TEXT PRIMARY KEY NOT NULL, kind TEXT NOT NULL,
   body BLOB NOT NULL, added INTEGER NOT NULL) STRICT;";
@@ -58,7 +58,7 @@ pub const FIRST: Tables = Tables {
         REGISTER_TABLES,
         CHOICE_TABLE,
         DRAWN_TABLES,
-        KEPT_TABLES,
+        RECORD_TABLES,
         ROWS,
     ],
     are_earlier: true,
@@ -69,7 +69,7 @@ pub const FIRST: Tables = Tables {
 pub const EARLIER_FIRST: Tables = Tables {
     statements: &[
         REGISTER_TABLES,
-        KEPT_TABLES,
+        RECORD_TABLES,
         DRAWN_TABLES,
         CHOICE_TABLE,
         ROWS,
@@ -84,7 +84,7 @@ pub const SECOND: Tables = Tables {
         REGISTER_TABLES,
         CHOICE_TABLE,
         DRAWN_TABLES,
-        KEPT_TABLES,
+        RECORD_TABLES,
         GRADE_TABLE,
         ROWS,
         "UPDATE round SET version = 2; INSERT INTO grade VALUES ('N', 2);",
@@ -99,7 +99,7 @@ pub const THIRD: Tables = Tables {
         REGISTER_TABLES,
         CHOICE_TABLE,
         DRAWN_TABLES,
-        KEPT_TABLES,
+        RECORD_TABLES,
         GRADE_TABLE,
         GOING_TABLE,
         ROWS,

@@ -1,5 +1,5 @@
 pub mod Cells
 pub mod Columns
 pub mod Forms
-pub mod Spelled
-pub mod Taking
+pub mod WellFormed
+pub mod Allocation

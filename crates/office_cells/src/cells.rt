@@ -30,7 +30,7 @@ pub fn text_in<G: Grammar>(
     row: &Row,
     at: usize,
 ) -> Result<Option<Text<G>>, OutOfMemory>
-    ensures told { IfOk result (λ found. MatchOption found
+    ensures returned { IfOk result (λ found. MatchOption found
         (¬ IsTextOf G.is_text (column row.now at))
         (λ t. column row.now at ≡ text_value t)) }
     ensures formed { IfOk result
@@ -54,7 +54,7 @@ pub fn optional_text_in<G: Grammar>(
     row: &Row,
     at: usize,
 ) -> Result<Option<Option<Text<G>>>, OutOfMemory>
-    ensures told { IfOk result (λ found. MatchOption found
+    ensures returned { IfOk result (λ found. MatchOption found
         (¬ IsOptionalTextOf G.is_text (column row.now at))
         (λ t. column row.now at ≡ text_or_null t)) }
     ensures formed { IfOk result
@@ -79,20 +79,20 @@ fn is_null(row: &Row, at: usize) -> bool
 
 /// Reads a column as a blob. Allocates only for a blob that is not empty. Fails only if an allocation does.
 pub fn bytes_in(alloc: Global, row: &Row, at: usize) -> Result<Option<Listing<u8>>, OutOfMemory>
-    ensures told { IfOk result (λ found. MatchOption found (¬ IsBlob (column row.now at))
+    ensures returned { IfOk result (λ found. MatchOption found (¬ IsBlob (column row.now at))
         (λ bytes. column row.now at ≡ blob_value bytes)) }
     ensures formed { IfOk result (λ found. IfSome found (λ _. IsBlob (column row.now at))) }
     ensures memory { OnErr result (IsFilledBlob (column row.now at)) }
 {
     match row.get_ref(at) {
-        Ok(ValueRef::Blob(bytes)) => Ok(Some(kept_cell_bytes(alloc, bytes)?)),
+        Ok(ValueRef::Blob(bytes)) => Ok(Some(copy_bytes(alloc, bytes)?)),
         _ => Ok(None),
     }
 }
 
 // Copies the bytes. Does not allocate if there are none.
-fn kept_cell_bytes(alloc: Global, bytes: &[u8]) -> Result<Listing<u8>, OutOfMemory>
-    ensures same { IfOk result (λ kept. kept ≡ bytes.now) }
+fn copy_bytes(alloc: Global, bytes: &[u8]) -> Result<Listing<u8>, OutOfMemory>
+    ensures same { IfOk result (λ copy. copy ≡ bytes.now) }
     ensures memory { OnErr result (0 < length bytes.now) }
 {
     if bytes.is_empty() {
@@ -102,8 +102,8 @@ fn kept_cell_bytes(alloc: Global, bytes: &[u8]) -> Result<Listing<u8>, OutOfMemo
 }
 
 /// Reads a column as an integer from 0 up.
-pub fn count_in(row: &Row, at: usize) -> Option<u64>
-    ensures told { MatchOption result (¬ IsCount (column row.now at))
+pub fn u64_in(row: &Row, at: usize) -> Option<u64>
+    ensures returned { MatchOption result (¬ IsCount (column row.now at))
         (λ n. column row.now at ≡ Int (pos n)) }
     ensures formed { IfSome result (λ _. IsCount (column row.now at)) }
 {
@@ -114,7 +114,7 @@ pub fn count_in(row: &Row, at: usize) -> Option<u64>
 }
 
 // Reads a column as an integer from 0 up, or NULL. A column past the end of the row is NULL.
-fn optional_count_in(row: &Row, at: usize) -> Option<Option<u64>>
+fn optional_u64_in(row: &Row, at: usize) -> Option<Option<u64>>
     ensures { MatchOption result
         (¬ ((column row.now at ≡ Null) ⊎ IsCount (column row.now at)))
         (λ n. column row.now at ≡ count_or_null n) }
@@ -131,11 +131,11 @@ fn optional_count_in(row: &Row, at: usize) -> Option<Option<u64>>
 
 /// Reads a column as a flag: 0 or 1.
 pub fn flag_in(row: &Row, at: usize) -> Option<bool>
-    ensures told { MatchOption result (¬ IsFlag (column row.now at))
+    ensures returned { MatchOption result (¬ IsFlag (column row.now at))
         (λ b. column row.now at ≡ flag b) }
     ensures formed { IfSome result (λ _. IsFlag (column row.now at)) }
 {
-    match count_in(row, at) {
+    match u64_in(row, at) {
         Some(0) => Some(false),
         Some(1) => Some(true),
         _ => None,
@@ -143,23 +143,23 @@ pub fn flag_in(row: &Row, at: usize) -> Option<bool>
 }
 
 /// Reads a column as an unsigned integer of 16 bits.
-pub fn short_in(row: &Row, at: usize) -> Option<u16>
-    ensures told { MatchOption result (¬ IsShort (column row.now at))
+pub fn u16_in(row: &Row, at: usize) -> Option<u16>
+    ensures returned { MatchOption result (¬ IsShort (column row.now at))
         (λ n. column row.now at ≡ Int (pos n)) }
     ensures formed { IfSome result (λ _. IsShort (column row.now at)) }
 {
-    let number = count_in(row, at)?;
+    let number = u64_in(row, at)?;
     u16::try_from(number).ok()
 }
 
 /// Reads a column as a wave: NULL for a swap, or the number of a wave, an unsigned integer of 16 bits. A column past
 /// the end of the row is NULL.
 pub fn wave_in(row: &Row, at: usize) -> Option<Wave>
-    ensures told { MatchOption result (¬ IsWave (column row.now at))
+    ensures returned { MatchOption result (¬ IsWave (column row.now at))
         (λ w. column row.now at ≡ wave_value w) }
     ensures formed { IfSome result (λ _. IsWave (column row.now at)) }
 {
-    let Some(number) = optional_count_in(row, at)? else {
+    let Some(number) = optional_u64_in(row, at)? else {
         return Some(Wave::Swap);
     };
     match u16::try_from(number) {

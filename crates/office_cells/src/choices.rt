@@ -1,5 +1,5 @@
 //! Rows of preference lists.
-use crate::cells::{count_in, text_in};
+use crate::cells::{text_in, u64_in};
 use crate::records::Record;
 use office_rows::ChoiceRecord;
 use room_types::OutOfMemory;
@@ -10,7 +10,7 @@ impl Record for ChoiceRecord {
     ghost use Rattle.office_cells.specs.Columns.{choice_columns, three};
     ghost use Rattle.office_cells.specs.Forms.{IsChoiceRow};
     ghost use Rattle.room_types.specs.Grammars.{is_person_id};
-    ghost use Rattle.office_cells.specs.Taking.{BeginsWith};
+    ghost use Rattle.office_cells.specs.Allocation.{BeginsWith};
 
     ghost is_form = { IsChoiceRow };
 
@@ -18,13 +18,13 @@ impl Record for ChoiceRecord {
 
     ghost columns = { choice_columns };
 
-    ghost takes = { BeginsWith is_person_id };
+    ghost may_allocate = { BeginsWith is_person_id };
 
-    fn record_from_cells(alloc: Global, row: &Row) -> Result<Option<ChoiceRecord>, OutOfMemory> {
+    fn from_row(alloc: Global, row: &Row) -> Result<Option<ChoiceRecord>, OutOfMemory> {
         let Some(person) = text_in(alloc, row, 0)? else {
             return Ok(None);
         };
-        let Some(place) = count_in(row, 1) else {
+        let Some(place) = u64_in(row, 1) else {
             return Ok(None);
         };
         let Some(room) = text_in(alloc, row, 2)? else {

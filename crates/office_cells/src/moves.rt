@@ -1,5 +1,5 @@
 //! Rows of moves.
-use crate::cells::{optional_text_in, short_in, text_in, wave_in};
+use crate::cells::{optional_text_in, text_in, u16_in, wave_in};
 use crate::records::Record;
 use room_types::{Move, OutOfMemory};
 use sqlite::Row;
@@ -9,7 +9,7 @@ impl Record for Move {
     ghost use Rattle.office_cells.specs.Columns.{move_columns, five};
     ghost use Rattle.office_cells.specs.Forms.{IsMoveRow};
     ghost use Rattle.room_types.specs.Grammars.{is_person_id};
-    ghost use Rattle.office_cells.specs.Taking.{FollowsNumber};
+    ghost use Rattle.office_cells.specs.Allocation.{FollowsNumber};
 
     ghost is_form = { IsMoveRow };
 
@@ -17,10 +17,10 @@ impl Record for Move {
 
     ghost columns = { move_columns };
 
-    ghost takes = { FollowsNumber is_person_id };
+    ghost may_allocate = { FollowsNumber is_person_id };
 
-    fn record_from_cells(alloc: Global, row: &Row) -> Result<Option<Move>, OutOfMemory> {
-        let Some(round) = short_in(row, 0) else {
+    fn from_row(alloc: Global, row: &Row) -> Result<Option<Move>, OutOfMemory> {
+        let Some(round) = u16_in(row, 0) else {
             return Ok(None);
         };
         let Some(person) = text_in(alloc, row, 1)? else {

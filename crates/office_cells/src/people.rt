@@ -11,7 +11,7 @@ impl Record for PersonRecord {
     ghost use Rattle.office_cells.specs.Columns.{person_columns, five};
     ghost use Rattle.office_cells.specs.Forms.{IsPersonRow};
     ghost use Rattle.room_types.specs.Grammars.{is_person_id};
-    ghost use Rattle.office_cells.specs.Taking.{BeginsWith};
+    ghost use Rattle.office_cells.specs.Allocation.{BeginsWith};
 
     ghost is_form = { IsPersonRow };
 
@@ -19,9 +19,9 @@ impl Record for PersonRecord {
 
     ghost columns = { person_columns };
 
-    ghost takes = { BeginsWith is_person_id };
+    ghost may_allocate = { BeginsWith is_person_id };
 
-    fn record_from_cells(alloc: Global, row: &Row) -> Result<Option<PersonRecord>, OutOfMemory> {
+    fn from_row(alloc: Global, row: &Row) -> Result<Option<PersonRecord>, OutOfMemory> {
         let Some(id) = text_in(alloc, row, 0)? else {
             return Ok(None);
         };

@@ -2,7 +2,7 @@
 ghost use Rattle.std.specs.Prelude.{◌≡◌, map, IfOk, IfSome, MatchOption, OnErr};
 ghost use Rattle.std.specs.List.{All};
 ghost use Rattle.sqlite_value.specs.Order.{Row as Values};
-ghost use Rattle.office_cells.specs.Taking.{TakesMemory};
+ghost use Rattle.office_cells.specs.Allocation.{Allocates};
 
 use room_types::OutOfMemory;
 use sqlite::Row;
@@ -17,15 +17,15 @@ pub trait Record: Drop {
     /// The columns of a record.
     ghost columns: { Self → Values };
     /// The rows for which reading may allocate.
-    ghost takes: { Values → Type 0 };
+    ghost may_allocate: { Values → Type 0 };
 
-    /// Reads a row into a record. Returns `None` if the row has another form. Allocates only for the rows in `takes`.
+    /// Reads a row into a record. Returns `None` if the row has another form. Allocates only for the rows in `may_allocate`.
     /// Fails only if an allocation does.
-    fn record_from_cells(alloc: Global, row: &Row) -> Result<Option<Self>, OutOfMemory>
-        ensures told { IfOk result (λ found. MatchOption found (¬ is_form row.now)
+    fn from_row(alloc: Global, row: &Row) -> Result<Option<Self>, OutOfMemory>
+        ensures returned { IfOk result (λ found. MatchOption found (¬ is_form row.now)
             (λ record_. front row.now ≡ columns record_)) }
         ensures formed { IfOk result (λ found. IfSome found (λ _. is_form row.now)) }
-        ensures memory { OnErr result (takes row.now) };
+        ensures memory { OnErr result (may_allocate row.now) };
 }
 
 /// Reads all rows into records, in order. Returns `None` if a row has another form.
@@ -33,14 +33,14 @@ pub trait Record: Drop {
 /// Fails only if an allocation does: at some row whose predecessors all have the form, and which has the form itself or
 /// is one of those for which reading may allocate.
 pub fn records_in<R: Record>(alloc: Global, rows: &[Row]) -> Result<Option<Vec<R>>, OutOfMemory>
-    ensures told { IfOk result (λ found. MatchOption found (¬ All R.is_form rows.now)
+    ensures returned { IfOk result (λ found. MatchOption found (¬ All R.is_form rows.now)
         (λ records. map R.columns records.items ≡ map R.front rows.now)) }
     ensures formed { IfOk result (λ found. IfSome found (λ _. All R.is_form rows.now)) }
-    ensures memory { OnErr result (TakesMemory R.takes R.is_form rows.now) }
+    ensures memory { OnErr result (Allocates R.may_allocate R.is_form rows.now) }
 {
     let mut records = Vec::new(alloc);
     for row in rows {
-        let Some(record) = R::record_from_cells(alloc, row)? else {
+        let Some(record) = R::from_row(alloc, row)? else {
             return Ok(None);
         };
         records.push(record)?;

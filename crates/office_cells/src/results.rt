@@ -10,7 +10,7 @@ impl Record for (PersonId, Assigned) {
     ghost use Rattle.office_cells.specs.Columns.{result_columns, two};
     ghost use Rattle.office_cells.specs.Forms.{IsResultRow};
     ghost use Rattle.room_types.specs.Grammars.{is_person_id};
-    ghost use Rattle.office_cells.specs.Taking.{BeginsWith};
+    ghost use Rattle.office_cells.specs.Allocation.{BeginsWith};
 
     ghost is_form = { IsResultRow };
 
@@ -18,12 +18,9 @@ impl Record for (PersonId, Assigned) {
 
     ghost columns = { result_columns };
 
-    ghost takes = { BeginsWith is_person_id };
+    ghost may_allocate = { BeginsWith is_person_id };
 
-    fn record_from_cells(
-        alloc: Global,
-        row: &Row,
-    ) -> Result<Option<(PersonId, Assigned)>, OutOfMemory> {
+    fn from_row(alloc: Global, row: &Row) -> Result<Option<(PersonId, Assigned)>, OutOfMemory> {
         let Some(person) = text_in(alloc, row, 0)? else {
             return Ok(None);
         };

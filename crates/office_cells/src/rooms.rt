@@ -9,7 +9,7 @@ impl Record for (RoomCode, bool) {
     ghost use Rattle.office_cells.specs.Columns.{room_columns, two};
     ghost use Rattle.office_cells.specs.Forms.{IsRoomRow};
     ghost use Rattle.room_types.specs.Grammars.{is_room_code};
-    ghost use Rattle.office_cells.specs.Taking.{BeginsWith};
+    ghost use Rattle.office_cells.specs.Allocation.{BeginsWith};
 
     ghost is_form = { IsRoomRow };
 
@@ -17,12 +17,9 @@ impl Record for (RoomCode, bool) {
 
     ghost columns = { room_columns };
 
-    ghost takes = { BeginsWith is_room_code };
+    ghost may_allocate = { BeginsWith is_room_code };
 
-    fn record_from_cells(
-        alloc: Global,
-        row: &Row,
-    ) -> Result<Option<(RoomCode, bool)>, OutOfMemory> {
+    fn from_row(alloc: Global, row: &Row) -> Result<Option<(RoomCode, bool)>, OutOfMemory> {
         let Some(code) = text_in(alloc, row, 0)? else {
             return Ok(None);
         };

@@ -14,7 +14,7 @@ use std::alloc::Global;
 // Reads a column as a word: sixteen hexadecimal digits in lower case, as words are printed. Allocates only for sixteen
 // such digits in either case. Fails only if an allocation does.
 fn word_in(alloc: Global, row: &Row, at: usize) -> Result<Option<Word>, OutOfMemory>
-    ensures told { IfOk result (λ found. MatchOption found (¬ IsWord (column row.now at))
+    ensures returned { IfOk result (λ found. MatchOption found (¬ IsWord (column row.now at))
         (λ w. column row.now at ≡ text_value (word_text w))) }
     ensures formed { IfOk result (λ found. IfSome found (λ _. IsWord (column row.now at))) }
     ensures memory { OnErr result (IsHex (column row.now at)) }
@@ -39,7 +39,7 @@ impl Record for (PersonId, Word) {
     ghost use Rattle.office_cells.specs.Columns.{word_columns, two};
     ghost use Rattle.office_cells.specs.Forms.{IsWordRow};
     ghost use Rattle.room_types.specs.Grammars.{is_person_id};
-    ghost use Rattle.office_cells.specs.Taking.{BeginsWith};
+    ghost use Rattle.office_cells.specs.Allocation.{BeginsWith};
 
     ghost is_form = { IsWordRow };
 
@@ -47,12 +47,9 @@ impl Record for (PersonId, Word) {
 
     ghost columns = { word_columns };
 
-    ghost takes = { BeginsWith is_person_id };
+    ghost may_allocate = { BeginsWith is_person_id };
 
-    fn record_from_cells(
-        alloc: Global,
-        row: &Row,
-    ) -> Result<Option<(PersonId, Word)>, OutOfMemory> {
+    fn from_row(alloc: Global, row: &Row) -> Result<Option<(PersonId, Word)>, OutOfMemory> {
         let Some(person) = text_in(alloc, row, 0)? else {
             return Ok(None);
         };

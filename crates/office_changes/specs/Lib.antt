@@ -1,2 +1,2 @@
-pub mod Carries
+pub mod StoresChanges
 pub mod Inner

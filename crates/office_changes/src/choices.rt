@@ -3,10 +3,10 @@ ghost use Rattle.std.specs.Prelude.{◌≡◌, OnOk};
 ghost use Rattle.sqlite.specs.Held.{state};
 ghost use Rattle.office_state.specs.declared.change.Change.TheVariants.{PutChoices};
 ghost use Rattle.office_tables.specs.Steps.{StaysInside};
-ghost use Rattle.office_changes.specs.Carries.{CarriesAlways, Turns};
+ghost use Rattle.office_changes.specs.StoresChanges.{StoresAlways, Turns};
 ghost use Rattle.office_changes.specs.Inner.Choosing.{with_choices};
 
-use crate::cells::know_changed_row_text;
+use crate::lemmas::lemma_text;
 use office_tables::choices::{add_choice, drop_choices};
 use room_types::{Choices, PersonId};
 use sqlite::{Alter, Error, Transaction};
@@ -19,7 +19,7 @@ pub(crate) fn put_choices<S: Alter>(
 ) -> Result<(), Error>
     ensures same_reference { tx.new.conn.ghost_name ≡ tx.old.conn.ghost_name }
     ensures made { OnOk result
-        (CarriesAlways (state S.Store tx.old.conn.now) (state S.Store tx.new.conn.now)
+        (StoresAlways (state S.Store tx.old.conn.now) (state S.Store tx.new.conn.now)
         (PutChoices person.now choices.now)) }
     ensures inside { StaysInside (state S.Store tx.old.conn.now) (state S.Store tx.new.conn.now) }
 {
@@ -39,11 +39,11 @@ fn add_choices<S: Alter>(
         (with_choices person.now 0 choices.now)) }
     ensures inside { StaysInside (state S.Store tx.old.conn.now) (state S.Store tx.new.conn.now) }
 {
-    know_changed_row_text(person);
+    lemma_text(person);
     let rooms = choices.as_slice();
     let mut place = 0;
     for room in rooms {
-        know_changed_row_text(room);
+        lemma_text(room);
         add_choice(tx, person, place, room)?;
         place += 1;
     }

@@ -3,10 +3,10 @@ ghost use Rattle.std.specs.Prelude.{◌≡◌, OnOk};
 ghost use Rattle.sqlite.specs.Held.{state};
 ghost use Rattle.office_state.specs.declared.change.Change.TheVariants.{PutGoing, PutGrade};
 ghost use Rattle.office_tables.specs.Steps.{StaysInside};
-ghost use Rattle.office_changes.specs.Carries.{CarriesAlways, Turns};
+ghost use Rattle.office_changes.specs.StoresChanges.{StoresAlways, Turns};
 ghost use Rattle.office_changes.specs.Inner.Grading.{with_grade_recorded};
 
-use crate::cells::{know_changed_row_grade, know_changed_row_text};
+use crate::lemmas::{lemma_grade, lemma_text};
 use office_tables::going::add_going;
 use office_tables::grades::{add_grade, drop_grade};
 use room_types::{Grade, PersonId};
@@ -20,7 +20,7 @@ pub(crate) fn put_grade<S: Alter>(
 ) -> Result<(), Error>
     ensures same_reference { tx.new.conn.ghost_name ≡ tx.old.conn.ghost_name }
     ensures made { OnOk result
-        (CarriesAlways (state S.Store tx.old.conn.now) (state S.Store tx.new.conn.now)
+        (StoresAlways (state S.Store tx.old.conn.now) (state S.Store tx.new.conn.now)
         (PutGrade person.now grade)) }
     ensures inside { StaysInside (state S.Store tx.old.conn.now) (state S.Store tx.new.conn.now) }
 {
@@ -43,8 +43,8 @@ fn record_grade<S: Alter>(
     if grade.is_first() {
         return Ok(());
     }
-    know_changed_row_text(person);
-    know_changed_row_grade(grade);
+    lemma_text(person);
+    lemma_grade(grade);
     add_grade(tx, person, grade)
 }
 
@@ -55,10 +55,10 @@ pub(crate) fn put_going<S: Alter>(
 ) -> Result<(), Error>
     ensures same_reference { tx.new.conn.ghost_name ≡ tx.old.conn.ghost_name }
     ensures made { OnOk result
-        (CarriesAlways (state S.Store tx.old.conn.now) (state S.Store tx.new.conn.now)
+        (StoresAlways (state S.Store tx.old.conn.now) (state S.Store tx.new.conn.now)
         (PutGoing person.now)) }
     ensures inside { StaysInside (state S.Store tx.old.conn.now) (state S.Store tx.new.conn.now) }
 {
-    know_changed_row_text(person);
+    lemma_text(person);
     add_going(tx, person)
 }

@@ -1,10 +1,10 @@
 //! Storing the changes of an office by statements on its tables, all changes of a command in one transaction.
 #![tactic(auto)]
 
-mod cells;
 mod choices;
 mod grades;
-mod lists;
+mod imports;
+mod lemmas;
 mod people;
 mod results;
 mod rooms;

@@ -3,9 +3,9 @@ ghost use Rattle.std.specs.Prelude.{◌≡◌, OnOk};
 ghost use Rattle.sqlite.specs.Held.{state};
 ghost use Rattle.office_state.specs.declared.change.Change.TheVariants.{PutPerson, DropPerson, PutHome, PutWithdrawn};
 ghost use Rattle.office_tables.specs.Steps.{StaysInside};
-ghost use Rattle.office_changes.specs.Carries.{CarriesAlways};
+ghost use Rattle.office_changes.specs.StoresChanges.{StoresAlways};
 
-use crate::cells::{know_changed_row_optional, know_changed_row_text};
+use crate::lemmas::{lemma_optional_text, lemma_text};
 use office_tables::grades::drop_grade;
 use office_tables::people::{add_person, drop_person, set_home, set_withdrawn};
 use room_types::{Key, Name, PersonId, RoomCode};
@@ -21,14 +21,14 @@ pub(crate) fn put_person<S: Alter>(
 ) -> Result<(), Error>
     ensures same_reference { tx.new.conn.ghost_name ≡ tx.old.conn.ghost_name }
     ensures made { OnOk result
-        (CarriesAlways (state S.Store tx.old.conn.now) (state S.Store tx.new.conn.now)
+        (StoresAlways (state S.Store tx.old.conn.now) (state S.Store tx.new.conn.now)
         (PutPerson person.now name.now key.now home.now)) }
     ensures inside { StaysInside (state S.Store tx.old.conn.now) (state S.Store tx.new.conn.now) }
 {
-    know_changed_row_text(person);
-    know_changed_row_text(name);
-    know_changed_row_text(key);
-    know_changed_row_optional(home);
+    lemma_text(person);
+    lemma_text(name);
+    lemma_text(key);
+    lemma_optional_text(home);
     add_person(tx, person, name, key, home)
 }
 
@@ -39,7 +39,7 @@ pub(crate) fn remove_person<S: Alter>(
 ) -> Result<(), Error>
     ensures same_reference { tx.new.conn.ghost_name ≡ tx.old.conn.ghost_name }
     ensures made { OnOk result
-        (CarriesAlways (state S.Store tx.old.conn.now) (state S.Store tx.new.conn.now)
+        (StoresAlways (state S.Store tx.old.conn.now) (state S.Store tx.new.conn.now)
         (DropPerson person.now)) }
     ensures inside { StaysInside (state S.Store tx.old.conn.now) (state S.Store tx.new.conn.now) }
 {
@@ -55,11 +55,11 @@ pub(crate) fn put_home<S: Alter>(
 ) -> Result<(), Error>
     ensures same_reference { tx.new.conn.ghost_name ≡ tx.old.conn.ghost_name }
     ensures made { OnOk result
-        (CarriesAlways (state S.Store tx.old.conn.now) (state S.Store tx.new.conn.now)
+        (StoresAlways (state S.Store tx.old.conn.now) (state S.Store tx.new.conn.now)
         (PutHome person.now home.now)) }
     ensures inside { StaysInside (state S.Store tx.old.conn.now) (state S.Store tx.new.conn.now) }
 {
-    know_changed_row_optional(home);
+    lemma_optional_text(home);
     set_home(tx, person, home)
 }
 
@@ -70,7 +70,7 @@ pub(crate) fn put_withdrawn<S: Alter>(
 ) -> Result<(), Error>
     ensures same_reference { tx.new.conn.ghost_name ≡ tx.old.conn.ghost_name }
     ensures made { OnOk result
-        (CarriesAlways (state S.Store tx.old.conn.now) (state S.Store tx.new.conn.now)
+        (StoresAlways (state S.Store tx.old.conn.now) (state S.Store tx.new.conn.now)
         (PutWithdrawn person.now)) }
     ensures inside { StaysInside (state S.Store tx.old.conn.now) (state S.Store tx.new.conn.now) }
 {

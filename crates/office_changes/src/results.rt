@@ -3,9 +3,9 @@ ghost use Rattle.std.specs.Prelude.{◌≡◌, OnOk};
 ghost use Rattle.sqlite.specs.Held.{state};
 ghost use Rattle.office_state.specs.declared.change.Change.TheVariants.{PutResult, AddMove};
 ghost use Rattle.office_tables.specs.Steps.{StaysInside};
-ghost use Rattle.office_changes.specs.Carries.{CarriesAlways};
+ghost use Rattle.office_changes.specs.StoresChanges.{StoresAlways};
 
-use crate::cells::{know_changed_row_move, know_changed_row_optional, know_changed_row_text};
+use crate::lemmas::{lemma_move, lemma_optional_text, lemma_text};
 use office_tables::moves::add_move;
 use office_tables::results::add_result;
 use room_types::{Move, PersonId, RoomCode};
@@ -19,12 +19,12 @@ pub(crate) fn put_result<S: Alter>(
 ) -> Result<(), Error>
     ensures same_reference { tx.new.conn.ghost_name ≡ tx.old.conn.ghost_name }
     ensures made { OnOk result
-        (CarriesAlways (state S.Store tx.old.conn.now) (state S.Store tx.new.conn.now)
+        (StoresAlways (state S.Store tx.old.conn.now) (state S.Store tx.new.conn.now)
         (PutResult person.now room.now)) }
     ensures inside { StaysInside (state S.Store tx.old.conn.now) (state S.Store tx.new.conn.now) }
 {
-    know_changed_row_text(person);
-    know_changed_row_optional(room);
+    lemma_text(person);
+    lemma_optional_text(room);
     add_result(tx, person, room)
 }
 
@@ -32,10 +32,10 @@ pub(crate) fn put_result<S: Alter>(
 pub(crate) fn record_move<S: Alter>(tx: &mut Transaction<'_, S>, moved: &Move) -> Result<(), Error>
     ensures same_reference { tx.new.conn.ghost_name ≡ tx.old.conn.ghost_name }
     ensures made { OnOk result
-        (CarriesAlways (state S.Store tx.old.conn.now) (state S.Store tx.new.conn.now)
+        (StoresAlways (state S.Store tx.old.conn.now) (state S.Store tx.new.conn.now)
         (AddMove moved.now)) }
     ensures inside { StaysInside (state S.Store tx.old.conn.now) (state S.Store tx.new.conn.now) }
 {
-    know_changed_row_move(moved);
+    lemma_move(moved);
     add_move(tx, moved)
 }

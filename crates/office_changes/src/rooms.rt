@@ -3,9 +3,9 @@ ghost use Rattle.std.specs.Prelude.{◌≡◌, OnOk};
 ghost use Rattle.sqlite.specs.Held.{state};
 ghost use Rattle.office_state.specs.declared.change.Change.TheVariants.{PutRoom};
 ghost use Rattle.office_tables.specs.Steps.{StaysInside};
-ghost use Rattle.office_changes.specs.Carries.{CarriesOne};
+ghost use Rattle.office_changes.specs.StoresChanges.{StoresChange};
 
-use crate::cells::know_changed_row_text;
+use crate::lemmas::lemma_text;
 use office_state::Office;
 use office_tables::rooms::{add_room, set_shut};
 use room_types::RoomCode;
@@ -21,13 +21,13 @@ pub(crate) fn put_room<S: Alter>(
 ) -> Result<(), Error>
     ensures same_reference { tx.new.conn.ghost_name ≡ tx.old.conn.ghost_name }
     ensures made { OnOk result
-        (CarriesOne first.now (state S.Store tx.old.conn.now) (state S.Store tx.new.conn.now)
+        (StoresChange first.now (state S.Store tx.old.conn.now) (state S.Store tx.new.conn.now)
         (PutRoom room.now shut)) }
     ensures inside { StaysInside (state S.Store tx.old.conn.now) (state S.Store tx.new.conn.now) }
 {
     if first.rooms.contains_key(room) {
         return set_shut(tx, room, shut);
     }
-    know_changed_row_text(room);
+    lemma_text(room);
     add_room(tx, room, shut)
 }

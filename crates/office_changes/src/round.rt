@@ -3,7 +3,7 @@ ghost use Rattle.std.specs.Prelude.{◌≡◌, OnOk};
 ghost use Rattle.sqlite.specs.Held.{state};
 ghost use Rattle.office_state.specs.declared.change.Change.TheVariants.{PutRound, ClearRound};
 ghost use Rattle.office_tables.specs.Steps.{StaysInside};
-ghost use Rattle.office_changes.specs.Carries.{CarriesAlways};
+ghost use Rattle.office_changes.specs.StoresChanges.{StoresAlways};
 
 use office_tables::people::clear_withdrawn;
 use office_tables::round_tables::clear_round_tables;
@@ -19,7 +19,7 @@ pub(crate) fn put_round<S: Alter>(
 ) -> Result<(), Error>
     ensures same_reference { tx.new.conn.ghost_name ≡ tx.old.conn.ghost_name }
     ensures made { OnOk result
-        (CarriesAlways (state S.Store tx.old.conn.now) (state S.Store tx.new.conn.now)
+        (StoresAlways (state S.Store tx.old.conn.now) (state S.Store tx.new.conn.now)
         (PutRound number phase)) }
     ensures inside { StaysInside (state S.Store tx.old.conn.now) (state S.Store tx.new.conn.now) }
 {
@@ -30,7 +30,7 @@ pub(crate) fn put_round<S: Alter>(
 pub(crate) fn clear_round<S: Alter>(tx: &mut Transaction<'_, S>) -> Result<(), Error>
     ensures same_reference { tx.new.conn.ghost_name ≡ tx.old.conn.ghost_name }
     ensures made { OnOk result
-        (CarriesAlways (state S.Store tx.old.conn.now) (state S.Store tx.new.conn.now)
+        (StoresAlways (state S.Store tx.old.conn.now) (state S.Store tx.new.conn.now)
         (ClearRound)) }
     ensures inside { StaysInside (state S.Store tx.old.conn.now) (state S.Store tx.new.conn.now) }
 {

@@ -2,12 +2,12 @@
 ghost use Rattle.std.specs.Prelude.{◌≡◌, false, OnOk, OnErr, IsTrue};
 ghost use Rattle.sqlite.specs.Held.{state};
 ghost use Rattle.sqlite.specs.State.{HasCleanDisk};
-ghost use Rattle.office_tables.specs.Steps.{IsHonest, Follows, StaysInside};
-ghost use Rattle.office_changes.specs.Carries.{CarriesOne, Carries};
+ghost use Rattle.office_tables.specs.Steps.{IsIntact, Follows, StaysInside};
+ghost use Rattle.office_changes.specs.StoresChanges.{StoresChange, StoresChanges};
 
 use crate::choices::put_choices;
 use crate::grades::{put_going, put_grade};
-use crate::lists::keep_list;
+use crate::imports::keep_list;
 use crate::people::{put_home, put_person, put_withdrawn, remove_person};
 use crate::results::{put_result, record_move};
 use crate::rooms::put_room;
@@ -32,23 +32,23 @@ pub fn store_changes<S: Alter>(
     ensures outside { conn.new.in_transaction ≡ false }
     ensures follows { Follows (state S.Store conn.old) (state S.Store conn.new) }
     ensures stored { OnOk result
-        (Carries office.now (state S.Store conn.old) (state S.Store conn.new) changes.now) }
+        (StoresChanges office.now (state S.Store conn.old) (state S.Store conn.new) changes.now) }
     ensures is_open { OnOk result (HasCleanDisk (state S.Store conn.new)
         → IsTrue (state S.Store conn.new).is_open) }
     ensures undone { OnErr result
-        (IsHonest (state S.Store conn.new)
+        (IsIntact (state S.Store conn.new)
         → (state S.Store conn.new).now ≡ (state S.Store conn.old).now) }
 {
     let outside = conn.is_autocommit();
     prove!(outside);
     let mut tx = conn.transaction();
-    make_all(alloc, &mut tx, office, changes)?;
+    apply_changes(alloc, &mut tx, office, changes)?;
     tx.commit()?;
     Ok(())
 }
 
 // Applies the changes in order.
-fn make_all<S: Alter>(
+fn apply_changes<S: Alter>(
     alloc: Global,
     tx: &mut Transaction<'_, S>,
     first: &Office,
@@ -56,18 +56,18 @@ fn make_all<S: Alter>(
 ) -> Result<(), Error>
     ensures same_reference { tx.new.conn.ghost_name ≡ tx.old.conn.ghost_name }
     ensures made { OnOk result
-        (Carries first.now (state S.Store tx.old.conn.now) (state S.Store tx.new.conn.now)
+        (StoresChanges first.now (state S.Store tx.old.conn.now) (state S.Store tx.new.conn.now)
         changes.now) }
     ensures inside { StaysInside (state S.Store tx.old.conn.now) (state S.Store tx.new.conn.now) }
 {
     for change in changes {
-        make_change(alloc, tx, first, change)?;
+        apply_change(alloc, tx, first, change)?;
     }
     Ok(())
 }
 
 // Applies one change.
-fn make_change<S: Alter>(
+fn apply_change<S: Alter>(
     alloc: Global,
     tx: &mut Transaction<'_, S>,
     first: &Office,
@@ -75,7 +75,7 @@ fn make_change<S: Alter>(
 ) -> Result<(), Error>
     ensures same_reference { tx.new.conn.ghost_name ≡ tx.old.conn.ghost_name }
     ensures made { OnOk result
-        (CarriesOne first.now (state S.Store tx.old.conn.now) (state S.Store tx.new.conn.now)
+        (StoresChange first.now (state S.Store tx.old.conn.now) (state S.Store tx.new.conn.now)
         change.now) }
     ensures inside { StaysInside (state S.Store tx.old.conn.now) (state S.Store tx.new.conn.now) }
 {

@@ -3,9 +3,9 @@ ghost use Rattle.std.specs.Prelude.{◌≡◌, OnOk};
 ghost use Rattle.sqlite.specs.Held.{state};
 ghost use Rattle.office_state.specs.declared.change.Change.TheVariants.{PutWord};
 ghost use Rattle.office_tables.specs.Steps.{StaysInside};
-ghost use Rattle.office_changes.specs.Carries.{CarriesAlways};
+ghost use Rattle.office_changes.specs.StoresChanges.{StoresAlways};
 
-use crate::cells::{know_changed_row_text, know_changed_row_word};
+use crate::lemmas::{lemma_text, lemma_word};
 use office_tables::words::add_word;
 use room_types::{PersonId, Word};
 use sqlite::{Alter, Error, Transaction};
@@ -20,11 +20,11 @@ pub(crate) fn put_word<S: Alter>(
 ) -> Result<(), Error>
     ensures same_reference { tx.new.conn.ghost_name ≡ tx.old.conn.ghost_name }
     ensures made { OnOk result
-        (CarriesAlways (state S.Store tx.old.conn.now) (state S.Store tx.new.conn.now)
+        (StoresAlways (state S.Store tx.old.conn.now) (state S.Store tx.new.conn.now)
         (PutWord person.now word)) }
     ensures inside { StaysInside (state S.Store tx.old.conn.now) (state S.Store tx.new.conn.now) }
 {
-    know_changed_row_text(person);
-    know_changed_row_word(word);
+    lemma_text(person);
+    lemma_word(word);
     add_word(alloc, tx, person, word)
 }

@@ -3,7 +3,7 @@
 
 ghost use Rattle.std.specs.Prelude.{◌≡◌, ◌<◌, IfOk, OnErr, drop, length, map, string_bytes};
 
-use office_program::carry_out::{carry_out, refuse_program_line};
+use office_program::carry_out::{carry_out, refuse};
 use office_words::WordFault;
 use room_types::Watched;
 use std::alloc::{AllocError, Global};
@@ -17,9 +17,9 @@ fn main(rt: HostRuntime) -> ExitCode {
     let status = match words_of_main(&rt) {
         Ok(words) => match texts_after_name(rt.alloc(), &words) {
             Ok(texts) => carry_out(&rt, &texts, &mut input, &mut output, &mut error),
-            Err(_) => refuse_program_line(WordFault::OutOfMemory, &mut output, &mut error),
+            Err(_) => refuse(WordFault::OutOfMemory, &mut output, &mut error),
         },
-        Err(fault) => refuse_program_line(fault, &mut output, &mut error),
+        Err(fault) => refuse(fault, &mut output, &mut error),
     };
     ExitCode::from(status)
 }

@@ -1,3 +1,3 @@
 -- Lemmas on refusals.
 pub mod Checks
-pub mod Silent
+pub mod WithoutRecord

@@ -24,15 +24,15 @@ use Rattle.office_core.specs.Query.Round as round
 use Rattle.office_core.specs.Query.WhatIf as what_if
 
 -- the reply to a query, or its refusal
-abbrev pub told : Office → Query → Result Reply Refusal
-told office query.Rooms = rooms.told office
-told office query.People = people.told office
-told office query.Round = round.told office
-told office query.Order = order.told office
-told office query.Results = results.told office
-told office (query.Moves number) = moves.told office number
-told office (query.Me key) = me.told office key
-told office (query.WhatIf person choices) = what_if.told office person choices
+abbrev pub returned : Office → Query → Result Reply Refusal
+returned office query.Rooms = rooms.returned office
+returned office query.People = people.returned office
+returned office query.Round = round.returned office
+returned office query.Order = order.returned office
+returned office query.Results = results.returned office
+returned office (query.Moves number) = moves.returned office number
+returned office (query.Me key) = me.returned office key
+returned office (query.WhatIf person choices) = what_if.returned office person choices
 
 -- if the query is `WhatIf`, the reply shows no gain by another list
 abbrev pub GainsNothing : Office → Query → Reply → Type 0

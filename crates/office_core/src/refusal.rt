@@ -112,7 +112,7 @@ impl Refusal {
 }
 
 /// Returns `UnknownRoom` with a copy of the code, or `OutOfMemory` if it cannot be copied.
-pub(crate) fn refusal_of_unknown_room(room: &RoomCode) -> Refusal
+pub(crate) fn unknown_room_refusal(room: &RoomCode) -> Refusal
     ensures { (result ≡ Refusal.UnknownRoom room.now) ⊎ (result ≡ Refusal.OutOfMemory) }
 {
     match room.copy() {
@@ -122,7 +122,7 @@ pub(crate) fn refusal_of_unknown_room(room: &RoomCode) -> Refusal
 }
 
 /// Returns `RoomShut` with a copy of the code, or `OutOfMemory` if it cannot be copied.
-pub(crate) fn refusal_of_shut_room(room: &RoomCode) -> Refusal
+pub(crate) fn shut_room_refusal(room: &RoomCode) -> Refusal
     ensures { (result ≡ Refusal.RoomShut room.now) ⊎ (result ≡ Refusal.OutOfMemory) }
 {
     match room.copy() {

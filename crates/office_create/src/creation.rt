@@ -6,11 +6,11 @@ ghost use Rattle.office_state.specs.Office.{empty_office};
 ghost use Rattle.office_create.specs.Created.{Starts};
 ghost use Rattle.office_create.specs.Names.{NameIsTaken};
 ghost use Rattle.office_tables.specs.Schema.{no_schema};
-ghost use Rattle.office_tables.specs.Steps.{Follows, IsHonest, StaysInside};
+ghost use Rattle.office_tables.specs.Steps.{Follows, IsIntact, StaysInside};
 ghost use Rattle.office_tables.specs.Tables.{HoldsOffice};
 
-use crate::names::{is_blank_for_creation, is_created_table_blocked};
-use office_tables::making::make_tables_from;
+use crate::names::{declares_nothing, is_taken};
+use office_tables::creating::create_tables_from;
 use office_tables::rounds::add_round;
 use room_types::Phase;
 use sqlite::{Alter, Connection, Error, Transaction};
@@ -41,20 +41,20 @@ pub fn create<S: Alter>(conn: &mut Connection<S>) -> Result<(), CreateFault>
     ensures is_open { OnOk result (HasCleanDisk (state S.Store conn.new)
         → IsTrue (state S.Store conn.new).is_open) }
     ensures blank { OnOk result ((state S.Store conn.old).now.schema ≡ no_schema) }
-    ensures undone { OnErr result (IsHonest (state S.Store conn.new)
+    ensures undone { OnErr result (IsIntact (state S.Store conn.new)
         → (state S.Store conn.new).now ≡ (state S.Store conn.old).now) }
     ensures taken { IfErr result (λ fault. fault ≡ CreateFault.AlreadyThere
         → NameIsTaken (state S.Store conn.old).now) }
-    ensures told { NameIsTaken (state S.Store conn.old).now
+    ensures returned { NameIsTaken (state S.Store conn.old).now
         → (result ≡ Err CreateFault.AlreadyThere) × (conn.new ≡ conn.old) }
     ensures foreign { ¬ NameIsTaken (state S.Store conn.old).now
         → (state S.Store conn.old).now.schema ≢ no_schema
         → (result ≡ Err CreateFault.Unavailable) × (conn.new ≡ conn.old) }
 {
-    if is_created_table_blocked(conn.schema()) {
+    if is_taken(conn.schema()) {
         return Err(CreateFault::AlreadyThere);
     }
-    if !is_blank_for_creation(conn.schema()) {
+    if !declares_nothing(conn.schema()) {
         return Err(CreateFault::Unavailable);
     }
     match start_office(conn) {
@@ -71,7 +71,7 @@ fn start_office<S: Alter>(conn: &mut Connection<S>) -> Result<(), Error>
     ensures made { OnOk result (Starts (state S.Store conn.old) (state S.Store conn.new)) }
     ensures is_open { OnOk result (HasCleanDisk (state S.Store conn.new)
         → IsTrue (state S.Store conn.new).is_open) }
-    ensures undone { OnErr result (IsHonest (state S.Store conn.new)
+    ensures undone { OnErr result (IsIntact (state S.Store conn.new)
         → (state S.Store conn.new).now ≡ (state S.Store conn.old).now) }
 {
     let outside = conn.is_autocommit();
@@ -89,6 +89,6 @@ fn start<S: Alter>(tx: &mut Transaction<'_, S>) -> Result<(), Error>
         (Starts (state S.Store tx.old.conn.now) (state S.Store tx.new.conn.now)) }
     ensures inside { StaysInside (state S.Store tx.old.conn.now) (state S.Store tx.new.conn.now) }
 {
-    make_tables_from(tx, 0)?;
+    create_tables_from(tx, 0)?;
     add_round(tx, 0, Phase::Idle)
 }

@@ -8,7 +8,7 @@ use sqlite_schema::schema::Schema;
 
 /// Whether a table, index, view or trigger has the name of one of an office's tables. A trigger is listed among the
 /// views, and so is a table that the engine does not understand.
-pub(crate) fn is_created_table_blocked(schema: &Schema) -> bool
+pub(crate) fn is_taken(schema: &Schema) -> bool
     ensures { result ≡ is_taken schema.now }
 {
     is_used(schema, b"room")
@@ -24,7 +24,7 @@ pub(crate) fn is_created_table_blocked(schema: &Schema) -> bool
 }
 
 /// Whether nothing is declared.
-pub(crate) fn is_blank_for_creation(schema: &Schema) -> bool
+pub(crate) fn declares_nothing(schema: &Schema) -> bool
     ensures { Decides result (schema.now ≡ no_schema) }
 {
     schema.tables.as_slice().is_empty()

@@ -5,14 +5,14 @@ use Rattle.sqlite.specs.State.{HasCleanDisk}
 use Rattle.sqlite_trees.specs.declared.store.Store.{Ghosts}
 use Rattle.office_state.specs.declared.office.Office.{Office}
 use Rattle.office_file.specs.Access.{FileAccess}
-use Rattle.office_load.specs.Finding.{AreDeclared, AreWhole, IsOfOther, names_round}
-use Rattle.office_load.specs.Front.{IsFront, has_front}
+use Rattle.office_load.specs.Finding.{AreDeclared, AreWhole, HoldsOtherVersion, names_round}
+use Rattle.office_load.specs.FirstTables.{BeginsOffice, begins_office}
 use Rattle.office_load.specs.Layout.{layout_in}
-use Rattle.office_store.specs.Adopting.{IsFaultOf, MayRefuse, StandsInOwnVersion}
+use Rattle.office_store.specs.Adopting.{IsFaultOf, MayRefuse, HasOwnLayout}
 use Rattle.office_store.specs.Desk.{DeskState, Shows}
 use Rattle.office_store.specs.declared.desk.faults.DeskFault.{DeskFault}
 use Rattle.office_store.specs.declared.desk.faults.DeskFault.TheVariants.{NotAnOffice, OtherVersion, Unavailable}
-use Rattle.office_tables.specs.Steps.{Follows, IsHonest}
+use Rattle.office_tables.specs.Steps.{Follows, IsIntact}
 use Rattle.office_tables.specs.Tables.{HoldsOfficeIn}
 use Rattle.office_tables.specs.declared.layouts.Layout.{Layout}
 use Rattle.office_tables.specs.declared.layouts.Layout.TheVariants.{Own}
@@ -28,9 +28,9 @@ module _ {S : Type 0} (g : Ghosts S) where
 
   -- If the connection had its tables in the layout of this program, the desk has the same tables, as long as no fault closes
   -- the connection.
-  abbrev pub StaysFound : Held S → DeskState S → Type 0
-  StaysFound connection desk =
-      layout_in (state g connection).now.schema ≡ Some Own → IsHonest (state g desk.conn)
+  abbrev pub LeavesFound : Held S → DeskState S → Type 0
+  LeavesFound connection desk =
+      layout_in (state g connection).now.schema ≡ Some Own → IsIntact (state g desk.conn)
       → (state g desk.conn).now ≡ (state g connection).now
 
   -- The database of a connection is refused with this fault, and leaves the other connection. The schema allows the fault,
@@ -39,13 +39,13 @@ module _ {S : Type 0} (g : Ghosts S) where
   -- or `Unavailable` (`other`). The tables are unchanged.
   pub record RefusesFound (connection refused : Held S) (fault : DeskFault) : Type 0 where
     pub follows : Follows (state g connection) (state g refused)
-    pub undone : IsHonest (state g refused) → (state g refused).now ≡ (state g connection).now
-    pub unread : has_front (state g connection).now.schema ≡ false → refused ≡ connection
+    pub undone : IsIntact (state g refused) → (state g refused).now ≡ (state g connection).now
+    pub unread : begins_office (state g connection).now.schema ≡ false → refused ≡ connection
     pub absent : names_round (state g connection).now.schema ≡ false → fault ≡ NotAnOffice
     pub allowed : IsFaultOf (state g connection).now.schema fault
     pub cause : HasCleanDisk (state g refused) → AreDeclared (state g connection).now.schema
         → MayRefuse (state g connection).now fault
-    pub other : (version : ℤ) → IsFront (state g connection).now.schema → IsOfOther (state g connection).now version
+    pub other : (version : ℤ) → BeginsOffice (state g connection).now.schema → HoldsOtherVersion (state g connection).now version
         → HasCleanDisk (state g refused) → (fault ≡ Unavailable) ⊎ (fault ≡ OtherVersion version)
 
 module _ {F S : Type 0} (access : FileAccess F S) where
@@ -53,16 +53,16 @@ module _ {F S : Type 0} (access : FileAccess F S) where
   -- caches an office. It shows the office that was found, and leaves tables in the layout of this program unchanged, each under
   -- its own premises (`shows`, `unchanged`). If the row of table `round` holds another version, the disk did not return what
   -- was written (`other`).
-  pub record BeginsFound (files : F) (path : List ℕ) (desk : DeskState S) (files' : F) : Type 0 where
+  pub record OpensFound (files : F) (path : List ℕ) (desk : DeskState S) (files' : F) : Type 0 where
     pub connection : Held S
     pub opened : access.finds files path connection files'
-    pub laid : StandsInOwnVersion (state access.base connection).now.schema
+    pub laid : HasOwnLayout (state access.base connection).now.schema
     pub follows : Follows (state access.base connection) (state access.base desk.conn)
-    pub kept : IsSome desk.kept
+    pub cached : IsSome desk.cached
     pub shows : ShowsFound access.base connection desk
-    pub unchanged : StaysFound access.base connection desk
-    pub other : (version : ℤ) → IsFront (state access.base connection).now.schema
-        → IsOfOther (state access.base connection).now version → ¬ HasCleanDisk (state access.base desk.conn)
+    pub unchanged : LeavesFound access.base connection desk
+    pub other : (version : ℤ) → BeginsOffice (state access.base connection).now.schema
+        → HoldsOtherVersion (state access.base connection).now version → ¬ HasCleanDisk (state access.base desk.conn)
 
   -- The database that was opened is refused, and its connection is closed.
   pub record ClosesFound (files : F) (path : List ℕ) (fault : DeskFault) (files' : F) : Type 0 where

@@ -8,14 +8,14 @@ use Rattle.office_store.specs.Desk.{DeskState}
 use Rattle.office_store.specs.declared.desk.faults.DeskFault.{DeskFault}
 use Rattle.office_store.specs.declared.desk.faults.DeskFault.TheVariants.{AlreadyThere, Unavailable}
 use Rattle.office_tables.specs.Schema.{no_schema}
-use Rattle.office_tables.specs.Steps.{Follows, IsHonest}
+use Rattle.office_tables.specs.Steps.{Follows, IsIntact}
 
 module _ {S : Type 0} (g : Ghosts S) where
   -- The database of a connection is refused with this fault, and leaves the other connection. The fault is `AlreadyThere` if
   -- and only if a name is taken. Then, and if the schema has anything else, no statement ran. The tables are unchanged.
   pub record RefusesNew (connection refused : Held S) (fault : DeskFault) : Type 0 where
     pub follows : Follows (state g connection) (state g refused)
-    pub undone : IsHonest (state g refused) → (state g refused).now ≡ (state g connection).now
+    pub undone : IsIntact (state g refused) → (state g refused).now ≡ (state g connection).now
     pub cause : (fault ≡ Unavailable) ⊎ ((fault ≡ AlreadyThere) × NameIsTaken (state g connection).now)
     pub taken : NameIsTaken (state g connection).now → (fault ≡ AlreadyThere) × (refused ≡ connection)
     pub foreign : ¬ NameIsTaken (state g connection).now → (state g connection).now.schema ≢ no_schema
@@ -23,7 +23,7 @@ module _ {S : Type 0} (g : Ghosts S) where
 
 module _ {F S : Type 0} (access : FileAccess F S) where
   -- The desk uses the database that was opened, whose schema was empty.
-  pub record BeginsBlank (files : F) (path : List ℕ) (desk : DeskState S) (files' : F) : Type 0 where
+  pub record OpensBlank (files : F) (path : List ℕ) (desk : DeskState S) (files' : F) : Type 0 where
     pub connection : Held S
     pub opened : access.opens files path connection files'
     pub blank : (state access.base connection).now.schema ≡ no_schema

@@ -7,16 +7,16 @@ use Rattle.office_state.specs.declared.office.Office.{Office}
 use Rattle.office_file.specs.Access.{FileAccess}
 use Rattle.office_load.specs.Finding.{AreDeclared, AreWhole, names_round}
 use Rattle.office_load.specs.Layout.{layout_in}
-use Rattle.office_load.specs.Front.{IsFront, has_front}
-use Rattle.office_migrate.specs.Causes.{AreSaidRows, SaysVersion, StandsFirst}
-use Rattle.office_migrate.specs.Names.{is_lacking_name_used}
-use Rattle.office_migrate.specs.Versions.{IsEarlierLayout, IsNoEarlier, IsOfVersion}
+use Rattle.office_load.specs.FirstTables.{BeginsOffice, begins_office}
+use Rattle.office_migrate.specs.Causes.{AreRowsAsStated, StatesVersion, HoldsEarlierFirst}
+use Rattle.office_migrate.specs.Names.{uses_missing_name}
+use Rattle.office_migrate.specs.Versions.{IsEarlierLayout, IsNotEarlier, IsOfVersion}
 use Rattle.office_store.specs.Desk.{DeskState, Shows}
 use Rattle.office_store.specs.Migrating.{IsFaultOfMigration, MayNotMigrate, MayReturnFault}
 use Rattle.office_store.specs.declared.desk.faults.DeskFault.{DeskFault}
 use Rattle.office_store.specs.declared.desk.faults.DeskFault.TheVariants.{AlreadyThere, NotAnOffice, OtherVersion, Unavailable}
 use Rattle.office_tables.specs.Layouts.{version_of}
-use Rattle.office_tables.specs.Steps.{Follows, IsHonest}
+use Rattle.office_tables.specs.Steps.{Follows, IsIntact}
 use Rattle.office_tables.specs.Tables.{HoldsOfficeIn}
 use Rattle.office_tables.specs.declared.layouts.Layout.{Layout}
 
@@ -39,19 +39,19 @@ module _ {S : Type 0} (g : Ghosts S) where
   -- version or `Unavailable` (`other`). The tables are unchanged.
   pub record RefusesMigration (connection refused : Held S) (fault : DeskFault) : Type 0 where
     pub follows : Follows (state g connection) (state g refused)
-    pub undone : IsHonest (state g refused) → (state g refused).now ≡ (state g connection).now
-    pub unread : has_front (state g connection).now.schema ≡ false → refused ≡ connection
+    pub undone : IsIntact (state g refused) → (state g refused).now ≡ (state g connection).now
+    pub unread : begins_office (state g connection).now.schema ≡ false → refused ≡ connection
     pub absent : names_round (state g connection).now.schema ≡ false → fault ≡ NotAnOffice
     pub allowed : IsFaultOfMigration (state g connection).now.schema fault
     pub cause : HasCleanDisk (state g refused) → AreDeclared (state g connection).now.schema
         → MayNotMigrate (state g connection).now fault
-    pub returned : HasCleanDisk (state g refused) → IsFront (state g connection).now.schema
+    pub returned : HasCleanDisk (state g refused) → BeginsOffice (state g connection).now.schema
         → MayReturnFault (state g connection).now fault
-    pub taken : (layout : Layout) (office : Office) → StandsFirst layout (state g connection).now office
-        → IsTrue (is_lacking_name_used (version_of layout) (state g connection).now.schema)
+    pub taken : (layout : Layout) (office : Office) → HoldsEarlierFirst layout (state g connection).now office
+        → IsTrue (uses_missing_name (version_of layout) (state g connection).now.schema)
         → HasCleanDisk (state g refused) → (fault ≡ Unavailable) ⊎ (fault ≡ AlreadyThere)
-    pub rows : fault ≡ AlreadyThere → HasCleanDisk (state g refused) → AreSaidRows (state g connection).now
-    pub other : (version : ℤ) → SaysVersion (state g connection).now version → IsNoEarlier version
+    pub rows : fault ≡ AlreadyThere → HasCleanDisk (state g refused) → AreRowsAsStated (state g connection).now
+    pub other : (version : ℤ) → StatesVersion (state g connection).now version → IsNotEarlier version
         → HasCleanDisk (state g refused) → (fault ≡ Unavailable) ⊎ (fault ≡ OtherVersion version)
 
 module _ {F S : Type 0} (access : FileAccess F S) where
@@ -59,17 +59,17 @@ module _ {F S : Type 0} (access : FileAccess F S) where
   -- shows the one that the tables held. The disk did not return what was written if the row of table `round` holds a version
   -- that is not an earlier one (`other`), or if the database begins with an office of an earlier version and the name of a table
   -- that it lacks is taken (`taken`).
-  pub record BeginsMigrated (files : F) (path : List ℕ) (desk : DeskState S) (files' : F) : Type 0 where
+  pub record OpensMigrated (files : F) (path : List ℕ) (desk : DeskState S) (files' : F) : Type 0 where
     pub connection : Held S
     pub opened : access.finds files path connection files'
     pub laid : IsEarlierLayout (layout_in (state access.base connection).now.schema)
     pub follows : Follows (state access.base connection) (state access.base desk.conn)
-    pub kept : IsSome desk.kept
+    pub cached : IsSome desk.cached
     pub shows : ShowsMigrated access.base connection desk
-    pub taken : (layout : Layout) (office : Office) → StandsFirst layout (state access.base connection).now office
-        → IsTrue (is_lacking_name_used (version_of layout) (state access.base connection).now.schema)
+    pub taken : (layout : Layout) (office : Office) → HoldsEarlierFirst layout (state access.base connection).now office
+        → IsTrue (uses_missing_name (version_of layout) (state access.base connection).now.schema)
         → ¬ HasCleanDisk (state access.base desk.conn)
-    pub other : (version : ℤ) → SaysVersion (state access.base connection).now version → IsNoEarlier version
+    pub other : (version : ℤ) → StatesVersion (state access.base connection).now version → IsNotEarlier version
         → ¬ HasCleanDisk (state access.base desk.conn)
 
   -- The database that was opened is refused, and its connection is closed.

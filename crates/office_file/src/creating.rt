@@ -4,7 +4,7 @@ ghost use Rattle.sqlite.specs.Held.{state};
 ghost use Rattle.sqlite.specs.State.{HasCleanDisk};
 ghost use Rattle.office_state.specs.Office.{empty_office};
 ghost use Rattle.office_file.specs.Access.{file_access};
-ghost use Rattle.office_file.specs.Created.{BeginsBlank, IsCreateFault};
+ghost use Rattle.office_file.specs.Created.{OpensBlank, IsCreateFault};
 ghost use Rattle.office_store.specs.Desk.{Shows};
 
 use crate::files::{Closes, Files};
@@ -27,9 +27,9 @@ pub fn create_in<B: Alter, F: Files<B> + Closes<Connection<B>>>(
 ) -> Result<Desk<B>, DeskFault>
     ensures shows { IfOk result (λ desk. HasCleanDisk (state B.Store desk.conn)
         → Shows B.Store desk empty_office) }
-    ensures kept { IfOk result (λ desk. desk.kept ≡ Some empty_office) }
+    ensures cached { IfOk result (λ desk. desk.cached ≡ Some empty_office) }
     ensures blank { let access = file_access B.Store F.opens F.finds F.fails F.closes in
-        IfOk result (λ desk. BeginsBlank access files.old path.now desk files.new) }
+        IfOk result (λ desk. OpensBlank access files.old path.now desk files.new) }
     ensures cause { let access = file_access B.Store F.opens F.finds F.fails F.closes in
         IsCreateFault access files.old path.now result files.new }
 {

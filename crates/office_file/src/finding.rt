@@ -1,6 +1,6 @@
 //! Finds the office that a file holds.
 ghost use Rattle.std.specs.Prelude.{IfOk};
-ghost use Rattle.office_file.specs.Adopted.{BeginsFound, IsFileFault};
+ghost use Rattle.office_file.specs.Adopted.{OpensFound, IsFileFault};
 ghost use Rattle.office_file.specs.Access.{file_access};
 
 use crate::files::{Closes, Files};
@@ -22,7 +22,7 @@ pub fn find_in<B: Alter, F: Files<B> + Closes<Connection<B>>>(
     path: &str,
 ) -> Result<Desk<B>, DeskFault>
     ensures shows { let access = file_access B.Store F.opens F.finds F.fails F.closes in
-        IfOk result (λ desk. BeginsFound access files.old path.now desk files.new) }
+        IfOk result (λ desk. OpensFound access files.old path.now desk files.new) }
     ensures cause { let access = file_access B.Store F.opens F.finds F.fails F.closes in
         IsFileFault access files.old path.now result files.new }
 {

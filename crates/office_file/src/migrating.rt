@@ -1,7 +1,7 @@
 //! Migrates an office of an earlier version in a file.
 ghost use Rattle.std.specs.Prelude.{IfOk};
 ghost use Rattle.office_file.specs.Access.{file_access};
-ghost use Rattle.office_file.specs.Migrated.{BeginsMigrated, IsMigrateFault};
+ghost use Rattle.office_file.specs.Migrated.{OpensMigrated, IsMigrateFault};
 
 use crate::files::{Closes, Files};
 use office_store::{Desk, DeskFault, Unavailable};
@@ -22,7 +22,7 @@ pub fn migrate_in<B: Alter, F: Files<B> + Closes<Connection<B>>>(
     path: &str,
 ) -> Result<Desk<B>, DeskFault>
     ensures shows { let access = file_access B.Store F.opens F.finds F.fails F.closes in
-        IfOk result (λ desk. BeginsMigrated access files.old path.now desk files.new) }
+        IfOk result (λ desk. OpensMigrated access files.old path.now desk files.new) }
     ensures cause { let access = file_access B.Store F.opens F.finds F.fails F.closes in
         IsMigrateFault access files.old path.now result files.new }
 {

@@ -4,9 +4,9 @@ ghost use Rattle.sqlite_wal.specs.Files.{image_at};
 ghost use Rattle.sqlite.specs.Files.{file_state, over_files};
 ghost use Rattle.sqlite.specs.State.{HasCleanDisk};
 ghost use Rattle.office_state.specs.Office.{empty_office};
-ghost use Rattle.office_file.specs.Adopted.{BeginsFound, IsFileFault};
-ghost use Rattle.office_file.specs.Created.{BeginsBlank, IsCreateFault};
-ghost use Rattle.office_file.specs.Migrated.{BeginsMigrated, IsMigrateFault};
+ghost use Rattle.office_file.specs.Adopted.{OpensFound, IsFileFault};
+ghost use Rattle.office_file.specs.Created.{OpensBlank, IsCreateFault};
+ghost use Rattle.office_file.specs.Migrated.{OpensMigrated, IsMigrateFault};
 ghost use Rattle.office_file.specs.System.{system_access};
 ghost use Rattle.office_store.specs.Desk.{Shows};
 
@@ -29,9 +29,9 @@ pub type FileDesk<S> = Desk<FileStore<FileFrom<S>>>;
 pub fn create_file(rt: &HostRuntime, path: &str) -> Result<FileDesk<Wary>, DeskFault>
     ensures shows { IfOk result
         (λ desk. HasCleanDisk (file_state desk.conn) → Shows over_files desk empty_office) }
-    ensures kept { IfOk result (λ desk. desk.kept ≡ Some empty_office) }
+    ensures cached { IfOk result (λ desk. desk.cached ≡ Some empty_office) }
     ensures blank { IfOk result
-        (λ desk. BeginsBlank (system_access (image_at ⟦<Wary as Start>⟧)) tt path.now desk tt) }
+        (λ desk. OpensBlank (system_access (image_at ⟦<Wary as Start>⟧)) tt path.now desk tt) }
     ensures cause { IsCreateFault (system_access (image_at ⟦<Wary as Start>⟧)) tt path.now result tt }
 {
     create_over(rt, path, Wary)
@@ -49,9 +49,9 @@ pub fn create_over<S: Start>(
 ) -> Result<FileDesk<S>, DeskFault>
     ensures shows { IfOk result
         (λ desk. HasCleanDisk (file_state desk.conn) → Shows over_files desk empty_office) }
-    ensures kept { IfOk result (λ desk. desk.kept ≡ Some empty_office) }
+    ensures cached { IfOk result (λ desk. desk.cached ≡ Some empty_office) }
     ensures blank { IfOk result
-        (λ desk. BeginsBlank (system_access (image_at S.Start)) tt path.now desk tt) }
+        (λ desk. OpensBlank (system_access (image_at S.Start)) tt path.now desk tt) }
     ensures cause { IsCreateFault (system_access (image_at S.Start)) tt path.now result tt }
 {
     let mut files = SystemFiles::new(rt, start);
@@ -65,7 +65,7 @@ pub fn create_over<S: Start>(
 /// Those of `find_in`.
 pub fn on_file(rt: &HostRuntime, path: &str) -> Result<FileDesk<Wary>, DeskFault>
     ensures shows { IfOk result
-        (λ desk. BeginsFound (system_access (image_at ⟦<Wary as Start>⟧)) tt path.now desk tt) }
+        (λ desk. OpensFound (system_access (image_at ⟦<Wary as Start>⟧)) tt path.now desk tt) }
     ensures cause { IsFileFault (system_access (image_at ⟦<Wary as Start>⟧)) tt path.now result tt }
 {
     find_over(rt, path, Wary)
@@ -78,7 +78,7 @@ pub fn on_file(rt: &HostRuntime, path: &str) -> Result<FileDesk<Wary>, DeskFault
 /// Those of `find_in`.
 pub fn find_over<S: Start>(rt: &HostRuntime, path: &str, start: S) -> Result<FileDesk<S>, DeskFault>
     ensures shows { IfOk result
-        (λ desk. BeginsFound (system_access (image_at S.Start)) tt path.now desk tt) }
+        (λ desk. OpensFound (system_access (image_at S.Start)) tt path.now desk tt) }
     ensures cause { IsFileFault (system_access (image_at S.Start)) tt path.now result tt }
 {
     let mut files = SystemFiles::new(rt, start);
@@ -93,7 +93,7 @@ pub fn find_over<S: Start>(rt: &HostRuntime, path: &str, start: S) -> Result<Fil
 /// Those of `migrate_in`.
 pub fn migrate_file(rt: &HostRuntime, path: &str) -> Result<FileDesk<Wary>, DeskFault>
     ensures shows { IfOk result
-        (λ desk. BeginsMigrated (system_access (image_at ⟦<Wary as Start>⟧)) tt path.now desk tt) }
+        (λ desk. OpensMigrated (system_access (image_at ⟦<Wary as Start>⟧)) tt path.now desk tt) }
     ensures cause { IsMigrateFault (system_access (image_at ⟦<Wary as Start>⟧)) tt path.now result tt }
 {
     migrate_over(rt, path, Wary)
@@ -110,7 +110,7 @@ pub fn migrate_over<S: Start>(
     start: S,
 ) -> Result<FileDesk<S>, DeskFault>
     ensures shows { IfOk result
-        (λ desk. BeginsMigrated (system_access (image_at S.Start)) tt path.now desk tt) }
+        (λ desk. OpensMigrated (system_access (image_at S.Start)) tt path.now desk tt) }
     ensures cause { IsMigrateFault (system_access (image_at S.Start)) tt path.now result tt }
 {
     let mut files = SystemFiles::new(rt, start);

@@ -1,2 +1,2 @@
-pub mod heard
+pub mod handled
 pub mod rehearsals

@@ -2,5 +2,5 @@ pub mod Inner
 pub mod Lines
 pub mod Rehearsals
 pub mod Runs
-pub mod Saying
+pub mod Printing
 pub mod SingleLines

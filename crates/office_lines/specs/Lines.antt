@@ -11,10 +11,10 @@ abbrev pub parts_of : List ℕ → List (List ℕ)
 parts_of bytes = slice_split is_line_end bytes
 
 -- the initial segment: all elements but the last
-abbrev pub front : {A : Type 0} → List A → List A
-front [] = []
-front (part ∷ []) = []
-front (part ∷ next ∷ more) = part ∷ front (next ∷ more)
+abbrev pub init : {A : Type 0} → List A → List A
+init [] = []
+init (part ∷ []) = []
+init (part ∷ next ∷ more) = part ∷ init (next ∷ more)
 
 -- the last element, or the empty one of an empty list
 abbrev pub last : List (List ℕ) → List ℕ
@@ -24,7 +24,7 @@ last (part ∷ next ∷ more) = last (next ∷ more)
 
 -- the lines that end at a line feed
 abbrev pub ended_lines : List ℕ → List (List ℕ)
-ended_lines bytes = front (parts_of bytes)
+ended_lines bytes = init (parts_of bytes)
 
 -- the bytes after the last line feed
 abbrev pub last_part : List ℕ → List ℕ
@@ -48,8 +48,8 @@ abbrev pub is_short : List ℕ → Bool
 is_short line = nat_le (length line) line_limit
 
 -- the greatest number of bytes that one read asks for
-abbrev pub piece_limit : ℕ
-piece_limit = 4096
+abbrev pub chunk_limit : ℕ
+chunk_limit = 4096
 
 -- the greatest number of reads
 abbrev pub read_limit : ℕ

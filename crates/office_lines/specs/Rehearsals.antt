@@ -6,27 +6,27 @@ use Rattle.std.specs.Io.KnownBytes.{Consumes, IsAtEnd}
 use Rattle.room_types.specs.Watched.{counted}
 use Rattle.office_store.specs.declared.requests.Answer.{Answer}
 use Rattle.office_store.specs.declared.requests.Request.{Request}
-use Rattle.office_texts.specs.declared.said.Said.{Said}
+use Rattle.office_texts.specs.declared.response.Response.{Response}
 use Rattle.office_lines.specs.declared.ending.Ending.{Ending}
 use Rattle.office_lines.specs.declared.ending.Ending.TheVariants.{Ended, ReadFault, WriteFault, NoMemory}
-use Rattle.office_lines.specs.Lines.{is_short, line_limit, piece_limit, read_limit, front, lines_of, ended_lines, last_part}
+use Rattle.office_lines.specs.Lines.{is_short, line_limit, chunk_limit, read_limit, init, lines_of, ended_lines, last_part}
 use Rattle.room_types.specs.Streams.{Input, Output, Puts}
 use Rattle.office_lines.specs.Runs.{Run, texts_of, last_is_made, greatest_status}
 
 -- Which allocation failed, given the bytes handled, their lines, the responses, and the number of bytes written. Either it
 -- was for the text of the last response, which is allocated and not empty, and no byte of that text was written. Or it was
 -- for an unfinished line within the limit, after all responses were written completely.
-abbrev pub WantsMemory : List ℕ → List (List ℕ) → List Said → ℕ → Type 0
-WantsMemory heard lines answers sent =
-    ((sent ≡ length (texts_of (front answers))) × (sent < length (texts_of answers)) × (last_is_made answers ≡ true))
-    ⊎ ((sent ≡ length (texts_of answers)) × (lines ≡ ended_lines heard) × (0 < length (last_part heard)) × (length (last_part heard) ≤ line_limit))
+abbrev pub NeedsMemory : List ℕ → List (List ℕ) → List Response → ℕ → Type 0
+NeedsMemory handled lines answers sent =
+    ((sent ≡ length (texts_of (init answers))) × (sent < length (texts_of answers)) × (last_is_made answers ≡ true))
+    ⊎ ((sent ≡ length (texts_of answers)) × (lines ≡ ended_lines handled) × (0 < length (last_part handled)) × (length (last_part handled) ≤ line_limit))
 
 module _ {H : Type 0} (handles : H → Request → Answer → H → Type 0) where
   -- The whole input was handled: each line got its response in turn, all texts were written, and one flush followed, so no
   -- byte is pending. No read, write or flush failed. There was at most one more read than bytes.
   pub record WholeInput (old new : H) (input input' : Input) (output output' : Output) (status : ℕ) : Type 0 where
     pub bytes : List ℕ
-    pub answers : List Said
+    pub answers : List Response
     pub read : Consumes input.remaining input'.remaining bytes
     pub reads : input'.reads ≤ length bytes + 1
     pub end : IsAtEnd input'.remaining
@@ -45,22 +45,22 @@ module _ {H : Type 0} (handles : H → Request → Answer → H → Type 0) wher
   -- handled. There was at most one more read than bytes. Nothing was flushed, except once if the end of the input was
   -- reached and all texts were written.
   pub record PartOfInput (old new : H) (input input' : Input) (output output' : Output) (sent : ℕ) : Type 0 where
-    pub heard : List ℕ
+    pub handled : List ℕ
     pub ahead : List ℕ
     pub lines : List (List ℕ)
-    pub answers : List Said
-    pub read : Consumes input.remaining input'.remaining (heard ++ ahead)
-    pub reads : input'.reads ≤ length (heard ++ ahead) + 1
-    pub near : length ahead < piece_limit
-    pub cut : (lines ≡ ended_lines heard) ⊎ (IsAtEnd input'.remaining × (ahead ≡ []) × (lines ≡ lines_of heard))
+    pub answers : List Response
+    pub read : Consumes input.remaining input'.remaining (handled ++ ahead)
+    pub reads : input'.reads ≤ length (handled ++ ahead) + 1
+    pub near : length ahead < chunk_limit
+    pub cut : (lines ≡ ended_lines handled) ⊎ (IsAtEnd input'.remaining × (ahead ≡ []) × (lines ≡ lines_of handled))
     pub short : list_all is_short lines ≡ true
     pub run : Run handles old lines answers new
     pub written : Puts output output' (take sent (texts_of answers))
-    pub whole : length (texts_of (front answers)) ≤ sent
+    pub whole : length (texts_of (init answers)) ≤ sent
     pub within : sent ≤ length (texts_of answers)
     pub flushed :
         (output'.flushes ≡ output.flushes)
-        ⊎ (IsAtEnd input'.remaining × (ahead ≡ []) × (lines ≡ lines_of heard) × (sent ≡ length (texts_of answers))
+        ⊎ (IsAtEnd input'.remaining × (ahead ≡ []) × (lines ≡ lines_of handled) × (sent ≡ length (texts_of answers))
         × (output'.flushes ≡ counted output.flushes 1))
 
   -- The lines ended before a fault, none of them too long, got responses, and all their texts were written. Then either
@@ -68,23 +68,23 @@ module _ {H : Type 0} (handles : H → Request → Answer → H → Type 0) wher
   -- read were handled, the unfinished line is within the limit, and a read failed or the number of reads reached
   -- `read_limit`, and so did the number of bytes. There was at most one more read than bytes. Nothing was flushed.
   pub record WholeLines (old new : H) (input input' : Input) (output output' : Output) : Type 0 where
-    pub heard : List ℕ
-    pub unheard : List ℕ
-    pub answers : List Said
-    pub read : Consumes input.remaining input'.remaining (heard ++ unheard)
-    pub reads : input'.reads ≤ length (heard ++ unheard) + 1
-    pub near : length unheard < piece_limit
-    pub short : list_all is_short (ended_lines heard) ≡ true
-    pub run : Run handles old (ended_lines heard) answers new
+    pub handled : List ℕ
+    pub unhandled : List ℕ
+    pub answers : List Response
+    pub read : Consumes input.remaining input'.remaining (handled ++ unhandled)
+    pub reads : input'.reads ≤ length (handled ++ unhandled) + 1
+    pub near : length unhandled < chunk_limit
+    pub short : list_all is_short (ended_lines handled) ≡ true
+    pub run : Run handles old (ended_lines handled) answers new
     pub written : Puts output output' (texts_of answers)
     pub unflushed : output'.flushes ≡ output.flushes
     pub cause :
-        ((length (last_part heard) ≡ line_limit + 1) × (input'.failed ≡ false))
-        ⊎ ((unheard ≡ []) × (length (last_part heard) ≤ line_limit) × ((input'.failed ≡ true)
-        ⊎ ((read_limit ≤ input'.reads) × (read_limit ≤ length heard))))
+        ((length (last_part handled) ≡ line_limit + 1) × (input'.failed ≡ false))
+        ⊎ ((unhandled ≡ []) × (length (last_part handled) ≤ line_limit) × ((input'.failed ≡ true)
+        ⊎ ((read_limit ≤ input'.reads) × (read_limit ≤ length handled))))
 
   -- What a rehearsal did, by its ending. The writer has failed exactly if the ending is `WriteFault`. A read has failed
-  -- only if the ending is `ReadFault`. The ending is `NoMemory` only after one of the allocations of `WantsMemory`.
+  -- only if the ending is `ReadFault`. The ending is `NoMemory` only after one of the allocations of `NeedsMemory`.
   abbrev pub Rehearses : Ending → ℕ → H → H → Input → Input → Output → Output → Type 0
   Rehearses Ended status old new input input' output output' = WholeInput old new input input' output output' status
   Rehearses ReadFault status old new input input' output output' =
@@ -93,4 +93,4 @@ module _ {H : Type 0} (handles : H → Request → Answer → H → Type 0) wher
       (status ≡ 3) × (input'.failed ≡ false) × (output'.failed ≡ true) × PartOfInput old new input input' output output' sent
   Rehearses (NoMemory sent) status old new input input' output output' =
       (status ≡ 3) × (input'.failed ≡ false) × (output'.failed ≡ false)
-      × (part : PartOfInput old new input input' output output' sent) × WantsMemory part.heard part.lines part.answers sent
+      × (part : PartOfInput old new input input' output output' sent) × NeedsMemory part.handled part.lines part.answers sent

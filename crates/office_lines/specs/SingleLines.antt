@@ -3,39 +3,39 @@ use Rattle.std.specs.Prelude.{◌≡◌, ℕ, Bool, ◌<◌, ◌⊎◌, true, fa
 use Rattle.std.specs.List.{list_any}
 use Rattle.office_store.specs.declared.requests.Answer.{Answer}
 use Rattle.office_store.specs.declared.requests.Request.{Request}
-use Rattle.office_texts.specs.declared.said.Said.{Said}
-use Rattle.office_texts.specs.declared.said.Said.TheVariants.{NotUnderstood}
+use Rattle.office_texts.specs.declared.response.Response.{Response}
+use Rattle.office_texts.specs.declared.response.Response.TheVariants.{NotUnderstood}
 use Rattle.office_lines.specs.Lines.{is_line_end, is_short}
 use Rattle.office_lines.specs.Runs.{Step}
-use Rattle.office_lines.specs.Saying.{Says, SaysUnavailable}
-use Rattle.office_texts.specs.Texts.{is_constant, answer_text_status, text_of}
+use Rattle.office_lines.specs.Printing.{Prints, PrintsUnavailable}
+use Rattle.office_texts.specs.Texts.{is_constant, exit_status, text_of}
 use Rattle.office_words.specs.Values.{joined}
 use Rattle.room_types.specs.Streams.{Output}
 use Rattle.room_types.specs.Texts.{Text}
 
 -- The response is printed with its exit status. Or an allocation for its text, which is not empty, fails: then nothing is
 -- written, and the status is 3.
-abbrev pub Tells : Said → ℕ → Output → Output → Type 0
-Tells said status out out' =
-    Says (text_of said) (answer_text_status said) status out out'
-    ⊎ ((status ≡ 3) × (is_constant said ≡ false) × (0 < length (text_of said)) × (out' ≡ out))
+abbrev pub PrintsResponse : Response → ℕ → Output → Output → Type 0
+PrintsResponse response status out out' =
+    Prints (text_of response) (exit_status response) status out out'
+    ⊎ ((status ≡ 3) × (is_constant response ≡ false) × (0 < length (text_of response)) × (out' ≡ out))
 
 -- the text contains a line feed, so it is not one line
-abbrev pub is_broken : Text → Bool
-is_broken text = list_any is_line_end text
+abbrev pub has_newline : Text → Bool
+has_newline text = list_any is_line_end text
 
 module _ {H : Type 0} (handles : H → Request → Answer → H → Type 0) where
   -- The line is handled as in a rehearsal, whether or not its response can be written. A text with a line feed is not
   -- understood. A line that is too long is not handled and gets no response; the status is 3, as in a rehearsal.
   abbrev pub DoesText : H → Text → ℕ → H → Output → Output → Type 0
   DoesText old text status new out out' =
-      ((is_broken text ≡ false) × (is_short text ≡ true) × (said : Said) × Step handles old text said new × Tells said status out out')
-      ⊎ ((is_broken text ≡ true) × (new ≡ old) × Says (text_of NotUnderstood) 2 status out out')
-      ⊎ ((is_broken text ≡ false) × (is_short text ≡ false) × (new ≡ old) × (status ≡ 3) × (out' ≡ out))
+      ((has_newline text ≡ false) × (is_short text ≡ true) × (response : Response) × Step handles old text response new × PrintsResponse response status out out')
+      ⊎ ((has_newline text ≡ true) × (new ≡ old) × Prints (text_of NotUnderstood) 2 status out out')
+      ⊎ ((has_newline text ≡ false) × (is_short text ≡ false) × (new ≡ old) × (status ≡ 3) × (out' ≡ out))
 
   -- The words are joined by single spaces and handled as a line. Or joining runs out of memory, which needs two words or
   -- more; then nothing is handled.
   abbrev pub DoesWords : H → List Text → ℕ → H → Output → Output → Type 0
   DoesWords old words status new out out' =
       DoesText old (joined words) status new out out'
-      ⊎ ((1 < length words) × (new ≡ old) × SaysUnavailable status out out')
+      ⊎ ((1 < length words) × (new ≡ old) × PrintsUnavailable status out out')

@@ -2,14 +2,14 @@
 ghost use Rattle.std.specs.Prelude.{◌≡◌, map};
 ghost use Rattle.room_types.specs.Streams.{output_of};
 ghost use Rattle.room_types.specs.Watched.{IsFresh, StopsAtFailure};
-ghost use Rattle.office_lines.specs.SingleLines.{DoesText, DoesWords, Tells, is_broken};
-ghost use Rattle.office_texts.specs.Texts.{SaidAscends};
+ghost use Rattle.office_lines.specs.SingleLines.{DoesText, DoesWords, PrintsResponse, has_newline};
+ghost use Rattle.office_texts.specs.Texts.{ResponseAscends};
 
-use crate::hearing::hear;
+use crate::handling::handle_line;
 use crate::limits::LINE_LIMIT;
-use crate::say::{say, say_line_unavailable};
+use crate::print::{print, print_unavailable};
 use office_store::Handler;
-use office_texts::{NOT_UNDERSTOOD, Said, UNAVAILABLE, answer_text_status, text_of};
+use office_texts::{NOT_UNDERSTOOD, Response, UNAVAILABLE, exit_status, text_of};
 use room_types::Watched;
 use std::alloc::Global;
 use std::io::Write;
@@ -34,7 +34,7 @@ pub fn do_words<H: Handler, W: Write>(
         [word] => do_line(alloc, handler, word.as_bytes(), output),
         _ => match words.join(alloc, " ") {
             Ok(line) => do_line(alloc, handler, line.as_bytes(), output),
-            Err(_) => say_line_unavailable(output),
+            Err(_) => print_unavailable(output),
         },
     }
 }
@@ -55,33 +55,33 @@ pub fn do_line<H: Handler, W: Write>(
         (output_of W.contents output.old) (output_of W.contents output.new) }
     ensures ready { H.is_ready handler.new }
 {
-    if is_heard_line_broken(line) {
-        return say(output, "not understood\n", NOT_UNDERSTOOD);
+    if has_newline(line) {
+        return print(output, "not understood\n", NOT_UNDERSTOOD);
     }
     if line.len() > LINE_LIMIT {
         return UNAVAILABLE;
     }
-    let said = hear(alloc, handler, line);
-    tell(alloc, &said, output)
+    let response = handle_line(alloc, handler, line);
+    print_response(alloc, &response, output)
 }
 
 // Whether the text contains a line feed.
-fn is_heard_line_broken(text: &[u8]) -> bool
-    ensures { result ≡ is_broken text.now }
+fn has_newline(text: &[u8]) -> bool
+    ensures { result ≡ has_newline text.now }
 {
     text.iter().any(|byte| *byte == b'\n')
 }
 
 /// Writes the response and flushes. Returns its exit status, or 3 if the output or an allocation for the text fails.
-pub fn tell<W: Write>(alloc: Global, said: &Said, output: &mut Watched<W>) -> u8
-    requires ascending { SaidAscends said.now }
+pub fn print_response<W: Write>(alloc: Global, response: &Response, output: &mut Watched<W>) -> u8
+    requires ascending { ResponseAscends response.now }
     requires fresh { IsFresh output.old }
     ensures no_wasted_write { StopsAtFailure output.old output.new }
-    ensures tells { Tells said.now result (output_of W.contents output.old)
+    ensures prints { PrintsResponse response.now result (output_of W.contents output.old)
         (output_of W.contents output.new) }
 {
-    match text_of(alloc, said) {
-        Ok(text) => say(output, text.as_str(), answer_text_status(said)),
+    match text_of(alloc, response) {
+        Ok(text) => print(output, text.as_str(), exit_status(response)),
         Err(_) => UNAVAILABLE,
     }
 }

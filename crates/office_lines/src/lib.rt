@@ -3,11 +3,11 @@
 
 pub mod do_line;
 pub mod ending;
-pub mod hearing;
+pub mod handling;
 pub mod limits;
+pub mod print;
 pub mod rehearse;
-pub mod say;
 mod session;
 
 pub use crate::ending::{Ending, Rehearsed};
-pub use crate::hearing::hear;
+pub use crate::handling::handle_line;

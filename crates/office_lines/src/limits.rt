@@ -4,7 +4,7 @@
 pub const LINE_LIMIT: usize = 65536;
 
 /// The greatest number of bytes that one read asks for.
-pub const PIECE_LIMIT: usize = 4096;
+pub const CHUNK_LIMIT: usize = 4096;
 
 /// The greatest number of reads.
 pub const READ_LIMIT: u32 = 1048576;

@@ -6,10 +6,10 @@ ghost use Rattle.room_types.specs.Watched.{watched_inner, watched_failed, watche
 ghost use Rattle.room_types.specs.Watched.{StopsAtEnd, StopsAtFailure};
 ghost use Rattle.office_lines.specs.Lines.{read_limit};
 ghost use Rattle.office_lines.specs.Rehearsals.{Rehearses};
-ghost use Rattle.office_lines.specs.Inner.Sessions.{Listened, Stopped, OnlyWhereFailed, state};
+ghost use Rattle.office_lines.specs.Inner.Sessions.{InputHandled, Stopped, OnlyWhereFailed, state};
 
 use crate::ending::{Ending, Rehearsed};
-use crate::limits::{PIECE_LIMIT, READ_LIMIT};
+use crate::limits::{CHUNK_LIMIT, READ_LIMIT};
 use crate::session::Session;
 use office_store::Handler;
 use office_texts::UNAVAILABLE;
@@ -39,7 +39,7 @@ pub fn rehearse<H: Handler, R: Read, W: Write>(
     ensures ready { H.is_ready handler.new }
 {
     let mut session = Session::new(alloc);
-    match listen(alloc, handler, input, output, &mut session) {
+    match handle_input(alloc, handler, input, output, &mut session) {
         Ok(()) => match session.finish(alloc, handler, output) {
             Ok(()) => Rehearsed {
                 status: session.status,
@@ -58,7 +58,7 @@ pub fn rehearse<H: Handler, R: Read, W: Write>(
 }
 
 // Handles the input up to its end.
-fn listen<H: Handler, R: Read, W: Write>(
+fn handle_input<H: Handler, R: Read, W: Write>(
     alloc: Global,
     handler: &mut H,
     input: &mut Watched<R>,
@@ -69,11 +69,11 @@ fn listen<H: Handler, R: Read, W: Write>(
     requires sent { session.old.sent ≡ 0 }
     requires reads { watched_reads input.old ≡ 0 }
     ensures end { OnOk result (IsAtEnd (R.remaining (watched_inner input.new))) }
-    ensures heard { OnOk result ((heard : Listened H.handles
+    ensures handled { OnOk result ((handled : InputHandled H.handles
         (state handler.old (output_of W.contents output.old) session.old)
         (state handler.new (output_of W.contents output.new) session.new)
         (R.remaining (watched_inner input.old)) (R.remaining (watched_inner input.new)))
-        × (watched_reads input.new ≤ length heard.bytes + 1)) }
+        × (watched_reads input.new ≤ length handled.bytes + 1)) }
     ensures stopped { IfErr result (λ ending. Stopped H.handles
         (state handler.old (output_of W.contents output.old) session.old) ending
         handler.new (output_of W.contents output.new)
@@ -87,11 +87,11 @@ fn listen<H: Handler, R: Read, W: Write>(
     ensures bound { OnOk result (session.new.sent ≤ 2 ^ 100) }
     ensures ready { H.is_ready handler.new }
 {
-    let mut buffer = [0u8; PIECE_LIMIT];
+    let mut buffer = [0u8; CHUNK_LIMIT];
     'reads: for _ in 0..READ_LIMIT {
         match input.read(&mut buffer) {
             Ok(0) => return Ok(()),
-            Ok(n) => session.take_piece(alloc, handler, output, &buffer[..n])?,
+            Ok(n) => session.take_chunk(alloc, handler, output, &buffer[..n])?,
             Err(_) => return Err(Ending::ReadFault),
         }
     }

@@ -3,10 +3,10 @@ ghost use Rattle.std.specs.Prelude.{◌≤◌, vec_len};
 ghost use Rattle.office_lines.specs.Lines.{line_limit};
 
 use crate::ending::Ending;
-use crate::hearing::hear;
+use crate::handling::handle_line;
 use crate::limits::LINE_LIMIT;
 use office_store::Handler;
-use office_texts::{answer_text_status, text_of};
+use office_texts::{exit_status, text_of};
 use room_types::Watched;
 use room_types::send::send;
 use std::alloc::Global;
@@ -25,7 +25,7 @@ impl Session {
     ghost use Rattle.std.specs.Prelude.{◌≡◌, ◌+◌, ◌*◌, ◌^◌, ◌<◌, OnOk, IfErr, false, length, [], ◌∷◌};
     ghost use Rattle.room_types.specs.Streams.{output_of};
     ghost use Rattle.room_types.specs.Watched.{watched_failed, watched_flushes, watched_pending, counted, StopsAtFailure};
-    ghost use Rattle.office_lines.specs.Inner.Sessions.{Answered, Broken, Finished, Heard, Halted, OnlyWhereFailed, Unfinished, state};
+    ghost use Rattle.office_lines.specs.Inner.Sessions.{Answered, Broken, Finished, Handled, Halted, OnlyWhereFailed, Unfinished, state};
 
     /// A session before any input.
     pub fn new(alloc: Global) -> Self
@@ -61,9 +61,9 @@ impl Session {
         ensures bound { OnOk result (self.new.sent < self.old.sent + 2 ^ 64) }
         ensures ready { H.is_ready handler.new }
     {
-        let said = hear(alloc, handler, &self.partial_line);
-        self.status = self.status.max(answer_text_status(&said));
-        match text_of(alloc, &said) {
+        let response = handle_line(alloc, handler, &self.partial_line);
+        self.status = self.status.max(exit_status(&response));
+        match text_of(alloc, &response) {
             Ok(text) => match send(output, text.as_bytes()) {
                 Ok(()) => {
                     self.sent += text.len() as u128;
@@ -88,7 +88,7 @@ impl Session {
     ) -> Result<(), Ending>
         requires ready { H.is_ready handler.old }
         requires room { self.old.sent + 2 ^ 64 ≤ 2 ^ 127 }
-        ensures heard { OnOk result (Heard H.handles
+        ensures handled { OnOk result (Handled H.handles
             (state handler.old (output_of W.contents output.old) self.old)
             (state handler.new (output_of W.contents output.new) self.new) (byte ∷ [])) }
         ensures halted { IfErr result (λ ending. Halted H.handles
@@ -113,28 +113,28 @@ impl Session {
     }
 
     /// Takes a chunk of input.
-    pub fn take_piece<H: Handler, W: Write>(
+    pub fn take_chunk<H: Handler, W: Write>(
         &mut self,
         alloc: Global,
         handler: &mut H,
         output: &mut Watched<W>,
-        piece: &[u8],
+        chunk: &[u8],
     ) -> Result<(), Ending>
         requires ready { H.is_ready handler.old }
-        requires room { self.old.sent + length piece.now * 2 ^ 64 ≤ 2 ^ 127 }
-        ensures heard { OnOk result (Heard H.handles
+        requires room { self.old.sent + length chunk.now * 2 ^ 64 ≤ 2 ^ 127 }
+        ensures handled { OnOk result (Handled H.handles
             (state handler.old (output_of W.contents output.old) self.old)
-            (state handler.new (output_of W.contents output.new) self.new) piece.now) }
+            (state handler.new (output_of W.contents output.new) self.new) chunk.now) }
         ensures halted { IfErr result (λ ending. Halted H.handles
             (state handler.old (output_of W.contents output.old) self.old) ending
-            handler.new (output_of W.contents output.new) piece.now) }
+            handler.new (output_of W.contents output.new) chunk.now) }
         ensures failed { IfErr result (λ ending.
             OnlyWhereFailed ending (watched_failed output.old) (watched_failed output.new)) }
         ensures no_wasted_write { StopsAtFailure output.old output.new }
-        ensures bound { OnOk result (self.new.sent ≤ self.old.sent + length piece.now * 2 ^ 64) }
+        ensures bound { OnOk result (self.new.sent ≤ self.old.sent + length chunk.now * 2 ^ 64) }
         ensures ready { H.is_ready handler.new }
     {
-        for byte in piece {
+        for byte in chunk {
             self.take_byte(alloc, handler, output, *byte)?;
         }
         Ok(())

@@ -2,4 +2,4 @@
 pub mod Chains
 pub mod Following
 pub mod Leavers
-pub mod Lists
+pub mod MoveDayLists

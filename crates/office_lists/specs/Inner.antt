@@ -1,3 +1,3 @@
 -- Definitions that only inner contracts, invariants and proofs use.
-pub mod Followers
+pub mod Successors
 pub mod RecordFaults

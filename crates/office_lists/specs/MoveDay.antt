@@ -16,13 +16,13 @@ is_swap Swap = true
 is_swap (Nth number) = false
 
 -- the number of a numbered wave, and 0 for a swap
-abbrev pub number_of : Wave → ℕ
-number_of Swap = 0
-number_of (Nth number) = number
+abbrev pub wave_number : Wave → ℕ
+wave_number Swap = 0
+wave_number (Nth number) = number
 
 -- the order of waves: by number, with swaps last
 abbrev pub wave_cmp : Wave → Wave → Ordering
-wave_cmp = then_cmp (on is_swap bool_cmp) (on number_of nat_cmp)
+wave_cmp = then_cmp (on is_swap bool_cmp) (on wave_number nat_cmp)
 
 -- the order of moves: by wave, and by identifier within a wave
 abbrev pub move_cmp : Move → Move → Ordering

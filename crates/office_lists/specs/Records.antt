@@ -81,9 +81,9 @@ data_records [] = []
 data_records (header ∷ rest) = rest
 
 -- no record of the list is bad, and its data records make these entries, in order
-pub record Tells {X : Type 0} (form : ListForm X) (bytes : List ℕ) (entries : List X) : Type 0 where
+pub record ParsesTo {X : Type 0} (form : ListForm X) (bytes : List ℕ) (entries : List X) : Type 0 where
   pub good : list_fault form (records_of bytes) ≡ None
-  pub told : entries ≡ map form.entry (data_records (records_of bytes))
+  pub returned : entries ≡ map form.entry (data_records (records_of bytes))
 
 -- reading the list fails: for its first bad record, or out of memory, which never happens if there are no bytes
 abbrev pub Fails : {X : Type 0} → ListForm X → List ℕ → ListFault → Type 0

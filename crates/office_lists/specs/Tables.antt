@@ -9,12 +9,12 @@ use Rattle.room_types.specs.declared.rows.RoomRow.{RoomRow}
 use Rattle.room_types.specs.declared.rows.PersonRow.{PersonRow}
 
 -- the text, padded with spaces to the width
-abbrev pub left_in : ℕ → Text → Text
-left_in width text = text ++ replicate (width - char_count text) 32
+abbrev pub left_aligned : ℕ → Text → Text
+left_aligned width text = text ++ replicate (width - char_count text) 32
 
 -- a line of a table: each cell but the last padded to its column's width, and two spaces between columns
 abbrev pub line : List ℕ → List Text → Text
-line (width ∷ widths) (cell ∷ cells) = left_in width cell ++ (codes "  " ++ line widths cells)
+line (width ∷ widths) (cell ∷ cells) = left_aligned width cell ++ (codes "  " ++ line widths cells)
 line [] (cell ∷ cells) = cell ++ codes "\n"
 line widths [] = codes "\n"
 

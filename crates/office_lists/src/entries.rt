@@ -6,7 +6,7 @@ ghost use Rattle.office_lists.specs.Records.{ListForm, field_cause, same_fields}
 ghost use Rattle.office_lists.specs.Inner.RecordFaults.{FailsFor};
 
 use crate::fault::RecordFault;
-use crate::fields::{choices, field, grade, has_fields, optional_room, value};
+use crate::fields::{choices, field, grade, optional_room, same_fields, value};
 use csv::{ByteRecord, StringRecord};
 use room_types::{Choices, GradeRow, Key, Name, PersonId, RoomCode};
 use std::alloc::Global;
@@ -39,7 +39,7 @@ pub trait ListEntry: Drop {
 
     /// Parses the fields of a data record.
     fn from_fields(alloc: Global, fields: &StringRecord) -> Result<Self, RecordFault>
-        ensures told { IfOk result (λ entry. entry ≡ form.entry (fields_of fields.now)) }
+        ensures returned { IfOk result (λ entry. entry ≡ form.entry (fields_of fields.now)) }
         ensures good { IfOk result (λ _. field_cause form (fields_of fields.now) ≡ None) }
         ensures fault { IfErr result
             (λ fault. FailsFor (field_cause form (fields_of fields.now)) fault) };
@@ -49,7 +49,7 @@ impl ListEntry for RoomCode {
     ghost form = { room_list };
 
     fn is_header(row: &ByteRecord) -> bool {
-        has_fields(row, &["room"])
+        same_fields(row, &["room"])
     }
 
     fn from_fields(alloc: Global, fields: &StringRecord) -> Result<RoomCode, RecordFault> {
@@ -61,7 +61,7 @@ impl ListEntry for PersonEntry {
     ghost form = { people_list };
 
     fn is_header(row: &ByteRecord) -> bool {
-        has_fields(row, &["person", "name", "key", "home"])
+        same_fields(row, &["person", "name", "key", "home"])
     }
 
     fn from_fields(alloc: Global, fields: &StringRecord) -> Result<PersonEntry, RecordFault> {
@@ -82,7 +82,7 @@ impl ListEntry for ChoicesEntry {
     ghost form = { choices_list };
 
     fn is_header(row: &ByteRecord) -> bool {
-        has_fields(row, &["person", "choices"])
+        same_fields(row, &["person", "choices"])
     }
 
     fn from_fields(alloc: Global, fields: &StringRecord) -> Result<ChoicesEntry, RecordFault> {
@@ -96,7 +96,7 @@ impl ListEntry for GradeRow {
     ghost form = { grades_list };
 
     fn is_header(row: &ByteRecord) -> bool {
-        has_fields(row, &["person", "grade"])
+        same_fields(row, &["person", "grade"])
     }
 
     fn from_fields(alloc: Global, fields: &StringRecord) -> Result<GradeRow, RecordFault> {

@@ -28,7 +28,7 @@ pub enum ExportKind {
 /// # Errors
 ///
 /// `OutOfMemory` if an allocation fails.
-pub fn head_bytes(alloc: Global, kind: ExportKind) -> Result<Vec<u8>, OutOfMemory>
+pub fn header_bytes(alloc: Global, kind: ExportKind) -> Result<Vec<u8>, OutOfMemory>
     ensures { IfOk result (λ bytes. bytes.items ≡ record_bytes (header_of kind)) }
 {
     match kind {
@@ -49,7 +49,7 @@ pub fn room_row_bytes(alloc: Global, row: &RoomRow) -> Result<Vec<u8>, OutOfMemo
 {
     let fields = [
         row.room.as_str(),
-        room_state_text(row),
+        state_text(row),
         field_or_empty(&row.tenant),
     ];
     record_bytes(alloc, &fields)
@@ -165,7 +165,7 @@ pub fn record_bytes(alloc: Global, fields: &[&str]) -> Result<Vec<u8>, OutOfMemo
 }
 
 // Returns the state as it is printed, with the lifetime of the row's other fields.
-fn room_state_text(row: &RoomRow) -> &str
+fn state_text(row: &RoomRow) -> &str
     ensures { result.now ≡ state_text row.now.state }
 {
     row.state.as_str()

@@ -1,6 +1,6 @@
 //! What can be wrong with a list.
 ghost use Rattle.std.specs.Prelude.{◌≡◌};
-ghost use Rattle.office_lists.specs.Inner.RecordFaults.{fault_at};
+ghost use Rattle.office_lists.specs.Inner.RecordFaults.{at_record};
 
 /// What is wrong with a record of a list.
 #[derive(Clone, Copy, Debug, PartialEq, Eq, Drop)]
@@ -39,8 +39,8 @@ pub enum RecordFault {
 
 impl RecordFault {
     /// Returns the error of a list whose record `at` has this fault.
-    pub fn of_record(self, at: u32) -> ListFault
-        ensures { result ≡ fault_at at self }
+    pub fn at_record(self, at: u32) -> ListFault
+        ensures { result ≡ at_record at self }
     {
         match self {
             RecordFault::Bad(cause) => ListFault::Bad { at, cause },

@@ -14,7 +14,7 @@ use room_types::{Choices, Grade, Grammar, RoomCode, Text, TypeFault};
 use std::alloc::{AllocError, Global};
 
 /// Returns whether the fields of a record are exactly these.
-pub fn has_fields(row: &ByteRecord, names: &[&str]) -> bool
+pub fn same_fields(row: &ByteRecord, names: &[&str]) -> bool
     ensures { result ≡ same_fields (map (λ name. name.now) names.now) (fields_of row.now) }
 {
     if row.len() != names.len() {

@@ -3,7 +3,7 @@ ghost use Rattle.std.specs.Prelude.{◌≡◌, ◌<◌, ◌++◌, [], ◌∷◌,
 ghost use Rattle.room_types.specs.Ascending.{ascending};
 ghost use Rattle.room_types.specs.declared.moves.Move.{Move};
 ghost use Rattle.office_lists.specs.Tables.{line};
-ghost use Rattle.office_lists.specs.MoveDay.{is_swap, number_of, move_cmp, wave_text, move_day_table, IsMoveDayList, HaveOneMoveDayList};
+ghost use Rattle.office_lists.specs.MoveDay.{is_swap, wave_number, move_cmp, wave_text, move_day_table, IsMoveDayList, HaveOneMoveDayList};
 
 use crate::tables::or_none;
 use room_types::{Move, OutOfMemory, PersonId, Wave};
@@ -43,20 +43,20 @@ pub fn in_moving_order(alloc: Global, moves: &[Move]) -> Result<Vec<&Move>, OutO
         return Ok(Vec::new(alloc));
     }
     let mut rows: Vec<&Move> = moves.iter().collect(alloc)?;
-    rows.sort_by(|a, b| compare_moves(a, b))?;
+    rows.sort_by(|a, b| move_cmp(a, b))?;
     Ok(rows)
 }
 
-fn compare_moves(a: &Move, b: &Move) -> Ordering
+fn move_cmp(a: &Move, b: &Move) -> Ordering
     ensures { result ≡ move_cmp a.now b.now }
 {
-    turn(a).cmp(&turn(b))
+    sort_key(a).cmp(&sort_key(b))
 }
 
 // Returns the sort key of a move: whether it is a swap, the number of its wave or 0, and the person.
-fn turn(row: &Move) -> (bool, u16, &PersonId)
+fn sort_key(row: &Move) -> (bool, u16, &PersonId)
     ensures swap { result.0 ≡ is_swap row.now.wave }
-    ensures number { result.1 ≡ number_of row.now.wave }
+    ensures number { result.1 ≡ wave_number row.now.wave }
     ensures person { result.2.now ≡ row.now.person }
 {
     match row.wave {
@@ -90,6 +90,6 @@ fn push_move(
 
 /// Theorem: moves have exactly one list for the day of moving, the one that `move_day_table` of `specs/` computes. The
 /// function does nothing.
-pub fn one_move_day_list()
+pub fn one_move_list()
     ensures { (moves : List Move) → HaveOneMoveDayList moves }
 {}

@@ -7,7 +7,7 @@ ghost use Rattle.csv.specs.Records.{fields_of};
 ghost use Rattle.csv.specs.declared.parser.State.TheVariants as st;
 ghost use Rattle.csv.specs.declared.reader.Trim.TheVariants as trim;
 ghost use Rattle.office_lists.specs.Entries.{choices_list, grades_list, people_list, room_list};
-ghost use Rattle.office_lists.specs.Records.{Fails, Tells, cause_of};
+ghost use Rattle.office_lists.specs.Records.{Fails, ParsesTo, cause_of};
 ghost use Rattle.office_lists.specs.Inner.RecordFaults.{FailsFor};
 
 use crate::entries::{ChoicesEntry, ListEntry, PersonEntry};
@@ -37,7 +37,7 @@ const TOO_MANY: ListFault = ListFault::Bad {
 ///
 /// `Bad` with the first bad record, or `OutOfMemory` if an allocation fails, which never happens if `bytes` is empty.
 pub fn read_rooms(alloc: Global, bytes: &[u8]) -> Result<Vec<RoomCode>, ListFault>
-    ensures told { IfOk result (λ rooms. Tells room_list bytes.now rooms.items) }
+    ensures returned { IfOk result (λ rooms. ParsesTo room_list bytes.now rooms.items) }
     ensures fault { IfErr result (λ fault. Fails room_list bytes.now fault) }
 {
     read_list(alloc, bytes)
@@ -49,7 +49,7 @@ pub fn read_rooms(alloc: Global, bytes: &[u8]) -> Result<Vec<RoomCode>, ListFaul
 ///
 /// `Bad` with the first bad record, or `OutOfMemory` if an allocation fails, which never happens if `bytes` is empty.
 pub fn read_people(alloc: Global, bytes: &[u8]) -> Result<Vec<PersonEntry>, ListFault>
-    ensures told { IfOk result (λ people. Tells people_list bytes.now people.items) }
+    ensures returned { IfOk result (λ people. ParsesTo people_list bytes.now people.items) }
     ensures fault { IfErr result (λ fault. Fails people_list bytes.now fault) }
 {
     read_list(alloc, bytes)
@@ -61,7 +61,7 @@ pub fn read_people(alloc: Global, bytes: &[u8]) -> Result<Vec<PersonEntry>, List
 ///
 /// `Bad` with the first bad record, or `OutOfMemory` if an allocation fails, which never happens if `bytes` is empty.
 pub fn read_choices(alloc: Global, bytes: &[u8]) -> Result<Vec<ChoicesEntry>, ListFault>
-    ensures told { IfOk result (λ choices. Tells choices_list bytes.now choices.items) }
+    ensures returned { IfOk result (λ choices. ParsesTo choices_list bytes.now choices.items) }
     ensures fault { IfErr result (λ fault. Fails choices_list bytes.now fault) }
 {
     read_list(alloc, bytes)
@@ -73,7 +73,7 @@ pub fn read_choices(alloc: Global, bytes: &[u8]) -> Result<Vec<ChoicesEntry>, Li
 ///
 /// `Bad` with the first bad record, or `OutOfMemory` if an allocation fails, which never happens if `bytes` is empty.
 pub fn read_grades(alloc: Global, bytes: &[u8]) -> Result<Vec<GradeRow>, ListFault>
-    ensures told { IfOk result (λ grades. Tells grades_list bytes.now grades.items) }
+    ensures returned { IfOk result (λ grades. ParsesTo grades_list bytes.now grades.items) }
     ensures fault { IfErr result (λ fault. Fails grades_list bytes.now fault) }
 {
     read_list(alloc, bytes)
@@ -81,7 +81,7 @@ pub fn read_grades(alloc: Global, bytes: &[u8]) -> Result<Vec<GradeRow>, ListFau
 
 // Reads a list record by record, up to its first bad one.
 fn read_list<E: ListEntry>(alloc: Global, bytes: &[u8]) -> Result<Vec<E>, ListFault>
-    ensures told { IfOk result (λ entries. Tells E.form bytes.now entries.items) }
+    ensures returned { IfOk result (λ entries. ParsesTo E.form bytes.now entries.items) }
     ensures fault { IfErr result (λ fault. Fails E.form bytes.now fault) }
 {
     if bytes.is_empty() {
@@ -93,7 +93,7 @@ fn read_list<E: ListEntry>(alloc: Global, bytes: &[u8]) -> Result<Vec<E>, ListFa
     };
     let header = match header {
         Ok(header) => header,
-        Err(error) => return Err(list_memory_fault(error)),
+        Err(error) => return Err(out_of_memory(error)),
     };
     if !E::is_header(&header) {
         return Err(NO_HEADER);
@@ -103,7 +103,7 @@ fn read_list<E: ListEntry>(alloc: Global, bytes: &[u8]) -> Result<Vec<E>, ListFa
     for row in records {
         let row = match row {
             Ok(row) => row,
-            Err(error) => return Err(list_memory_fault(error)),
+            Err(error) => return Err(out_of_memory(error)),
         };
         if entries.len() >= RECORD_LIMIT {
             return Err(TOO_MANY);
@@ -114,7 +114,7 @@ fn read_list<E: ListEntry>(alloc: Global, bytes: &[u8]) -> Result<Vec<E>, ListFa
                     return Err(ListFault::OutOfMemory);
                 }
             }
-            Err(fault) => return Err(fault.of_record(entries.len() as u32 + 1)),
+            Err(fault) => return Err(fault.at_record(entries.len() as u32 + 1)),
         }
     }
     Ok(entries)
@@ -141,7 +141,7 @@ fn csv_records(alloc: Global, bytes: &[u8]) -> ByteRecordsIntoIter<&[u8]>
 
 // Converts an error that stops a reader over memory: only a failed allocation does. Errors about a single record, such as a
 // number of fields that differs from the one before, do not stop a reader and are excluded.
-fn list_memory_fault(error: csv::Error) -> ListFault
+fn out_of_memory(error: csv::Error) -> ListFault
     requires { stops_reader (error_kind error) ≡ true }
     ensures { result ≡ ListFault.OutOfMemory }
 {
@@ -152,7 +152,7 @@ fn list_memory_fault(error: csv::Error) -> ListFault
 // Parses a data record. The header has `width` fields.
 fn read_record<E: ListEntry>(alloc: Global, row: ByteRecord, width: usize) -> Result<E, RecordFault>
     requires { width ≡ length E.form.header }
-    ensures told { IfOk result (λ entry. entry ≡ E.form.entry (fields_of row)) }
+    ensures returned { IfOk result (λ entry. entry ≡ E.form.entry (fields_of row)) }
     ensures good { IfOk result (λ _. cause_of E.form (fields_of row) ≡ None) }
     ensures fault { IfErr result (λ fault. FailsFor (cause_of E.form (fields_of row)) fault) }
 {

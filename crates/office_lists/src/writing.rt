@@ -7,7 +7,7 @@ ghost use Rattle.office_lists.specs.Exports.{AscendByRound, export, export_bytes
 ghost use Rattle.office_lists.specs.Exports.{grades_export, moves_export, people_export, rooms_export};
 ghost use Rattle.office_lists.specs.Writing.{StopsAfter, has_failed, sent_of};
 
-use crate::exports::{ExportKind, ExportRow, head_bytes};
+use crate::exports::{ExportKind, ExportRow, header_bytes};
 use room_types::send::send;
 use room_types::{GradeRow, Move, PersonRow, RoomRow, Watched};
 use std::alloc::Global;
@@ -35,7 +35,7 @@ pub fn write_rooms<W: Write>(
     requires ascending { AscendsBy (λ row. row.room) rows.now }
     ensures sent { OnOk result (Puts (output_of W.contents output.old)
         (output_of W.contents output.new) (export_bytes (rooms_export rows.now))) }
-    ensures front { IfErr result (λ end. Puts (output_of W.contents output.old)
+    ensures prefix { IfErr result (λ end. Puts (output_of W.contents output.old)
         (output_of W.contents output.new)
         (take (sent_of end) (export_bytes (rooms_export rows.now)))) }
     ensures short { IfErr result (λ end. sent_of end < length (export_bytes (rooms_export rows.now))) }
@@ -62,7 +62,7 @@ pub fn write_people<W: Write>(
     requires ascending { AscendsBy (λ row. row.person) rows.now }
     ensures sent { OnOk result (Puts (output_of W.contents output.old)
         (output_of W.contents output.new) (export_bytes (people_export rows.now))) }
-    ensures front { IfErr result (λ end. Puts (output_of W.contents output.old)
+    ensures prefix { IfErr result (λ end. Puts (output_of W.contents output.old)
         (output_of W.contents output.new)
         (take (sent_of end) (export_bytes (people_export rows.now)))) }
     ensures short { IfErr result
@@ -90,7 +90,7 @@ pub fn write_moves<W: Write>(
     requires ascending { AscendByRound rows.now }
     ensures sent { OnOk result (Puts (output_of W.contents output.old)
         (output_of W.contents output.new) (export_bytes (moves_export rows.now))) }
-    ensures front { IfErr result (λ end. Puts (output_of W.contents output.old)
+    ensures prefix { IfErr result (λ end. Puts (output_of W.contents output.old)
         (output_of W.contents output.new)
         (take (sent_of end) (export_bytes (moves_export rows.now)))) }
     ensures short { IfErr result (λ end. sent_of end < length (export_bytes (moves_export rows.now))) }
@@ -117,7 +117,7 @@ pub fn write_grades<W: Write>(
     requires ascending { AscendsBy (λ row. row.person) rows.now }
     ensures sent { OnOk result (Puts (output_of W.contents output.old)
         (output_of W.contents output.new) (export_bytes (grades_export rows.now))) }
-    ensures front { IfErr result (λ end. Puts (output_of W.contents output.old)
+    ensures prefix { IfErr result (λ end. Puts (output_of W.contents output.old)
         (output_of W.contents output.new)
         (take (sent_of end) (export_bytes (grades_export rows.now)))) }
     ensures short { IfErr result
@@ -141,7 +141,7 @@ fn write_list<R: ExportRow, W: Write>(
 ) -> Result<(), WriteEnd>
     ensures sent { OnOk result (Puts (output_of W.contents output.old)
         (output_of W.contents output.new) (export_bytes (export kind R.fields rows.now))) }
-    ensures front { IfErr result (λ end. Puts (output_of W.contents output.old)
+    ensures prefix { IfErr result (λ end. Puts (output_of W.contents output.old)
         (output_of W.contents output.new)
         (take (sent_of end) (export_bytes (export kind R.fields rows.now)))) }
     ensures short { IfErr result
@@ -153,7 +153,7 @@ fn write_list<R: ExportRow, W: Write>(
     ensures flushes { watched_flushes output.new ≡ watched_flushes output.old }
     ensures stops { StopsAtFailure output.old output.new }
 {
-    let Ok(head) = head_bytes(alloc, kind) else {
+    let Ok(head) = header_bytes(alloc, kind) else {
         return Err(WriteEnd::OutOfMemory { sent: 0 });
     };
     if let Err(part) = send(output, &head) {

@@ -2,6 +2,6 @@
 pub mod Causes
 pub mod Committed
 pub mod First
-pub mod Front
+pub mod FirstTables
 pub mod Taken
 pub mod Tests

@@ -5,16 +5,16 @@ use Rattle.sqlite.specs.Effect.{Database}
 use Rattle.office_state.specs.Office.Invariants.{IsLawful}
 use Rattle.office_state.specs.declared.office.Office.{Office}
 use Rattle.office_rows.specs.Tables.{rows_at}
-use Rattle.office_cells.specs.Spelled.{IsSpelled}
+use Rattle.office_cells.specs.WellFormed.{IsWellFormed}
 use Rattle.office_tables.specs.Layouts.{schema_of, table_count, version_of}
 use Rattle.office_tables.specs.Tables.{AreHeldIn, HoldsOfficeIn}
 use Rattle.office_tables.specs.declared.layouts.Layout.{Layout}
 use Rattle.office_load.specs.Finding.{AreWhole, HoldsVersion, names_round}
-use Rattle.office_load.specs.Front.{Begins, IsFront, has_front}
+use Rattle.office_load.specs.FirstTables.{Begins, BeginsOffice, begins_office}
 use Rattle.office_load.specs.Layout.{layout_in}
 use Rattle.office_migrate.specs.First.{first_layout}
-use Rattle.office_migrate.specs.Names.{is_lacking_name_used}
-use Rattle.office_migrate.specs.Versions.{IsEarlier, IsNoEarlier, IsOfVersion}
+use Rattle.office_migrate.specs.Names.{uses_missing_name}
+use Rattle.office_migrate.specs.Versions.{IsEarlier, IsNotEarlier, IsOfVersion}
 use Rattle.office_migrate.specs.declared.migrating.MigrateFault.{MigrateFault}
 use Rattle.office_migrate.specs.declared.migrating.MigrateFault.TheVariants.{Unavailable, OtherVersion, NotAnOffice, AlreadyThere}
 
@@ -22,18 +22,18 @@ use Rattle.office_migrate.specs.declared.migrating.MigrateFault.TheVariants.{Una
 pub record HoldsEarlier (layout : Layout) (db : Database) (office : Office) : Type 0 where
   pub earlier : IsEarlier (version_of layout)
   pub lawful : IsLawful office
-  pub spelled : IsSpelled (rows_at (version_of layout) office)
+  pub well_formed : IsWellFormed (rows_at (version_of layout) office)
   pub kind : IsOfVersion (version_of layout) office
   pub rows : HoldsOfficeIn layout db office
 
 -- The first tables are those of a layout of an earlier version, whatever follows them, and hold the rows of an office of that
 -- version.
-pub record StandsFirst (layout : Layout) (db : Database) (office : Office) : Type 0 where
+pub record HoldsEarlierFirst (layout : Layout) (db : Database) (office : Office) : Type 0 where
   pub earlier : IsEarlier (version_of layout)
   pub lawful : IsLawful office
-  pub spelled : IsSpelled (rows_at (version_of layout) office)
+  pub well_formed : IsWellFormed (rows_at (version_of layout) office)
   pub kind : IsOfVersion (version_of layout) office
-  pub front : IsFront db.schema
+  pub first_tables : BeginsOffice db.schema
   pub tables : take (table_count layout) db.schema.tables ≡ (schema_of layout).tables
   pub rows : AreHeldIn layout db.trees (rows_at (version_of layout) office)
 
@@ -46,91 +46,91 @@ BeginsAt version schema =
 abbrev pub IsLaid : ℕ → Schema → Type 0
 IsLaid version schema =
     ((layout : Layout) × (schema ≡ schema_of layout))
-    × (is_lacking_name_used version schema ≡ false)
+    × (uses_missing_name version schema ≡ false)
 
 -- By names and trees alone, the schema begins with the tables of a layout of this version. Or it has those of a layout and
 -- nothing else, and nothing has the name of a table that this version lacks.
 abbrev pub HasKnownNames : ℕ → Schema → Type 0
 HasKnownNames version schema =
     IsSome (first_layout version schema)
-    ⊎ (IsSome (layout_in schema) × (is_lacking_name_used version schema ≡ false))
+    ⊎ (IsSome (layout_in schema) × (uses_missing_name version schema ≡ false))
 
 -- If the database begins with the tables of a layout of this version, they are the rows of an office of that version.
 abbrev pub AreEarlierRows : ℕ → Database → Type 0
 AreEarlierRows version db =
     (layout : Layout) → version_of layout ≡ version → Begins layout db.schema → AreWhole layout db.trees
-    → (office : Office) × StandsFirst layout db office
+    → (office : Office) × HoldsEarlierFirst layout db office
 
 -- If the database begins with the tables of a layout of the version in the row of table `round`, they are the rows of an office
 -- of that version.
-abbrev pub AreSaidRows : Database → Type 0
-AreSaidRows db = (version : ℕ) → IsEarlier version → HoldsVersion db (pos version) → AreEarlierRows version db
+abbrev pub AreRowsAsStated : Database → Type 0
+AreRowsAsStated db = (version : ℕ) → IsEarlier version → HoldsVersion db (pos version) → AreEarlierRows version db
 
 -- The first tables are not the rows of an office of this version.
 abbrev pub AreNoEarlierRows : ℕ → Database → Type 0
 AreNoEarlierRows version db =
-    (layout : Layout) → version_of layout ≡ version → (office : Office) → ¬ StandsFirst layout db office
+    (layout : Layout) → version_of layout ≡ version → (office : Office) → ¬ HoldsEarlierFirst layout db office
 
 -- Table `round` is where an office has it, and its row holds this version.
-abbrev pub SaysVersion : Database → ℤ → Type 0
-SaysVersion db version = IsFront db.schema × HoldsVersion db version
+abbrev pub StatesVersion : Database → ℤ → Type 0
+StatesVersion db version = BeginsOffice db.schema × HoldsVersion db version
 
 -- The row of table `round` holds no other version, and the first tables are not the rows of an office of an earlier version. If
 -- the row holds a version, the schema begins with the tables of a layout of that version; or it has those of another layout and
 -- nothing else, and no missing name is taken. An unknown order says nothing about an office.
 pub record HoldsNoEarlier (db : Database) : Type 0 where
-  pub front : IsFront db.schema
-  pub version : (version : ℤ) → IsNoEarlier version → ¬ HoldsVersion db version
+  pub first_tables : BeginsOffice db.schema
+  pub version : (version : ℤ) → IsNotEarlier version → ¬ HoldsVersion db version
   pub known : (version : ℕ) → IsEarlier version → HoldsVersion db (pos version)
       → BeginsAt version db.schema ⊎ IsLaid version db.schema
-  pub none : (layout : Layout) (office : Office) → ¬ StandsFirst layout db office
+  pub none : (layout : Layout) (office : Office) → ¬ HoldsEarlierFirst layout db office
 
 -- The row of table `round` holds an earlier version, the name of a table that it lacks is taken, and the rows are not at fault.
 pub record HasNameTaken (db : Database) : Type 0 where
   pub version : ℕ
   pub earlier : IsEarlier version
-  pub says : SaysVersion db (pos version)
-  pub taken : IsTrue (is_lacking_name_used version db.schema)
+  pub states : StatesVersion db (pos version)
+  pub taken : IsTrue (uses_missing_name version db.schema)
   pub rows : AreEarlierRows version db
 
 -- A database may be refused with this fault only for this cause.
 abbrev pub HasCause : Database → MigrateFault → Type 0
 HasCause db Unavailable = ⊤
-HasCause db (OtherVersion version) = SaysVersion db version × IsNoEarlier version
+HasCause db (OtherVersion version) = StatesVersion db version × IsNotEarlier version
 HasCause db NotAnOffice = (names_round db.schema ≡ false) ⊎ HoldsNoEarlier db
 HasCause db AlreadyThere = HasNameTaken db
 
 -- The row of table `round` holds no other version. If it holds an earlier one, the names show a layout.
 pub record IsReadAsNone (db : Database) : Type 0 where
-  pub version : (version : ℤ) → IsNoEarlier version → ¬ HoldsVersion db version
+  pub version : (version : ℤ) → IsNotEarlier version → ¬ HoldsVersion db version
   pub known : (version : ℕ) → IsEarlier version → HoldsVersion db (pos version)
       → HasKnownNames version db.schema
 
 -- If the first three tables are an office's, whatever follows them, a migration may return this fault only with its cause.
 abbrev pub MayReturn : Database → MigrateFault → Type 0
 MayReturn db Unavailable = ⊤
-MayReturn db (OtherVersion version) = HoldsVersion db version × IsNoEarlier version
+MayReturn db (OtherVersion version) = HoldsVersion db version × IsNotEarlier version
 MayReturn db NotAnOffice = IsReadAsNone db
 MayReturn db AlreadyThere = HasNameTaken db
 
 -- Whatever the disk does, the schema allows this fault.
 abbrev pub IsAllowed : Schema → MigrateFault → Type 0
 IsAllowed schema Unavailable = ⊤
-IsAllowed schema (OtherVersion version) = IsTrue (has_front schema) × IsNoEarlier version
-IsAllowed schema NotAnOffice = (names_round schema ≡ false) ⊎ IsTrue (has_front schema)
+IsAllowed schema (OtherVersion version) = IsTrue (begins_office schema) × IsNotEarlier version
+IsAllowed schema NotAnOffice = (names_round schema ≡ false) ⊎ IsTrue (begins_office schema)
 IsAllowed schema AlreadyThere =
-    IsTrue (has_front schema) × IsTrue (is_lacking_name_used 1 schema)
+    IsTrue (begins_office schema) × IsTrue (uses_missing_name 1 schema)
 
 -- A version that the fault names is not an earlier one. The fault is not `AlreadyThere`.
-abbrev pub IsOfNumber : MigrateFault → Type 0
-IsOfNumber Unavailable = ⊤
-IsOfNumber (OtherVersion version) = IsNoEarlier version
-IsOfNumber NotAnOffice = ⊤
-IsOfNumber AlreadyThere = ⊥
+abbrev pub IsVersionFault : MigrateFault → Type 0
+IsVersionFault Unavailable = ⊤
+IsVersionFault (OtherVersion version) = IsNotEarlier version
+IsVersionFault NotAnOffice = ⊤
+IsVersionFault AlreadyThere = ⊥
 
 -- The fault is not for the version.
-abbrev pub IsOfName : MigrateFault → Type 0
-IsOfName Unavailable = ⊤
-IsOfName (OtherVersion version) = ⊥
-IsOfName NotAnOffice = ⊤
-IsOfName AlreadyThere = ⊤
+abbrev pub IsNameFault : MigrateFault → Type 0
+IsNameFault Unavailable = ⊤
+IsNameFault (OtherVersion version) = ⊥
+IsNameFault NotAnOffice = ⊤
+IsNameFault AlreadyThere = ⊤

@@ -3,7 +3,7 @@ use Rattle.std.specs.Prelude.{ℕ, nat_le, not, Option, Some, None, if◌then◌
 use Rattle.sqlite_schema.specs.declared.schema.Schema.{Schema}
 use Rattle.office_tables.specs.declared.layouts.Layout.{Layout}
 use Rattle.office_tables.specs.declared.layouts.Layout.TheVariants.{DocumentedSecond, DocumentedFirst, EarlierFirst}
-use Rattle.office_load.specs.Front.{begins_with}
+use Rattle.office_load.specs.FirstTables.{begins_with}
 
 -- the layout of this version with whose tables the schema begins, if any
 abbrev pub first_layout : ℕ → Schema → Option Layout

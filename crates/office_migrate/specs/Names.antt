@@ -8,6 +8,6 @@ abbrev pub takes_name : Bool → Bool → ℕ → Bool
 takes_name grade going version = not (nat_le 2 version) && grade || going
 
 -- Something has the name of a table that this version lacks.
-abbrev pub is_lacking_name_used : ℕ → Schema → Bool
-is_lacking_name_used version schema =
+abbrev pub uses_missing_name : ℕ → Schema → Bool
+uses_missing_name version schema =
     takes_name (is_used schema (codes "grade")) (is_used schema (codes "going")) version

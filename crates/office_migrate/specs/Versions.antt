@@ -6,7 +6,7 @@ use Rattle.std.specs.FinMap as map
 use Rattle.room_types.specs.Texts.{Text}
 use Rattle.room_types.specs.declared.kinds.ListKind.TheVariants.{Rooms, People, Choices, Grades}
 use Rattle.office_state.specs.Office.Moves.{moves_of}
-use Rattle.office_state.specs.declared.office.kept_list.KeptList.{KeptList}
+use Rattle.office_state.specs.declared.office.stored_import.StoredImport.{StoredImport}
 use Rattle.office_state.specs.declared.office.moves.Moved.{Moved}
 use Rattle.office_state.specs.declared.office.moves.RoundMoves.{RoundMoves}
 use Rattle.office_state.specs.declared.office.Office.{Office}
@@ -16,7 +16,7 @@ use Rattle.office_tables.specs.declared.layouts.Layout.{Layout}
 -- Nobody has a grade, and no imported list is one of grades.
 pub record LacksGrades (office : Office) : Type 0 where
   pub grades : office.grades ≡ map.empty
-  pub kinds : (label : Text) (kept : KeptList) → map.get office.lists label ≡ Some kept
+  pub kinds : (label : Text) (kept : StoredImport) → map.get office.lists label ≡ Some kept
       → kept.kind ≢ Grades
 
 -- Nobody leaves, and each recorded move goes into a room.
@@ -40,14 +40,14 @@ IsEarlierLayout None = ⊥
 IsEarlierLayout (Some layout) = IsEarlier (version_of layout)
 
 -- The number is no such version.
-abbrev pub IsNoEarlier : ℤ → Type 0
-IsNoEarlier version = (version ≢ pos 1) × (version ≢ pos 2)
+abbrev pub IsNotEarlier : ℤ → Type 0
+IsNotEarlier version = (version ≢ pos 1) × (version ≢ pos 2)
 
 -- ---- the tests
 
 -- whether an imported list is not one of grades
-abbrev pub is_no_grades : KeptList → Bool
-is_no_grades kept = elim kept.kind [
+abbrev pub is_not_grades : StoredImport → Bool
+is_not_grades kept = elim kept.kind [
   | Rooms ↦ true
   | People ↦ true
   | Choices ↦ true

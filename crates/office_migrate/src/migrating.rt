@@ -5,25 +5,25 @@ ghost use Rattle.sqlite.specs.State.{HasCleanDisk};
 ghost use Rattle.office_state.specs.Office.Invariants.{IsLawful};
 ghost use Rattle.office_state.specs.declared.office.Office.{Office as Books};
 ghost use Rattle.office_rows.specs.Tables.{rows_at};
-ghost use Rattle.office_cells.specs.Spelled.{IsSpelled};
+ghost use Rattle.office_cells.specs.WellFormed.{IsWellFormed};
 ghost use Rattle.office_tables.specs.Layouts.{schema_of, version_of};
-ghost use Rattle.office_tables.specs.Steps.{Follows, IsHonest};
+ghost use Rattle.office_tables.specs.Steps.{Follows, IsIntact};
 ghost use Rattle.office_tables.specs.Tables.{HoldsOffice, HoldsOfficeIn};
 ghost use Rattle.office_tables.specs.declared.layouts.Layout.{Layout as AnyLayout};
 ghost use Rattle.office_load.specs.Finding.{AreDeclared, AreWhole, HoldsVersion, names_round};
 ghost use Rattle.office_load.specs.Layout.{layout_in};
 ghost use Rattle.office_load.specs.Reading.{OnlyReads};
-ghost use Rattle.office_migrate.specs.Causes.{HasCause, HoldsEarlier, IsAllowed, IsOfNumber};
-ghost use Rattle.office_migrate.specs.Causes.{AreSaidRows, MayReturn, SaysVersion, StandsFirst};
-ghost use Rattle.office_load.specs.Front.{IsFront, has_front};
-ghost use Rattle.office_migrate.specs.Names.{is_lacking_name_used, takes_name};
-ghost use Rattle.office_migrate.specs.Versions.{IsEarlier, IsEarlierLayout, IsNoEarlier, IsOfVersion};
+ghost use Rattle.office_migrate.specs.Causes.{HasCause, HoldsEarlier, IsAllowed, IsVersionFault};
+ghost use Rattle.office_migrate.specs.Causes.{AreRowsAsStated, MayReturn, StatesVersion, HoldsEarlierFirst};
+ghost use Rattle.office_load.specs.FirstTables.{BeginsOffice, begins_office};
+ghost use Rattle.office_migrate.specs.Names.{uses_missing_name, takes_name};
+ghost use Rattle.office_migrate.specs.Versions.{IsEarlier, IsEarlierLayout, IsNotEarlier, IsOfVersion};
 ghost use Rattle.sqlite_catalog.specs.Change.{is_used};
 
 use crate::renewing::renewed_office;
 use crate::taken::refused_for_name;
-use office_load::front::has_front;
-use office_load::layout::{layout_in, layout_names_round};
+use office_load::first_tables::begins_office;
+use office_load::layout::{layout_in, names_round};
 use office_load::versions::version_held;
 use office_state::Office;
 use office_tables::layouts::Layout;
@@ -70,41 +70,41 @@ pub fn migrate<S: Alter>(alloc: Global, conn: &mut Connection<S>) -> Result<Offi
         → AreWhole layout (state S.Store conn.old).now.trees
         → IsOfVersion (version_of layout) office
         × HoldsOfficeIn layout (state S.Store conn.old).now office
-        × IsSpelled (rows_at (version_of layout) office)
+        × IsWellFormed (rows_at (version_of layout) office)
         × HoldsOffice (state S.Store conn.new).now office) }
-    ensures undone { OnErr result (IsHonest (state S.Store conn.new)
+    ensures undone { OnErr result (IsIntact (state S.Store conn.new)
         → (state S.Store conn.new).now ≡ (state S.Store conn.old).now) }
     ensures cause { IfErr result (λ fault. HasCleanDisk (state S.Store conn.new)
         → AreDeclared (state S.Store conn.old).now.schema
         → HasCause (state S.Store conn.old).now fault) }
     ensures returned { IfErr result (λ fault. HasCleanDisk (state S.Store conn.new)
-        → IsFront (state S.Store conn.old).now.schema
+        → BeginsOffice (state S.Store conn.old).now.schema
         → MayReturn (state S.Store conn.old).now fault) }
     ensures allowed { IfErr result (IsAllowed (state S.Store conn.old).now.schema) }
     ensures absent { names_round (state S.Store conn.old).now.schema ≡ false
         → (result ≡ Err MigrateFault.NotAnOffice) × (conn.new ≡ conn.old) }
-    ensures unread { has_front (state S.Store conn.old).now.schema ≡ false → conn.new ≡ conn.old }
+    ensures unread { begins_office (state S.Store conn.old).now.schema ≡ false → conn.new ≡ conn.old }
     ensures accepts { HasCleanDisk (state S.Store conn.new) → (layout : AnyLayout) → (office : Books)
         → HoldsEarlier layout (state S.Store conn.old).now office
         → MatchResult result
         (λ found. (found ≡ office) × HoldsOffice (state S.Store conn.new).now office)
         (λ fault. fault ≡ MigrateFault.Unavailable) }
     ensures taken { HasCleanDisk (state S.Store conn.new) → (layout : AnyLayout) → (office : Books)
-        → StandsFirst layout (state S.Store conn.old).now office
-        → IsTrue (is_lacking_name_used (version_of layout) (state S.Store conn.old).now.schema)
+        → HoldsEarlierFirst layout (state S.Store conn.old).now office
+        → IsTrue (uses_missing_name (version_of layout) (state S.Store conn.old).now.schema)
         → IsErrAnd result (λ fault.
         (fault ≡ MigrateFault.Unavailable) ⊎ (fault ≡ MigrateFault.AlreadyThere)) }
     ensures rows { result ≡ Err MigrateFault.AlreadyThere → HasCleanDisk (state S.Store conn.new)
-        → AreSaidRows (state S.Store conn.old).now }
+        → AreRowsAsStated (state S.Store conn.old).now }
     ensures other { HasCleanDisk (state S.Store conn.new) → (version : _)
-        → SaysVersion (state S.Store conn.old).now version → IsNoEarlier version
+        → StatesVersion (state S.Store conn.old).now version → IsNotEarlier version
         → IsErrAnd result (λ fault.
         (fault ≡ MigrateFault.Unavailable) ⊎ (fault ≡ MigrateFault.OtherVersion version)) }
 {
-    if !layout_names_round(conn.schema()) {
+    if !names_round(conn.schema()) {
         return Err(MigrateFault::NotAnOffice);
     }
-    if !has_front(conn.schema()) {
+    if !begins_office(conn.schema()) {
         return Err(MigrateFault::Unavailable);
     }
     let declared = Declared::of(conn.schema());
@@ -166,14 +166,14 @@ fn earlier_version<S: Alter>(conn: &mut Connection<S>) -> Result<u16, MigrateFau
         → IsTrue (state S.Store conn.new).is_open) }
     ensures earlier { IfOk result IsEarlier }
     ensures held { IfOk result (λ version. HasCleanDisk (state S.Store conn.new)
-        → IsFront (state S.Store conn.old).now.schema
+        → BeginsOffice (state S.Store conn.old).now.schema
         → HoldsVersion (state S.Store conn.old).now (pos version)) }
     ensures cause { IfErr result (λ fault. HasCleanDisk (state S.Store conn.new)
-        → IsFront (state S.Store conn.old).now.schema
+        → BeginsOffice (state S.Store conn.old).now.schema
         → HasCause (state S.Store conn.old).now fault) }
-    ensures number { IfErr result IsOfNumber }
-    ensures told { HasCleanDisk (state S.Store conn.new)
-        → IsFront (state S.Store conn.old).now.schema → (version : _)
+    ensures number { IfErr result IsVersionFault }
+    ensures returned { HasCleanDisk (state S.Store conn.new)
+        → BeginsOffice (state S.Store conn.old).now.schema → (version : _)
         → HoldsVersion (state S.Store conn.old).now version → MatchResult result
         (λ found. version ≡ pos found)
         (λ fault. (fault ≡ MigrateFault.Unavailable) ⊎ (fault ≡ MigrateFault.OtherVersion version)) }

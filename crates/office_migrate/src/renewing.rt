@@ -6,12 +6,12 @@ ghost use Rattle.sqlite.specs.State.{HasCleanDisk};
 ghost use Rattle.office_state.specs.Office.Invariants.{IsLawful};
 ghost use Rattle.office_state.specs.declared.office.Office.{Office as Books};
 ghost use Rattle.office_rows.specs.Tables.{Tables, own_version, rows_at};
-ghost use Rattle.office_cells.specs.Spelled.{IsSpelled};
+ghost use Rattle.office_cells.specs.WellFormed.{IsWellFormed};
 ghost use Rattle.office_load.specs.Numbers.{IsLaidOut};
 ghost use Rattle.office_tables.specs.Edits.{with_version};
 ghost use Rattle.office_tables.specs.Layouts.{version_of};
-ghost use Rattle.office_tables.specs.Refilling.{Renews};
-ghost use Rattle.office_tables.specs.Steps.{Follows, IsHonest, StaysInside};
+ghost use Rattle.office_tables.specs.Refilling.{Migrates};
+ghost use Rattle.office_tables.specs.Steps.{Follows, IsIntact, StaysInside};
 ghost use Rattle.office_tables.specs.Tables.{HasTables, HasTablesIn, HoldsOffice, HoldsOfficeIn};
 ghost use Rattle.office_migrate.specs.Versions.{IsOfVersion};
 
@@ -20,7 +20,7 @@ use office_load::{held, read_records};
 use office_rows::OfficeRecords;
 use office_state::Office;
 use office_tables::layouts::Layout;
-use office_tables::refilling::renew_tables;
+use office_tables::refilling::migrate_tables;
 use sqlite::{Alter, Connection, Error, ErrorCode, Transaction};
 use std::alloc::Global;
 
@@ -42,16 +42,16 @@ pub fn renewed_office<S: Alter>(
     ensures renewed { IfOk result (λ found. HasCleanDisk (state S.Store conn.new)
         → IsLaidOut layout (state S.Store conn.old).now → IfSome found (λ office.
         HoldsOfficeIn layout (state S.Store conn.old).now office
-        × IsSpelled (rows_at (version_of layout) office)
+        × IsWellFormed (rows_at (version_of layout) office)
         × HoldsOffice (state S.Store conn.new).now office)) }
     ensures found { IfOk result (λ found. HasCleanDisk (state S.Store conn.new) → (office : Books)
-        → IsLawful office → IsSpelled (rows_at (version_of layout) office)
+        → IsLawful office → IsWellFormed (rows_at (version_of layout) office)
         → IsOfVersion (version_of layout) office
         → HoldsOfficeIn layout (state S.Store conn.old).now office
         → (found ≡ Some office) × HoldsOffice (state S.Store conn.new).now office) }
-    ensures none { IfOk result (λ found. found ≡ None → IsHonest (state S.Store conn.new)
+    ensures none { IfOk result (λ found. found ≡ None → IsIntact (state S.Store conn.new)
         → (state S.Store conn.new).now ≡ (state S.Store conn.old).now) }
-    ensures undone { OnErr result (IsHonest (state S.Store conn.new)
+    ensures undone { OnErr result (IsIntact (state S.Store conn.new)
         → (state S.Store conn.new).now ≡ (state S.Store conn.old).now) }
 {
     let Some(office) = held(alloc, conn, layout)? else {
@@ -76,9 +76,9 @@ fn renew_read<S: Alter>(
     ensures is_open { OnOk result (HasCleanDisk (state S.Store conn.new)
         → IsTrue (state S.Store conn.new).is_open) }
     ensures renewed { OnOk result (HasCleanDisk (state S.Store conn.new) → (tables : Tables)
-        → HasTablesIn layout (state S.Store conn.old).now tables → IsSpelled tables
+        → HasTablesIn layout (state S.Store conn.old).now tables → IsWellFormed tables
         → HasTables (state S.Store conn.new).now (with_version own_version tables)) }
-    ensures undone { OnErr result (IsHonest (state S.Store conn.new)
+    ensures undone { OnErr result (IsIntact (state S.Store conn.new)
         → (state S.Store conn.new).now ≡ (state S.Store conn.old).now) }
 {
     let Some(records) = read_records(alloc, conn, layout)? else {
@@ -99,10 +99,10 @@ fn renew<S: Alter>(
     ensures outside { conn.new.in_transaction ≡ false }
     ensures follows { Follows (state S.Store conn.old) (state S.Store conn.new) }
     ensures made { OnOk result
-        (Renews layout records.now (state S.Store conn.old) (state S.Store conn.new)) }
+        (Migrates layout records.now (state S.Store conn.old) (state S.Store conn.new)) }
     ensures is_open { OnOk result (HasCleanDisk (state S.Store conn.new)
         → IsTrue (state S.Store conn.new).is_open) }
-    ensures undone { OnErr result (IsHonest (state S.Store conn.new)
+    ensures undone { OnErr result (IsIntact (state S.Store conn.new)
         → (state S.Store conn.new).now ≡ (state S.Store conn.old).now) }
 {
     let outside = conn.is_autocommit();
@@ -121,9 +121,9 @@ fn renew_rows<S: Alter>(
     records: &OfficeRecords,
 ) -> Result<(), Error>
     ensures same_reference { tx.new.conn.ghost_name ≡ tx.old.conn.ghost_name }
-    ensures made { OnOk result (Renews layout records.now
+    ensures made { OnOk result (Migrates layout records.now
         (state S.Store tx.old.conn.now) (state S.Store tx.new.conn.now)) }
     ensures inside { StaysInside (state S.Store tx.old.conn.now) (state S.Store tx.new.conn.now) }
 {
-    renew_tables(alloc, tx, layout, records)
+    migrate_tables(alloc, tx, layout, records)
 }

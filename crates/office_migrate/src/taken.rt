@@ -7,15 +7,15 @@ ghost use Rattle.office_state.specs.declared.office.Office.{Office as Books};
 ghost use Rattle.office_tables.specs.Layouts.{version_of};
 ghost use Rattle.office_tables.specs.declared.layouts.Layout.{Layout as AnyLayout};
 ghost use Rattle.office_load.specs.Finding.{AreDeclared};
-ghost use Rattle.office_load.specs.Front.{Begins};
+ghost use Rattle.office_load.specs.FirstTables.{Begins};
 ghost use Rattle.office_load.specs.Reading.{OnlyReads};
-ghost use Rattle.office_migrate.specs.Causes.{AreEarlierRows, AreNoEarlierRows, BeginsAt, IsOfName, StandsFirst};
+ghost use Rattle.office_migrate.specs.Causes.{AreEarlierRows, AreNoEarlierRows, BeginsAt, IsNameFault, HoldsEarlierFirst};
 ghost use Rattle.office_migrate.specs.First.{first_layout};
 ghost use Rattle.office_migrate.specs.Versions.{IsEarlier};
 
 use crate::migrating::MigrateFault;
 use crate::versions::is_of_version;
-use office_load::front::begins_with;
+use office_load::first_tables::begins_with;
 use office_load::held;
 use office_tables::layouts::Layout;
 use sqlite::{Alter, Connection};
@@ -34,7 +34,7 @@ pub fn refused_for_name<S: Alter>(
     requires earlier { IsEarlier version }
     ensures outside { conn.new.in_transaction ≡ false }
     ensures reads { OnlyReads (state S.Store conn.old) (state S.Store conn.new) }
-    ensures kind { IsOfName result }
+    ensures kind { IsNameFault result }
     ensures none { result ≡ MigrateFault.NotAnOffice → HasCleanDisk (state S.Store conn.new)
         → AreNoEarlierRows version (state S.Store conn.old).now }
     ensures known { result ≡ MigrateFault.NotAnOffice → AreDeclared (state S.Store conn.old).now.schema
@@ -43,9 +43,9 @@ pub fn refused_for_name<S: Alter>(
         → IsSome (first_layout version (state S.Store conn.old).now.schema) }
     ensures rows { result ≡ MigrateFault.AlreadyThere → HasCleanDisk (state S.Store conn.new)
         → AreEarlierRows version (state S.Store conn.old).now }
-    ensures told { HasCleanDisk (state S.Store conn.new) → (layout : AnyLayout) → (office : Books)
+    ensures returned { HasCleanDisk (state S.Store conn.new) → (layout : AnyLayout) → (office : Books)
         → version_of layout ≡ version
-        → StandsFirst layout (state S.Store conn.old).now office
+        → HoldsEarlierFirst layout (state S.Store conn.old).now office
         → (result ≡ MigrateFault.Unavailable) ⊎ (result ≡ MigrateFault.AlreadyThere) }
 {
     let Some(layout) = first_layout(conn.schema(), version) else {

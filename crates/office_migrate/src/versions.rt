@@ -4,9 +4,9 @@ ghost use Rattle.std.specs.Bool.{Decides};
 ghost use Rattle.std.specs.FinMap as map;
 ghost use Rattle.std.specs.List.{list_all};
 ghost use Rattle.office_migrate.specs.Versions.{IsOfVersion, LacksGrades, LacksLeavers};
-ghost use Rattle.office_migrate.specs.Versions.{do_all_arrive, is_no_grades};
+ghost use Rattle.office_migrate.specs.Versions.{do_all_arrive, is_not_grades};
 
-use office_state::{KeptList, Office, RoundMoves};
+use office_state::{Office, RoundMoves, StoredImport};
 use room_types::ListKind;
 
 /// Returns whether an office of this version may be this one. Grades and lists of them came with version 2, leavers with
@@ -27,17 +27,17 @@ fn lacks_grades(office: &Office) -> bool
     if office.grades.len() != 0 {
         return false;
     }
-    are_no_lists_grades(office)
+    lacks_grade_lists(office)
 }
 
-fn are_no_lists_grades(office: &Office) -> bool
-    ensures { result ≡ list_all (λ e. is_no_grades e.1) (map.entries office.now.lists) }
+fn lacks_grade_lists(office: &Office) -> bool
+    ensures { result ≡ list_all (λ e. is_not_grades e.1) (map.entries office.now.lists) }
 {
-    office.lists.iter().all(|(_, kept)| is_no_grades(kept))
+    office.lists.iter().all(|(_, kept)| is_not_grades(kept))
 }
 
-fn is_no_grades(kept: &KeptList) -> bool
-    ensures { result ≡ is_no_grades kept.now }
+fn is_not_grades(kept: &StoredImport) -> bool
+    ensures { result ≡ is_not_grades kept.now }
 {
     match kept.kind {
         ListKind::Grades => false,
@@ -61,10 +61,10 @@ fn do_all_arrive(office: &Office) -> bool
     office
         .moves
         .iter()
-        .all(|(_, moves)| do_movers_arrive(moves))
+        .all(|(_, moves)| does_round_arrive(moves))
 }
 
-fn do_movers_arrive(moves: &RoundMoves) -> bool
+fn does_round_arrive(moves: &RoundMoves) -> bool
     ensures { result ≡ do_all_arrive moves.now }
 {
     moves.by_person.iter().all(|(_, moved)| moved.to.is_some())

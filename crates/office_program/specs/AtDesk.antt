@@ -4,17 +4,17 @@ use Rattle.sqlite.specs.Held.{state}
 use Rattle.sqlite.specs.State.{HasCleanDisk}
 use Rattle.sqlite_trees.specs.declared.store.Store.{Ghosts}
 use Rattle.office_program.specs.DeskFaults.{RefusesDesk}
-use Rattle.office_program.specs.Shelves.{ImportsPath, Shelf}
+use Rattle.office_program.specs.ListAccess.{ImportsPath, ListAccess}
 use Rattle.office_state.specs.declared.office.Office.{Office}
-use Rattle.office_export.specs.Ending.{PutsCount, PutsFront}
+use Rattle.office_export.specs.Ending.{PutsCount, PutsPrefix}
 use Rattle.office_export.specs.Exports.{exported}
-use Rattle.office_lines.specs.Saying.{Says}
+use Rattle.office_lines.specs.Printing.{Prints}
 use Rattle.office_lines.specs.SingleLines.{DoesWords}
 use Rattle.office_lists.specs.Exports.{export_bytes, header_of}
 use Rattle.office_lists.specs.Records.{Record}
 use Rattle.office_lists.specs.declared.exports.ExportKind.{ExportKind}
 use Rattle.office_load.specs.Reading.{OnlyReads}
-use Rattle.office_store.specs.Desk.{DeskState, HandlesAt, StandsFor}
+use Rattle.office_store.specs.Desk.{DeskState, HandlesAt, Represents}
 use Rattle.office_store.specs.LawfulSteps.{HandlesLawfully}
 use Rattle.office_store.specs.declared.desk.faults.DeskFault.{DeskFault}
 use Rattle.office_tables.specs.Steps.{Follows}
@@ -26,27 +26,27 @@ use Rattle.room_types.specs.Texts.{Text}
 use Rattle.room_types.specs.declared.kinds.ListKind.{ListKind}
 
 -- `ok` is printed if there is a desk, and otherwise why there is none
-abbrev pub TellsMade : {S : Type 0} → Result (DeskState S) DeskFault → ℕ → Output → Output → Type 0
-TellsMade (Ok desk) status out out' = Says (line_of (codes "ok" ∷ [])) 0 status out out'
-TellsMade (Err fault) status out out' = RefusesDesk fault status out out'
+abbrev pub PrintsMade : {S : Type 0} → Result (DeskState S) DeskFault → ℕ → Output → Output → Type 0
+PrintsMade (Ok desk) status out out' = Prints (line_of (codes "ok" ∷ [])) 0 status out out'
+PrintsMade (Err fault) status out out' = RefusesDesk fault status out out'
 
 -- A prefix of these bytes was written. Either the writer's failure flag did not change, or the writer has failed and not all
 -- bytes were written.
 pub record EndsEarly (bytes : List ℕ) (out out' : Output) : Type 0 where
   pub sent : ℕ
-  pub front : PutsFront out out' sent bytes
+  pub prefix : PutsPrefix out out' sent bytes
   pub short : (out'.failed ≡ out.failed) ⊎ ((out'.failed ≡ true) × (sent < length bytes))
 
 -- The export is printed like a text, with status 0. Or it stopped early, no flush followed, and the status is 3.
 abbrev pub SendsExport : List ℕ → ℕ → Output → Output → Type 0
 SendsExport bytes status out out' =
-    Says bytes 0 status out out' ⊎ ((status ≡ 3) × (out'.flushes ≡ out.flushes) × EndsEarly bytes out out')
+    Prints bytes 0 status out out' ⊎ ((status ≡ 3) × (out'.flushes ≡ out.flushes) × EndsEarly bytes out out')
 
 -- Whatever the disk did, a header and records are printed like a text, with status 0. Or some number of bytes was written, no
 -- flush followed, and the status is 3.
 abbrev pub EndsExport : ExportKind → ℕ → Output → Output → Type 0
 EndsExport kind status out out' =
-    ((records : List Record) × Says (export_bytes (header_of kind ∷ records)) 0 status out out')
+    ((records : List Record) × Prints (export_bytes (header_of kind ∷ records)) 0 status out out')
     ⊎ ((status ≡ 3) × (out'.flushes ≡ out.flushes) × (sent : ℕ) × PutsCount out out' sent)
 
 -- This was done at the desk that was found. Or none was found, and the reason is printed.
@@ -59,37 +59,37 @@ DoneAt IsDone (Err fault) (Ok new) status out out' = ⊥
 module _ {S : Type 0} (g : Ghosts S) where
   -- The desk handles the words as a line. If the disk returned what was written to it, the office that the desk represents
   -- handled them, and the desk represents the office after it.
-  pub record HearsWords (old new : DeskState S) (words : List Text) (status : ℕ) (out out' : Output) : Type 0 where
+  pub record HandlesWords (old new : DeskState S) (words : List Text) (status : ℕ) (out out' : Output) : Type 0 where
     pub follows : Follows (state g old.conn) (state g new.conn)
-    pub heard : DoesWords (HandlesAt g) old words status new out out'
-    pub done : HasCleanDisk (state g new.conn) → (office : Office) → StandsFor g old office
-        → (next : Office) × DoesWords HandlesLawfully office words status next out out' × StandsFor g new next
+    pub handled : DoesWords (HandlesAt g) old words status new out out'
+    pub done : HasCleanDisk (state g new.conn) → (office : Office) → Represents g old office
+        → (next : Office) × DoesWords HandlesLawfully office words status next out out' × Represents g new next
 
   -- The desk imports the list at a path. If the disk returned what was written to it, the office that the desk represents
   -- imported it, and the desk represents the office after it.
-  pub record ImportsDesk {L : Type 0} (shelf : Shelf L) (lists : L) (old : DeskState S) (lists' : L) (new : DeskState S) (kind : ListKind) (label path : Text) (status : ℕ) (out out' : Output)
+  pub record ImportsDesk {L : Type 0} (list_access : ListAccess L) (lists : L) (old : DeskState S) (lists' : L) (new : DeskState S) (kind : ListKind) (label path : Text) (status : ℕ) (out out' : Output)
       : Type 0 where
     pub follows : Follows (state g old.conn) (state g new.conn)
-    pub heard : ImportsPath (HandlesAt g) shelf lists old kind label path status lists' new out out'
-    pub done : HasCleanDisk (state g new.conn) → (office : Office) → StandsFor g old office
-        → (next : Office) × ImportsPath HandlesLawfully shelf lists office kind label path status lists' next out out' × StandsFor g new next
+    pub handled : ImportsPath (HandlesAt g) list_access lists old kind label path status lists' new out out'
+    pub done : HasCleanDisk (state g new.conn) → (office : Office) → Represents g old office
+        → (next : Office) × ImportsPath HandlesLawfully list_access lists office kind label path status lists' next out out' × Represents g new next
 
   -- The desk writes the export. If the disk returned what was written to it, it is the export of the office that the desk
   -- represents, and the desk still represents that office.
   pub record ExportsDesk (old new : DeskState S) (kind : ExportKind) (status : ℕ) (out out' : Output) : Type 0 where
     pub reads : OnlyReads (state g old.conn) (state g new.conn)
-    pub told : EndsExport kind status out out'
-    pub done : HasCleanDisk (state g new.conn) → (office : Office) → StandsFor g old office
-        → SendsExport (export_bytes (exported kind office)) status out out' × StandsFor g new office
+    pub written : EndsExport kind status out out'
+    pub done : HasCleanDisk (state g new.conn) → (office : Office) → Represents g old office
+        → SendsExport (export_bytes (exported kind office)) status out out' × Represents g new office
 
   -- the desk that was found handles the words, or the reason why there is none is printed
   abbrev pub DoesAt : Result (DeskState S) DeskFault → Result (DeskState S) DeskFault → List Text → ℕ → Output → Output → Type 0
-  DoesAt found last words status out out' = DoneAt (λ old new. HearsWords old new words status out out') found last status out out'
+  DoesAt found last words status out out' = DoneAt (λ old new. HandlesWords old new words status out out') found last status out out'
 
   -- the desk that was found imports the list at a path, or the reason why there is none is printed
-  abbrev pub ImportsAt : {L : Type 0} → Shelf L → L → Result (DeskState S) DeskFault → L → Result (DeskState S) DeskFault → ListKind → Text → Text → ℕ → Output → Output → Type 0
-  ImportsAt shelf lists found lists' last kind label path status out out' =
-      DoneAt (λ old new. ImportsDesk shelf lists old lists' new kind label path status out out') found last status out out'
+  abbrev pub ImportsAt : {L : Type 0} → ListAccess L → L → Result (DeskState S) DeskFault → L → Result (DeskState S) DeskFault → ListKind → Text → Text → ℕ → Output → Output → Type 0
+  ImportsAt list_access lists found lists' last kind label path status out out' =
+      DoneAt (λ old new. ImportsDesk list_access lists old lists' new kind label path status out out') found last status out out'
 
   -- the desk that was found writes the export, or the reason why there is none is printed
   abbrev pub ExportsAt : Result (DeskState S) DeskFault → Result (DeskState S) DeskFault → ExportKind → ℕ → Output → Output → Type 0

@@ -10,11 +10,11 @@ use Rattle.office_file.specs.Access.{FileAccess}
 use Rattle.office_program.specs.InFile.{DoesInFile, ExportsInFile, ImportsInFile, MakesInFile, MigratesInFile, ServesInFile}
 use Rattle.office_program.specs.Programs.{Line, program_of}
 use Rattle.office_program.specs.Programs.Line.{makes, does, rehearses, prints, imports, exports, serves, migrates}
-use Rattle.office_program.specs.Shelves.{Shelf}
+use Rattle.office_program.specs.ListAccess.{ListAccess}
 use Rattle.office_lines.specs.Rehearsals.{Rehearses}
 use Rattle.resident_server.specs.Network.{Network}
 use Rattle.room_types.specs.Streams.{Input, Output}
-use Rattle.office_lines.specs.Saying.{Says, SaysUnavailable}
+use Rattle.office_lines.specs.Printing.{Prints, PrintsUnavailable}
 use Rattle.office_texts.specs.OutputLines.{line_of}
 use Rattle.office_program.specs.WordLines.{words_text}
 use Rattle.room_types.specs.Texts.{Text}
@@ -22,18 +22,18 @@ use Rattle.room_types.specs.Texts.{Text}
 -- Arguments that are not understood are reported on standard error with status 2, out of memory on standard output with
 -- status 3.
 abbrev pub Refuses : WordFault → ℕ → Output → Output → Output → Output → Type 0
-Refuses NotUnderstood status out out' error error' = Says (line_of (codes "rooms: not understood" ∷ [])) 2 status error error' × (out' ≡ out)
-Refuses OutOfMemory status out out' error error' = SaysUnavailable status out out' × (error' ≡ error)
+Refuses NotUnderstood status out out' error error' = Prints (line_of (codes "rooms: not understood" ∷ [])) 2 status error error' × (out' ≡ out)
+Refuses OutOfMemory status out out' error error' = PrintsUnavailable status out out' × (error' ≡ error)
 
 -- A new desk in memory, which shows the empty office, rehearses the lines of standard input on standard output. Or an
 -- allocation for the desk fails, and no input is read.
 abbrev pub RehearsesAnew : ℕ → Input → Input → Output → Output → Type 0
 RehearsesAnew status input input' out out' =
     ((ending : Ending) × (office : Office) × Rehearses HandlesLawfully ending status empty_office office input input' out out')
-    ⊎ (SaysUnavailable status out out' × (input' ≡ input))
+    ⊎ (PrintsUnavailable status out out' × (input' ≡ input))
 
 -- how office files are opened and closed, lists are opened and closed, and residents connect
-module _ {F S L P : Type 0} (access : FileAccess F S) (shelf : Shelf L) (network : Network P) where
+module _ {F S L P : Type 0} (access : FileAccess F S) (list_access : ListAccess L) (network : Network P) where
   -- The subcommand is carried out; arguments that are none are refused. An office file is opened only for a subcommand that
   -- names one, a list only for `import`, a port only for `serve`.
   abbrev pub DoesLine : Option Line → F → L → P → ℕ → F → L → P → Input → Input → Output → Output → Output → Output → Type 0
@@ -44,10 +44,10 @@ module _ {F S L P : Type 0} (access : FileAccess F S) (shelf : Shelf L) (network
   DoesLine (Some rehearses) files lists ports status files' lists' ports' input input' out out' error error' =
       RehearsesAnew status input input' out out' × (error' ≡ error) × (files' ≡ files) × (lists' ≡ lists) × (ports' ≡ ports)
   DoesLine (Some (prints seed count)) files lists ports status files' lists' ports' input input' out out' error error' =
-      Says (words_text seed count) 0 status out out' × (error' ≡ error) × (input' ≡ input) × (files' ≡ files) × (lists' ≡ lists)
+      Prints (words_text seed count) 0 status out out' × (error' ≡ error) × (input' ≡ input) × (files' ≡ files) × (lists' ≡ lists)
       × (ports' ≡ ports)
   DoesLine (Some (imports path kind label list)) files lists ports status files' lists' ports' input input' out out' error error' =
-      ImportsInFile access shelf files path lists kind label list status files' lists' out out' × (error' ≡ error) × (input' ≡ input)
+      ImportsInFile access list_access files path lists kind label list status files' lists' out out' × (error' ≡ error) × (input' ≡ input)
       × (ports' ≡ ports)
   DoesLine (Some (exports path kind)) files lists ports status files' lists' ports' input input' out out' error error' =
       ExportsInFile access files path kind status files' out out' × (error' ≡ error) × (input' ≡ input) × (lists' ≡ lists)

@@ -2,15 +2,15 @@
 use Rattle.std.specs.Prelude.{◌≡◌, ◌⊎◌, ℕ, List, [], ◌∷◌, Err, codes}
 use Rattle.sqlite.specs.Held.{state}
 use Rattle.sqlite.specs.State.{HasCleanDisk}
-use Rattle.office_program.specs.AtDesk.{ExportsDesk, HearsWords, ImportsDesk}
+use Rattle.office_program.specs.AtDesk.{ExportsDesk, HandlesWords, ImportsDesk}
 use Rattle.office_program.specs.DeskFaults.{RefusesDesk}
-use Rattle.office_program.specs.Shelves.{Shelf}
+use Rattle.office_program.specs.ListAccess.{ListAccess}
 use Rattle.office_state.specs.Office.{empty_office}
-use Rattle.office_file.specs.Adopted.{BeginsFound, IsFileFault}
+use Rattle.office_file.specs.Adopted.{OpensFound, IsFileFault}
 use Rattle.office_file.specs.Access.{FileAccess}
-use Rattle.office_file.specs.Created.{BeginsBlank, IsCreateFault}
-use Rattle.office_file.specs.Migrated.{BeginsMigrated, IsMigrateFault}
-use Rattle.office_lines.specs.Saying.{Says}
+use Rattle.office_file.specs.Created.{OpensBlank, IsCreateFault}
+use Rattle.office_file.specs.Migrated.{OpensMigrated, IsMigrateFault}
+use Rattle.office_lines.specs.Printing.{Prints}
 use Rattle.office_lists.specs.declared.exports.ExportKind.{ExportKind}
 use Rattle.office_store.specs.Desk.{DeskState, Shows}
 use Rattle.office_store.specs.declared.desk.faults.DeskFault.{DeskFault}
@@ -28,9 +28,9 @@ module _ {F S : Type 0} (access : FileAccess F S) where
   pub record MakesNew (files : F) (path : Text) (status : ℕ) (files' : F) (out out' : Output) : Type 0 where
     pub desk : DeskState S
     pub between : F
-    pub begins : BeginsBlank access files path desk between
+    pub begins : OpensBlank access files path desk between
     pub shows : HasCleanDisk (state access.base desk.conn) → Shows access.base desk empty_office
-    pub says : Says (line_of (codes "ok" ∷ [])) 0 status out out'
+    pub prints : Prints (line_of (codes "ok" ∷ [])) 0 status out out'
     pub closed : access.closes between desk.conn files'
 
   -- an empty office is made, or the reason why there is none is printed
@@ -44,8 +44,8 @@ module _ {F S : Type 0} (access : FileAccess F S) where
   pub record MigratesOffice (files : F) (path : Text) (status : ℕ) (files' : F) (out out' : Output) : Type 0 where
     pub desk : DeskState S
     pub between : F
-    pub begins : BeginsMigrated access files path desk between
-    pub says : Says (line_of (codes "ok" ∷ [])) 0 status out out'
+    pub begins : OpensMigrated access files path desk between
+    pub prints : Prints (line_of (codes "ok" ∷ [])) 0 status out out'
     pub closed : access.closes between desk.conn files'
 
   -- the tables are migrated to this program's version, or the reason why not is printed
@@ -60,7 +60,7 @@ module _ {F S : Type 0} (access : FileAccess F S) where
     pub desk : DeskState S
     pub between : F
     pub last : DeskState S
-    pub begins : BeginsFound access files path desk between
+    pub begins : OpensFound access files path desk between
     pub done : IsDone desk last
     pub closed : access.closes between last.conn files'
 
@@ -72,12 +72,12 @@ module _ {F S : Type 0} (access : FileAccess F S) where
   -- the office in the file handles the words as a line, or the reason why there is none is printed
   abbrev pub DoesInFile : F → Text → List Text → ℕ → F → Output → Output → Type 0
   DoesInFile files path words status files' out out' =
-      DoneInFile (λ desk last. HearsWords access.base desk last words status out out') files path status files' out out'
+      DoneInFile (λ desk last. HandlesWords access.base desk last words status out out') files path status files' out out'
 
   -- The office in the file imports the list at a path. Or the reason why there is none is printed, and no list is opened.
-  abbrev pub ImportsInFile : {L : Type 0} → Shelf L → F → Text → L → ListKind → Text → Text → ℕ → F → L → Output → Output → Type 0
-  ImportsInFile shelf files path lists kind label list status files' lists' out out' =
-      AtFound (λ desk last. ImportsDesk access.base shelf lists desk lists' last kind label list status out out') files path files'
+  abbrev pub ImportsInFile : {L : Type 0} → ListAccess L → F → Text → L → ListKind → Text → Text → ℕ → F → L → Output → Output → Type 0
+  ImportsInFile list_access files path lists kind label list status files' lists' out out' =
+      AtFound (λ desk last. ImportsDesk access.base list_access lists desk lists' last kind label list status out out') files path files'
       ⊎ ((fault : DeskFault) × IsFileFault access files path (Err fault) files' × RefusesDesk fault status out out' × (lists' ≡ lists))
 
   -- the office in the file is exported, or the reason why there is none is printed

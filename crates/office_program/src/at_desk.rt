@@ -3,15 +3,15 @@ ghost use Rattle.std.specs.Prelude.{◌≡◌, map, IsErr};
 ghost use Rattle.room_types.specs.Streams.{output_of};
 ghost use Rattle.room_types.specs.Watched.{IsFresh, StopsAtFailure};
 ghost use Rattle.office_program.specs.AtDesk.{DoesAt, ExportsAt, ExportsDesk, ImportsAt, ImportsDesk, ServesAt};
-ghost use Rattle.office_program.specs.AtDesk.{TellsMade};
-ghost use Rattle.office_program.specs.Shelves.{shelf_of};
+ghost use Rattle.office_program.specs.AtDesk.{PrintsMade};
+ghost use Rattle.office_program.specs.ListAccess.{list_access_of};
 ghost use Rattle.resident_server.specs.Network.{network_of};
 
 use crate::desk_faults::refuse_desk;
 use crate::importing::import_list;
 use crate::lists::Lists;
 use office_lines::do_line::do_words;
-use office_lines::say::{say, say_line_unavailable};
+use office_lines::print::{print, print_unavailable};
 use office_lists::ExportKind;
 use office_store::{Desk, DeskFault, Unavailable};
 use office_texts::{ACCEPTED, UNAVAILABLE};
@@ -23,18 +23,18 @@ use std::io::Write;
 
 /// Prints `ok` if there is a desk over an office that was made or migrated, and otherwise why there is none. Returns the
 /// exit status.
-pub fn say_made<S: Alter, W: Write>(
+pub fn print_made<S: Alter, W: Write>(
     alloc: Global,
     made: &Result<Desk<S>, DeskFault>,
     output: &mut Watched<W>,
 ) -> u8
     requires fresh_output { IsFresh output.old }
     ensures no_wasted_write { StopsAtFailure output.old output.new }
-    ensures tells { TellsMade made.now result (output_of W.contents output.old)
+    ensures prints { PrintsMade made.now result (output_of W.contents output.old)
         (output_of W.contents output.new) }
 {
     match made {
-        Ok(_) => say(output, "ok\n", ACCEPTED),
+        Ok(_) => print(output, "ok\n", ACCEPTED),
         Err(fault) => refuse_desk(alloc, *fault, output),
     }
 }
@@ -72,8 +72,8 @@ pub fn import_at<S: Alter, L: Lists, W: Write>(
 ) -> u8
     requires fresh_output { IsFresh output.old }
     ensures no_wasted_write { StopsAtFailure output.old output.new }
-    ensures imports { let shelf = shelf_of L.opens L.fails L.closes L.List.remaining in
-        ImportsAt S.Store shelf lists.old found.old lists.new found.new kind label list.now result
+    ensures imports { let list_access = list_access_of L.opens L.fails L.closes L.List.remaining in
+        ImportsAt S.Store list_access lists.old found.old lists.new found.new kind label list.now result
         (output_of W.contents output.old) (output_of W.contents output.new) }
     ensures unopened { IsErr found.old → lists.new ≡ lists.old }
 {
@@ -95,8 +95,8 @@ fn import_desk<S: Alter, L: Lists, W: Write>(
 ) -> u8
     requires fresh_output { IsFresh output.old }
     ensures no_wasted_write { StopsAtFailure output.old output.new }
-    ensures imports { let shelf = shelf_of L.opens L.fails L.closes L.List.remaining in
-        ImportsDesk S.Store shelf lists.old desk.old lists.new desk.new kind label list.now result
+    ensures imports { let list_access = list_access_of L.opens L.fails L.closes L.List.remaining in
+        ImportsDesk S.Store list_access lists.old desk.old lists.new desk.new kind label list.now result
         (output_of W.contents output.old) (output_of W.contents output.new) }
 {
     match lists.open(list) {
@@ -105,7 +105,7 @@ fn import_desk<S: Alter, L: Lists, W: Write>(
             lists.close(source);
             status
         }
-        Err(Unavailable) => say_line_unavailable(output),
+        Err(Unavailable) => print_unavailable(output),
     }
 }
 

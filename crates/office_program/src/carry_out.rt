@@ -4,7 +4,7 @@ ghost use Rattle.room_types.specs.Watched.{IsFresh, StopsAtEnd, StopsAtFailure, 
 ghost use Rattle.room_types.specs.Streams.{input_of, output_of};
 ghost use Rattle.office_program.specs.Doing.{CarriesOut, RehearsesAnew, Refuses};
 ghost use Rattle.office_file.specs.Access.{file_access};
-ghost use Rattle.office_program.specs.Shelves.{shelf_of};
+ghost use Rattle.office_program.specs.ListAccess.{list_access_of};
 ghost use Rattle.resident_server.specs.Network.{network_of};
 ghost use Rattle.office_lines.specs.Lines.{read_limit};
 
@@ -17,7 +17,7 @@ use crate::rehearsing::rehearse_in_memory;
 use crate::usage::Program;
 use crate::word_lines::words_text;
 use office_file::{Closes, Files, SystemFiles};
-use office_lines::say::{say, say_line_unavailable};
+use office_lines::print::{print, print_unavailable};
 use office_store::Desk;
 use office_texts::{ACCEPTED, NOT_UNDERSTOOD};
 use office_words::WordFault;
@@ -45,7 +45,7 @@ pub fn carry_out<'a, R: Read, W: Write, E: Write>(
     ensures no_wasted_read { StopsAtEnd input.old input.new }
     ensures no_wasted_write { StopsAtFailure output.old output.new }
     ensures no_wasted_error { StopsAtFailure error.old error.new }
-    ensures carries_out { let shelf = shelf_of
+    ensures carries_out { let list_access = list_access_of
         ⟦<SystemLists<'static> as Lists>⟧.opens ⟦<SystemLists<'static> as Lists>⟧.fails
         ⟦<SystemLists<'static> as Lists>⟧.closes ⟦<File as Read>⟧.remaining in
         let access = file_access ⟦<FileStore<FileFrom<Wary>> as Store>⟧
@@ -56,7 +56,7 @@ pub fn carry_out<'a, R: Read, W: Write, E: Write>(
         ⟦<TcpListener as Listener>⟧.accepts ⟦<TcpListener as Listener>⟧.closes
         ⟦<Loopback<'static> as Ports>⟧.listens ⟦<Loopback<'static> as Ports>⟧.fails ⟦<Loopback<'static> as Ports>⟧.stops in
         (files : _) × (files' : _) × (lists : _) × (lists' : _) × (ports : _) × (ports' : _)
-        × CarriesOut access shelf network
+        × CarriesOut access list_access network
         (map (λ word. word.now) words.entry.now) files lists ports result files' lists' ports'
         (input_of R.remaining input.old) (input_of R.remaining input.new)
         (output_of W.contents output.old) (output_of W.contents output.new)
@@ -82,7 +82,7 @@ pub fn carry_out_over<'a, S: Start, R: Read, W: Write, E: Write>(
     ensures no_wasted_read { StopsAtEnd input.old input.new }
     ensures no_wasted_write { StopsAtFailure output.old output.new }
     ensures no_wasted_error { StopsAtFailure error.old error.new }
-    ensures carries_out { let shelf = shelf_of
+    ensures carries_out { let list_access = list_access_of
         ⟦<SystemLists<'static> as Lists>⟧.opens ⟦<SystemLists<'static> as Lists>⟧.fails
         ⟦<SystemLists<'static> as Lists>⟧.closes ⟦<File as Read>⟧.remaining in
         let access = file_access ⟦<FileStore<FileFrom<S>> as Store>⟧
@@ -93,7 +93,7 @@ pub fn carry_out_over<'a, S: Start, R: Read, W: Write, E: Write>(
         ⟦<TcpListener as Listener>⟧.accepts ⟦<TcpListener as Listener>⟧.closes
         ⟦<Loopback<'static> as Ports>⟧.listens ⟦<Loopback<'static> as Ports>⟧.fails ⟦<Loopback<'static> as Ports>⟧.stops in
         (files : _) × (files' : _) × (lists : _) × (lists' : _) × (ports : _) × (ports' : _)
-        × CarriesOut access shelf network
+        × CarriesOut access list_access network
         (map (λ word. word.now) words.entry.now) files lists ports result files' lists' ports'
         (input_of R.remaining input.old) (input_of R.remaining input.new)
         (output_of W.contents output.old) (output_of W.contents output.new)
@@ -143,13 +143,13 @@ pub fn carry_out_from<
     ensures no_wasted_read { StopsAtEnd input.old input.new }
     ensures no_wasted_write { StopsAtFailure output.old output.new }
     ensures no_wasted_error { StopsAtFailure error.old error.new }
-    ensures carries_out { let shelf = shelf_of L.opens L.fails L.closes L.List.remaining in
+    ensures carries_out { let list_access = list_access_of L.opens L.fails L.closes L.List.remaining in
         let access = file_access B.Store F.opens F.finds F.fails F.closes in
         let network = network_of
         P.Socket.Stream.reads P.Socket.Stream.writes P.Socket.Stream.flushes
         P.Socket.Stream.remaining P.Socket.Stream.contents
         P.Socket.accepts P.Socket.closes P.listens P.fails P.stops in
-        CarriesOut access shelf network
+        CarriesOut access list_access network
         (map (λ word. word.now) words.entry.now)
         files.old lists.old ports.old result files.new lists.new ports.new
         (input_of R.remaining input.old) (input_of R.remaining input.new)
@@ -161,8 +161,8 @@ pub fn carry_out_from<
         Ok(Program::Do { database, words }) => do_in_file(alloc, files, database, &words, output),
         Ok(Program::Rehearse) => rehearse_anew(alloc, input, output),
         Ok(Program::Words { seed, count }) => match words_text(alloc, seed, count as usize) {
-            Ok(text) => say(output, text.as_str(), ACCEPTED),
-            Err(_) => refuse_program_line(WordFault::OutOfMemory, output, error),
+            Ok(text) => print(output, text.as_str(), ACCEPTED),
+            Err(_) => refuse(WordFault::OutOfMemory, output, error),
         },
         Ok(
             Program::Import {
@@ -183,7 +183,7 @@ pub fn carry_out_from<
             },
         ) => serve_in_file(alloc, files, database, ports, port, count, output),
         Ok(Program::Migrate { database }) => migrate_in_file(alloc, files, database, output),
-        Err(fault) => refuse_program_line(fault, output, error),
+        Err(fault) => refuse(fault, output, error),
     }
 }
 
@@ -204,13 +204,13 @@ fn rehearse_anew<R: Read, W: Write>(
 {
     match Desk::in_memory(alloc) {
         Ok(mut desk) => rehearse_in_memory(alloc, &mut desk, input, output).status,
-        Err(_) => say_line_unavailable(output),
+        Err(_) => print_unavailable(output),
     }
 }
 
 /// Reports that the arguments were not understood, on standard error, or that an allocation failed, on standard output.
 /// Returns the exit status.
-pub fn refuse_program_line<W: Write, E: Write>(
+pub fn refuse<W: Write, E: Write>(
     fault: WordFault,
     output: &mut Watched<W>,
     error: &mut Watched<E>,
@@ -224,7 +224,7 @@ pub fn refuse_program_line<W: Write, E: Write>(
         (output_of E.contents error.old) (output_of E.contents error.new) }
 {
     match fault {
-        WordFault::NotUnderstood => say(error, "rooms: not understood\n", NOT_UNDERSTOOD),
-        WordFault::OutOfMemory => say_line_unavailable(output),
+        WordFault::NotUnderstood => print(error, "rooms: not understood\n", NOT_UNDERSTOOD),
+        WordFault::OutOfMemory => print_unavailable(output),
     }
 }

@@ -6,10 +6,10 @@ ghost use Rattle.room_types.specs.Watched.{IsFresh, StopsAtFailure};
 ghost use Rattle.office_file.specs.Access.{file_access};
 ghost use Rattle.office_program.specs.InFile.{DoesInFile, ExportsInFile, ImportsInFile, MakesInFile};
 ghost use Rattle.office_program.specs.InFile.{MigratesInFile, ServesInFile};
-ghost use Rattle.office_program.specs.Shelves.{shelf_of};
+ghost use Rattle.office_program.specs.ListAccess.{list_access_of};
 ghost use Rattle.resident_server.specs.Network.{network_of};
 
-use crate::at_desk::{do_at, export_at, import_at, say_made, serve_at};
+use crate::at_desk::{do_at, export_at, import_at, print_made, serve_at};
 use crate::lists::Lists;
 use office_file::{Closes, Files, close, create_in, find_in, migrate_in};
 use office_lists::ExportKind;
@@ -34,7 +34,7 @@ pub fn make_in_file<B: Alter, F: Files<B> + Closes<Connection<B>>, W: Write>(
         (output_of W.contents output.old) (output_of W.contents output.new) }
 {
     let made = create_in(alloc, files, path);
-    let status = say_made(alloc, &made, output);
+    let status = print_made(alloc, &made, output);
     close(files, made);
     status
 }
@@ -54,7 +54,7 @@ pub fn migrate_in_file<B: Alter, F: Files<B> + Closes<Connection<B>>, W: Write>(
         (output_of W.contents output.old) (output_of W.contents output.new) }
 {
     let migrated = migrate_in(alloc, files, path);
-    let status = say_made(alloc, &migrated, output);
+    let status = print_made(alloc, &migrated, output);
     close(files, migrated);
     status
 }
@@ -95,9 +95,9 @@ pub fn import_in_file<B: Alter, F: Files<B> + Closes<Connection<B>>, L: Lists, W
 ) -> u8
     requires fresh_output { IsFresh output.old }
     ensures no_wasted_write { StopsAtFailure output.old output.new }
-    ensures imports { let shelf = shelf_of L.opens L.fails L.closes L.List.remaining in
+    ensures imports { let list_access = list_access_of L.opens L.fails L.closes L.List.remaining in
         let access = file_access B.Store F.opens F.finds F.fails F.closes in
-        ImportsInFile access shelf files.old path.now lists.old kind label list.now result
+        ImportsInFile access list_access files.old path.now lists.old kind label list.now result
         files.new lists.new
         (output_of W.contents output.old) (output_of W.contents output.new) }
 {

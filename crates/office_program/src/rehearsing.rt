@@ -6,7 +6,7 @@ ghost use Rattle.sqlite.specs.Steps.{over_memory};
 ghost use Rattle.office_lines.specs.Lines.{read_limit};
 ghost use Rattle.office_lines.specs.Rehearsals.{Rehearses};
 ghost use Rattle.office_state.specs.declared.office.Office.{Office as AnyOffice};
-ghost use Rattle.office_store.specs.Desk.{HandlesAt, Shows, StandsFor};
+ghost use Rattle.office_store.specs.Desk.{HandlesAt, Shows, Represents};
 ghost use Rattle.office_store.specs.LawfulSteps.{HandlesLawfully};
 ghost use Rattle.office_tables.specs.Steps.{Follows};
 ghost use Rattle.room_types.specs.Streams.{input_of, output_of};
@@ -39,11 +39,11 @@ pub fn rehearse<S: Alter, R: Read, W: Write>(
         (input_of R.remaining input.old) (input_of R.remaining input.new)
         (output_of W.contents output.old) (output_of W.contents output.new) }
     ensures lawful { HasCleanDisk (state S.Store desk.new.conn) → (office : AnyOffice)
-        → StandsFor S.Store desk.old office → (next : AnyOffice)
+        → Represents S.Store desk.old office → (next : AnyOffice)
         × Rehearses HandlesLawfully result.ending result.status office next
         (input_of R.remaining input.old) (input_of R.remaining input.new)
         (output_of W.contents output.old) (output_of W.contents output.new)
-        × StandsFor S.Store desk.new next }
+        × Represents S.Store desk.new next }
 {
     rehearse_with(alloc, desk, input, output)
 }

@@ -4,6 +4,6 @@ pub mod Gathering
 pub mod Keys
 pub mod Memory
 pub mod Moving
-pub mod Peopling
+pub mod FillingPeople
 pub mod Rounds
 pub mod RowOrder

@@ -1,6 +1,6 @@
 -- People with their withdrawals, and the rows of both.
 use Rattle.std.specs.Prelude.{List}
-use Rattle.office_rows.specs.Rows.{AreKeptPeople, person_rows}
+use Rattle.office_rows.specs.Rows.{AreValidPeople, person_rows}
 use Rattle.office_rows.specs.declared.people.People.{People}
 use Rattle.office_rows.specs.declared.records.PersonRecord.{PersonRecord}
 
@@ -9,5 +9,5 @@ abbrev pub people_rows : People → List PersonRecord
 people_rows p = person_rows p.people p.withdrawn
 
 -- Everybody who has withdrawn is known.
-abbrev pub AreKept : People → Type 0
-AreKept p = AreKeptPeople p.people p.withdrawn
+abbrev pub AreValid : People → Type 0
+AreValid p = AreValidPeople p.people p.withdrawn

@@ -3,12 +3,12 @@ use Rattle.std.specs.Prelude.{◌≡◌, List, Option, Some}
 use Rattle.std.specs.Option.{IfSome}
 use Rattle.std.specs.List.Sorted.{IsPermutation}
 
--- What is found satisfies `IsKept` and has these rows, in some order. Anything that satisfies it and has these rows is
+-- What is found satisfies `IsValid` and has these rows, in some order. Anything that satisfies it and has these rows is
 -- what is found: so it is unique, and nothing is found only if nothing satisfies it and has them.
-pub record Reads {Row M : Type 0} (IsKept : M → Type 0) (rows_of : M → List Row) (rows : List Row)
+pub record Reads {Row M : Type 0} (IsValid : M → Type 0) (rows_of : M → List Row) (rows : List Row)
     (found : Option M) : Type 0 where
-  pub told : IfSome found (λ m. IsKept m × IsPermutation (rows_of m) rows)
-  pub only : (m : M) → IsKept m → IsPermutation (rows_of m) rows → found ≡ Some m
+  pub returned : IfSome found (λ m. IsValid m × IsPermutation (rows_of m) rows)
+  pub only : (m : M) → IsValid m → IsPermutation (rows_of m) rows → found ≡ Some m
 
 -- no condition
 abbrev pub IsAny : {M : Type 0} → M → Type 0

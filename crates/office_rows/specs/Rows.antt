@@ -64,16 +64,16 @@ key_rows keys = map (λ e. e.0) (maps.entries keys)
 -- Which maps rows can represent: withdrawals of known people, lists that are not empty, and rounds that have moves.
 
 -- Everybody who has withdrawn is known.
-pub record AreKeptPeople (people : TextMap Person) (withdrawn : TextMap (Unit {0})) : Type 0 where
+pub record AreValidPeople (people : TextMap Person) (withdrawn : TextMap (Unit {0})) : Type 0 where
   pub withdrawers : (p : Text) → maps.contains_key withdrawn p ≡ true
       → maps.contains_key people p ≡ true
 
 -- No list is empty. Each has at most forty rooms, and none twice.
-pub record AreKeptLists (lists : TextMap (List Text)) : Type 0 where
+pub record AreValidLists (lists : TextMap (List Text)) : Type 0 where
   pub none_empty : (p : Text) → maps.get lists p ≡ Some [] → ⊥
   pub chosen : (p : Text) (codes : List Text) → maps.get lists p ≡ Some codes → IsChoices codes
 
 -- No round is recorded without moves.
-pub record AreKeptMoves (moves : RoundMap RoundMoves) : Type 0 where
-  pub none_empty : (round : ℕ) (kept : RoundMoves) → maps.get moves round ≡ Some kept
-      → kept.by_person ≡ maps.empty → ⊥
+pub record AreValidMoves (moves : RoundMap RoundMoves) : Type 0 where
+  pub none_empty : (round : ℕ) (recorded : RoundMoves) → maps.get moves round ≡ Some recorded
+      → recorded.by_person ≡ maps.empty → ⊥

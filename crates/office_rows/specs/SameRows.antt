@@ -19,7 +19,7 @@ pub record AreSameRows (tables others : Tables) : Type 0 where
   pub going : IsPermutation tables.going others.going
 
 -- Two lawful offices with the same rows are equal.
-abbrev pub RowsTellTheOffice : Type 0
-RowsTellTheOffice =
+abbrev pub RowsDetermineOffice : Type 0
+RowsDetermineOffice =
     (one other : Office) → IsLawful one → IsLawful other → AreSameRows (rows_of one) (rows_of other)
     → one ≡ other

@@ -5,7 +5,7 @@ use Rattle.room_types.specs.Texts.{Text}
 use Rattle.room_types.specs.declared.moves.Move.{Move}
 use Rattle.office_state.specs.declared.office.Assigned.{Assigned}
 use Rattle.office_state.specs.declared.office.Office.{Office}
-use Rattle.office_state.specs.declared.office.kept_list.KeptList.{KeptList}
+use Rattle.office_state.specs.declared.office.stored_import.StoredImport.{StoredImport}
 use Rattle.office_rows.specs.Rows.{only_row, person_rows, choice_rows, move_rows, key_rows}
 use Rattle.office_rows.specs.declared.records.ChoiceRecord.{ChoiceRecord}
 use Rattle.office_rows.specs.declared.records.PersonRecord.{PersonRecord}
@@ -20,7 +20,7 @@ pub record Tables : Type 0 where
   pub words : List (Text × ℕ)
   pub results : List (Text × Assigned)
   pub moves : List Move
-  pub lists : List (Text × KeptList)
+  pub lists : List (Text × StoredImport)
   pub grades : List (Text × ℕ)
   pub going : List Text
 

@@ -2,7 +2,7 @@
 ghost use Rattle.std.specs.Prelude.{◌≡◌, ◌<◌, IfOk, OnErr, length, reverse};
 ghost use Rattle.std.specs.FinMap as map;
 ghost use Rattle.office_state.specs.Office.Moves.{moves_of};
-ghost use Rattle.office_rows.specs.Rows.{AreKeptMoves, move_rows};
+ghost use Rattle.office_rows.specs.Rows.{AreValidMoves, move_rows};
 ghost use Rattle.office_rows.specs.Inner.Recorded.{recorded_moves};
 ghost use Rattle.office_rows.specs.Reads.{Reads};
 
@@ -13,7 +13,7 @@ use std::alloc::Global;
 /// Rebuilds the moves of all rounds from their rows, in any order. Returns `None` if a person moves twice in a round;
 /// otherwise the result is unique. Fails only if an allocation does, and never without rows.
 pub fn read_moves(alloc: Global, rows: Vec<Move>) -> Result<Option<Rounds<RoundMoves>>, OutOfMemory>
-    ensures reads { IfOk result (λ found. Reads AreKeptMoves move_rows rows.items found) }
+    ensures reads { IfOk result (λ found. Reads AreValidMoves move_rows rows.items found) }
     ensures memory { OnErr result (0 < length rows.items) }
 {
     fill_moves(alloc, rows)
@@ -40,7 +40,7 @@ fn has_moved(moves: &Rounds<RoundMoves>, row: &Move) -> bool
     ensures { result ≡ map.contains_key (moves_of moves.now row.now.round) row.now.person }
 {
     match moves.get(row.round) {
-        Some(kept) => kept.by_person.contains_key(&row.person),
+        Some(recorded) => recorded.by_person.contains_key(&row.person),
         None => false,
     }
 }

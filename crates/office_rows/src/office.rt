@@ -1,7 +1,7 @@
 //! Rebuilding an office from the rows of all its tables.
 ghost use Rattle.std.specs.Prelude.{◌<◌, IfOk, OnErr};
-ghost use Rattle.office_rows.specs.Inner.Makes.{Makes};
-ghost use Rattle.office_rows.specs.ReadsOffice.{ReadsOffice, TakesMemory, count_beside_round};
+ghost use Rattle.office_rows.specs.Inner.BuildsOffice.{BuildsOffice};
+ghost use Rattle.office_rows.specs.ReadsOffice.{ReadsOffice, Allocates, count_outside_round};
 
 use crate::choices::read_choices;
 use crate::moves::read_moves;
@@ -25,9 +25,9 @@ pub fn read_office(
     version: u16,
 ) -> Result<Option<Office>, OutOfMemory>
     ensures reads { IfOk result (λ found. ReadsOffice version records found) }
-    ensures memory { OnErr result (TakesMemory version records) }
+    ensures memory { OnErr result (Allocates version records) }
 {
-    let Some(office) = make_office(alloc, records, version)? else {
+    let Some(office) = build_office(alloc, records, version)? else {
         return Ok(None);
     };
     if !sound(alloc, &office)? {
@@ -38,13 +38,13 @@ pub fn read_office(
 
 // Rebuilds an office with these rows, lawful or not. Returns `None` only if no lawful office has them.
 #[tactic(auto, unfolding(crate::specs::Tables::rows_at))]
-fn make_office(
+fn build_office(
     alloc: Global,
     records: OfficeRecords,
     version: u16,
 ) -> Result<Option<Office>, OutOfMemory>
-    ensures makes { IfOk result (λ made. Makes version records made) }
-    ensures memory { OnErr result (0 < count_beside_round records) }
+    ensures makes { IfOk result (λ made. BuildsOffice version records made) }
+    ensures memory { OnErr result (0 < count_outside_round records) }
 {
     let Some(rooms) = read_table(alloc, records.rooms)? else {
         return Ok(None);

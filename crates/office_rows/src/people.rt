@@ -1,7 +1,7 @@
 //! Rebuilding people and withdrawals from the rows of people.
 ghost use Rattle.std.specs.Prelude.{◌≡◌, ◌<◌, IfOk, OnErr, OnOk, length, reverse};
-ghost use Rattle.office_rows.specs.Inner.Peopled.{marked, nobody, peopled};
-ghost use Rattle.office_rows.specs.People.{AreKept, people_rows};
+ghost use Rattle.office_rows.specs.Inner.FilledPeople.{marked, nobody, filled_people};
+ghost use Rattle.office_rows.specs.People.{AreValid, people_rows};
 ghost use Rattle.office_rows.specs.Reads.{Reads};
 
 use crate::records::PersonRecord;
@@ -20,7 +20,7 @@ pub struct People {
 /// Rebuilds the people and withdrawals that have exactly these rows, in any order. Returns `None` if an identifier
 /// occurs twice; otherwise the result is unique. Fails only if an allocation does, and never without rows.
 pub fn read_people(alloc: Global, rows: Vec<PersonRecord>) -> Result<Option<People>, OutOfMemory>
-    ensures reads { IfOk result (λ found. Reads AreKept people_rows rows.items found) }
+    ensures reads { IfOk result (λ found. Reads AreValid people_rows rows.items found) }
     ensures memory { OnErr result (0 < length rows.items) }
 {
     fill_people(alloc, rows)
@@ -28,7 +28,7 @@ pub fn read_people(alloc: Global, rows: Vec<PersonRecord>) -> Result<Option<Peop
 
 // Inserts the rows into the maps, from the last row to the first. Returns `None` if an identifier occurs twice.
 fn fill_people(alloc: Global, rows: Vec<PersonRecord>) -> Result<Option<People>, OutOfMemory>
-    ensures fills { IfOk result (λ found. found ≡ peopled nobody (reverse rows.items)) }
+    ensures fills { IfOk result (λ found. found ≡ filled_people nobody (reverse rows.items)) }
     ensures memory { OnErr result (0 < length rows.items) }
 {
     let mut rows = rows;

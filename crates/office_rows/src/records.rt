@@ -1,5 +1,5 @@
 //! The records of an office's tables.
-use office_state::{Assigned, KeptList, Person};
+use office_state::{Assigned, Person, StoredImport};
 use room_types::{Grade, Label, Move, PersonId, Phase, RoomCode, Word};
 
 /// A record of a person.
@@ -41,7 +41,7 @@ pub struct OfficeRecords {
     pub results: Vec<(PersonId, Assigned)>,
     pub moves: Vec<Move>,
     /// Each label, with the list that was imported under it.
-    pub lists: Vec<(Label, KeptList)>,
+    pub lists: Vec<(Label, StoredImport)>,
     /// Each person whose grade is not 0, with the grade.
     pub grades: Vec<(PersonId, Grade)>,
     /// Each person who leaves the college after the round.

@@ -1,5 +1,5 @@
 -- Lemmas on people who move, and on the office after a settlement.
 pub mod Leavers
-pub mod Movers
+pub mod Relocations
 pub mod Settled
 pub mod Settling

@@ -4,7 +4,7 @@ pub mod Dropping
 pub mod Empty
 pub mod Grades
 pub mod Homes
-pub mod KeptLists
+pub mod ChoiceLists
 pub mod Leavers
 pub mod Moves
 pub mod People

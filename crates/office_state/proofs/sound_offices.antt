@@ -1,4 +1,4 @@
 -- Lemmas on the tests that show whether an office is lawful.
 pub mod Differing
 pub mod GradeTests
-pub mod LawTests
+pub mod InvariantTests

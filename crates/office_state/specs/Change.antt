@@ -83,21 +83,21 @@ applied office (PutGoing person) = record office { going = map.insert office.goi
 
 -- whether the change may allocate: removals do not, and neither do the round's number and phase, or the home
 -- of an unknown person
-abbrev pub change_takes_memory : Office → Change → Bool
-change_takes_memory office (PutRoom room shut) = true
-change_takes_memory office (PutPerson person name key home) = true
-change_takes_memory office (DropPerson person) = false
-change_takes_memory office (PutHome person home) = knows_person office person
-change_takes_memory office (PutWithdrawn person) = true
-change_takes_memory office (PutChoices person choices) = not (is_empty choices)
-change_takes_memory office (PutWord person word) = true
-change_takes_memory office (PutResult person room) = true
-change_takes_memory office (AddMove move) = true
-change_takes_memory office (PutRound number phase) = false
-change_takes_memory office ClearRound = false
-change_takes_memory office (KeepList label kind bytes count) = true
-change_takes_memory office (PutGrade person grade) = not (eqb grade 0)
-change_takes_memory office (PutGoing person) = true
+abbrev pub change_allocates : Office → Change → Bool
+change_allocates office (PutRoom room shut) = true
+change_allocates office (PutPerson person name key home) = true
+change_allocates office (DropPerson person) = false
+change_allocates office (PutHome person home) = knows_person office person
+change_allocates office (PutWithdrawn person) = true
+change_allocates office (PutChoices person choices) = not (is_empty choices)
+change_allocates office (PutWord person word) = true
+change_allocates office (PutResult person room) = true
+change_allocates office (AddMove move) = true
+change_allocates office (PutRound number phase) = false
+change_allocates office ClearRound = false
+change_allocates office (KeepList label kind bytes count) = true
+change_allocates office (PutGrade person grade) = not (eqb grade 0)
+change_allocates office (PutGoing person) = true
 
 -- the office after the changes, one after the other
 abbrev pub applied_all : Office → List Change → Office
@@ -105,10 +105,10 @@ applied_all office [] = office
 applied_all office (change ∷ changes) = applied_all (applied office change) changes
 
 -- homes differ before the changes, between any two of them, and after them
-abbrev pub StaysApart : Office → List Change → Type 0
-StaysApart office [] = HomesDiffer office
-StaysApart office (change ∷ changes) =
-    HomesDiffer office × StaysApart (applied office change) changes
+abbrev pub HomesStayDistinct : Office → List Change → Type 0
+HomesStayDistinct office [] = HomesDiffer office
+HomesStayDistinct office (change ∷ changes) =
+    HomesDiffer office × HomesStayDistinct (applied office change) changes
 
 -- What a store of rows may rely on at each change, `first` being the office before all changes. A room that
 -- is put is known if and only if it was known at first. A person who is put is new and has not withdrawn. A
@@ -145,8 +145,8 @@ AllFit first office (change ∷ changes) =
 
 -- The changes lead from an office to the next one, which is lawful. Homes differ before and after each
 -- change, and each change fits.
-pub record LeadsOn (office next : Office) (changes : List Change) : Type 0 where
+pub record LeadsTo (office next : Office) (changes : List Change) : Type 0 where
   pub leads : applied_all office changes ≡ next
-  pub apart : StaysApart office changes
+  pub apart : HomesStayDistinct office changes
   pub fits : AllFit office office changes
   pub lawful : IsLawful next

@@ -9,7 +9,7 @@ use Rattle.std.specs.Option.{unwrap_or, option_and_then, option_map}
 use Rattle.std.specs.List.{filter, list_any, before_first}
 use Rattle.std.specs.FinMap as map
 use Rattle.room_types.specs.Texts.{Text, TextMap, text_eq}
-use Rattle.draw_order.specs.Draw.{Lot, drawn_order}
+use Rattle.draw_order.specs.Draw.{Ticket, drawn_order}
 use Rattle.trade_line.specs.Market.{Market, list_of}
 use Rattle.trade_line.specs.OtherList.{with_list}
 use Rattle.trade_line.specs.Rank.{rank}
@@ -28,14 +28,14 @@ abbrev pub word_of : Office → Text → ℕ
 word_of office person = unwrap_or (map.get office.words person) 0
 
 -- the participants, by identifier, with their grades and words
-abbrev pub lots_of : Office → List Lot
-lots_of office =
+abbrev pub tickets_of : Office → List Ticket
+tickets_of office =
     map_list (λ person. (person, grade_of office person, word_of office person))
     (participants office)
 
 -- the participants in the drawn order
 unfoldable pub round_people : Office → List Text
-round_people office = drawn_order (lots_of office)
+round_people office = drawn_order (tickets_of office)
 
 -- whether a room is the home of a person who has withdrawn
 abbrev pub is_kept_back : Office → Text → Bool

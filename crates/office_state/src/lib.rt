@@ -9,10 +9,10 @@ mod soundness;
 
 pub use crate::change::Change;
 pub use crate::change::apply::apply;
-pub use crate::office::kept_list::KeptList;
 pub use crate::office::limits::{BYTE_LIMIT, LABEL_LIMIT, PEOPLE_LIMIT, ROOM_LIMIT, ROUND_LIMIT};
-pub use crate::office::look::copy_found_in_office;
 pub use crate::office::moves::{Moved, RoundMoves, Rounds};
 pub use crate::office::person::Person;
+pub use crate::office::queries::copy_found;
+pub use crate::office::stored_import::StoredImport;
 pub use crate::office::{Assigned, Office, phases};
 pub use crate::soundness::sound;

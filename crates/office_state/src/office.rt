@@ -3,19 +3,19 @@ ghost use Rattle.std.specs.Prelude.{◌≡◌, ◌<◌, IfOk, IsSome, OnErr};
 ghost use Rattle.office_state.specs.Office.Invariants.{IsLawful};
 ghost use Rattle.office_state.specs.Office.{empty_office, entry_count};
 
-pub mod kept_list;
 pub mod limits;
-pub mod look;
 pub mod moves;
 pub mod person;
 pub mod phases;
+pub mod queries;
+pub mod stored_import;
 
-use crate::office::kept_list::KeptList;
 use crate::office::moves::{RoundMoves, Rounds};
 use crate::office::person::Person;
+use crate::office::stored_import::StoredImport;
 use room_types::grammars::{Labels, PersonIds, RoomCodes};
 use room_types::rows::copy_optional;
-use room_types::{Choices, Copied, Grade, OutOfMemory, Phase, RoomCode, Table, Word};
+use room_types::{Choices, ExactClone, Grade, OutOfMemory, Phase, RoomCode, Table, Word};
 use std::alloc::{AllocError, Global};
 
 /// The result of a participant in a round.
@@ -38,7 +38,7 @@ impl Clone for Assigned {
     }
 }
 
-impl Copied for Assigned {
+impl ExactClone for Assigned {
     ghost same = { λ x y h. h };
 }
 
@@ -59,7 +59,7 @@ pub struct Office {
     /// The recorded moves of each round. In a lawful office these rounds are over, and no table is empty.
     pub moves: Rounds<RoundMoves>,
     /// The imported lists, by label.
-    pub lists: Table<Labels, KeptList>,
+    pub lists: Table<Labels, StoredImport>,
     /// The recorded grades. In a lawful office none is 0.
     pub grades: Table<PersonIds, Grade>,
     /// Who leaves the college after the round.

@@ -10,6 +10,6 @@ mod rooms;
 mod settlement;
 
 pub use crate::round::other_list::result_by;
-pub use crate::round::people::{round_people, round_word_of};
+pub use crate::round::people::{round_people, word_of};
 pub use crate::round::results::round_results;
-pub use crate::round::settlement::movers;
+pub use crate::round::settlement::relocations;

@@ -1,6 +1,6 @@
 //! Whether a state is a lawful office.
 mod grades;
-mod kept;
+mod imports;
 mod leavers;
 mod lists;
 mod moves;
@@ -12,18 +12,18 @@ mod words;
 ghost use Rattle.std.specs.Prelude.{IfOk, OnErr};
 ghost use Rattle.std.specs.Bool.{Decides};
 ghost use Rattle.office_state.specs.Office.Invariants.{IsLawful};
-ghost use Rattle.office_state.specs.Soundness.{TakesMemory};
+ghost use Rattle.office_state.specs.Soundness.{Allocates};
 
 use crate::office::Office;
-use crate::soundness::grades::are_grades;
-use crate::soundness::kept::are_kept;
-use crate::soundness::leavers::are_leavers;
-use crate::soundness::lists::are_lists;
-use crate::soundness::moves::are_moves;
-use crate::soundness::register::is_register;
-use crate::soundness::results::are_results;
-use crate::soundness::round::is_round;
-use crate::soundness::words::are_words;
+use crate::soundness::grades::are_valid_grades;
+use crate::soundness::imports::are_valid_imports;
+use crate::soundness::leavers::are_valid_leavers;
+use crate::soundness::lists::are_valid_lists;
+use crate::soundness::moves::are_valid_moves;
+use crate::soundness::register::is_valid_register;
+use crate::soundness::results::are_valid_results;
+use crate::soundness::round::is_valid_round;
+use crate::soundness::words::are_valid_words;
 use room_types::OutOfMemory;
 use std::alloc::Global;
 
@@ -36,31 +36,31 @@ use std::alloc::Global;
 /// `OutOfMemory` if an allocation fails.
 pub fn sound(alloc: Global, office: &Office) -> Result<bool, OutOfMemory>
     ensures lawful { IfOk result (λ lawful. Decides lawful (IsLawful office.now)) }
-    ensures memory { OnErr result (TakesMemory office.now) }
+    ensures memory { OnErr result (Allocates office.now) }
 {
-    if !is_register(alloc, office)? {
+    if !is_valid_register(alloc, office)? {
         return Ok(false);
     }
-    if !are_lists(office) {
+    if !are_valid_lists(office) {
         return Ok(false);
     }
-    if !is_round(office) {
+    if !is_valid_round(office) {
         return Ok(false);
     }
-    if !are_grades(office) {
+    if !are_valid_grades(office) {
         return Ok(false);
     }
-    if !are_leavers(office) {
+    if !are_valid_leavers(office) {
         return Ok(false);
     }
-    if !are_words(office) {
+    if !are_valid_words(office) {
         return Ok(false);
     }
-    if !are_moves(office) {
+    if !are_valid_moves(office) {
         return Ok(false);
     }
-    if !are_kept(office) {
+    if !are_valid_imports(office) {
         return Ok(false);
     }
-    are_results(alloc, office)
+    are_valid_results(alloc, office)
 }

@@ -3,8 +3,8 @@ use Rattle.std.specs.Prelude.{◌≡◌, ◌⊎◌, false, ⊤}
 use Rattle.sqlite_schema.specs.declared.schema.Schema.{Schema}
 use Rattle.sqlite.specs.Effect.{Database}
 use Rattle.office_load.specs.Finding.{names_round}
-use Rattle.office_migrate.specs.Causes.{HasNameTaken, HoldsNoEarlier, IsAllowed, MayReturn, SaysVersion}
-use Rattle.office_migrate.specs.Versions.{IsNoEarlier}
+use Rattle.office_migrate.specs.Causes.{HasNameTaken, HoldsNoEarlier, IsAllowed, MayReturn, StatesVersion}
+use Rattle.office_migrate.specs.Versions.{IsNotEarlier}
 use Rattle.office_migrate.specs.declared.migrating.MigrateFault.{MigrateFault}
 use Rattle.office_migrate.specs.declared.migrating.MigrateFault.TheVariants as migrate
 use Rattle.office_store.specs.declared.desk.faults.DeskFault.{DeskFault}
@@ -15,7 +15,7 @@ use Rattle.office_store.specs.declared.desk.faults.DeskFault.TheVariants.{Unavai
 abbrev pub MayNotMigrate : Database → DeskFault → Type 0
 MayNotMigrate db Unavailable = ⊤
 MayNotMigrate db NotAnOffice = (names_round db.schema ≡ false) ⊎ HoldsNoEarlier db
-MayNotMigrate db (OtherVersion version) = SaysVersion db version × IsNoEarlier version
+MayNotMigrate db (OtherVersion version) = StatesVersion db version × IsNotEarlier version
 MayNotMigrate db AlreadyThere = HasNameTaken db
 
 -- If the first three tables are an office's, whatever follows them, the database may be refused with this fault only as a

@@ -9,7 +9,7 @@ use Rattle.sqlite.specs.State.{State, HasCleanDisk}
 use Rattle.office_rows.specs.Tables.{Tables}
 use Rattle.office_tables.specs.Layouts.{schema_of, table_count, tables_of}
 use Rattle.office_tables.specs.Schema.{office_schema, first_tables}
-use Rattle.office_tables.specs.Steps.{IsHonest, RollsBack}
+use Rattle.office_tables.specs.Steps.{IsIntact, RollsBack}
 use Rattle.office_tables.specs.Tables.{HasTables, HasTablesIn}
 use Rattle.office_tables.specs.declared.layouts.Layout.{Layout}
 use Rattle.office_tables.specs.declared.layouts.Layout.TheVariants.{Own}
@@ -22,7 +22,7 @@ pub record Adds (table : Table) (old new : Database) : Type 0 where
 
 -- If the schema was `before`, it is now `after`. The tables `kept` have the rows that they had, and the tables `fresh`
 -- have none.
-pub record Stands (before after : Schema) (kept fresh : List Table) (old new : State) : Type 0 where
+pub record ChangesSchema (before after : Schema) (kept fresh : List Table) (old new : State) : Type 0 where
   pub shown : HasCleanDisk new → old.now.schema ≡ before
       → (new.now.schema ≡ after) × KeepsRows kept old.now.trees new.now.trees
       × AllByRecursion (λ table. new.now.trees table.tree ≡ []) fresh
@@ -30,43 +30,43 @@ pub record Stands (before after : Schema) (kept fresh : List Table) (old new : S
 
 -- If exactly the first `before` tables of an office were declared, exactly the first `after` are now. The first `kept`
 -- of them have the rows that they had, and the others have none.
-abbrev pub FirstStand : ℕ → ℕ → ℕ → State → State → Type 0
-FirstStand before after kept =
-    Stands (first_tables before) (first_tables after) (take kept office_schema.tables)
+abbrev pub DeclaresFirst : ℕ → ℕ → ℕ → State → State → Type 0
+DeclaresFirst before after kept =
+    ChangesSchema (first_tables before) (first_tables after) (take kept office_schema.tables)
     (drop kept (take after office_schema.tables))
 
 -- If exactly the tables of the layout were declared, exactly the first `after` of them are now, with the rows that they
 -- had.
-abbrev pub LeftStand : Layout → ℕ → State → State → Type 0
-LeftStand layout after =
-    Stands (schema_of layout) (tables_of layout after) (tables_of layout after).tables []
+abbrev pub LeavesFirst : Layout → ℕ → State → State → Type 0
+LeavesFirst layout after =
+    ChangesSchema (schema_of layout) (tables_of layout after) (tables_of layout after).tables []
 
 -- Some tables of a round, which are the last four of an office, may be missing: some were dropped, or all were, and
 -- then fewer than four were created again. The other six have the rows that they had. Nothing is claimed of tables that
 -- are not an office's.
 abbrev pub LacksTables : State → State → Type 0
 LacksTables old new =
-    ((after : ℕ) × (6 ≤ after) × (after ≤ 10) × LeftStand Own after old new)
-    ⊎ ((after : ℕ) × (6 ≤ after) × (after < 10) × FirstStand 10 after 6 old new)
+    ((after : ℕ) × (6 ≤ after) × (after ≤ 10) × LeavesFirst Own after old new)
+    ⊎ ((after : ℕ) × (6 ≤ after) × (after < 10) × DeclaresFirst 10 after 6 old new)
 
 -- What is left if clearing the tables of a round fails: some of them may be missing, or the transaction is rolled back.
 abbrev pub MayLackTables : State → State → Type 0
-MayLackTables old new = IsHonest new → LacksTables old new ⊎ RollsBack old new
+MayLackTables old new = IsIntact new → LacksTables old new ⊎ RollsBack old new
 
 -- What is left if dropping all but the first `left` tables of the layout fails: more than these may be there, or the
 -- transaction is rolled back.
 abbrev pub DropsTooFew : Layout → ℕ → State → State → Type 0
 DropsTooFew layout left old new =
-    IsHonest new
-    → ((after : ℕ) × (left ≤ after) × (after ≤ table_count layout) × LeftStand layout after old new)
+    IsIntact new
+    → ((after : ℕ) × (left ≤ after) × (after ≤ table_count layout) × LeavesFirst layout after old new)
     ⊎ RollsBack old new
 
 -- What is left if creating the tables from place `first` on fails: some of them may be there, or the transaction is
 -- rolled back.
-abbrev pub MakesTooFew : ℕ → State → State → Type 0
-MakesTooFew first old new =
-    IsHonest new
-    → ((after : ℕ) × (first ≤ after) × (after < 10) × FirstStand first after first old new)
+abbrev pub CreatesTooFew : ℕ → State → State → Type 0
+CreatesTooFew first old new =
+    IsIntact new
+    → ((after : ℕ) × (first ≤ after) × (after < 10) × DeclaresFirst first after first old new)
     ⊎ RollsBack old new
 
 -- The tables of the layout are replaced by those that this program creates. Rooms, people and the round have the same

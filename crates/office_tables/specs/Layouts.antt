@@ -53,8 +53,8 @@ abbrev pub table_at : Layout → ℕ → Table
 table_at layout place = slice_index_or (order_of layout).tables place (room 0)
 
 -- the statement that drops the table at this place
-abbrev pub drop_text_of : Layout → ℕ → List ℕ
-drop_text_of layout place = drop_table_text (table_at layout place).name
+abbrev pub drop_text : Layout → ℕ → List ℕ
+drop_text layout place = drop_table_text (table_at layout place).name
 
 -- the schema of the first `tables` tables of the layout
 abbrev pub tables_of : Layout → ℕ → Schema

@@ -15,7 +15,7 @@ with_all with_row (r ∷ rows) tables = with_all with_row rows (with_row r table
 
 -- The tables of the layout are replaced by those that this program creates, of its version and with the same rows, if
 -- the records are these rows.
-pub record Renews (layout : Layout) (records : OfficeRecords) (old new : State) : Type 0 where
+pub record Migrates (layout : Layout) (records : OfficeRecords) (old new : State) : Type 0 where
   pub shown : (tables : Tables) → HasCleanDisk new → HasTablesIn layout old.now tables
       → AreRecordsOf tables records → HasTables new.now (with_version own_version tables)
   pub mode : HasCleanDisk new → new.in_transaction ≡ old.in_transaction

@@ -5,8 +5,8 @@ use Rattle.sqlite_value.specs.Order.{Row}
 use Rattle.sqlite.specs.State.{State, HasCleanDisk, KeepsCommit, Survives, Executes}
 
 -- The disk has returned what was written to it, and the connection is open.
-abbrev pub IsHonest : State → Type 0
-IsHonest s = HasCleanDisk s × IsTrue s.is_open
+abbrev pub IsIntact : State → Type 0
+IsIntact s = HasCleanDisk s × IsTrue s.is_open
 
 -- A disk that is clean now was clean before, the number of faults never falls, and only a fault closes the connection.
 -- The limit of steps past which the engine refuses a statement is the same, so that no statement that ran before is
@@ -34,10 +34,10 @@ RollsBack old new = (new.now ≡ old.committed) × (new.in_transaction ≡ false
 
 -- What a statement leaves that the engine refused, or that failed: no change, or a transaction that is rolled back.
 abbrev pub IsUndone : State → State → Type 0
-IsUndone old new = IsHonest new → SeesTheSame old new ⊎ RollsBack old new
+IsUndone old new = IsIntact new → SeesTheSame old new ⊎ RollsBack old new
 
 -- The statement has run, and neither began nor ended a transaction.
-pub record Ran (text : List ℕ) (params : Row) (old new : State) : Type 0 where
+pub record HasRun (text : List ℕ) (params : Row) (old new : State) : Type 0 where
   pub count : ℕ
   pub ran : Executes text params old new (Ok count)
   pub mode : new.in_transaction ≡ old.in_transaction

@@ -1,8 +1,8 @@
 //! Dropping the tables of an office, the last one first.
 ghost use Rattle.std.specs.Prelude.{◌≡◌, ◌<◌, ◌≤◌, OnOk, OnErr};
 ghost use Rattle.sqlite.specs.Held.{state};
-ghost use Rattle.office_tables.specs.Declaring.{DropsTooFew, LeftStand};
-ghost use Rattle.office_tables.specs.Layouts.{drop_text_of, table_count};
+ghost use Rattle.office_tables.specs.Declaring.{DropsTooFew, LeavesFirst};
+ghost use Rattle.office_tables.specs.Layouts.{drop_text, table_count};
 ghost use Rattle.office_tables.specs.Steps.{StaysInside};
 ghost use Rattle.office_tables.specs.declared.layouts.Layout.TheVariants.{Documented, EarlierFirst, Own};
 
@@ -20,38 +20,38 @@ pub(crate) fn drop_tables_to<S: Alter>(
     requires high { left ≤ table_count layout }
     ensures same_reference { tx.new.conn.ghost_name ≡ tx.old.conn.ghost_name }
     ensures made { OnOk result
-        (LeftStand layout left (state S.Store tx.old.conn.now) (state S.Store tx.new.conn.now)) }
+        (LeavesFirst layout left (state S.Store tx.old.conn.now) (state S.Store tx.new.conn.now)) }
     ensures undone { OnErr result
         (DropsTooFew layout left (state S.Store tx.old.conn.now) (state S.Store tx.new.conn.now)) }
     ensures inside { StaysInside (state S.Store tx.old.conn.now) (state S.Store tx.new.conn.now) }
 {
     let count = layout.tables();
     for step in 0..count - left {
-        run(tx, table_drop(layout, count - 1 - step), &[])?;
+        run(tx, drop_text(layout, count - 1 - step), &[])?;
     }
     Ok(())
 }
 
 // Returns the statement that drops the table at this place. The first three tables have none.
-fn table_drop(layout: Layout, place: usize) -> &'static str
+fn drop_text(layout: Layout, place: usize) -> &'static str
     requires low { 3 ≤ place }
     requires high { place < table_count layout }
-    ensures { result.now ≡ drop_text_of layout place }
+    ensures { result.now ≡ drop_text layout place }
 {
     match layout {
-        Layout::Own => own_table_drop(place),
-        Layout::Documented => documented_table_drop(place),
-        Layout::DocumentedSecond => documented_table_drop(place),
-        Layout::DocumentedFirst => documented_table_drop(place),
-        Layout::EarlierFirst => earlier_table_drop(place),
+        Layout::Own => own_drop_text(place),
+        Layout::Documented => documented_drop_text(place),
+        Layout::DocumentedSecond => documented_drop_text(place),
+        Layout::DocumentedFirst => documented_drop_text(place),
+        Layout::EarlierFirst => earlier_drop_text(place),
     }
 }
 
 // The same for the order in which this program creates the tables.
-fn own_table_drop(place: usize) -> &'static str
+fn own_drop_text(place: usize) -> &'static str
     requires low { 3 ≤ place }
     requires high { place < 10 }
-    ensures { result.now ≡ drop_text_of Own place }
+    ensures { result.now ≡ drop_text Own place }
 {
     match place {
         3 => "DROP TABLE move",
@@ -65,10 +65,10 @@ fn own_table_drop(place: usize) -> &'static str
 }
 
 // The same for the documented order.
-fn documented_table_drop(place: usize) -> &'static str
+fn documented_drop_text(place: usize) -> &'static str
     requires low { 3 ≤ place }
     requires high { place < 10 }
-    ensures { result.now ≡ drop_text_of Documented place }
+    ensures { result.now ≡ drop_text Documented place }
 {
     match place {
         3 => "DROP TABLE choice",
@@ -82,10 +82,10 @@ fn documented_table_drop(place: usize) -> &'static str
 }
 
 // The same for the order in which this program created version 1.
-fn earlier_table_drop(place: usize) -> &'static str
+fn earlier_drop_text(place: usize) -> &'static str
     requires low { 3 ≤ place }
     requires high { place < 8 }
-    ensures { result.now ≡ drop_text_of EarlierFirst place }
+    ensures { result.now ≡ drop_text EarlierFirst place }
 {
     match place {
         3 => "DROP TABLE move",

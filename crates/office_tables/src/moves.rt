@@ -5,7 +5,7 @@ ghost use Rattle.office_tables.specs.Edits.{with_move};
 ghost use Rattle.office_tables.specs.Makes.{Makes};
 ghost use Rattle.office_tables.specs.Steps.{IsUndone, StaysInside};
 
-use crate::cells::{code_for_statement, number_of};
+use crate::parameters::{code_or_null, number_or_null};
 use crate::running::run;
 use room_types::Move;
 use sqlite::{Alter, Error, Transaction, params};
@@ -26,9 +26,9 @@ pub fn add_move<S: Alter>(tx: &mut Transaction<'_, S>, row: &Move) -> Result<(),
         params![
             u32::from(row.round),
             row.person.as_str(),
-            code_for_statement(&row.from),
-            code_for_statement(&row.to),
-            number_of(row.wave)
+            code_or_null(&row.from),
+            code_or_null(&row.to),
+            number_or_null(row.wave)
         ],
     )
 }

@@ -5,7 +5,7 @@ ghost use Rattle.office_tables.specs.Edits.{with_person, without_person, with_ho
 ghost use Rattle.office_tables.specs.Makes.{Makes};
 ghost use Rattle.office_tables.specs.Steps.{IsUndone, StaysInside};
 
-use crate::cells::code_for_statement;
+use crate::parameters::code_or_null;
 use crate::running::run;
 use room_types::{Key, Name, PersonId, RoomCode};
 use sqlite::{Alter, Error, Transaction, params};
@@ -30,12 +30,7 @@ pub fn add_person<S: Alter>(
     run(
         tx,
         "INSERT INTO person(id, name, passkey, home, withdrawn) VALUES (?1, ?2, ?3, ?4, 0)",
-        params![
-            id.as_str(),
-            name.as_str(),
-            key.as_str(),
-            code_for_statement(home)
-        ],
+        params![id.as_str(), name.as_str(), key.as_str(), code_or_null(home)],
     )
 }
 
@@ -69,7 +64,7 @@ pub fn set_home<S: Alter>(
     run(
         tx,
         "UPDATE person SET home = ?2 WHERE id = ?1",
-        params![id.as_str(), code_for_statement(home)],
+        params![id.as_str(), code_or_null(home)],
     )
 }
 

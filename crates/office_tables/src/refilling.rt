@@ -4,22 +4,22 @@ ghost use Rattle.sqlite.specs.Held.{state};
 ghost use Rattle.office_rows.specs.Tables.{Tables};
 ghost use Rattle.office_tables.specs.Declaring.{Rebuilds};
 ghost use Rattle.office_tables.specs.Makes.{Makes};
-ghost use Rattle.office_tables.specs.Refilling.{Renews, with_all};
+ghost use Rattle.office_tables.specs.Refilling.{Migrates, with_all};
 ghost use Rattle.office_tables.specs.Steps.{StaysInside};
 
 use crate::choices::add_choice;
+use crate::creating::create_tables_from;
 use crate::dropping::drop_tables_to;
 use crate::going::add_going;
 use crate::grades::add_grade;
+use crate::imports::add_list;
 use crate::layouts::Layout;
-use crate::lists::add_list;
-use crate::making::make_tables_from;
 use crate::moves::add_move;
 use crate::results::add_result;
 use crate::rounds::set_version;
 use crate::words::add_word;
 use office_rows::{ChoiceRecord, OfficeRecords};
-use office_state::{Assigned, KeptList};
+use office_state::{Assigned, StoredImport};
 use room_types::{Grade, Label, Move, PersonId, Word};
 use sqlite::{Alter, Error, ErrorCode, Transaction};
 use std::alloc::Global;
@@ -27,14 +27,14 @@ use std::alloc::Global;
 /// Converts the tables of this layout to the layout and version that this program creates. `records` has to hold all
 /// their rows. Drops the tables after the first three, creates those of this program, fills them from `records`, and
 /// sets the version.
-pub fn renew_tables<S: Alter>(
+pub fn migrate_tables<S: Alter>(
     alloc: Global,
     tx: &mut Transaction<'_, S>,
     layout: Layout,
     records: &OfficeRecords,
 ) -> Result<(), Error>
     ensures same_reference { tx.new.conn.ghost_name ≡ tx.old.conn.ghost_name }
-    ensures made { OnOk result (Renews layout records.now
+    ensures made { OnOk result (Migrates layout records.now
         (state S.Store tx.old.conn.now) (state S.Store tx.new.conn.now)) }
     ensures inside { StaysInside (state S.Store tx.old.conn.now) (state S.Store tx.new.conn.now) }
 {
@@ -57,7 +57,7 @@ fn rebuild_tables<S: Alter>(tx: &mut Transaction<'_, S>, layout: Layout) -> Resu
     ensures inside { StaysInside (state S.Store tx.old.conn.now) (state S.Store tx.new.conn.now) }
 {
     drop_tables_to(tx, layout, 3)?;
-    make_tables_from(tx, 3)
+    create_tables_from(tx, 3)
 }
 
 // Adds these rows, one after another.
@@ -107,10 +107,10 @@ impl Refilled for Move {
     }
 }
 
-impl Refilled for (Label, KeptList) {
-    ghost use Rattle.office_tables.specs.Edits.{with_kept};
+impl Refilled for (Label, StoredImport) {
+    ghost use Rattle.office_tables.specs.Edits.{with_import};
 
-    ghost with_row = { λ r. with_kept r.0 r.1 };
+    ghost with_row = { λ r. with_import r.0 r.1 };
 
     fn add_again<S: Alter>(
         &self,
@@ -146,7 +146,7 @@ impl Refilled for ChoiceRecord {
         tx: &mut Transaction<'_, S>,
     ) -> Result<(), Error> {
         // A list has at most forty places.
-        let Some(place) = refilled_place(self.place) else {
+        let Some(place) = narrow_place(self.place) else {
             return Err(Error::SqliteFailure(ErrorCode::DatabaseCorrupt));
         };
         add_choice(tx, &self.person, place, &self.room)
@@ -154,7 +154,7 @@ impl Refilled for ChoiceRecord {
 }
 
 // Converts a place to 32 bits, if it fits.
-fn refilled_place(place: u64) -> Option<u32>
+fn narrow_place(place: u64) -> Option<u32>
     ensures { IfSome result (λ number. number ≡ place) }
 {
     u32::try_from(place).ok()

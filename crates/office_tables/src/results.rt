@@ -5,7 +5,7 @@ ghost use Rattle.office_tables.specs.Edits.{with_result};
 ghost use Rattle.office_tables.specs.Makes.{Makes};
 ghost use Rattle.office_tables.specs.Steps.{IsUndone, StaysInside};
 
-use crate::cells::code_for_statement;
+use crate::parameters::code_or_null;
 use crate::running::run;
 use room_types::{PersonId, RoomCode};
 use sqlite::{Alter, Error, Transaction, params};
@@ -28,6 +28,6 @@ pub fn add_result<S: Alter>(
     run(
         tx,
         "INSERT INTO result(person, room) VALUES (?1, ?2)",
-        params![person.as_str(), code_for_statement(room)],
+        params![person.as_str(), code_or_null(room)],
     )
 }

@@ -6,9 +6,9 @@ ghost use Rattle.office_tables.specs.Edits.{without_round_tables};
 ghost use Rattle.office_tables.specs.Makes.{Makes};
 ghost use Rattle.office_tables.specs.Steps.{StaysInside};
 
+use crate::creating::create_tables_from;
 use crate::dropping::drop_tables_to;
 use crate::layouts::Layout;
-use crate::making::make_tables_from;
 use sqlite::{Alter, Error, Transaction};
 
 /// Deletes all words, results, choices and leavers. Drops the four tables and creates them again in the same places,
@@ -24,5 +24,5 @@ pub fn clear_round_tables<S: Alter>(tx: &mut Transaction<'_, S>) -> Result<(), E
     ensures inside { StaysInside (state S.Store tx.old.conn.now) (state S.Store tx.new.conn.now) }
 {
     drop_tables_to(tx, Layout::Own, 6)?;
-    make_tables_from(tx, 6)
+    create_tables_from(tx, 6)
 }

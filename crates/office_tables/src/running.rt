@@ -3,7 +3,7 @@ ghost use Rattle.std.specs.Prelude.{◌≡◌, OnOk, OnErr};
 ghost use Rattle.sqlite.specs.Held.{state};
 ghost use Rattle.sqlite.specs.State.{HasCleanDisk};
 ghost use Rattle.sqlite.specs.Values.{bound};
-ghost use Rattle.office_tables.specs.Steps.{Ran, IsUndone, StaysInside};
+ghost use Rattle.office_tables.specs.Steps.{HasRun, IsUndone, StaysInside};
 
 use sqlite::types::ValueRef;
 use sqlite::{Alter, Error, Transaction};
@@ -16,7 +16,7 @@ pub fn run<S: Alter>(
 ) -> Result<(), Error>
     ensures same_reference { tx.new.conn.ghost_name ≡ tx.old.conn.ghost_name }
     ensures ran { OnOk result (HasCleanDisk (state S.Store tx.new.conn.now)
-        → Ran text.now (bound params.now)
+        → HasRun text.now (bound params.now)
         (state S.Store tx.old.conn.now) (state S.Store tx.new.conn.now)) }
     ensures undone { OnErr result
         (IsUndone (state S.Store tx.old.conn.now) (state S.Store tx.new.conn.now)) }

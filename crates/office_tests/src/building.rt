@@ -1,7 +1,7 @@
 //! Values and requests as tests write them. A text that is not a value ends the test.
 use office_core::{Command, Office};
 use office_store::{Answer, Desk, Request};
-use office_words::{Sentence, read_line};
+use office_words::{ParsedLine, parse_line};
 use room_types::{Choices, Grammar, Phase, RoomCode, Text};
 use sqlite::MemStore;
 use std::alloc::Global;
@@ -72,19 +72,19 @@ pub fn is_bare(office: &Office) -> bool {
 }
 
 /// The requests of these lines.
-pub fn lines_asked(rt: &impl Abort, alloc: Global, lines: &str) -> Vec<Request> {
+pub fn parse_requests(rt: &impl Abort, alloc: Global, lines: &str) -> Vec<Request> {
     let mut requests = Vec::new(alloc);
     for line in lines.lines() {
         requests
-            .push(line_asked(rt, alloc, line))
+            .push(parse_request(rt, alloc, line))
             .expect(rt, "memory");
     }
     requests
 }
 
-fn line_asked(rt: &impl Abort, alloc: Global, line: &str) -> Request {
-    match read_line(alloc, line.as_bytes()).expect(rt, "memory") {
-        Sentence::Asks(request) => request,
+fn parse_request(rt: &impl Abort, alloc: Global, line: &str) -> Request {
+    match parse_line(alloc, line.as_bytes()).expect(rt, "memory") {
+        ParsedLine::Valid(request) => request,
         _ => panic!(rt; "no request: {line}"),
     }
 }

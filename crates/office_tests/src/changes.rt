@@ -40,7 +40,7 @@ const STORED: [(&str, i64); 11] = [
 ];
 
 #[test]
-fn stores_each_change(rt: HostRuntime) {
+fn stores_the_changes_of_a_round(rt: HostRuntime) {
     let alloc = rt.alloc();
     let mut conn = Connection::open_in_memory(alloc).expect(&rt, "memory");
     assert!(rt; create(&mut conn) == Ok(()));

@@ -18,14 +18,14 @@ use std::alloc::Global;
 use std::process::Abort;
 
 #[test]
-fn makes_the_tables_once(rt: HostRuntime) {
+fn creates_the_tables_once(rt: HostRuntime) {
     let mut conn = Connection::open_in_memory(rt.alloc()).expect(&rt, "memory");
     assert!(rt; create(&mut conn) == Ok(()));
     assert!(rt; create(&mut conn) == Err(CreateFault::AlreadyThere));
 }
 
 #[test]
-fn leaves_what_others_declared(rt: HostRuntime) {
+fn leaves_other_tables_unchanged(rt: HostRuntime) {
     let mut conn = Connection::open_in_memory(rt.alloc()).expect(&rt, "memory");
     let declared = "CREATE TABLE note(text TEXT); INSERT INTO note VALUES ('Dear Tim')";
     conn.execute_batch(declared).expect(&rt, declared);
@@ -38,7 +38,7 @@ fn leaves_what_others_declared(rt: HostRuntime) {
 
 // Each name of a table of an office may be taken.
 #[test]
-fn finds_names_that_are_taken(rt: HostRuntime) {
+fn refuses_names_that_are_taken(rt: HostRuntime) {
     for name in [
         "room", "person", "round", "choice", "word", "result", "move", "list", "grade", "Going",
     ] {
@@ -116,7 +116,7 @@ const CLEARED: [(&str, i64); 7] = [
 ];
 
 #[test]
-fn writes_rows(rt: HostRuntime) {
+fn adds_and_clears_rows(rt: HostRuntime) {
     let alloc = rt.alloc();
     let mut conn = Connection::open_in_memory(alloc).expect(&rt, "memory");
     assert!(rt; create(&mut conn) == Ok(()));

@@ -58,7 +58,7 @@ fn room_count(rt: &impl Abort, alloc: Global, desk: &mut FileDesk<Wary>) -> usiz
 }
 
 #[test]
-fn makes_an_office_once(rt: HostRuntime) -> io::Result<()> {
+fn creates_an_office_once(rt: HostRuntime) -> io::Result<()> {
     make_folder(&rt, "office_file_once")?;
     let path = "office_file_once/office.db";
     assert_same!(rt; fault(create_file(&rt, path)), None);
@@ -71,7 +71,7 @@ fn makes_an_office_once(rt: HostRuntime) -> io::Result<()> {
 }
 
 #[test]
-fn makes_no_office_of_other_files(rt: HostRuntime) -> io::Result<()> {
+fn creates_no_office_over_other_files(rt: HostRuntime) -> io::Result<()> {
     make_folder(&rt, "office_file_other")?;
     fs::write(&rt, "office_file_other/letter", b"Dear Tim,\n".as_slice())?;
     for path in [
@@ -82,14 +82,14 @@ fn makes_no_office_of_other_files(rt: HostRuntime) -> io::Result<()> {
         let fault = fault(create_file(&rt, path));
         assert_same!(rt; fault, Some(DeskFault::Unavailable), path);
     }
-    let letter = fs::read_to_string(&rt, "office_file_other/letter")?;
-    assert_same!(rt; letter.as_str(), "Dear Tim,\n");
+    let content = fs::read_to_string(&rt, "office_file_other/letter")?;
+    assert_same!(rt; content.as_str(), "Dear Tim,\n");
     fs::remove_dir_all(&rt, "office_file_other")?;
     Ok(())
 }
 
 #[test]
-fn finds_the_office_again(rt: HostRuntime) -> io::Result<()> {
+fn reopens_the_office(rt: HostRuntime) -> io::Result<()> {
     make_folder(&rt, "office_file_again")?;
     let path = "office_file_again/office.db";
     assert_same!(rt; fault(create_file(&rt, path)), None);
@@ -110,7 +110,7 @@ fn finds_the_office_again(rt: HostRuntime) -> io::Result<()> {
 }
 
 #[test]
-fn finds_no_office_elsewhere(rt: HostRuntime) -> io::Result<()> {
+fn opens_no_missing_or_empty_file(rt: HostRuntime) -> io::Result<()> {
     make_folder(&rt, "office_file_elsewhere")?;
     let missing = fault(on_file(&rt, "office_file_elsewhere/office.db"));
     assert_same!(rt; missing, Some(DeskFault::Unavailable));

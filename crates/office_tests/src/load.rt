@@ -106,7 +106,7 @@ fn is_published(office: &Office, layout: Layout) -> bool {
 }
 
 // Asserts that the tables hold that office, but not while a break is in effect.
-fn stands_and_breaks(
+fn loads_unless_broken(
     rt: &impl Abort,
     alloc: Global,
     conn: &mut Connection<MemStore>,
@@ -123,7 +123,7 @@ fn stands_and_breaks(
 }
 
 #[test]
-fn loads_what_the_documented_statements_wrote(rt: HostRuntime) {
+fn loads_rows_of_the_documented_statements(rt: HostRuntime) {
     let alloc = rt.alloc();
     for layout in [
         Layout::Own,
@@ -133,9 +133,9 @@ fn loads_what_the_documented_statements_wrote(rt: HostRuntime) {
         Layout::EarlierFirst,
     ] {
         let mut conn = office_made(&rt, alloc, layout);
-        stands_and_breaks(&rt, alloc, &mut conn, layout, &BREAKS);
+        loads_unless_broken(&rt, alloc, &mut conn, layout, &BREAKS);
         if layout.has_leavers() {
-            stands_and_breaks(&rt, alloc, &mut conn, layout, &LEAVERS_BREAK);
+            loads_unless_broken(&rt, alloc, &mut conn, layout, &LEAVERS_BREAK);
         }
     }
 }

@@ -88,7 +88,7 @@ fn refused_home(rt: &impl Abort, alloc: Global, office: &Office, home: &str) -> 
 
 // An unknown home, a shut one, and one where a person lives.
 #[test]
-fn refuses_a_home_from_the_start(rt: HostRuntime) {
+fn refuses_an_unknown_shut_or_occupied_home(rt: HostRuntime) {
     let alloc = rt.alloc();
     let mut office = Office::empty(alloc);
     furnish(&rt, alloc, &mut office);
@@ -208,11 +208,11 @@ fn has_move(rt: &impl Abort, alloc: Global, office: &Office) -> bool {
 fn has_list(rt: &impl Abort, alloc: Global, office: &Office) -> bool {
     let label = text(rt, alloc, "r-1");
     match office.lists.get(&label) {
-        Some(kept) => {
+        Some(stored) => {
             office.lists.len() == 1
-                && kept.kind == ListKind::Rooms
-                && kept.bytes.as_slice() == LIST
-                && kept.count == 1
+                && stored.kind == ListKind::Rooms
+                && stored.bytes.as_slice() == LIST
+                && stored.count == 1
         }
         None => false,
     }
@@ -235,7 +235,7 @@ fn is_settled(rt: &impl Abort, alloc: Global, office: &Office) -> bool {
 
 // The copy equals the office: each part has the expected value in both.
 #[test]
-fn copies_lists_and_moves(rt: HostRuntime) {
+fn copies_each_part_of_an_office(rt: HostRuntime) {
     let alloc = rt.alloc();
     let mut office = Office::empty(alloc);
     furnish(&rt, alloc, &mut office);
@@ -297,7 +297,7 @@ fn refused_person(rt: &impl Abort, alloc: Global, office: &mut Office) -> u8 {
 
 // All people but the last one allowed are added by changes, and that one by a command.
 #[test]
-fn refuses_one_person_too_many(rt: HostRuntime) {
+fn refuses_a_person_over_the_limit(rt: HostRuntime) {
     let alloc = rt.alloc();
     let mut office = Office::empty(alloc);
     for number in 0..1_999 {

@@ -4,7 +4,7 @@ use office_rows::{
     ChoiceRecord, OfficeRecords, PersonRecord, RoundRecord, read_choices, read_keys, read_moves,
     read_office, read_people, read_round, read_table,
 };
-use office_state::{KeptList, Person};
+use office_state::{Person, StoredImport};
 use room_types::{Grade, Label, ListKind, Listing, Move, PersonId, Phase, RoomCode, Wave};
 use std::alloc::Global;
 use std::process::Abort;
@@ -117,13 +117,13 @@ fn refuses_a_second_move_of_a_round(rt: HostRuntime) {
 }
 
 // A list imported under a label, which added the given number of records.
-fn lists(rt: &impl Abort, alloc: Global, count: u16) -> Vec<(Label, KeptList)> {
-    let kept = KeptList {
+fn lists(rt: &impl Abort, alloc: Global, count: u16) -> Vec<(Label, StoredImport)> {
+    let stored = StoredImport {
         kind: ListKind::Rooms,
         bytes: Listing::new(Vec::from_slice(alloc, b"room\nH1\n").expect(rt, "memory")),
         count,
     };
-    vec![in alloc; (text(rt, alloc, "r-1"), kept)].expect(rt, "memory")
+    vec![in alloc; (text(rt, alloc, "r-1"), stored)].expect(rt, "memory")
 }
 
 // The newcomer's grade.
@@ -172,8 +172,8 @@ fn is_read(
 ) -> bool {
     match read_office(alloc, records, version).expect(rt, "memory") {
         Some(office) => {
-            let kept = office.lists.len() == 1 && office.grades.len() == 1;
-            kept && office.going.len() == leavers
+            let stored = office.lists.len() == 1 && office.grades.len() == 1;
+            stored && office.going.len() == leavers
         }
         None => false,
     }
@@ -181,7 +181,7 @@ fn is_read(
 
 // Only an open or closed round may have these rows: between rounds no office has preference lists, and a drawn round has words.
 #[test]
-fn reads_a_lawful_office_alone(rt: HostRuntime) {
+fn reads_only_lawful_offices(rt: HostRuntime) {
     let alloc = rt.alloc();
     for phase in [Phase::Idle, Phase::Opened, Phase::Closed, Phase::Drawn] {
         let records = records(&rt, alloc, phase, 1, &[]);
@@ -194,7 +194,7 @@ fn reads_a_lawful_office_alone(rt: HostRuntime) {
 
 // An import adds at most 10,000 records.
 #[test]
-fn keeps_lists_of_few_records(rt: HostRuntime) {
+fn accepts_imports_of_at_most_ten_thousand_records(rt: HostRuntime) {
     let alloc = rt.alloc();
     for count in [10_000, 10_001] {
         let records = records(&rt, alloc, Phase::Opened, count, &[]);
@@ -203,7 +203,7 @@ fn keeps_lists_of_few_records(rt: HostRuntime) {
 }
 
 #[test]
-fn reads_rows_of_one_version(rt: HostRuntime) {
+fn reads_only_rows_of_its_version(rt: HostRuntime) {
     let alloc = rt.alloc();
     for version in 0..5 {
         let records = records(&rt, alloc, Phase::Opened, 1, &[]);
@@ -213,7 +213,7 @@ fn reads_rows_of_one_version(rt: HostRuntime) {
 
 // A leaver is a person who has not withdrawn, and has one row.
 #[test]
-fn reads_leavers(rt: HostRuntime) {
+fn accepts_only_valid_leavers(rt: HostRuntime) {
     let alloc = rt.alloc();
     for (going, wanted) in [
         (["N"].as_slice(), true),

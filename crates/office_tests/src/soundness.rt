@@ -5,7 +5,7 @@ use std::process::Abort;
 
 // The empty office is lawful. An open round has to have a number.
 #[test]
-fn tells_lawful_offices(rt: HostRuntime) -> Result<(), OutOfMemory> {
+fn distinguishes_lawful_offices(rt: HostRuntime) -> Result<(), OutOfMemory> {
     let alloc = rt.alloc();
     let mut office = Office::empty(alloc);
     assert!(rt; sound(alloc, &office)?);

@@ -57,7 +57,7 @@ fn is_one_room(answer: &Answer) -> bool {
 }
 
 #[test]
-fn keeps_an_office_in_tables(rt: HostRuntime) {
+fn stores_an_office_in_tables(rt: HostRuntime) {
     let alloc = rt.alloc();
     let requests = vec![in alloc;
         add_room(&rt, alloc, "H1"),
@@ -106,7 +106,7 @@ fn round_number(rt: &impl Abort, alloc: Global, desk: &mut Desk<MemStore>) -> u1
 
 // A desk creates its tables once: the connection that a second attempt returns still holds the office.
 #[test]
-fn makes_tables_once(rt: HostRuntime) {
+fn returns_the_connection_if_tables_exist(rt: HostRuntime) {
     let alloc = rt.alloc();
     let requests = about_one_room(&rt, alloc);
     let mut desk = new_desk(&rt, alloc);

@@ -12,12 +12,12 @@ abbrev pub right_in : ℕ → Text → Text
 right_in width text = replicate (width - length text) 32 ++ text
 
 -- ` grade ` and the grade; empty for grade 0
-abbrev pub told_grade : ℕ → Text
-told_grade grade = if grade == 0 then [] else codes " grade " ++ grade_text grade
+abbrev pub grade_suffix : ℕ → Text
+grade_suffix grade = if grade == 0 then [] else codes " grade " ++ grade_text grade
 
 -- the place padded to 4 columns, the word, the identifier and the grade
 abbrev pub order_line : ℕ → OrderRow → Text
-order_line place row = line_of (right_in 4 (decimal place) ∷ codes " " ∷ word_text row.word ∷ codes " " ∷ row.person ∷ told_grade row.grade ∷ [])
+order_line place row = line_of (right_in 4 (decimal place) ∷ codes " " ∷ word_text row.word ∷ codes " " ∷ row.person ∷ grade_suffix row.grade ∷ [])
 
 -- a line for each row; the first row has this place
 abbrev pub order_lines : ℕ → List OrderRow → Text

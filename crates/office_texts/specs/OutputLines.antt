@@ -5,4 +5,4 @@ use Rattle.room_types.specs.Texts.{Text}
 -- the pieces joined, and a line feed at the end
 abbrev pub line_of : List Text → Text
 line_of [] = codes "\n"
-line_of (piece ∷ pieces) = piece ++ line_of pieces
+line_of (part ∷ parts) = part ++ line_of parts

@@ -1,6 +1,6 @@
 //! Prints the drawn order.
 ghost use Rattle.std.specs.Prelude.{◌≡◌, ◌<◌, ◌++◌, IfOk, OnErr, OnOk, length, string_bytes};
-ghost use Rattle.office_texts.specs.OrderLines.{order_line, order_text, right_in, told_grade};
+ghost use Rattle.office_texts.specs.OrderLines.{order_line, order_text, right_in, grade_suffix};
 
 use office_core::OrderRow;
 use room_types::{Grade, OutOfMemory};
@@ -16,7 +16,7 @@ const PLACE_WIDTH: usize = 4;
 ///
 /// `OutOfMemory`, only if there are rows.
 #[tactic(auto, using(crate::proofs::answer_texts::Bytes::answer_texts_order_some))]
-pub fn text_of_order(alloc: Global, rows: &[OrderRow]) -> Result<String, OutOfMemory>
+pub fn order_text(alloc: Global, rows: &[OrderRow]) -> Result<String, OutOfMemory>
     ensures text { IfOk result (λ text. string_bytes text ≡ order_text rows.now) }
     ensures memory { OnErr result (0 < length (order_text rows.now)) }
 {
@@ -44,13 +44,13 @@ fn push_order_row(
     push_right(text, number.as_str(), PLACE_WIDTH)?;
     write!(text, " {word} ")?;
     text.push_str(row.person.as_str())?;
-    push_told_grade(text, row.grade)?;
+    push_grade(text, row.grade)?;
     text.push_str("\n")
 }
 
 // Appends ` grade ` and the grade, unless the grade is 0.
-fn push_told_grade(text: &mut String, grade: Grade) -> Result<(), AllocError>
-    ensures { OnOk result (string_bytes text.new ≡ string_bytes text.old ++ told_grade grade) }
+fn push_grade(text: &mut String, grade: Grade) -> Result<(), AllocError>
+    ensures { OnOk result (string_bytes text.new ≡ string_bytes text.old ++ grade_suffix grade) }
 {
     if grade.is_first() {
         return Ok(());

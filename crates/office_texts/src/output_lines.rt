@@ -9,7 +9,7 @@ use std::alloc::Global;
 /// # Errors
 ///
 /// `OutOfMemory` if the allocation fails.
-pub fn output_line(alloc: Global, text: &str) -> Result<String, OutOfMemory>
+pub fn owned_line(alloc: Global, text: &str) -> Result<String, OutOfMemory>
     ensures { IfOk result (λ line. string_bytes line ≡ text.now) }
 {
     let line = String::from_str(alloc, text)?;

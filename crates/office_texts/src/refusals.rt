@@ -12,19 +12,19 @@ use std::alloc::{AllocError, Global};
 /// # Errors
 ///
 /// `OutOfMemory` if an allocation fails.
-pub fn text_of_refusal(alloc: Global, refusal: &Refusal) -> Result<String, OutOfMemory>
+pub fn refusal_text(alloc: Global, refusal: &Refusal) -> Result<String, OutOfMemory>
     ensures { IfOk result (λ text. string_bytes text ≡ refusal_text refusal.now) }
 {
     let number = refusal.number();
     let name = refusal.name();
     let mut text = format!(in alloc; "refused {number} {name}")?;
-    push_refused_values(&mut text, refusal)?;
+    push_values(&mut text, refusal)?;
     text.push_str("\n")?;
     Ok(text)
 }
 
 // Appends the values of the refusal, if it has any, after a space.
-fn push_refused_values(text: &mut String, refusal: &Refusal) -> Result<(), AllocError>
+fn push_values(text: &mut String, refusal: &Refusal) -> Result<(), AllocError>
     ensures { OnOk result
         (string_bytes text.new ≡ string_bytes text.old ++ refusal_values refusal.now) }
 {

@@ -4,8 +4,8 @@ ghost use Rattle.office_core.specs.Replies.{RowsAscend};
 ghost use Rattle.office_texts.specs.OutputLines.{line_of};
 ghost use Rattle.office_texts.specs.Replies.{going_text, reply_text, result_text, spaced, standing_text, yes_or_no};
 
-use crate::order_lines::text_of_order;
-use crate::output_lines::output_line;
+use crate::order_lines::order_text;
+use crate::output_lines::owned_line;
 use office_core::{Reply, Standing};
 use office_lists::{move_day_text, or_none, people_text, results_text, rooms_text};
 use room_types::{OutOfMemory, PersonId, Phase, RoomCode};
@@ -16,23 +16,23 @@ use std::alloc::{AllocError, Global};
 /// # Errors
 ///
 /// `OutOfMemory`, only if the lines have bytes.
-pub fn text_of_reply(alloc: Global, reply: &Reply) -> Result<String, OutOfMemory>
+pub fn reply_text(alloc: Global, reply: &Reply) -> Result<String, OutOfMemory>
     requires ascending { RowsAscend reply.now }
     ensures text { IfOk result (λ text. string_bytes text ≡ reply_text reply.now) }
     ensures memory { OnErr result (0 < length (reply_text reply.now)) }
 {
     match reply {
-        Reply::Done => output_line(alloc, "ok\n"),
+        Reply::Done => owned_line(alloc, "ok\n"),
         Reply::Shut { displaced } => text_of_shut(alloc, displaced),
         Reply::Opened { round } => Ok(format!(in alloc; "round {round} open\n")?),
         Reply::Chosen { choices } => text_of_chosen(alloc, choices.as_slice()),
-        Reply::Withdrawn => output_line(alloc, "withdrawn\n"),
+        Reply::Withdrawn => owned_line(alloc, "withdrawn\n"),
         Reply::Closed { participants } => Ok(format!(in alloc; "closed {participants}\n")?),
         Reply::Drawn { participants } => Ok(format!(in alloc; "drawn {participants}\n")?),
         Reply::Ran { participants } => Ok(format!(in alloc; "ran {participants}\n")?),
         Reply::Published { participants } => Ok(format!(in alloc; "published {participants}\n")?),
         Reply::Settled { moves } => Ok(format!(in alloc; "settled {moves}\n")?),
-        Reply::Cancelled => output_line(alloc, "cancelled\n"),
+        Reply::Cancelled => owned_line(alloc, "cancelled\n"),
         Reply::Added { count } => Ok(format!(in alloc; "added {count}\n")?),
         Reply::Rooms(rows) => rooms_text(alloc, rows.as_slice()),
         Reply::People(rows) => people_text(alloc, rows.as_slice()),
@@ -43,12 +43,12 @@ pub fn text_of_reply(alloc: Global, reply: &Reply) -> Result<String, OutOfMemory
             withdrawn,
             going,
         } => text_of_round(alloc, *number, *phase, *people, *withdrawn, *going),
-        Reply::Order(rows) => text_of_order(alloc, rows.as_slice()),
+        Reply::Order(rows) => order_text(alloc, rows.as_slice()),
         Reply::Results(rows) => results_text(alloc, rows.as_slice()),
         Reply::Moves(rows) => move_day_text(alloc, rows.as_slice()),
-        Reply::Me(standing) => text_of_standing(alloc, standing),
+        Reply::Me(standing) => standing_text(alloc, standing),
         Reply::WouldGet(room) => text_of_room(alloc, room),
-        Reply::Going => output_line(alloc, "going\n"),
+        Reply::Going => owned_line(alloc, "going\n"),
     }
 }
 
@@ -57,7 +57,7 @@ fn text_of_shut(alloc: Global, displaced: &Option<PersonId>) -> Result<String, O
 {
     match displaced {
         Some(person) => Ok(format!(in alloc; "shut displaced {person}\n")?),
-        None => output_line(alloc, "shut\n"),
+        None => owned_line(alloc, "shut\n"),
     }
 }
 
@@ -107,7 +107,7 @@ fn push_going(text: &mut String, going: usize) -> Result<(), AllocError>
 }
 
 // Returns the eight lines that a person sees.
-fn text_of_standing(alloc: Global, standing: &Standing) -> Result<String, OutOfMemory>
+fn standing_text(alloc: Global, standing: &Standing) -> Result<String, OutOfMemory>
     ensures { IfOk result (λ text. string_bytes text ≡ standing_text standing.now) }
 {
     let round = standing.round;
@@ -118,20 +118,20 @@ fn text_of_standing(alloc: Global, standing: &Standing) -> Result<String, OutOfM
     push_line(&mut text, "home ", or_none(&standing.home))?;
     writeln!(text, "round {round} {phase}")?;
     push_rooms(&mut text, "choices", standing.choices.as_slice())?;
-    push_line(&mut text, "withdrawn ", reply_yes_or_no(standing.withdrawn))?;
-    push_line(&mut text, "going ", reply_yes_or_no(standing.going))?;
-    push_line(&mut text, "result ", shown_result(standing))?;
+    push_line(&mut text, "withdrawn ", yes_or_no(standing.withdrawn))?;
+    push_line(&mut text, "going ", yes_or_no(standing.going))?;
+    push_line(&mut text, "result ", result_text(standing))?;
     Ok(text)
 }
 
-fn reply_yes_or_no(answer: bool) -> &'static str
+fn yes_or_no(answer: bool) -> &'static str
     ensures { result.now ≡ yes_or_no answer }
 {
     if answer { "yes" } else { "no" }
 }
 
 // Returns the room or `none`, or `hidden` if the result is not shown.
-fn shown_result(standing: &Standing) -> &str
+fn result_text(standing: &Standing) -> &str
     ensures { result.now ≡ result_text standing.now }
 {
     if standing.shown {

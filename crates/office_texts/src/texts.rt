@@ -1,11 +1,11 @@
 //! The text and the status of a response.
 ghost use Rattle.std.specs.Prelude.{◌≡◌, ◌<◌, IfOk, OnErr, false, length};
 ghost use Rattle.std.specs.Cow.{cow_str_bytes};
-ghost use Rattle.office_texts.specs.Texts.{text_of as text-of, answer_text_status as status-of, SaidAscends, is_constant};
+ghost use Rattle.office_texts.specs.Texts.{text_of as text-of, exit_status as status-of, ResponseAscends, is_constant};
 
-use crate::refusals::text_of_refusal;
-use crate::replies::text_of_reply;
-use crate::said::Said;
+use crate::refusals::refusal_text;
+use crate::replies::reply_text;
+use crate::response::Response;
 use office_store::Answer;
 use room_types::OutOfMemory;
 use std::alloc::Global;
@@ -31,31 +31,31 @@ pub const UNAVAILABLE: u8 = 3;
 /// # Errors
 ///
 /// `OutOfMemory`, only if the text is not a constant and has bytes.
-pub fn text_of(alloc: Global, said: &Said) -> Result<CowStr<'static, Global>, OutOfMemory>
-    requires ascending { SaidAscends said.now }
-    ensures text { IfOk result (λ text. cow_str_bytes text ≡ text-of said.now) }
-    ensures made { OnErr result (is_constant said.now ≡ false) }
-    ensures memory { OnErr result (0 < length (text-of said.now)) }
+pub fn text_of(alloc: Global, response: &Response) -> Result<CowStr<'static, Global>, OutOfMemory>
+    requires ascending { ResponseAscends response.now }
+    ensures text { IfOk result (λ text. cow_str_bytes text ≡ text-of response.now) }
+    ensures made { OnErr result (is_constant response.now ≡ false) }
+    ensures memory { OnErr result (0 < length (text-of response.now)) }
 {
-    match said {
-        Said::Nothing => Ok(CowStr::Borrowed("")),
-        Said::Answered(Answer::Reply(reply)) => Ok(CowStr::Owned(text_of_reply(alloc, reply)?)),
-        Said::Answered(Answer::Refused(refusal)) => {
-            Ok(CowStr::Owned(text_of_refusal(alloc, refusal)?))
+    match response {
+        Response::Nothing => Ok(CowStr::Borrowed("")),
+        Response::Answered(Answer::Reply(reply)) => Ok(CowStr::Owned(reply_text(alloc, reply)?)),
+        Response::Answered(Answer::Refused(refusal)) => {
+            Ok(CowStr::Owned(refusal_text(alloc, refusal)?))
         }
-        Said::Answered(Answer::Unavailable) => Ok(CowStr::Borrowed("unavailable\n")),
-        Said::NotUnderstood => Ok(CowStr::Borrowed("not understood\n")),
+        Response::Answered(Answer::Unavailable) => Ok(CowStr::Borrowed("unavailable\n")),
+        Response::NotUnderstood => Ok(CowStr::Borrowed("not understood\n")),
     }
 }
 
 /// Returns the status of the line that got this response.
-pub fn answer_text_status(said: &Said) -> u8
-    ensures { result ≡ status-of said.now }
+pub fn exit_status(response: &Response) -> u8
+    ensures { result ≡ status-of response.now }
 {
-    match said {
-        Said::Nothing | Said::Answered(Answer::Reply(_)) => ACCEPTED,
-        Said::Answered(Answer::Refused(_)) => REFUSED,
-        Said::Answered(Answer::Unavailable) => UNAVAILABLE,
-        Said::NotUnderstood => NOT_UNDERSTOOD,
+    match response {
+        Response::Nothing | Response::Answered(Answer::Reply(_)) => ACCEPTED,
+        Response::Answered(Answer::Refused(_)) => REFUSED,
+        Response::Answered(Answer::Unavailable) => UNAVAILABLE,
+        Response::NotUnderstood => NOT_UNDERSTOOD,
     }
 }

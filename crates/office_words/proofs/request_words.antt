@@ -2,4 +2,4 @@
 pub mod Codes
 pub mod Names
 pub mod Rounds
-pub mod Sentences
+pub mod Parsing

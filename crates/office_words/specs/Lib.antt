@@ -1,5 +1,5 @@
-pub mod Sentences
+pub mod Parsing
 pub mod Understanding
 pub mod Values
 pub mod Verbs
-pub mod Words
+pub mod Requests

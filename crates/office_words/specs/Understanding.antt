@@ -15,7 +15,7 @@ abbrev pub Understands : {X : Type 0} → Option X → Result X WordFault → Ty
 Understands meaning result = UnderstandsAs (λ x. x) meaning result
 
 -- the result is `OutOfMemory` only if the flag holds
-abbrev pub WantsMemoryOnlyIf : {X : Type 0} → Bool → Result X WordFault → Type 0
-WantsMemoryOnlyIf takes (Ok x) = ⊤
-WantsMemoryOnlyIf takes (Err NotUnderstood) = ⊤
-WantsMemoryOnlyIf takes (Err OutOfMemory) = takes ≡ true
+abbrev pub OutOfMemoryOnlyIf : {X : Type 0} → Bool → Result X WordFault → Type 0
+OutOfMemoryOnlyIf takes (Ok x) = ⊤
+OutOfMemoryOnlyIf takes (Err NotUnderstood) = ⊤
+OutOfMemoryOnlyIf takes (Err OutOfMemory) = takes ≡ true

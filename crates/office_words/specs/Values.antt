@@ -44,9 +44,9 @@ abbrev pub choices_in : List Text → Option (List Text)
 choices_in words = option_and_then as_choices (codes_of words)
 
 -- the word is 1 to 4 decimal digits
-abbrev pub is_round_number_word : Text → Bool
-is_round_number_word word = is_in_range 1 4 (length word) && list_all is_ascii_digit word
+abbrev pub is_round_number : Text → Bool
+is_round_number word = is_in_range 1 4 (length word) && list_all is_ascii_digit word
 
 -- the number of a round that the word writes
 abbrev pub round_number : Text → Option ℕ
-round_number word = if is_round_number_word word then Some (digits_value 10 word) else None
+round_number word = if is_round_number word then Some (digits_value 10 word) else None

@@ -3,11 +3,11 @@ ghost use Rattle.std.specs.Prelude.{◌≡◌, false, is_some, length, map};
 ghost use Rattle.std.specs.Char.{is_ascii_digit};
 ghost use Rattle.std.specs.Int.{is_in_range};
 ghost use Rattle.std.specs.List.{list_all};
-ghost use Rattle.office_words.specs.Understanding.{Understands, UnderstandsAs, WantsMemoryOnlyIf};
+ghost use Rattle.office_words.specs.Understanding.{Understands, UnderstandsAs, OutOfMemoryOnlyIf};
 ghost use Rattle.room_types.specs.Grades.{grade_of};
 ghost use Rattle.room_types.specs.Words.{word_of};
-ghost use Rattle.office_words.specs.Values.{all_of, choices_in, codes_of, in_grammar, is_round_number_word, joined, only, round_number};
-ghost use Rattle.office_words.specs.Words.{first_in, is_drawn_word};
+ghost use Rattle.office_words.specs.Values.{all_of, choices_in, codes_of, in_grammar, is_round_number, joined, only, round_number};
+ghost use Rattle.office_words.specs.Requests.{first_in, is_drawn_word};
 ghost use Rattle.room_types.specs.Grammars.{is_name};
 
 use crate::word_fault::WordFault;
@@ -22,9 +22,9 @@ pub const ROUND_DIGITS: usize = 4;
 /// # Errors
 ///
 /// `NotUnderstood` if the word is not in the grammar; `OutOfMemory` only if it is.
-pub(crate) fn request_value_of<G: Grammar>(alloc: Global, word: &str) -> Result<Text<G>, WordFault>
+pub(crate) fn value_of<G: Grammar>(alloc: Global, word: &str) -> Result<Text<G>, WordFault>
     ensures understands { Understands (in_grammar G.is_text word.now) result }
-    ensures memory { WantsMemoryOnlyIf (G.is_text word.now) result }
+    ensures memory { OutOfMemoryOnlyIf (G.is_text word.now) result }
 {
     match Text::read(alloc, word) {
         Ok(value) => Ok(value),
@@ -38,17 +38,14 @@ pub(crate) fn request_value_of<G: Grammar>(alloc: Global, word: &str) -> Result<
 /// # Errors
 ///
 /// `NotUnderstood` if there is not exactly one word, or it is not in the grammar; `OutOfMemory` only if there is one and it is.
-pub(crate) fn only_value_in_words<G: Grammar>(
-    alloc: Global,
-    words: &[&str],
-) -> Result<Text<G>, WordFault>
+pub(crate) fn only_value<G: Grammar>(alloc: Global, words: &[&str]) -> Result<Text<G>, WordFault>
     ensures understands { Understands
         (only G.is_text (map (λ word. word.now) words.now)) result }
-    ensures memory { WantsMemoryOnlyIf
+    ensures memory { OutOfMemoryOnlyIf
         (is_some (only G.is_text (map (λ word. word.now) words.now))) result }
 {
     match words {
-        [word] => request_value_of(alloc, word),
+        [word] => value_of(alloc, word),
         _ => Err(WordFault::NotUnderstood),
     }
 }
@@ -62,7 +59,7 @@ pub(crate) fn name_of(alloc: Global, words: &[&str]) -> Result<Name, WordFault>
     ensures { Understands (in_grammar is_name (joined (map (λ word. word.now) words.now))) result }
 {
     let name = words.join(alloc, " ")?;
-    request_value_of(alloc, name.as_str())
+    value_of(alloc, name.as_str())
 }
 
 /// Parses a list of room codes, one from each word.
@@ -70,10 +67,10 @@ pub(crate) fn name_of(alloc: Global, words: &[&str]) -> Result<Name, WordFault>
 /// # Errors
 ///
 /// `NotUnderstood` if a word is not a room code, a code repeats or there are too many; `OutOfMemory` if an allocation fails.
-pub(crate) fn request_choices_of(alloc: Global, words: &[&str]) -> Result<Choices, WordFault>
+pub(crate) fn choices_in(alloc: Global, words: &[&str]) -> Result<Choices, WordFault>
     ensures { Understands (choices_in (map (λ word. word.now) words.now)) result }
 {
-    let codes = all_codes(alloc, words)?;
+    let codes = codes_of(alloc, words)?;
     match Choices::read(codes) {
         Ok(choices) => Ok(choices),
         Err(TypeFault::OutOfMemory) => Err(WordFault::OutOfMemory),
@@ -82,13 +79,13 @@ pub(crate) fn request_choices_of(alloc: Global, words: &[&str]) -> Result<Choice
 }
 
 // Parses a room code from each word.
-fn all_codes(alloc: Global, words: &[&str]) -> Result<Vec<RoomCode>, WordFault>
+fn codes_of(alloc: Global, words: &[&str]) -> Result<Vec<RoomCode>, WordFault>
     ensures { UnderstandsAs (λ codes. codes.items) (codes_of (map (λ word. word.now) words.now))
         result }
 {
     let mut codes = Vec::new(alloc);
     for word in words {
-        codes.push(request_value_of(alloc, word)?)?;
+        codes.push(value_of(alloc, word)?)?;
     }
     Ok(codes)
 }
@@ -100,20 +97,20 @@ fn all_codes(alloc: Global, words: &[&str]) -> Result<Vec<RoomCode>, WordFault>
 /// `NotUnderstood` if a word is not a lottery number; `OutOfMemory` only if the first word is one.
 pub(crate) fn drawn_words(alloc: Global, words: &[&str]) -> Result<Listing<Word>, WordFault>
     ensures understands { Understands (all_of word_of (map (λ word. word.now) words.now)) result }
-    ensures memory { WantsMemoryOnlyIf
+    ensures memory { OutOfMemoryOnlyIf
         (first_in is_drawn_word (map (λ word. word.now) words.now)) result }
 {
     let mut drawn = Vec::new(alloc);
     for word in words {
-        drawn.push(drawn_request_word(word)?)?;
+        drawn.push(drawn_word(word)?)?;
     }
     Ok(Listing::new(drawn))
 }
 
 // Parses a lottery number. Does not allocate.
-fn drawn_request_word(word: &str) -> Result<Word, WordFault>
+fn drawn_word(word: &str) -> Result<Word, WordFault>
     ensures understands { Understands (word_of word.now) result }
-    ensures memory { WantsMemoryOnlyIf false result }
+    ensures memory { OutOfMemoryOnlyIf false result }
 {
     match Word::read(word) {
         Ok(word) => Ok(word),
@@ -126,9 +123,9 @@ fn drawn_request_word(word: &str) -> Result<Word, WordFault>
 /// # Errors
 ///
 /// `NotUnderstood` if the word is not a grade.
-pub(crate) fn grade_word_of(word: &str) -> Result<Grade, WordFault>
+pub(crate) fn grade_of(word: &str) -> Result<Grade, WordFault>
     ensures understands { Understands (grade_of word.now) result }
-    ensures memory { WantsMemoryOnlyIf false result }
+    ensures memory { OutOfMemoryOnlyIf false result }
 {
     match Grade::read(word) {
         Ok(grade) => Ok(grade),
@@ -141,11 +138,11 @@ pub(crate) fn grade_word_of(word: &str) -> Result<Grade, WordFault>
 /// # Errors
 ///
 /// `NotUnderstood` if the word is not 1 to 4 digits.
-pub(crate) fn round_of(word: &str) -> Result<u16, WordFault>
+pub(crate) fn round_number(word: &str) -> Result<u16, WordFault>
     ensures understands { Understands (round_number word.now) result }
-    ensures memory { WantsMemoryOnlyIf false result }
+    ensures memory { OutOfMemoryOnlyIf false result }
 {
-    if !is_round_number_word(word) {
+    if !is_round_number(word) {
         return Err(WordFault::NotUnderstood);
     }
     match word.parse::<u16>() {
@@ -155,19 +152,19 @@ pub(crate) fn round_of(word: &str) -> Result<u16, WordFault>
 }
 
 // Returns whether a word is 1 to 4 decimal digits.
-fn is_round_number_word(word: &str) -> bool
-    ensures { result ≡ is_round_number_word word.now }
+fn is_round_number(word: &str) -> bool
+    ensures { result ≡ is_round_number word.now }
 {
-    has_round_word_length(word) && has_digits_alone(word)
+    has_round_length(word) && has_only_digits(word)
 }
 
-fn has_round_word_length(word: &str) -> bool
+fn has_round_length(word: &str) -> bool
     ensures { result ≡ is_in_range 1 4 (length word.now) }
 {
     1 <= word.len() && word.len() <= ROUND_DIGITS
 }
 
-fn has_digits_alone(word: &str) -> bool
+fn has_only_digits(word: &str) -> bool
     ensures { result ≡ list_all is_ascii_digit word.now }
 {
     word.as_bytes().iter().all(|byte| byte.is_ascii_digit())

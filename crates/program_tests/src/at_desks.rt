@@ -4,57 +4,57 @@ ghost use Rattle.office_store.specs.Requests.{AnswerAscends};
 
 use crate::scripts::{rehearsed, rehearsed_at};
 use office_store::{Answer, Desk, Request};
-use office_texts::{text_of_refusal, text_of_reply};
-use office_words::{Sentence, read_line};
+use office_texts::{refusal_text, reply_text};
+use office_words::{ParsedLine, parse_line};
 use room_types::OutOfMemory;
 use sqlite::MemStore;
 use std::alloc::{AllocError, Global};
 use std::test::Fail;
 
 // Lines that show the rooms, the people, the round, the order, the results and the moves of the first round.
-const SHOWS: &str = "rooms\npeople\nround\norder\nresults\nmoves 1\n";
+const QUERIES: &str = "rooms\npeople\nround\norder\nresults\nmoves 1\n";
 
 /// Whether a desk that handles the requests of the lines in one call answers what a rehearsal of the lines prints, and shows the
 /// same office at the end as the rehearsal, and whether a desk that adopts its database shows that office too.
-pub fn is_kept(alloc: Global, lines: &str) -> Result<bool, Fail> {
+pub fn agrees_in_batch(alloc: Global, lines: &str) -> Result<bool, Fail> {
     let (_, text) = rehearsed(alloc, lines.as_bytes());
-    let requests = requests_of(alloc, lines)?;
+    let requests = parse_requests(alloc, lines)?;
     let mut desk = Desk::in_memory(alloc)?;
     let answers = answers_at(alloc, &mut desk, &requests)?;
-    let printed = text_of_answers(alloc, &answers)?;
-    let kept = shown(alloc, &mut desk);
+    let printed = answers_text(alloc, &answers)?;
+    let stored = shown(alloc, &mut desk);
     let whole = answers.len() == requests.len()
-        && printed.as_bytes() == understood_in(alloc, &text)?.as_slice()
-        && is_shown_after(alloc, lines, &kept)?;
+        && printed.as_bytes() == without_misunderstood_lines(alloc, &text)?.as_slice()
+        && is_shown_after(alloc, lines, &stored)?;
     match Desk::adopt(alloc, desk.release()) {
-        Ok(mut found) => Ok(whole && shown(alloc, &mut found).as_slice() == kept.as_slice()),
+        Ok(mut found) => Ok(whole && shown(alloc, &mut found).as_slice() == stored.as_slice()),
         Err(_back) => Ok(false),
     }
 }
 
 // Parses the requests of the lines. Skips lines that have none.
-fn requests_of(alloc: Global, lines: &str) -> Result<Vec<Request>, Fail> {
+fn parse_requests(alloc: Global, lines: &str) -> Result<Vec<Request>, Fail> {
     let mut requests = Vec::new(alloc);
     for line in lines.lines() {
-        if let Sentence::Asks(request) = read_line(alloc, line.as_bytes())? {
+        if let ParsedLine::Valid(request) = parse_line(alloc, line.as_bytes())? {
             requests.push(request)?;
         }
     }
     Ok(requests)
 }
 
-/// The output of `SHOWS` at the desk.
+/// The output of `QUERIES` at the desk.
 pub fn shown(alloc: Global, desk: &mut Desk<MemStore>) -> Vec<u8> {
-    let (_, text) = rehearsed_at(alloc, desk, SHOWS.as_bytes());
+    let (_, text) = rehearsed_at(alloc, desk, QUERIES.as_bytes());
     text
 }
 
-/// Whether this text is not empty and the output of a rehearsal of the lines and then of `SHOWS` ends with it.
-pub fn is_shown_after(alloc: Global, lines: &str, kept: &[u8]) -> Result<bool, Fail> {
+/// Whether this text is not empty and the output of a rehearsal of the lines and then of `QUERIES` ends with it.
+pub fn is_shown_after(alloc: Global, lines: &str, stored: &[u8]) -> Result<bool, Fail> {
     let mut all = String::from_str(alloc, lines)?;
-    all.push_str(SHOWS)?;
+    all.push_str(QUERIES)?;
     let (_, text) = rehearsed(alloc, all.as_bytes());
-    Ok(!kept.is_empty() && text.as_slice().ends_with(kept))
+    Ok(!stored.is_empty() && text.as_slice().ends_with(stored))
 }
 
 // Handles the requests and returns the answers of the desk. In each reply the rows ascend.
@@ -69,14 +69,14 @@ fn answers_at(
 }
 
 // The printed text of the answers.
-fn text_of_answers(alloc: Global, answers: &[Answer]) -> Result<String, OutOfMemory>
+fn answers_text(alloc: Global, answers: &[Answer]) -> Result<String, OutOfMemory>
     requires { All AnswerAscends answers.now }
 {
     let mut text = String::new(alloc);
     for answer in answers {
         let lines = match answer {
-            Answer::Reply(reply) => text_of_reply(alloc, reply)?,
-            Answer::Refused(refusal) => text_of_refusal(alloc, refusal)?,
+            Answer::Reply(reply) => reply_text(alloc, reply)?,
+            Answer::Refused(refusal) => refusal_text(alloc, refusal)?,
             Answer::Unavailable => String::from_str(alloc, "unavailable\n")?,
         };
         text.push_str(lines.as_str())?;
@@ -85,7 +85,7 @@ fn text_of_answers(alloc: Global, answers: &[Answer]) -> Result<String, OutOfMem
 }
 
 // The text without its lines `not understood`.
-fn understood_in(alloc: Global, text: &[u8]) -> Result<Vec<u8>, AllocError> {
+fn without_misunderstood_lines(alloc: Global, text: &[u8]) -> Result<Vec<u8>, AllocError> {
     let mut rest = Vec::new(alloc);
     for line in text.split_inclusive(|byte| *byte == b'\n') {
         if line != b"not understood\n".as_slice() {

@@ -126,7 +126,7 @@ const BAD_LISTS: [Step<'_>; 37] = [
 ];
 
 #[test]
-fn refuses_a_list_by_its_first_bad_record(rt: HostRuntime) -> Result<(), Fail> {
+fn reports_the_first_bad_record_of_a_list(rt: HostRuntime) -> Result<(), Fail> {
     run_steps(&rt, &rt, "imports_bad", &BAD_LISTS)
 }
 

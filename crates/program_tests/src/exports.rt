@@ -99,7 +99,7 @@ fn assert_export(
 }
 
 #[test]
-fn exports_years(rt: HostRuntime) {
+fn exports_moves_rooms_people_and_grades(rt: HostRuntime) {
     let alloc = rt.alloc();
     for (texts, wanted) in EXPORTS {
         let mut found = desk_after(alloc, texts);
@@ -136,7 +136,7 @@ fn assert_cut_off(
 
 // Nothing is written after an export that is cut off.
 #[test]
-fn fails_where_an_export_is_cut_off(rt: HostRuntime) {
+fn fails_if_an_export_is_cut_off(rt: HostRuntime) {
     let alloc = rt.alloc();
     let mut found = desk_after(alloc, &["room H1\nroom H2\n"]);
     assert_cut_off(&rt, alloc, &mut found, 20, true, "room,state,tenant\nH1");
@@ -145,7 +145,7 @@ fn fails_where_an_export_is_cut_off(rt: HostRuntime) {
 }
 
 #[test]
-fn exports_nothing_without_an_office(rt: HostRuntime) {
+fn reports_that_there_is_no_office_to_export(rt: HostRuntime) {
     let mut found = Err(DeskFault::NotAnOffice);
     let wanted = (1, "refused 21 NotAnOffice\n");
     assert_export(&rt, rt.alloc(), &mut found, ExportKind::Rooms, wanted);

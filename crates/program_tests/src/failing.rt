@@ -2,11 +2,11 @@
 use std::io;
 use std::io::{Error, ErrorKind, Read, Write};
 
-/// A reader that gives at most `piece` bytes a read. After `reads` reads one read fails; later ones succeed.
+/// A reader that gives at most `chunk` bytes a read. After `reads` reads one read fails; later ones succeed.
 #[derive(Drop)]
 pub struct FailingReader<'a> {
     pub unread: &'a [u8],
-    pub piece: usize,
+    pub chunk: usize,
     pub reads: usize,
 }
 
@@ -17,7 +17,7 @@ impl Read for FailingReader<'_> {
             return Err(Error::from(ErrorKind::Other));
         }
         self.reads -= 1;
-        let len = self.piece.min(buf.len());
+        let len = self.chunk.min(buf.len());
         self.unread.read(&mut buf[..len])
     }
 }

@@ -12,7 +12,7 @@ const ONCE: [Step<'_>; 2] = [
 ];
 
 #[test]
-fn makes_an_office_once(rt: HostRuntime) -> Result<(), Fail> {
+fn creates_an_office_once(rt: HostRuntime) -> Result<(), Fail> {
     run_steps(&rt, &rt, "lines_once", &ONCE)
 }
 
@@ -20,7 +20,7 @@ const YEAR: &str = "lines_year/office.db";
 
 // A year in which T1 and T2 swap their homes and N moves into the vacant room. The order is T1, T2, N: T1 asks for H2 and T2
 // for H1, which closes the loop. H1 is then assigned, so N gets V, which nobody leaves.
-const KEPT_YEAR: [Step<'_>; 24] = [
+const STORED_YEAR: [Step<'_>; 24] = [
     Step::Line(&["new", "--db", YEAR], 0, "ok\n"),
     Step::Line(&["do", "--db", YEAR, "room", "H1"], 0, "ok\n"),
     Step::Line(&["do", "--db", YEAR, "room", "H2"], 0, "ok\n"),
@@ -135,17 +135,17 @@ const KEPT_YEAR: [Step<'_>; 24] = [
 ];
 
 #[test]
-fn keeps_a_year_in_a_file(rt: HostRuntime) -> Result<(), Fail> {
-    run_steps(&rt, &rt, "lines_year", &KEPT_YEAR)
+fn stores_a_year_in_a_file(rt: HostRuntime) -> Result<(), Fail> {
+    run_steps(&rt, &rt, "lines_year", &STORED_YEAR)
 }
 
 // The words are checked first, and then the file.
 const NO_EXPORT: [Step<'_>; 7] = [
     Step::Write("lines_export/empty", b""),
-    Step::NoLine(&["export", "--db", "lines_export/empty", "choices"]),
-    Step::NoLine(&["export", "--db", "lines_export/empty"]),
-    Step::NoLine(&["export", "--db", "lines_export/empty", "rooms", "people"]),
-    Step::NoLine(&["export", "rooms"]),
+    Step::Malformed(&["export", "--db", "lines_export/empty", "choices"]),
+    Step::Malformed(&["export", "--db", "lines_export/empty"]),
+    Step::Malformed(&["export", "--db", "lines_export/empty", "rooms", "people"]),
+    Step::Malformed(&["export", "rooms"]),
     Step::Line(
         &["export", "--db", "lines_export/missing", "rooms"],
         3,
@@ -159,7 +159,7 @@ const NO_EXPORT: [Step<'_>; 7] = [
 ];
 
 #[test]
-fn says_why_it_exports_nothing(rt: HostRuntime) -> Result<(), Fail> {
+fn reports_why_it_exports_nothing(rt: HostRuntime) -> Result<(), Fail> {
     run_steps(&rt, &rt, "lines_export", &NO_EXPORT)
 }
 
@@ -225,7 +225,7 @@ const NO_OFFICE: [Step<'_>; 17] = [
 ];
 
 #[test]
-fn says_why_it_opens_no_office(rt: HostRuntime) -> Result<(), Fail> {
+fn reports_why_it_opens_no_office(rt: HostRuntime) -> Result<(), Fail> {
     run_steps(&rt, &rt, "lines_none", &NO_OFFICE)
 }
 
@@ -272,37 +272,37 @@ const ONE_LINE: [Step<'_>; 15] = [
 ];
 
 #[test]
-fn reads_the_words_as_one_line(rt: HostRuntime) -> Result<(), Fail> {
+fn parses_the_words_as_one_line(rt: HostRuntime) -> Result<(), Fail> {
     run_steps(&rt, &rt, "lines_words", &ONE_LINE)
 }
 
 const OTHER: &str = "lines_other/office.db";
 
 // Words that the program does not understand are reported on standard error before a file is opened, so none is created.
-const NO_LINES: [Step<'_>; 20] = [
-    Step::NoLine(&["new"]),
-    Step::NoLine(&["new", "--db"]),
-    Step::NoLine(&["new", OTHER]),
-    Step::NoLine(&["new", "--db", OTHER, "now"]),
-    Step::NoLine(&["new", "--db", OTHER, "--db", OTHER]),
-    Step::NoLine(&["new", "--db", OTHER, "--help"]),
-    Step::NoLine(&["new", "--file", OTHER]),
-    Step::NoLine(&["new", "-d", OTHER]),
-    Step::NoLine(&["migrate"]),
-    Step::NoLine(&["migrate", OTHER]),
-    Step::NoLine(&["migrate", "--db", OTHER, "now"]),
-    Step::NoLine(&["do"]),
-    Step::NoLine(&["do", "rooms"]),
-    Step::NoLine(&["do", "--db", OTHER]),
-    Step::NoLine(&["do", "--db", OTHER, "--"]),
-    Step::NoLine(&["do", "--db", OTHER, "--db", OTHER, "rooms"]),
-    Step::NoLine(&["do", "--db", OTHER, "room", "-A"]),
-    Step::NoLine(&["do", "--db", OTHER, "--quick", "rooms"]),
-    Step::NoLine(&["do", "--db", OTHER, "rooms", "--help"]),
+const MALFORMED: [Step<'_>; 20] = [
+    Step::Malformed(&["new"]),
+    Step::Malformed(&["new", "--db"]),
+    Step::Malformed(&["new", OTHER]),
+    Step::Malformed(&["new", "--db", OTHER, "now"]),
+    Step::Malformed(&["new", "--db", OTHER, "--db", OTHER]),
+    Step::Malformed(&["new", "--db", OTHER, "--help"]),
+    Step::Malformed(&["new", "--file", OTHER]),
+    Step::Malformed(&["new", "-d", OTHER]),
+    Step::Malformed(&["migrate"]),
+    Step::Malformed(&["migrate", OTHER]),
+    Step::Malformed(&["migrate", "--db", OTHER, "now"]),
+    Step::Malformed(&["do"]),
+    Step::Malformed(&["do", "rooms"]),
+    Step::Malformed(&["do", "--db", OTHER]),
+    Step::Malformed(&["do", "--db", OTHER, "--"]),
+    Step::Malformed(&["do", "--db", OTHER, "--db", OTHER, "rooms"]),
+    Step::Malformed(&["do", "--db", OTHER, "room", "-A"]),
+    Step::Malformed(&["do", "--db", OTHER, "--quick", "rooms"]),
+    Step::Malformed(&["do", "--db", OTHER, "rooms", "--help"]),
     Step::Absent(OTHER),
 ];
 
 #[test]
-fn refuses_other_program_lines(rt: HostRuntime) -> Result<(), Fail> {
-    run_steps(&rt, &rt, "lines_other", &NO_LINES)
+fn rejects_malformed_words(rt: HostRuntime) -> Result<(), Fail> {
+    run_steps(&rt, &rt, "lines_other", &MALFORMED)
 }

@@ -11,24 +11,24 @@ use std::test::Fail;
 const OFFICE: &str = "imports_other/office.db";
 
 // All words are checked before a file is opened.
-const NO_LINES: [Step<'_>; 17] = [
-    Step::NoLine(&["import"]),
-    Step::NoLine(&["import", "rooms", "r-1", "list"]),
-    Step::NoLine(&["import", "--db", OFFICE]),
-    Step::NoLine(&["import", "--db", OFFICE, "rooms"]),
-    Step::NoLine(&["import", "--db", OFFICE, "rooms", "r-1"]),
-    Step::NoLine(&["import", "--db", OFFICE, "rooms", "r-1", "list", "list"]),
-    Step::NoLine(&["import", "--db", OFFICE, "rooms", "--", "-1", "list"]),
+const MALFORMED: [Step<'_>; 17] = [
+    Step::Malformed(&["import"]),
+    Step::Malformed(&["import", "rooms", "r-1", "list"]),
+    Step::Malformed(&["import", "--db", OFFICE]),
+    Step::Malformed(&["import", "--db", OFFICE, "rooms"]),
+    Step::Malformed(&["import", "--db", OFFICE, "rooms", "r-1"]),
+    Step::Malformed(&["import", "--db", OFFICE, "rooms", "r-1", "list", "list"]),
+    Step::Malformed(&["import", "--db", OFFICE, "rooms", "--", "-1", "list"]),
     // Wrong kinds and labels.
-    Step::NoLine(&["import", "--db", OFFICE, "moves", "r-1", "list"]),
-    Step::NoLine(&["import", "--db", OFFICE, "Rooms", "r-1", "list"]),
-    Step::NoLine(&["import", "--db", OFFICE, "room", "r-1", "list"]),
-    Step::NoLine(&["import", "--db", OFFICE, "", "r-1", "list"]),
-    Step::NoLine(&["import", "--db", OFFICE, "rooms", "", "list"]),
-    Step::NoLine(&["import", "--db", OFFICE, "rooms", "R-1", "list"]),
-    Step::NoLine(&["import", "--db", OFFICE, "rooms", "r 1", "list"]),
-    Step::NoLine(&["import", "--db", OFFICE, "rooms", "-1", "list"]),
-    Step::NoLine(&[
+    Step::Malformed(&["import", "--db", OFFICE, "moves", "r-1", "list"]),
+    Step::Malformed(&["import", "--db", OFFICE, "Rooms", "r-1", "list"]),
+    Step::Malformed(&["import", "--db", OFFICE, "room", "r-1", "list"]),
+    Step::Malformed(&["import", "--db", OFFICE, "", "r-1", "list"]),
+    Step::Malformed(&["import", "--db", OFFICE, "rooms", "", "list"]),
+    Step::Malformed(&["import", "--db", OFFICE, "rooms", "R-1", "list"]),
+    Step::Malformed(&["import", "--db", OFFICE, "rooms", "r 1", "list"]),
+    Step::Malformed(&["import", "--db", OFFICE, "rooms", "-1", "list"]),
+    Step::Malformed(&[
         "import",
         "--db",
         OFFICE,
@@ -40,8 +40,8 @@ const NO_LINES: [Step<'_>; 17] = [
 ];
 
 #[test]
-fn refuses_other_import_lines(rt: HostRuntime) -> Result<(), Fail> {
-    run_steps(&rt, &rt, "imports_other", &NO_LINES)
+fn rejects_malformed_import_lines(rt: HostRuntime) -> Result<(), Fail> {
+    run_steps(&rt, &rt, "imports_other", &MALFORMED)
 }
 
 // The option may be anywhere, and a path may be any text.
@@ -53,16 +53,16 @@ const LINES: [&[&str]; 4] = [
 ];
 
 #[test]
-fn reads_import_lines(rt: HostRuntime) {
+fn parses_import_lines(rt: HostRuntime) {
     for words in LINES {
-        same_of(&rt, words, &is_people(rt.alloc(), words), &true);
+        same_of(&rt, words, &imports_people(rt.alloc(), words), &true);
     }
     let keys = ["import", "--db", "o", "keys", "p-1", "a"];
-    same_of(&rt, &keys, &is_no_line(rt.alloc(), &keys), &true);
+    same_of(&rt, &keys, &is_not_understood(rt.alloc(), &keys), &true);
 }
 
 // Whether the words import the people of `a list`, under the label `p-1`, into the office in `o`.
-fn is_people(alloc: Global, words: &[&str]) -> bool {
+fn imports_people(alloc: Global, words: &[&str]) -> bool {
     match &program(alloc, words) {
         Ok(
             Program::Import {
@@ -81,6 +81,6 @@ fn is_people(alloc: Global, words: &[&str]) -> bool {
     }
 }
 
-fn is_no_line(alloc: Global, words: &[&str]) -> bool {
+fn is_not_understood(alloc: Global, words: &[&str]) -> bool {
     matches!(program(alloc, words), Err(WordFault::NotUnderstood))
 }

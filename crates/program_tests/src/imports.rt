@@ -32,7 +32,7 @@ const CHOICES_CSV: &str = "imports_once/choices.csv";
 const GRADES_CSV: &str = "imports_once/grades.csv";
 
 // A list that is imported again under its label is answered as before.
-const COMING: [Step<'_>; 24] = [
+const IMPORTS: [Step<'_>; 24] = [
     Step::Write(ROOMS_CSV, ROOMS),
     Step::Write(PEOPLE_CSV, PEOPLE),
     Step::Write(CHOICES_CSV, CHOICES),
@@ -129,7 +129,7 @@ const COMING: [Step<'_>; 24] = [
 
 #[test]
 fn imports_a_list_once(rt: HostRuntime) -> Result<(), Fail> {
-    run_steps(&rt, &rt, "imports_once", &COMING)
+    run_steps(&rt, &rt, "imports_once", &IMPORTS)
 }
 
 const NONE: &str = "imports_none/office.db";
@@ -204,7 +204,7 @@ const NO_LISTS: [Step<'_>; 12] = [
 ];
 
 #[test]
-fn says_why_it_imports_no_list(rt: HostRuntime) -> Result<(), Fail> {
+fn reports_why_it_imports_no_list(rt: HostRuntime) -> Result<(), Fail> {
     run_steps(&rt, &rt, "imports_none", &NO_LISTS)
 }
 
@@ -230,12 +230,12 @@ const READ: [(&str, usize, usize, usize, u8, &str); 7] = [
 // If a read fails, nothing is imported; if the output fails, the list is imported all the same. The list has 13 bytes, so reading
 // it a byte at a time takes 13 reads and one more that finds the end.
 #[test]
-fn reads_lists_from_readers(rt: HostRuntime) -> Result<(), Fail> {
+fn imports_lists_from_readers(rt: HostRuntime) -> Result<(), Fail> {
     let mut desk = Desk::in_memory(rt.alloc())?;
-    for (label, piece, reads, room, status, answer) in READ {
+    for (label, chunk, reads, room, status, answer) in READ {
         let reader = FailingReader {
             unread: ROOMS,
-            piece,
+            chunk,
             reads,
         };
         let label = Label::read(rt.alloc(), label)?;

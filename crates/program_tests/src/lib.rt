@@ -3,13 +3,13 @@
 #![tactic(auto)]
 
 #[cfg(test)]
+mod arguments;
+#[cfg(test)]
 mod asserting;
 #[cfg(test)]
 mod at_desks;
 #[cfg(test)]
 mod bad_lists;
-#[cfg(test)]
-mod compared;
 #[cfg(test)]
 mod draw;
 #[cfg(test)]
@@ -27,9 +27,13 @@ mod imports;
 #[cfg(test)]
 mod lines;
 #[cfg(test)]
+mod lines_at_desk;
+#[cfg(test)]
 mod migrate_lines;
 #[cfg(test)]
 mod one_file;
+#[cfg(test)]
+mod plain_programs;
 #[cfg(test)]
 mod refusals;
 #[cfg(test)]
@@ -43,14 +47,10 @@ mod seeds;
 #[cfg(test)]
 mod serve_lines;
 #[cfg(test)]
-mod single_lines;
-#[cfg(test)]
 mod stories;
 #[cfg(test)]
 mod streams;
 #[cfg(test)]
-mod words;
-#[cfg(test)]
-mod worked;
+mod worked_scripts;
 #[cfg(test)]
 mod years;

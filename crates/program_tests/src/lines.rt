@@ -32,7 +32,7 @@ const REHEARSED: [(&[u8], u8, &str); 8] = [
 ];
 
 #[test]
-fn reads_lines_and_words(rt: HostRuntime) {
+fn parses_line_ends_and_words(rt: HostRuntime) {
     for (input, status, answers) in REHEARSED {
         let wanted = (status, Ending::Ended, answers);
         assert_rehearsal(&rt, rt.alloc(), input, wanted, answers);
@@ -62,7 +62,7 @@ const NOT_UNDERSTOOD: [&str; 18] = [
 ];
 
 #[test]
-fn understands_no_other_lines(rt: HostRuntime) {
+fn rejects_malformed_lines(rt: HostRuntime) {
     for line in NOT_UNDERSTOOD {
         let wanted = (2, Ending::Ended, "not understood\n");
         assert_rehearsal(&rt, rt.alloc(), line.as_bytes(), wanted, line);
@@ -70,10 +70,10 @@ fn understands_no_other_lines(rt: HostRuntime) {
 }
 
 // A comment of `len` bytes between two texts.
-fn comment(alloc: Global, before: &str, len: usize, behind: &str) -> Result<String, AllocError> {
+fn comment(alloc: Global, before: &str, len: usize, after: &str) -> Result<String, AllocError> {
     let mut lines = "#".repeat(alloc, len)?;
     lines.insert_str(0, before)?;
-    lines.push_str(behind)?;
+    lines.push_str(after)?;
     Ok(lines)
 }
 
@@ -101,11 +101,11 @@ const COMMENTS: [(&str, usize, &str, u8, Ending, &str); 4] = [
 ];
 
 #[test]
-fn reads_lines_up_to_the_limit(rt: HostRuntime) -> Result<(), Fail> {
-    for (before, len, behind, status, ending, answers) in COMMENTS {
-        let lines = comment(rt.alloc(), before, len, behind)?;
+fn handles_lines_up_to_the_limit(rt: HostRuntime) -> Result<(), Fail> {
+    for (before, len, after, status, ending, answers) in COMMENTS {
+        let lines = comment(rt.alloc(), before, len, after)?;
         let wanted = (status, ending, answers);
-        assert_rehearsal(&rt, rt.alloc(), lines.as_bytes(), wanted, behind);
+        assert_rehearsal(&rt, rt.alloc(), lines.as_bytes(), wanted, after);
     }
     Ok(())
 }
@@ -124,13 +124,13 @@ fn stops_at_a_line_over_the_limit(rt: HostRuntime) -> Result<(), Fail> {
 fn reads_an_input_up_to_the_limit(rt: HostRuntime) -> Result<(), Fail> {
     let mut lines = "#\n".repeat(rt.alloc(), 524_287)?;
     lines.push_str("#")?;
-    assert_same!(rt; rehearsed_by_bytes(rt.alloc(), lines.as_bytes())?, at_the_limit(0, Ending::Ended));
+    assert_same!(rt; rehearsed_by_bytes(rt.alloc(), lines.as_bytes())?, stopped_at_limit(0, Ending::Ended));
     lines.push_str("\n")?;
-    assert_same!(rt; rehearsed_by_bytes(rt.alloc(), lines.as_bytes())?, at_the_limit(3, Ending::ReadFault));
+    assert_same!(rt; rehearsed_by_bytes(rt.alloc(), lines.as_bytes())?, stopped_at_limit(3, Ending::ReadFault));
     Ok(())
 }
 
-fn at_the_limit(status: u8, ending: Ending) -> Stopped {
+fn stopped_at_limit(status: u8, ending: Ending) -> Stopped {
     Stopped {
         status,
         ending,

@@ -82,7 +82,7 @@ const MIGRATION: [Step<'_>; 11] = [
 ];
 
 #[test]
-fn migrates_an_office(rt: HostRuntime) -> Result<(), Fail> {
+fn migrates_a_file_by_a_run_of_the_program(rt: HostRuntime) -> Result<(), Fail> {
     run_steps(&rt, &rt, "lines_migrate", &MIGRATION)
 }
 
@@ -121,7 +121,7 @@ const RUN: &str =
 
 // `migrate_file` returns a desk that handles further lines. A second migration of the file is refused.
 #[test]
-fn migrates_a_file(rt: HostRuntime) -> Result<(), Fail> {
+fn migrates_a_file_by_a_call(rt: HostRuntime) -> Result<(), Fail> {
     let alloc = rt.alloc();
     let path = "file_migrate/office.db";
     make_folder(&rt, "file_migrate")?;

@@ -118,7 +118,7 @@ impl Listener for OneSocket {
 
     fn accept<W: Write>(
         &mut self,
-        _said: &Watched<W>,
+        _printed: &Watched<W>,
     ) -> Option<Watched<Pair<&'static [u8], Vec<u8>>>> {
         self.asked = self.asked.saturating_add(1);
         None
@@ -127,7 +127,7 @@ impl Listener for OneSocket {
     fn close<W: Write>(
         &mut self,
         connection: Watched<Pair<&'static [u8], Vec<u8>>>,
-        _said: &Watched<W>,
+        _printed: &Watched<W>,
     )
         ensures { ⊤ }
     {
@@ -211,7 +211,7 @@ const LINES: [(&[&str], u8, &str, u32); 17] = [
 ];
 
 // Runs the program and returns its status and its output.
-fn carried(
+fn run_program(
     alloc: Global,
     words: &[&str],
     files: &mut OneFile,
@@ -235,7 +235,7 @@ fn carried(
 }
 
 #[test]
-fn opens_and_closes_a_file_once_a_line(rt: HostRuntime) -> Result<(), Fail> {
+fn opens_and_closes_the_file_at_most_once_a_run(rt: HostRuntime) -> Result<(), Fail> {
     let mut files = OneFile {
         is_made: false,
         connection: Some(Connection::open_in_memory(rt.alloc())?),
@@ -254,7 +254,7 @@ fn opens_and_closes_a_file_once_a_line(rt: HostRuntime) -> Result<(), Fail> {
     };
     for (words, status, printed, times) in LINES {
         let before = (files.opened, files.closed);
-        let (ended, text) = carried(rt.alloc(), words, &mut files, &mut lists, &mut ports);
+        let (ended, text) = run_program(rt.alloc(), words, &mut files, &mut lists, &mut ports);
         assert_same!(rt; ended, status, printed);
         assert_same!(rt; text.as_slice(), printed.as_bytes());
         assert_same!(rt; files.opened.saturating_sub(before.0), times, printed);

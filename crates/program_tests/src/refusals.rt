@@ -179,12 +179,12 @@ pub const GRADES_AND_LEAVERS: [(&str, &str); 60] = [
 ];
 
 #[test]
-fn refuses_one_round_too_many(rt: HostRuntime) -> Result<(), Fail> {
+fn refuses_a_round_over_the_limit(rt: HostRuntime) -> Result<(), Fail> {
     let mut lines = "open\ncancel\n".repeat(rt.alloc(), 9_999)?;
     lines.push_str("open\n")?;
-    let (how, text) = rehearsed(rt.alloc(), lines.as_bytes());
+    let (rehearsal, text) = rehearsed(rt.alloc(), lines.as_bytes());
     let last = b"round 9999 open\ncancelled\nrefused 13 LimitReached\n";
-    let is_refused = how.ending == Ending::Ended && text.as_slice().ends_with(last);
+    let is_refused = rehearsal.ending == Ending::Ended && text.as_slice().ends_with(last);
     assert_same!(rt; is_refused, true);
     Ok(())
 }

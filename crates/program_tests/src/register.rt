@@ -71,7 +71,7 @@ pub const ROUND: [(&str, &str); 18] = [
 ];
 
 // A line in which T1 chooses this number of different rooms.
-fn choosing(alloc: Global, count: u32) -> Result<String, Fail> {
+fn choose_line(alloc: Global, count: u32) -> Result<String, Fail> {
     let mut line = String::from_str(alloc, "choose T1")?;
     for n in 0..count {
         write!(line, " R{n}")?;
@@ -80,12 +80,12 @@ fn choosing(alloc: Global, count: u32) -> Result<String, Fail> {
 }
 
 #[test]
-fn takes_forty_rooms(rt: HostRuntime) -> Result<(), Fail> {
+fn accepts_lists_of_up_to_forty_rooms(rt: HostRuntime) -> Result<(), Fail> {
     for (count, status, answer) in [
         (40, 1, "refused 1 BadPhase idle\n"),
         (41, 2, "not understood\n"),
     ] {
-        let line = choosing(rt.alloc(), count)?;
+        let line = choose_line(rt.alloc(), count)?;
         let wanted = (status, Ending::Ended, answer);
         assert_rehearsal(&rt, rt.alloc(), line.as_bytes(), wanted, answer);
     }

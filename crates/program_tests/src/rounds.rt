@@ -1,6 +1,6 @@
 //! Tests of the results of worked rounds.
 use crate::asserting::same;
-use crate::at_desks::is_kept;
+use crate::at_desks::agrees_in_batch;
 use crate::scripts::rehearsed;
 use office_lines::Ending;
 use std::alloc::Global;
@@ -219,14 +219,14 @@ const ROUNDS: [(&str, &str, &str); 10] = [
 // Whether a rehearsal of the round has status 0 and prints these results at the end, and a desk that handles the requests in one
 // call agrees with it.
 fn ends_as_worked(alloc: Global, lines: &str, results: &str) -> Result<bool, Fail> {
-    let (how, text) = rehearsed(alloc, lines.as_bytes());
-    let ended = how.ending == Ending::Ended && how.status == 0;
+    let (rehearsal, text) = rehearsed(alloc, lines.as_bytes());
+    let ended = rehearsal.ending == Ending::Ended && rehearsal.status == 0;
     let answered = ended && text.as_slice().ends_with(results.as_bytes());
-    Ok(answered && is_kept(alloc, lines)?)
+    Ok(answered && agrees_in_batch(alloc, lines)?)
 }
 
 #[test]
-fn ends_rounds_as_worked(rt: HostRuntime) -> Result<(), Fail> {
+fn prints_the_worked_results_of_rounds(rt: HostRuntime) -> Result<(), Fail> {
     for (name, lines, results) in ROUNDS {
         same(
             &rt,

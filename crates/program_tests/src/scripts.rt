@@ -22,7 +22,7 @@ pub const ROOMS: [(&str, &str); 5] = [
 ];
 
 /// The lines of a script, each with a line feed at its end.
-pub fn lines_of_script(alloc: Global, script: &[(&str, &str)]) -> Result<String, AllocError> {
+pub fn script_lines(alloc: Global, script: &[(&str, &str)]) -> Result<String, AllocError> {
     let mut text = String::new(alloc);
     for (line, _) in script {
         text.push_str(line)?;
@@ -32,7 +32,7 @@ pub fn lines_of_script(alloc: Global, script: &[(&str, &str)]) -> Result<String,
 }
 
 /// The answers to the first `count` lines of a script.
-pub fn answers_of_script(
+pub fn script_answers(
     alloc: Global,
     script: &[(&str, &str)],
     count: usize,
@@ -52,8 +52,8 @@ pub fn rehearsed_at(
 ) -> (Rehearsed, Vec<u8>) {
     let mut input = Watched::new(input);
     let mut output = Watched::new(Vec::new(alloc));
-    let how = rehearse(alloc, desk, &mut input, &mut output);
-    (how, output.into_inner())
+    let rehearsal = rehearse(alloc, desk, &mut input, &mut output);
+    (rehearsal, output.into_inner())
 }
 
 /// The same at a new desk in memory. If no desk can be made, returns `NoMemory` and no output.
@@ -72,11 +72,11 @@ pub fn assert_rehearsal(
     wanted: (u8, Ending, &str),
     note: &str,
 ) {
-    let (how, text) = rehearsed(alloc, input);
+    let (rehearsal, text) = rehearsed(alloc, input);
     let (status, ending, answers) = wanted;
     same(
         test,
-        &(how, text.as_slice()),
+        &(rehearsal, text.as_slice()),
         &(ended(status, ending), answers.as_bytes()),
         note,
     );
@@ -87,7 +87,7 @@ fn ended(status: u8, ending: Ending) -> Rehearsed {
 }
 
 // Lines that add this number of different rooms, and one more.
-fn rooms_and_one(alloc: Global, count: u32) -> Result<String, AllocError> {
+fn too_many_rooms(alloc: Global, count: u32) -> Result<String, AllocError> {
     let mut lines = String::new(alloc);
     for n in 0..count {
         writeln!(lines, "room R{n}")?;
@@ -97,8 +97,8 @@ fn rooms_and_one(alloc: Global, count: u32) -> Result<String, AllocError> {
 }
 
 #[test]
-fn refuses_one_room_too_many(rt: HostRuntime) -> Result<(), Fail> {
-    let lines = rooms_and_one(rt.alloc(), 2_000)?;
+fn refuses_a_room_over_the_limit(rt: HostRuntime) -> Result<(), Fail> {
+    let lines = too_many_rooms(rt.alloc(), 2_000)?;
     let mut answers = "ok\n".repeat(rt.alloc(), 2_000)?;
     answers.push_str("refused 13 LimitReached\n")?;
     let wanted = (1, Ending::Ended, answers.as_str());

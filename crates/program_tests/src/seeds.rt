@@ -1,6 +1,6 @@
 //! Tests of the random words that the program prints for a seed.
 use crate::stories::{Step, run_steps};
-use office_program::seeds::word_line_seed;
+use office_program::seeds::parse_seed;
 use office_program::word_lines::words_text;
 use std::test::Fail;
 
@@ -20,12 +20,12 @@ const SEEDS: [Step<'_>; 10] = [
     // An integer with a sign.
     Step::Line(&["words", "--seed", ZEROS, "--count=-0"], 0, ""),
     // Wrong or missing seeds and counts.
-    Step::NoLine(&["words", "--seed", ZEROS_BUT_ONE, "--count", "2"]),
-    Step::NoLine(&["words", "--seed", NO_DIGIT, "--count", "2"]),
-    Step::NoLine(&["words", "--seed", ZEROS, "--count", "2001"]),
-    Step::NoLine(&["words", "--seed", ZEROS, "--count", "-1"]),
-    Step::NoLine(&["words", "--seed", ZEROS]),
-    Step::NoLine(&["words", "--count", "2"]),
+    Step::Malformed(&["words", "--seed", ZEROS_BUT_ONE, "--count", "2"]),
+    Step::Malformed(&["words", "--seed", NO_DIGIT, "--count", "2"]),
+    Step::Malformed(&["words", "--seed", ZEROS, "--count", "2001"]),
+    Step::Malformed(&["words", "--seed", ZEROS, "--count", "-1"]),
+    Step::Malformed(&["words", "--seed", ZEROS]),
+    Step::Malformed(&["words", "--count", "2"]),
 ];
 
 #[test]
@@ -34,8 +34,8 @@ fn prints_words_of_a_seed(rt: HostRuntime) -> Result<(), Fail> {
 }
 
 #[test]
-fn gives_the_words_of_a_seed(rt: HostRuntime) -> Result<(), Fail> {
-    let seed = word_line_seed(ZEROS).expect(&rt, "a seed");
+fn computes_the_words_of_a_seed(rt: HostRuntime) -> Result<(), Fail> {
+    let seed = parse_seed(ZEROS).expect(&rt, "a seed");
     assert!(rt; words_text(rt.alloc(), seed, 2)?.as_str() == TWO_WORDS);
     Ok(())
 }

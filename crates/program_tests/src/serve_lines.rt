@@ -12,33 +12,33 @@ use std::test::Fail;
 const OFFICE: &str = "serve_other/office.db";
 
 // All words are checked before a file is opened.
-const NO_LINES: [Step<'_>; 16] = [
+const MALFORMED: [Step<'_>; 16] = [
     // Wrong ports and counts.
-    Step::NoLine(&["serve", "--db", OFFICE, "--port", "0", "--count", "1"]),
-    Step::NoLine(&["serve", "--db", OFFICE, "--port", "65536", "--count", "1"]),
-    Step::NoLine(&["serve", "--db", OFFICE, "--port", "8080", "--count", "0"]),
-    Step::NoLine(&[
+    Step::Malformed(&["serve", "--db", OFFICE, "--port", "0", "--count", "1"]),
+    Step::Malformed(&["serve", "--db", OFFICE, "--port", "65536", "--count", "1"]),
+    Step::Malformed(&["serve", "--db", OFFICE, "--port", "8080", "--count", "0"]),
+    Step::Malformed(&[
         "serve", "--db", OFFICE, "--port", "8080", "--count", "1000001",
     ]),
-    Step::NoLine(&["serve", "--db", OFFICE, "--port", "-1", "--count", "1"]),
-    Step::NoLine(&["serve", "--db", OFFICE, "--port", "8080", "--count", "-1"]),
-    Step::NoLine(&["serve", "--db", OFFICE, "--port", "http", "--count", "1"]),
-    Step::NoLine(&["serve", "--db", OFFICE, "--port", "8080", "--count", "all"]),
-    Step::NoLine(&["serve", "--db", OFFICE, "--port", "", "--count", "1"]),
-    Step::NoLine(&["serve", "--db", OFFICE, "--port", "8080", "--count", ""]),
-    Step::NoLine(&["serve"]),
-    Step::NoLine(&["serve", "--db", OFFICE, "--port", "8080"]),
-    Step::NoLine(&["serve", "--db", OFFICE, "--count", "1"]),
-    Step::NoLine(&["serve", "--port", "8080", "--count", "1"]),
-    Step::NoLine(&[
+    Step::Malformed(&["serve", "--db", OFFICE, "--port", "-1", "--count", "1"]),
+    Step::Malformed(&["serve", "--db", OFFICE, "--port", "8080", "--count", "-1"]),
+    Step::Malformed(&["serve", "--db", OFFICE, "--port", "http", "--count", "1"]),
+    Step::Malformed(&["serve", "--db", OFFICE, "--port", "8080", "--count", "all"]),
+    Step::Malformed(&["serve", "--db", OFFICE, "--port", "", "--count", "1"]),
+    Step::Malformed(&["serve", "--db", OFFICE, "--port", "8080", "--count", ""]),
+    Step::Malformed(&["serve"]),
+    Step::Malformed(&["serve", "--db", OFFICE, "--port", "8080"]),
+    Step::Malformed(&["serve", "--db", OFFICE, "--count", "1"]),
+    Step::Malformed(&["serve", "--port", "8080", "--count", "1"]),
+    Step::Malformed(&[
         "serve", "--db", OFFICE, "--port", "8080", "--count", "1", "now",
     ]),
     Step::Absent(OFFICE),
 ];
 
 #[test]
-fn refuses_other_serve_lines(rt: HostRuntime) -> Result<(), Fail> {
-    run_steps(&rt, &rt, "serve_other", &NO_LINES)
+fn rejects_malformed_serve_lines(rt: HostRuntime) -> Result<(), Fail> {
+    run_steps(&rt, &rt, "serve_other", &MALFORMED)
 }
 
 // The least and the greatest numbers, with the options in different orders.
@@ -52,7 +52,7 @@ const LINES: [(&[&str], u16, u32); 2] = [
 ];
 
 #[test]
-fn reads_serve_lines(rt: HostRuntime) {
+fn parses_serve_lines(rt: HostRuntime) {
     for (words, port, count) in LINES {
         same_of(&rt, words, &serves(rt.alloc(), words, port, count), &true);
     }
@@ -73,7 +73,7 @@ fn serves(alloc: Global, words: &[&str], wanted_port: u16, wanted_count: u32) ->
 }
 
 // Runs the program to serve one connection over the file at this path, at this port. Asserts the status and the output.
-fn assert_served_none(
+fn assert_serves_nobody(
     rt: &HostRuntime,
     test: &impl Abort,
     path: &str,
@@ -93,21 +93,21 @@ const EMPTY: &str = "serve_none/empty";
 
 // Without an office the program serves nobody and creates no file. It serves nobody if the port is in use either.
 #[test]
-fn says_why_it_serves_nobody(rt: HostRuntime) -> Result<(), Fail> {
+fn reports_why_it_serves_nobody(rt: HostRuntime) -> Result<(), Fail> {
     make_folder(&rt, "serve_none")?;
     fs::write(&rt, EMPTY, b"".as_slice())?;
     assert_line(&rt, &rt, &["new", "--db", NONE], "", (0, "ok\n", ""));
     let listener = TcpListener::bind(&rt, SocketAddr::from((Ipv4Addr::LOCALHOST, 0)))?;
     let taken = listener.local_addr()?.port().to_string(rt.alloc())?;
-    assert_served_none(&rt, &rt, MISSING, taken.as_str(), (3, "unavailable\n"));
-    assert_served_none(
+    assert_serves_nobody(&rt, &rt, MISSING, taken.as_str(), (3, "unavailable\n"));
+    assert_serves_nobody(
         &rt,
         &rt,
         EMPTY,
         taken.as_str(),
         (1, "refused 21 NotAnOffice\n"),
     );
-    assert_served_none(&rt, &rt, NONE, taken.as_str(), (3, "unavailable\n"));
+    assert_serves_nobody(&rt, &rt, NONE, taken.as_str(), (3, "unavailable\n"));
     same_of(&rt, &[MISSING], &fs::exists(&rt, MISSING)?, &false);
     fs::remove_dir_all(&rt, "serve_none")?;
     Ok(())

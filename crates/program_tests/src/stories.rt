@@ -9,7 +9,7 @@ use std::test::Fail;
 use std::{fs, io};
 
 // What the program writes to standard error for words that it does not understand.
-const NOT_A_LINE: &str = "rooms: not understood\n";
+const MALFORMED_REPORT: &str = "rooms: not understood\n";
 
 // The standard input, which only a rehearsal reads.
 const INPUT: &str = "room LEFT\n";
@@ -20,7 +20,7 @@ pub enum Step<'a> {
     /// Runs the program with these words. Asserts this status and this standard output, and that standard error is empty.
     Line(&'a [&'a str], u8, &'a str),
     /// Runs the program with words that it does not understand. Asserts that it reports so on standard error and prints nothing.
-    NoLine(&'a [&'a str]),
+    Malformed(&'a [&'a str]),
     /// Writes these bytes to the file at this path.
     Write(&'a str, &'a [u8]),
     /// Writes to the file at this path the first text, and then the second one this number of times.
@@ -58,9 +58,9 @@ fn run_step(test: &impl Abort, rt: &HostRuntime, step: &Step<'_>) -> Result<(), 
         Step::Line(words, status, printed) => {
             assert_line(test, rt, words, INPUT, (status, printed, ""))
         }
-        Step::NoLine(words) => assert_line(test, rt, words, INPUT, (2, "", NOT_A_LINE)),
+        Step::Malformed(words) => assert_line(test, rt, words, INPUT, (2, "", MALFORMED_REPORT)),
         Step::Write(path, bytes) => fs::write(rt, path, bytes)?,
-        Step::WriteMany(path, front, part, count) => write_many(rt, path, front, part, count)?,
+        Step::WriteMany(path, prefix, part, count) => write_many(rt, path, prefix, part, count)?,
         Step::Execute(path, statements) => execute(rt, path, statements)?,
         Step::Absent(path) => same_of(test, &[path], &fs::exists(rt, path)?, &false),
     }
@@ -70,12 +70,12 @@ fn run_step(test: &impl Abort, rt: &HostRuntime, step: &Step<'_>) -> Result<(), 
 fn write_many(
     rt: &HostRuntime,
     path: &str,
-    front: &str,
+    prefix: &str,
     part: &str,
     count: usize,
 ) -> Result<(), Fail> {
     let mut text = part.repeat(rt.alloc(), count)?;
-    text.insert_str(0, front)?;
+    text.insert_str(0, prefix)?;
     fs::write(rt, path, text.as_bytes())?;
     Ok(())
 }
@@ -95,22 +95,22 @@ pub fn assert_line(
     input: &str,
     wanted: (u8, &str, &str),
 ) {
-    let (status, printed, said) = carried(rt, words, input);
-    let (wanted_status, wanted_printed, wanted_said) = wanted;
+    let (status, printed, reported) = run_program(rt, words, input);
+    let (wanted_status, wanted_printed, wanted_report) = wanted;
     same_of(
         test,
         words,
-        &(status, printed.as_slice(), said.as_slice()),
+        &(status, printed.as_slice(), reported.as_slice()),
         &(
             wanted_status,
             wanted_printed.as_bytes(),
-            wanted_said.as_bytes(),
+            wanted_report.as_bytes(),
         ),
     );
 }
 
 // Runs the program with these words. Returns the status, the output and the text on standard error.
-fn carried(rt: &HostRuntime, words: &[&str], input: &str) -> (u8, Vec<u8>, Vec<u8>) {
+fn run_program(rt: &HostRuntime, words: &[&str], input: &str) -> (u8, Vec<u8>, Vec<u8>) {
     let mut input = Watched::new(input.as_bytes());
     let mut output = Watched::new(Vec::new(rt.alloc()));
     let mut error = Watched::new(Vec::new(rt.alloc()));

@@ -3,7 +3,7 @@ use crate::asserting::same_at;
 use crate::at_desks::{is_shown_after, shown};
 use crate::failing::{FailingReader, FailingWriter};
 use crate::register::REGISTER;
-use crate::scripts::{answers_of_script, lines_of_script};
+use crate::scripts::{script_answers, script_lines};
 use office_lines::rehearse::rehearse;
 use office_lines::{Ending, Rehearsed};
 use office_store::Desk;
@@ -12,7 +12,7 @@ use std::alloc::Global;
 use std::test::Fail;
 
 // The most bytes that the reader gives a read.
-const PIECE: usize = 7;
+const CHUNK_SIZE: usize = 7;
 
 // A writer that never fails.
 fn good_writer(alloc: Global) -> FailingWriter {
@@ -27,7 +27,7 @@ fn good_writer(alloc: Global) -> FailingWriter {
 fn good_reader<'a>(unread: &'a [u8]) -> FailingReader<'a> {
     FailingReader {
         unread,
-        piece: PIECE,
+        chunk: CHUNK_SIZE,
         reads: usize::MAX,
     }
 }
@@ -42,10 +42,10 @@ fn rehearsed<'a>(
     let mut desk = Desk::in_memory(alloc)?;
     let mut input = Watched::new(reader);
     let mut output = Watched::new(writer);
-    let how = rehearse(alloc, &mut desk, &mut input, &mut output);
+    let rehearsal = rehearse(alloc, &mut desk, &mut input, &mut output);
     let failed = (input.failed(), output.failed());
-    let kept = shown(alloc, &mut desk);
-    Ok((how, failed, output.into_inner().written, kept))
+    let stored = shown(alloc, &mut desk);
+    Ok((rehearsal, failed, output.into_inner().written, stored))
 }
 
 // Whether a rehearsal of the register with this writer, where only the writer fails, ends with `WriteFault`, has written exactly
@@ -56,19 +56,23 @@ fn stops_at(
     sent: usize,
     handled: usize,
 ) -> Result<bool, Fail> {
-    let lines = lines_of_script(alloc, &REGISTER)?;
-    let answers = answers_of_script(alloc, &REGISTER, REGISTER.len())?;
-    let (how, failed, text, kept) = rehearsed(alloc, good_reader(lines.as_bytes()), writer)?;
+    let lines = script_lines(alloc, &REGISTER)?;
+    let answers = script_answers(alloc, &REGISTER, REGISTER.len())?;
+    let (rehearsal, failed, text, stored) = rehearsed(
+        alloc,
+        good_reader(lines.as_bytes()),
+        writer,
+    )?;
     let ending = Ending::WriteFault { sent: sent as u128 };
-    let stopped = how.status == 3 && how.ending == ending && failed == (false, true);
+    let stopped = rehearsal.status == 3 && rehearsal.ending == ending && failed == (false, true);
     let answered = text.len() == sent && answers.as_bytes().starts_with(&text);
-    Ok(stopped && answered && is_kept_after(alloc, handled, &kept)?)
+    Ok(stopped && answered && is_office_after(alloc, handled, &stored)?)
 }
 
 // Whether a desk shows this of its office after the first `handled` lines of the register.
-fn is_kept_after(alloc: Global, handled: usize, kept: &[u8]) -> Result<bool, Fail> {
-    let lines = lines_of_script(alloc, &REGISTER[..handled.min(REGISTER.len())])?;
-    is_shown_after(alloc, lines.as_str(), kept)
+fn is_office_after(alloc: Global, handled: usize, stored: &[u8]) -> Result<bool, Fail> {
+    let lines = script_lines(alloc, &REGISTER[..handled.min(REGISTER.len())])?;
+    is_shown_after(alloc, lines.as_str(), stored)
 }
 
 // The number of lines that are handled if the writer takes only `taken` bytes: those whose answers fit, and the next one, if
@@ -87,8 +91,8 @@ fn handled_for(taken: usize) -> usize {
 // Each line that was read completely before a read fails is answered and takes effect.
 #[test]
 fn stops_where_a_read_fails(rt: HostRuntime) -> Result<(), Fail> {
-    let lines = lines_of_script(rt.alloc(), &REGISTER)?;
-    let reads = lines.len().div_ceil(PIECE);
+    let lines = script_lines(rt.alloc(), &REGISTER)?;
+    let reads = lines.len().div_ceil(CHUNK_SIZE);
     for passed in 0..reads + 1 {
         let stops = stops_at_read(rt.alloc(), lines.as_bytes(), passed)?;
         same_at(&rt, &stops, &true, passed);
@@ -102,12 +106,14 @@ fn stops_where_a_read_fails(rt: HostRuntime) -> Result<(), Fail> {
 fn stops_at_read(alloc: Global, lines: &[u8], passed: usize) -> Result<bool, Fail> {
     let mut reader = good_reader(lines);
     reader.reads = passed;
-    let whole = lines_before(lines, passed.saturating_mul(PIECE));
-    let answers = answers_of_script(alloc, &REGISTER, whole)?;
-    let (how, failed, text, kept) = rehearsed(alloc, reader, good_writer(alloc))?;
-    let stopped = how.status == 3 && how.ending == Ending::ReadFault && failed == (true, false);
+    let whole = lines_before(lines, passed.saturating_mul(CHUNK_SIZE));
+    let answers = script_answers(alloc, &REGISTER, whole)?;
+    let (rehearsal, failed, text, stored) = rehearsed(alloc, reader, good_writer(alloc))?;
+    let stopped = rehearsal.status == 3
+        && rehearsal.ending == Ending::ReadFault
+        && failed == (true, false);
     let answered = text.as_slice() == answers.as_bytes();
-    Ok(stopped && answered && is_kept_after(alloc, whole, &kept)?)
+    Ok(stopped && answered && is_office_after(alloc, whole, &stored)?)
 }
 
 /// How a rehearsal ended, whether the reader or the writer failed, and the number of reads of the input.
@@ -124,14 +130,14 @@ pub fn rehearsed_by_bytes(alloc: Global, input: &[u8]) -> Result<Stopped, Fail> 
     let mut desk = Desk::in_memory(alloc)?;
     let mut input = Watched::new(FailingReader {
         unread: input,
-        piece: 1,
+        chunk: 1,
         reads: usize::MAX,
     });
     let mut output = Watched::new(good_writer(alloc));
-    let how = rehearse(alloc, &mut desk, &mut input, &mut output);
+    let rehearsal = rehearse(alloc, &mut desk, &mut input, &mut output);
     Ok(Stopped {
-        status: how.status,
-        ending: how.ending,
+        status: rehearsal.status,
+        ending: rehearsal.ending,
         failed: input.failed() || output.failed(),
         reads: input.reads(),
     })
@@ -147,7 +153,7 @@ fn lines_before(text: &[u8], length: usize) -> usize {
 
 #[test]
 fn stops_where_a_write_takes_nothing(rt: HostRuntime) -> Result<(), Fail> {
-    let answers = answers_of_script(rt.alloc(), &REGISTER, REGISTER.len())?;
+    let answers = script_answers(rt.alloc(), &REGISTER, REGISTER.len())?;
     for taken in 0..answers.len() {
         let mut writer = good_writer(rt.alloc());
         writer.room = taken;
@@ -161,7 +167,7 @@ fn stops_where_a_write_takes_nothing(rt: HostRuntime) -> Result<(), Fail> {
 #[test]
 fn stops_where_a_write_fails(rt: HostRuntime) -> Result<(), Fail> {
     for passed in 0..REGISTER.len() {
-        let sent = answers_of_script(rt.alloc(), &REGISTER, passed)?.len();
+        let sent = script_answers(rt.alloc(), &REGISTER, passed)?.len();
         let mut writer = good_writer(rt.alloc());
         writer.writes = passed;
         let stops = stops_at(rt.alloc(), writer, sent, passed + 1)?;
@@ -173,7 +179,7 @@ fn stops_where_a_write_fails(rt: HostRuntime) -> Result<(), Fail> {
 
 #[test]
 fn stops_where_the_flush_fails(rt: HostRuntime) -> Result<(), Fail> {
-    let sent = answers_of_script(rt.alloc(), &REGISTER, REGISTER.len())?.len();
+    let sent = script_answers(rt.alloc(), &REGISTER, REGISTER.len())?.len();
     let mut writer = good_writer(rt.alloc());
     writer.flushes = false;
     assert!(rt; stops_at(rt.alloc(), writer, sent, REGISTER.len())?);

@@ -1,3 +1,3 @@
-mod conversations
+mod connections
 mod own_replies
-mod desk_letters
+mod prepared_responses

@@ -1,6 +1,6 @@
 pub mod Calls
-pub mod Conversations
-pub mod Dues
+pub mod Connections
+pub mod DueResponses
 pub mod Inner
 pub mod OwnReply
 pub mod Serving

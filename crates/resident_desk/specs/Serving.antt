@@ -21,73 +21,73 @@ use Rattle.resident_http.specs.Faults.{wrong_method_answer}
 use Rattle.resident_http.specs.Routes.{Wanted, forbidden, unknown, wanted, wanted_of, wrong_method}
 use Rattle.resident_http.specs.declared.routes.Route.{Route}
 use Rattle.resident_http.specs.declared.routes.Route.TheVariants as route
-use Rattle.resident_desk.specs.Dues.{command_answer, list_fault, one_fault, rooms_answer, standing_answer, unavailable_answer}
+use Rattle.resident_desk.specs.DueResponses.{command_answer, list_fault, status_fault, rooms_answer, standing_answer, unavailable_answer}
 
 -- The response is the one that is due, or 503 for a failed allocation.
 abbrev pub IsDue : Answer → Answer → Type 0
 IsDue due answer = (answer ≡ due) ⊎ (answer ≡ unavailable_answer)
 
 -- a response for which the desk is not asked
-abbrev pub Tells : {H : Type 0} → Answer → H → Answer → H → Type 0
-Tells due old answer new = IsDue due answer × (new ≡ old)
+abbrev pub RespondsDirectly : {H : Type 0} → Answer → H → Answer → H → Type 0
+RespondsDirectly due old answer new = IsDue due answer × (new ≡ old)
 
 module _ {H : Type 0} (handles : H → Request → DeskAnswer → H → Type 0) where
   -- The desk handles the command, and its answer determines the response, which needs no more allocation. Or an allocation
   -- failed before that: then the response is 503, and the desk was not asked.
-  abbrev pub Commands : Command → List ℕ → H → Answer → H → Type 0
-  Commands command success old answer new =
-      ((told : DeskAnswer) × handles old (request.Office command) told new × (answer ≡ command_answer success told))
+  abbrev pub Executes : Command → List ℕ → H → Answer → H → Type 0
+  Executes command success old answer new =
+      ((returned : DeskAnswer) × handles old (request.Office command) returned new × (answer ≡ command_answer success returned))
       ⊎ ((answer ≡ unavailable_answer) × (new ≡ old))
 
   -- a person withdraws
   abbrev pub Withdraws : Text → H → Answer → H → Type 0
-  Withdraws person = Commands (Withdraw person) (compact_text withdrawn_data)
+  Withdraws person = Executes (Withdraw person) (compact_text withdrawn_data)
 
   -- a person hands in a preference list, or a body that is not one
   abbrev pub Records : Text → Result (List Text) TypeFault → H → Answer → H → Type 0
-  Records person (Ok choices) = Commands (SetChoices person choices) (compact_text (choices_data choices))
-  Records person (Err cause) = Tells (list_fault cause)
+  Records person (Ok choices) = Executes (SetChoices person choices) (compact_text (choices_data choices))
+  Records person (Err cause) = RespondsDirectly (list_fault cause)
 
   -- The desk lists the rooms, or the response is 503.
   abbrev pub ListsRooms : H → Answer → H → Type 0
   ListsRooms old answer new =
-      (told : DeskAnswer) × handles old (request.Ask query.Rooms) told new
-      × (((rows : List RoomRow) × (told ≡ desk.Reply (reply.Rooms rows)) × (answer ≡ rooms_answer rows))
+      (returned : DeskAnswer) × handles old (request.Ask query.Rooms) returned new
+      × (((rows : List RoomRow) × (returned ≡ desk.Reply (reply.Rooms rows)) × (answer ≡ rooms_answer rows))
       ⊎ (answer ≡ unavailable_answer))
 
   -- The owner of the key makes a request. The body matters only for a preference list.
-  abbrev pub Does : Route → Standing → List ℕ → H → Answer → H → Type 0
-  Does route.Standing standing body = Tells (standing_answer standing)
-  Does route.Rooms standing body = ListsRooms
-  Does route.Withdrawal standing body = Withdraws standing.person
-  Does route.Choices standing body = Records standing.person (choices_of_body body)
+  abbrev pub Dispatches : Route → Standing → List ℕ → H → Answer → H → Type 0
+  Dispatches route.Standing standing body = RespondsDirectly (standing_answer standing)
+  Dispatches route.Rooms standing body = ListsRooms
+  Dispatches route.Withdrawal standing body = Withdraws standing.person
+  Dispatches route.Choices standing body = Records standing.person (choices_of_body body)
 
   -- The desk has answered whose the key is, or that nobody has it; or it was unavailable, or an allocation failed.
-  abbrev pub Greets : Route → List ℕ → DeskAnswer → H → Answer → H → Type 0
-  Greets route body me old answer new =
-      ((standing : Standing) × (me ≡ desk.Reply (reply.Me standing)) × Does route standing body old answer new)
-      ⊎ (((me ≡ desk.Refused UnknownPerson) × (answer ≡ one_fault 403) × (new ≡ old))
+  abbrev pub Authorizes : Route → List ℕ → DeskAnswer → H → Answer → H → Type 0
+  Authorizes route body me old answer new =
+      ((standing : Standing) × (me ≡ desk.Reply (reply.Me standing)) × Dispatches route standing body old answer new)
+      ⊎ (((me ≡ desk.Refused UnknownPerson) × (answer ≡ status_fault 403) × (new ≡ old))
       ⊎ ((answer ≡ unavailable_answer) × (new ≡ old)))
 
   -- The desk is asked first whose the key is. Or an allocation failed before that.
-  abbrev pub Admits : Route → Text → List ℕ → H → Answer → H → Type 0
-  Admits route key body old answer new =
+  abbrev pub Authenticates : Route → Text → List ℕ → H → Answer → H → Type 0
+  Authenticates route key body old answer new =
       ((me : DeskAnswer) × (between : H) × handles old (request.Ask (query.Me key)) me between
-      × Greets route body me between answer new)
+      × Authorizes route body me between answer new)
       ⊎ ((answer ≡ unavailable_answer) × (new ≡ old))
 
   -- the response, by what the path, the method and the key want
   abbrev pub AnswersWanted : Wanted → List ℕ → H → Answer → H → Type 0
-  AnswersWanted unknown body = Tells (one_fault 404)
-  AnswersWanted (wrong_method allow) body = Tells (wrong_method_answer allow)
-  AnswersWanted forbidden body = Tells (one_fault 403)
-  AnswersWanted (wanted route key) body = Admits route key body
+  AnswersWanted unknown body = RespondsDirectly (status_fault 404)
+  AnswersWanted (wrong_method allow) body = RespondsDirectly (wrong_method_answer allow)
+  AnswersWanted forbidden body = RespondsDirectly (status_fault 403)
+  AnswersWanted (wanted route key) body = Authenticates route key body
 
   -- the response to parsed bytes; if they need more, no more come
   abbrev pub Answers : Asked → H → Answer → H → Type 0
-  Answers more = Tells (one_fault 400)
+  Answers more = RespondsDirectly (status_fault 400)
   Answers (ask method path key body used) = AnswersWanted (wanted_of method path key) body
-  Answers (fault status) = Tells (one_fault status)
+  Answers (fault status) = RespondsDirectly (status_fault status)
 
   -- the response to the bytes of a connection, after which no more come
   abbrev pub Serves : List ℕ → H → Answer → H → Type 0

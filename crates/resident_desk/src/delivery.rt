@@ -5,7 +5,7 @@ ghost use Rattle.room_types.specs.Streams.{Puts, output_of};
 ghost use Rattle.room_types.specs.Watched.{watched_ended, watched_failed, watched_flushes, watched_inner};
 ghost use Rattle.room_types.specs.Watched.{watched_wasted, watched_pending, watched_reads};
 ghost use Rattle.resident_desk.specs.Calls.{FailsToWrite, Sends, Writes};
-ghost use Rattle.resident_desk.specs.Conversations.{Delivers};
+ghost use Rattle.resident_desk.specs.Connections.{Delivers};
 
 use crate::served::Served;
 use http::StatusCode;
@@ -39,7 +39,7 @@ fn send_all<T: Stream>(stream: &mut Watched<T>, text: &[u8]) -> Result<(), usize
     requires { watched_failed stream.old ≡ false }
     ensures sent { OnOk result (Puts
         (output_of T.contents stream.old) (output_of T.contents stream.new) text.now) }
-    ensures front { IfErr result (λ sent. Puts
+    ensures prefix { IfErr result (λ sent. Puts
         (output_of T.contents stream.old) (output_of T.contents stream.new) (take sent text.now)) }
     ensures short { IfErr result (λ sent. sent < length text.now) }
     ensures writes { OnOk result (Writes T.Stream.own text.now (length text.now)

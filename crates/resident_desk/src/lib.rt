@@ -2,14 +2,14 @@
 #![tactic(auto)]
 
 mod answering;
-pub mod conversation;
+pub mod connection;
 mod delivery;
-mod drafts;
 pub mod laws;
-mod letters;
+mod prepared;
+mod responses;
 pub mod served;
 pub mod serving;
 
-pub use crate::conversation::{CONNECTION_LIMIT, converse};
+pub use crate::connection::{CONNECTION_LIMIT, serve_connection};
 pub use crate::served::Served;
 pub use crate::serving::{serve_one, serve_one_in_memory};

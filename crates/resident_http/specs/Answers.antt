@@ -17,18 +17,18 @@ method_text method.Put = codes "PUT"
 method_text method.Post = codes "POST"
 
 -- a status that responses have
-abbrev pub is_answered : ℕ → Bool
-is_answered status =
+abbrev pub is_response_status : ℕ → Bool
+is_response_status status =
     list_any (λ known. known == status) (200 ∷ 400 ∷ 403 ∷ 404 ∷ 405 ∷ 409 ∷ 413 ∷ 417 ∷ 422 ∷ 501 ∷ 503 ∷ [])
 
 -- the status is one of these, and `allow` is present exactly with 405
 pub record IsAnswer (answer : Answer) : Type 0 where
-  pub answered : is_answered answer.status ≡ true
+  pub answered : is_response_status answer.status ≡ true
   pub allow : is_some answer.allow ≡ (answer.status == 405)
 
 -- the reason phrase of the status
-abbrev pub reason_of : ℕ → List ℕ
-reason_of status =
+abbrev pub reason : ℕ → List ℕ
+reason status =
     if status == 200 then codes "OK"
     else if status == 400 then codes "Bad Request"
     else if status == 403 then codes "Forbidden"
@@ -50,10 +50,10 @@ allow_line None = []
 allow_line (Some method) = concat (codes "Allow: " ∷ method_text method ∷ line_end ∷ [])
 
 -- the status line, the fields and the empty line
-abbrev pub head_of : ℕ → Option Method → ℕ → List ℕ
-head_of status allow body_length =
+abbrev pub head_text : ℕ → Option Method → ℕ → List ℕ
+head_text status allow body_length =
     concat (
-    codes "HTTP/1.1 " ∷ decimal status ∷ codes " " ∷ reason_of status ∷ line_end
+    codes "HTTP/1.1 " ∷ decimal status ∷ codes " " ∷ reason status ∷ line_end
     ∷ codes "Content-Type: application/json" ∷ line_end
     ∷ codes "Content-Length: " ∷ decimal body_length ∷ line_end
     ∷ allow_line allow
@@ -64,4 +64,4 @@ head_of status allow body_length =
 
 -- the bytes of a response
 abbrev pub bytes_of : Answer → List ℕ
-bytes_of answer = head_of answer.status answer.allow (length answer.body) ++ answer.body
+bytes_of answer = head_text answer.status answer.allow (length answer.body) ++ answer.body

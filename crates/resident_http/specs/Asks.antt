@@ -40,9 +40,9 @@ has_bad_host minor (host ∷ []) = false
 has_bad_host minor (host ∷ other ∷ hosts) = true
 
 -- there is at least one such field
-abbrev pub is_there : List (List ℕ) → Bool
-is_there [] = false
-is_there (value ∷ values) = true
+abbrev pub is_present : List (List ℕ) → Bool
+is_present [] = false
+is_present (value ∷ values) = true
 
 -- the key, if there is exactly one such field and its value is in the grammar of keys
 abbrev pub key_of : List (List ℕ) → Option (List ℕ)
@@ -51,11 +51,11 @@ key_of (value ∷ []) = if is_key value then Some value else None
 key_of (value ∷ other ∷ values) = None
 
 -- the length of the body, or the status of the fault
-abbrev pub length_of : List (List ℕ) → Result ℕ ℕ
-length_of [] = Ok 0
-length_of (value ∷ []) =
+abbrev pub body_length : List (List ℕ) → Result ℕ ℕ
+body_length [] = Ok 0
+body_length (value ∷ []) =
     if is_decimal value then (if nat_lt body_limit (number_of value) then Err 413 else Ok (number_of value)) else Err 400
-length_of (value ∷ other ∷ values) = Err 400
+body_length (value ∷ other ∷ values) = Err 400
 
 -- the target up to the first question mark
 abbrev pub path_of : List ℕ → List ℕ
@@ -71,11 +71,11 @@ asked_with method path key len rest (Ok n) =
 unfoldable pub asked_of : List ℕ → List ℕ → ℕ → List NamedValue → ℕ → List ℕ → Asked
 asked_of method target minor fields len rest =
     if has_bad_host minor (values_of (codes "host") fields) then fault 400
-    else if is_there (values_of (codes "expect") fields) then fault 417
-    else if is_there (values_of (codes "transfer-encoding") fields) then fault 501
+    else if is_present (values_of (codes "expect") fields) then fault 417
+    else if is_present (values_of (codes "transfer-encoding") fields) then fault 501
     else asked_with method (path_of target)
     (key_of (values_of (codes "room-key") fields)) len rest
-    (length_of (values_of (codes "content-length") fields))
+    (body_length (values_of (codes "content-length") fields))
 
 -- the same for a head of the grammar
 abbrev pub asked_by : RequestHead → List ℕ → Asked

@@ -8,13 +8,13 @@ use Rattle.resident_http.specs.Bodies.{fault_data}
 use Rattle.resident_http.specs.declared.method.Method.{Method}
 
 -- a status with a single error name
-abbrev pub is_one_fault : ℕ → Bool
-is_one_fault status =
+abbrev pub has_one_name : ℕ → Bool
+has_one_name status =
     list_any (λ known. known == status) (400 ∷ 403 ∷ 404 ∷ 405 ∷ 413 ∷ 417 ∷ 501 ∷ 503 ∷ [])
 
 -- the error name of such a status
-abbrev pub name_of : ℕ → Text
-name_of status =
+abbrev pub fault_name : ℕ → Text
+fault_name status =
     if status == 400 then codes "BadRequest"
     else if status == 403 then codes "Forbidden"
     else if status == 404 then codes "NotFound"
@@ -30,7 +30,7 @@ fault_names status =
     if status == 405 then []
     else if status == 409 then codes "BadPhase" ∷ codes "Withdrawn" ∷ codes "Going" ∷ []
     else if status == 422 then codes "TooManyChoices" ∷ codes "RoomRepeated" ∷ codes "UnknownRoom" ∷ codes "RoomShut" ∷ []
-    else if is_one_fault status then name_of status ∷ []
+    else if has_one_name status then fault_name status ∷ []
     else []
 
 -- the name is an error name of the status
@@ -45,4 +45,4 @@ fault_answer status name = record { status = status; allow = None; body = compac
 
 abbrev pub wrong_method_answer : Method → Answer
 wrong_method_answer allow =
-    record { status = 405; allow = Some allow; body = compact_text (fault_data (name_of 405)) }
+    record { status = 405; allow = Some allow; body = compact_text (fault_data (fault_name 405)) }

@@ -1,6 +1,6 @@
 //! HTTP responses and their bytes.
 ghost use Rattle.std.specs.Prelude.{◌≡◌, ◌++◌, IfOk, OnOk, string_bytes, true};
-ghost use Rattle.resident_http.specs.Answers.{allow_line, bytes_of, head_of, is_answered, reason_of};
+ghost use Rattle.resident_http.specs.Answers.{allow_line, bytes_of, head_text, is_response_status, reason};
 
 use crate::method::Method;
 use http::StatusCode;
@@ -8,7 +8,7 @@ use room_types::{Listing, OutOfMemory};
 use std::alloc::{AllocError, Global};
 use std::marker::Model;
 
-/// An HTTP response. Its status is one of those that `is_answered` lists; `allow` is present exactly with 405; the body is
+/// An HTTP response. Its status is one of those that `is_response_status` lists; `allow` is present exactly with 405; the body is
 /// JSON.
 #[derive(Debug, Drop)]
 pub struct HttpAnswer {
@@ -32,7 +32,7 @@ impl Model for HttpAnswer {
 }
 
 /// The bytes of the response with status 503, for use when an allocation fails.
-pub const UNAVAILABLE: &[u8] = b"HTTP/1.1 503 Service Unavailable\r\n\
+pub const UNAVAILABLE_RESPONSE: &[u8] = b"HTTP/1.1 503 Service Unavailable\r\n\
     Content-Type: application/json\r\n\
     Content-Length: 23\r\n\
     Connection: close\r\n\
@@ -60,8 +60,8 @@ fn head_text(
     allow: Option<Method>,
     body_length: usize,
 ) -> Result<String, AllocError>
-    requires { is_answered status ≡ true }
-    ensures { IfOk result (λ text. string_bytes text ≡ head_of status allow body_length) }
+    requires { is_response_status status ≡ true }
+    ensures { IfOk result (λ text. string_bytes text ≡ head_text status allow body_length) }
 {
     let code = status.as_u16();
     let reason = reason(status);
@@ -87,8 +87,8 @@ fn push_allow(text: &mut String, allow: Option<Method>) -> Result<(), AllocError
 
 // The reason phrase of the status.
 fn reason(status: StatusCode) -> &'static str
-    requires { is_answered status ≡ true }
-    ensures { result.now ≡ reason_of status }
+    requires { is_response_status status ≡ true }
+    ensures { result.now ≡ reason status }
 {
     match status.as_u16() {
         200 => "OK",

@@ -3,12 +3,12 @@ ghost use Rattle.std.specs.Prelude.{◌≡◌, ◌<◌, ◌∷◌, [], ◌≤◌
 ghost use Rattle.std.specs.Prelude.{IfErr, IsUtf8, true};
 ghost use Rattle.std.specs.List.{All};
 ghost use Rattle.httparse.specs.Spans.{IsHeaderWithin, IsWithin, header_bytes, span_bytes};
-ghost use Rattle.resident_http.specs.Asks.{Asks, asked_of, seen, has_bad_host, is_there, key_of, length_of, path_of};
+ghost use Rattle.resident_http.specs.Asks.{Asks, asked_of, seen, has_bad_host, is_present, key_of, body_length, path_of};
 ghost use Rattle.resident_http.specs.Asks.{HasEarlyStatus, is_early_status};
 ghost use Rattle.resident_http.specs.Asks.{window, is_more};
 ghost use Rattle.resident_http.specs.Fields.{values_of};
 
-use crate::fields::{Found, find_fields, is_decimal_field, number_up_to};
+use crate::fields::{Found, find_fields, is_decimal, number_up_to};
 use http::StatusCode;
 use httparse::Status;
 use httparse::spans::{EMPTY_HEADER_SPAN, HeaderSpan, RequestSpans, parse_request};
@@ -68,7 +68,7 @@ pub fn read_ask(bytes: &[u8]) -> AskState<'_>
     let mut headers = [EMPTY_HEADER_SPAN; FIELD_LIMIT];
     let window = first_bytes(bytes);
     match parse_request(window, &mut headers) {
-        Ok(Status::Complete(head)) => read_head(window, bytes, head, &headers[..head.headers]),
+        Ok(Status::Complete(head)) => asked_of(window, bytes, head, &headers[..head.headers]),
         Ok(Status::Partial) if bytes.len() < HEAD_LIMIT => AskState::More,
         Ok(Status::Partial) | Err(_) => AskState::Fault(StatusCode::BAD_REQUEST),
     }
@@ -89,7 +89,7 @@ fn first_bytes(bytes: &[u8]) -> &[u8]
 
 // The request of a complete head and the bytes after it.
 #[tactic(auto, unfolding(crate::specs::Asks::asked_of))]
-fn read_head<'b>(
+fn asked_of<'b>(
     window: &'b [u8],
     bytes: &'b [u8],
     head: RequestSpans,
@@ -109,10 +109,10 @@ fn read_head<'b>(
     if has_bad_host(window, headers, head.version) {
         return AskState::Fault(StatusCode::BAD_REQUEST);
     }
-    if has_head_field(window, headers, b"expect") {
+    if has_field(window, headers, b"expect") {
         return AskState::Fault(StatusCode::EXPECTATION_FAILED);
     }
-    if has_head_field(window, headers, b"transfer-encoding") {
+    if has_field(window, headers, b"transfer-encoding") {
         return AskState::Fault(StatusCode::NOT_IMPLEMENTED);
     }
     let rest = &bytes[head.len..];
@@ -122,7 +122,7 @@ fn read_head<'b>(
         Ok(length) => AskState::Ask {
             method: head.method.of(window),
             path: path_of(text_of(head.path.of(window))),
-            key: room_key_header(window, headers),
+            key: key_of(window, headers),
             body: &rest[..length],
             used: head.len + length,
         },
@@ -142,9 +142,9 @@ fn has_bad_host(window: &[u8], headers: &[HeaderSpan], minor: u8) -> bool
     }
 }
 
-fn has_head_field(window: &[u8], headers: &[HeaderSpan], name: &[u8]) -> bool
+fn has_field(window: &[u8], headers: &[HeaderSpan], name: &[u8]) -> bool
     requires { All (IsHeaderWithin (length window.now)) headers.now }
-    ensures { result ≡ is_there (values_of name.now (map (header_bytes window.now) headers.now)) }
+    ensures { result ≡ is_present (values_of name.now (map (header_bytes window.now) headers.now)) }
 {
     match find_fields(window, headers, name) {
         Found::Nothing => false,
@@ -154,7 +154,7 @@ fn has_head_field(window: &[u8], headers: &[HeaderSpan], name: &[u8]) -> bool
 }
 
 // The resident's key, if there is exactly one such field and its value is in the grammar of keys.
-fn room_key_header<'b>(window: &'b [u8], headers: &[HeaderSpan]) -> Option<&'b str>
+fn key_of<'b>(window: &'b [u8], headers: &[HeaderSpan]) -> Option<&'b str>
     requires { All (IsHeaderWithin (length window.now)) headers.now }
     ensures { let fields = map (header_bytes window.now) headers.now in
         option_map (λ k. k.now) result ≡ key_of (values_of (codes "room-key") fields) }
@@ -170,7 +170,7 @@ fn room_key_header<'b>(window: &'b [u8], headers: &[HeaderSpan]) -> Option<&'b s
 fn body_length(window: &[u8], headers: &[HeaderSpan]) -> Result<usize, StatusCode>
     requires { All (IsHeaderWithin (length window.now)) headers.now }
     ensures value { let fields = map (header_bytes window.now) headers.now in
-        result ≡ length_of (values_of (codes "content-length") fields) }
+        result ≡ body_length (values_of (codes "content-length") fields) }
     ensures early { IfErr result (λ status. is_early_status status ≡ true) }
     ensures bound { IfOk result (λ n. n ≤ 1024) }
 {
@@ -183,11 +183,11 @@ fn body_length(window: &[u8], headers: &[HeaderSpan]) -> Result<usize, StatusCod
 
 // The length in the value of a field.
 fn body_length_in(text: &[u8]) -> Result<usize, StatusCode>
-    ensures value { result ≡ length_of (text.now ∷ []) }
+    ensures value { result ≡ body_length (text.now ∷ []) }
     ensures early { IfErr result (λ status. is_early_status status ≡ true) }
     ensures bound { IfOk result (λ n. n ≤ 1024) }
 {
-    if !is_decimal_field(text) {
+    if !is_decimal(text) {
         return Err(StatusCode::BAD_REQUEST);
     }
     let length = number_up_to(text, BODY_LIMIT + 1);

@@ -19,7 +19,7 @@ use std::alloc::{AllocError, Global};
 pub fn choices_body(alloc: Global, choices: &[RoomCode]) -> Result<Listing<u8>, OutOfMemory>
     ensures { IfOk result (λ body. body ≡ compact_text (choices_data choices.now)) }
 {
-    let value = choices_value(alloc, choices)?;
+    let value = choices_data(alloc, choices)?;
     written_json(alloc, &value)
 }
 
@@ -27,7 +27,7 @@ pub fn choices_body(alloc: Global, choices: &[RoomCode]) -> Result<Listing<u8>, 
 pub fn standing_body(alloc: Global, standing: &Standing) -> Result<Listing<u8>, OutOfMemory>
     ensures { IfOk result (λ body. body ≡ compact_text (standing_data standing.now)) }
 {
-    let value = standing_value(alloc, standing)?;
+    let value = standing_data(alloc, standing)?;
     written_json(alloc, &value)
 }
 
@@ -35,7 +35,7 @@ pub fn standing_body(alloc: Global, standing: &Standing) -> Result<Listing<u8>, 
 pub fn rooms_body(alloc: Global, rows: &[RoomRow]) -> Result<Listing<u8>, OutOfMemory>
     ensures { IfOk result (λ body. body ≡ compact_text (rooms_data rows.now)) }
 {
-    let value = rooms_value(alloc, rows)?;
+    let value = rooms_data(alloc, rows)?;
     written_json(alloc, &value)
 }
 
@@ -43,7 +43,7 @@ pub fn rooms_body(alloc: Global, rows: &[RoomRow]) -> Result<Listing<u8>, OutOfM
 pub fn withdrawn_body(alloc: Global) -> Result<Listing<u8>, OutOfMemory>
     ensures { IfOk result (λ body. body ≡ compact_text withdrawn_data) }
 {
-    let value = withdrawn_value(alloc)?;
+    let value = withdrawn_data(alloc)?;
     written_json(alloc, &value)
 }
 
@@ -51,7 +51,7 @@ pub fn withdrawn_body(alloc: Global) -> Result<Listing<u8>, OutOfMemory>
 pub fn fault_body(alloc: Global, name: &str) -> Result<Listing<u8>, OutOfMemory>
     ensures { IfOk result (λ body. body ≡ compact_text (fault_data name.now)) }
 {
-    let value = fault_value(alloc, name)?;
+    let value = fault_data(alloc, name)?;
     written_json(alloc, &value)
 }
 
@@ -64,23 +64,23 @@ fn written_json(alloc: Global, value: &Value) -> Result<Listing<u8>, OutOfMemory
     Ok(Listing::new(text.into_bytes()))
 }
 
-fn choices_value(alloc: Global, choices: &[RoomCode]) -> Result<Value, AllocError>
+fn choices_data(alloc: Global, choices: &[RoomCode]) -> Result<Value, AllocError>
     ensures { IfOk result (λ value. view value ≡ choices_data choices.now) }
 {
     let choices = text_array(alloc, choices)?;
     json!(in alloc; {"choices": choices})
 }
 
-fn standing_value(alloc: Global, standing: &Standing) -> Result<Value, AllocError>
+fn standing_data(alloc: Global, standing: &Standing) -> Result<Value, AllocError>
     ensures { IfOk result (λ value. view value ≡ standing_data standing.now) }
 {
     let choices = text_array(alloc, standing.choices.as_slice())?;
     let going = standing.going;
-    let home = json_text_or_null(alloc, &standing.home)?;
+    let home = text_or_null(alloc, &standing.home)?;
     let name = standing.name.as_str();
     let person = standing.person.as_str();
     let phase = standing.phase.as_str();
-    let result = json_text_or_null(alloc, &standing.result)?;
+    let result = text_or_null(alloc, &standing.result)?;
     let round = u64::from(standing.round);
     let shown = standing.shown;
     let withdrawn = standing.withdrawn;
@@ -98,17 +98,17 @@ fn standing_value(alloc: Global, standing: &Standing) -> Result<Value, AllocErro
     })
 }
 
-fn rooms_value(alloc: Global, rows: &[RoomRow]) -> Result<Value, AllocError>
+fn rooms_data(alloc: Global, rows: &[RoomRow]) -> Result<Value, AllocError>
     ensures { IfOk result (λ value. view value ≡ rooms_data rows.now) }
 {
     let mut values = Vec::with_capacity(alloc, rows.len())?;
     for row in rows {
-        values.push(room_value(alloc, row)?)?;
+        values.push(room_data(alloc, row)?)?;
     }
     Ok(Value::Array(values))
 }
 
-fn room_value(alloc: Global, row: &RoomRow) -> Result<Value, AllocError>
+fn room_data(alloc: Global, row: &RoomRow) -> Result<Value, AllocError>
     ensures { IfOk result (λ value. view value ≡ room_data row.now) }
 {
     let room = row.room.as_str();
@@ -116,13 +116,13 @@ fn room_value(alloc: Global, row: &RoomRow) -> Result<Value, AllocError>
     json!(in alloc; {"room": room, "state": state})
 }
 
-fn withdrawn_value(alloc: Global) -> Result<Value, AllocError>
+fn withdrawn_data(alloc: Global) -> Result<Value, AllocError>
     ensures { IfOk result (λ value. view value ≡ withdrawn_data) }
 {
     json!(in alloc; {"withdrawn": true})
 }
 
-fn fault_value(alloc: Global, name: &str) -> Result<Value, AllocError>
+fn fault_data(alloc: Global, name: &str) -> Result<Value, AllocError>
     ensures { IfOk result (λ value. view value ≡ fault_data name.now) }
 {
     json!(in alloc; {"error": name})
@@ -138,7 +138,7 @@ fn text_array(alloc: Global, codes: &[RoomCode]) -> Result<Value, AllocError>
     Ok(Value::Array(values))
 }
 
-fn json_text_or_null(alloc: Global, text: &Option<RoomCode>) -> Result<Value, AllocError>
+fn text_or_null(alloc: Global, text: &Option<RoomCode>) -> Result<Value, AllocError>
     ensures { IfOk result (λ value. view value ≡ text_or_null text.now) }
 {
     match text {

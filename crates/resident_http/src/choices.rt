@@ -49,13 +49,13 @@ fn room_codes(alloc: Global, items: &[Value]) -> Result<Vec<RoomCode>, TypeFault
 {
     let mut codes = Vec::new(alloc);
     for item in items {
-        let code = json_room_code(alloc, item)?;
-        push_json_code(&mut codes, code)?;
+        let code = code_in(alloc, item)?;
+        push_code(&mut codes, code)?;
     }
     Ok(codes)
 }
 
-fn push_json_code(codes: &mut Vec<RoomCode>, code: RoomCode) -> Result<(), OutOfMemory>
+fn push_code(codes: &mut Vec<RoomCode>, code: RoomCode) -> Result<(), OutOfMemory>
     ensures { OnOk result (codes.new.items ≡ codes.old.items ++ code ∷ []) }
 {
     codes.push(code)?;
@@ -63,7 +63,7 @@ fn push_json_code(codes: &mut Vec<RoomCode>, code: RoomCode) -> Result<(), OutOf
 }
 
 // The room code in a value.
-fn json_room_code(alloc: Global, value: &Value) -> Result<RoomCode, TypeFault>
+fn code_in(alloc: Global, value: &Value) -> Result<RoomCode, TypeFault>
     ensures code { IfOk result (λ code. code_in (view value.now) ≡ Some code) }
     ensures fault { IfErr result (λ fault. (fault ≡ TypeFault.OutOfMemory)
         ⊎ ((fault ≡ TypeFault.BadValue) × (code_in (view value.now) ≡ None))) }

@@ -1,6 +1,6 @@
 //! Success responses and error responses.
 ghost use Rattle.std.specs.Prelude.{◌≡◌, IfOk, true};
-ghost use Rattle.resident_http.specs.Faults.{fault_answer, is_one_fault, name_of, names_fault};
+ghost use Rattle.resident_http.specs.Faults.{fault_answer, has_one_name, fault_name, names_fault};
 ghost use Rattle.resident_http.specs.Faults.{success_answer, wrong_method_answer};
 
 use crate::answer::HttpAnswer;
@@ -48,7 +48,7 @@ impl HttpAnswer {
     pub fn wrong_method(alloc: Global, allow: Method) -> Result<Self, OutOfMemory>
         ensures { IfOk result (λ answer. answer ≡ wrong_method_answer allow) }
     {
-        let body = fault_body(alloc, http_fault_name(StatusCode::METHOD_NOT_ALLOWED))?;
+        let body = fault_body(alloc, fault_name(StatusCode::METHOD_NOT_ALLOWED))?;
         Ok(HttpAnswer {
             status: StatusCode::METHOD_NOT_ALLOWED,
             allow: Some(allow),
@@ -58,9 +58,9 @@ impl HttpAnswer {
 }
 
 /// Returns the error name of a status that has a single one, so neither 200, 409 nor 422.
-pub fn http_fault_name(status: StatusCode) -> &'static str
-    requires { is_one_fault status ≡ true }
-    ensures { result.now ≡ name_of status }
+pub fn fault_name(status: StatusCode) -> &'static str
+    requires { has_one_name status ≡ true }
+    ensures { result.now ≡ fault_name status }
 {
     match status.as_u16() {
         400 => "BadRequest",

@@ -5,7 +5,7 @@ ghost use Rattle.std.specs.Char.{is_ascii_digit};
 ghost use Rattle.std.specs.Str.{str_eq_ignore_ascii_case};
 ghost use Rattle.httparse.specs.Spans.{IsHeaderWithin, header_bytes, span_bytes};
 ghost use Rattle.resident_http.specs.Fields.{values_of, is_decimal, number_of};
-ghost use Rattle.resident_http.specs.Inner.Found.{Tells};
+ghost use Rattle.resident_http.specs.Inner.Found.{Finds};
 
 use httparse::spans::{HeaderSpan, Span};
 
@@ -21,20 +21,20 @@ pub enum Found {
 /// Searches for the fields of this name, whose case does not matter.
 pub fn find_fields(buf: &[u8], headers: &[HeaderSpan], name: &[u8]) -> Found
     requires { All (IsHeaderWithin (length buf.now)) headers.now }
-    ensures { Tells buf.now result (values_of name.now (map (header_bytes buf.now) headers.now)) }
+    ensures { Finds buf.now result (values_of name.now (map (header_bytes buf.now) headers.now)) }
 {
     let mut found = Found::Nothing;
     for header in headers {
-        found = with_head_field(buf, found, *header, name);
+        found = with_field(buf, found, *header, name);
     }
     found
 }
 
 // The result after one more field.
-fn with_head_field(buf: &[u8], found: Found, header: HeaderSpan, name: &[u8]) -> Found
+fn with_field(buf: &[u8], found: Found, header: HeaderSpan, name: &[u8]) -> Found
     requires { IsHeaderWithin (length buf.now) header }
-    ensures { (values : List (List ℕ)) → Tells buf.now found values
-        → Tells buf.now result (values
+    ensures { (values : List (List ℕ)) → Finds buf.now found values
+        → Finds buf.now result (values
         ++ (if str_eq_ignore_ascii_case (span_bytes buf.now header.name) name.now
         then span_bytes buf.now header.value ∷ [] else [])) }
 {
@@ -49,13 +49,13 @@ fn with_head_field(buf: &[u8], found: Found, header: HeaderSpan, name: &[u8]) ->
 }
 
 /// Whether the text is one or more decimal digits.
-pub fn is_decimal_field(text: &[u8]) -> bool
+pub fn is_decimal(text: &[u8]) -> bool
     ensures { result ≡ is_decimal text.now }
 {
-    !text.is_empty() && has_digits_alone(text)
+    !text.is_empty() && has_only_digits(text)
 }
 
-fn has_digits_alone(text: &[u8]) -> bool
+fn has_only_digits(text: &[u8]) -> bool
     ensures { result ≡ list_all is_ascii_digit text.now }
 {
     text.iter().all(|b| b.is_ascii_digit())

@@ -5,11 +5,11 @@ ghost use Rattle.resident_http.specs.Answers.{bytes_of};
 ghost use Rattle.resident_http.specs.Faults.{fault_answer};
 ghost use Rattle.resident_http.specs.Asks.{Asked, Asks, BeginsTooManyFields, fault, is_more, is_request};
 
-use crate::answer::UNAVAILABLE;
+use crate::answer::UNAVAILABLE_RESPONSE;
 
-/// `UNAVAILABLE` has exactly the bytes of the error response 503 `Unavailable`.
+/// `UNAVAILABLE_RESPONSE` has exactly the bytes of the error response 503 `Unavailable`.
 pub fn unavailable_is_an_answer()
-    ensures { UNAVAILABLE.now ≡ bytes_of (fault_answer 503 (codes "Unavailable")) }
+    ensures { UNAVAILABLE_RESPONSE.now ≡ bytes_of (fault_answer 503 (codes "Unavailable")) }
 {}
 
 /// It does not matter how the bytes of a connection are split into chunks: a request found in the bytes so far remains the

@@ -11,10 +11,10 @@ pub mod laws;
 pub mod method;
 pub mod routes;
 
-pub use crate::answer::{HttpAnswer, UNAVAILABLE, answer_bytes};
+pub use crate::answer::{HttpAnswer, UNAVAILABLE_RESPONSE, answer_bytes};
 pub use crate::ask::{AskState, read_ask};
 pub use crate::bodies::{choices_body, fault_body, rooms_body, standing_body, withdrawn_body};
 pub use crate::choices::choices_of_body;
-pub use crate::faults::http_fault_name;
+pub use crate::faults::fault_name;
 pub use crate::method::Method;
 pub use crate::routes::{Route, Routed, route_request};

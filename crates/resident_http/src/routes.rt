@@ -72,11 +72,11 @@ pub fn route_request<'b>(
     let Some(route) = route_of(alloc, path)? else {
         return Ok(Routed::Unknown);
     };
-    Ok(route_with_method(method, key, route))
+    Ok(with_method(method, key, route))
 }
 
 // Routes a request whose path is known.
-fn route_with_method<'b>(method: &[u8], key: Option<&'b str>, route: Route) -> Routed<'b>
+fn with_method<'b>(method: &[u8], key: Option<&'b str>, route: Route) -> Routed<'b>
     ensures { seen_wanted result ≡ with_method method.now (option_map (λ k. k.now) key.entry) route }
 {
     let allow = route.method();

@@ -4,11 +4,11 @@ use Rattle.sqlite.specs.Held.{state}
 use Rattle.sqlite.specs.State.{HasCleanDisk}
 use Rattle.sqlite_trees.specs.declared.store.Store.{Ghosts}
 use Rattle.office_state.specs.declared.office.Office.{Office}
-use Rattle.office_lines.specs.Saying.{Says, SaysUnavailable}
-use Rattle.office_store.specs.Desk.{DeskState, HandlesAt, StandsFor}
+use Rattle.office_lines.specs.Printing.{Prints, PrintsUnavailable}
+use Rattle.office_store.specs.Desk.{DeskState, HandlesAt, Represents}
 use Rattle.office_store.specs.Requests.{Handles}
 use Rattle.office_tables.specs.Steps.{Follows}
-use Rattle.resident_desk.specs.Conversations.{Connection, Converses, connection_limit, connection_of}
+use Rattle.resident_desk.specs.Connections.{Connection, ServesConnection, connection_limit, connection_of}
 use Rattle.resident_desk.specs.declared.served.Served.{Served}
 use Rattle.resident_server.specs.Network.{Network}
 use Rattle.resident_server.specs.Texts.{listening_text, served_text}
@@ -21,36 +21,36 @@ use Rattle.room_types.specs.declared.watched.Watched.{Watched}
 module _ {S : Type 0} (g : Ghosts S) where
   -- A connection served at a desk. If the disk returned what was written to it, the office that the desk represents served
   -- the connection too, and the desk represents the office after it.
-  pub record Talks {T : Type 0} (calls : Calls T) (old new : DeskState S) (before after : Connection T) : Type 0 where
+  pub record ServesAtDesk {T : Type 0} (calls : Calls T) (old new : DeskState S) (before after : Connection T) : Type 0 where
     pub served : Served
     pub follows : Follows (state g old.conn) (state g new.conn)
-    pub at_desk : Converses calls (HandlesAt g) served old new before after
-    pub serves : HasCleanDisk (state g new.conn) → (office : Office) → StandsFor g old office
-        → (next : Office) × Converses calls Handles served office next before after × StandsFor g new next
+    pub at_desk : ServesConnection calls (HandlesAt g) served old new before after
+    pub serves : HasCleanDisk (state g new.conn) → (office : Office) → Represents g old office
+        → (next : Office) × ServesConnection calls Handles served office next before after × Represents g new next
 
-  module _ {L T : Type 0} (calls : Calls T) (remaining contents : T → Option (List ℕ)) (accepts : L → Output → Option (Watched T) → L → Type 0) (closes : L → Output → Watched T → L → Type 0) (said : Output) where
+  module _ {L T : Type 0} (calls : Calls T) (remaining contents : T → Option (List ℕ)) (accepts : L → Output → Option (Watched T) → L → Type 0) (closes : L → Output → Watched T → L → Type 0) (printed : Output) where
     -- An unused connection was accepted, served, and closed before anything more was printed. None of its calls was wasted.
     pub record Serves (listener : L) (old : DeskState S) (listener' : L) (new : DeskState S) : Type 0 where
       pub between : L
       pub before : Watched T
       pub after : Watched T
-      pub accepted : accepts listener said (Some before) between
+      pub accepted : accepts listener printed (Some before) between
       pub begins : IsUnused before
-      pub talks : Talks calls old new (connection_of remaining contents before) (connection_of remaining contents after)
+      pub service : ServesAtDesk calls old new (connection_of remaining contents before) (connection_of remaining contents after)
       pub few : watched_reads after ≤ connection_limit
       pub no_wasted : StopsAtEnd before after
-      pub closed : closes between said after listener'
+      pub closed : closes between printed after listener'
 
     -- One accept: the connection was served, or none could be accepted and nothing else happened.
-    abbrev pub MeetsOne : L → DeskState S → L → DeskState S → Type 0
-    MeetsOne listener old listener' new =
-        Serves listener old listener' new ⊎ (accepts listener said None listener' × (new ≡ old))
+    abbrev pub ServesNext : L → DeskState S → L → DeskState S → Type 0
+    ServesNext listener old listener' new =
+        Serves listener old listener' new ⊎ (accepts listener printed None listener' × (new ≡ old))
 
     -- this number of accepts, one after another
-    unfoldable pub MeetsEach : L → DeskState S → ℕ → L → DeskState S → Type 0
-    MeetsEach listener old zero listener' new = (listener' ≡ listener) × (new ≡ old)
-    MeetsEach listener old (suc count) listener' new =
-        (middle : L) × (between : DeskState S) × MeetsEach listener old count middle between × MeetsOne middle between listener' new
+    unfoldable pub ServesEach : L → DeskState S → ℕ → L → DeskState S → Type 0
+    ServesEach listener old zero listener' new = (listener' ≡ listener) × (new ≡ old)
+    ServesEach listener old (suc count) listener' new =
+        (middle : L) × (between : DeskState S) × ServesEach listener old count middle between × ServesNext middle between listener' new
 
   module _ {L T : Type 0} (calls : Calls T) (remaining contents : T → Option (List ℕ)) (accepts : L → Output → Option (Watched T) → L → Type 0) (closes : L → Output → Watched T → L → Type 0) where
     -- The line with the listening port was printed and flushed. Then this number of connections was accepted and served,
@@ -58,10 +58,10 @@ module _ {S : Type 0} (g : Ghosts S) where
     -- failed, or the first line could not be printed: then no connection was accepted.
     abbrev pub ServesAll : L → DeskState S → L → DeskState S → ℕ → ℕ → ℕ → Output → Output → Type 0
     ServesAll listener old listener' new port count status out out' =
-        ((said : Output) × Says (listening_text port) 0 0 out said × MeetsEach calls remaining contents accepts closes said listener old count listener' new
-        × Says (served_text count) 0 status said out')
-        ⊎ ((listener' ≡ listener) × (new ≡ old) × (status ≡ 3) × Says (listening_text port) 0 status out out')
-        ⊎ ((listener' ≡ listener) × (new ≡ old) × SaysUnavailable status out out')
+        ((printed : Output) × Prints (listening_text port) 0 0 out printed × ServesEach calls remaining contents accepts closes printed listener old count listener' new
+        × Prints (served_text count) 0 status printed out')
+        ⊎ ((listener' ≡ listener) × (new ≡ old) × (status ≡ 3) × Prints (listening_text port) 0 status out out')
+        ⊎ ((listener' ≡ listener) × (new ≡ old) × PrintsUnavailable status out out')
 
   -- A socket listens on the port, residents are served on it, and it is closed. Or listening on the port failed.
   abbrev pub ServesPort : {P : Type 0} → Network P → P → DeskState S → P → DeskState S → ℕ → ℕ → ℕ → Output → Output → Type 0
@@ -69,4 +69,4 @@ module _ {S : Type 0} (g : Ghosts S) where
       ((listener : network.Socket) × (listener' : network.Socket) × (between : P) × network.listens ports port listener between
       × ServesAll network.calls network.remaining network.contents network.accepts network.closes listener old listener' new port count status out out'
       × network.stops between listener' ports')
-      ⊎ (network.fails ports port ports' × (new ≡ old) × SaysUnavailable status out out')
+      ⊎ (network.fails ports port ports' × (new ≡ old) × PrintsUnavailable status out out')

@@ -24,27 +24,27 @@ pub trait Listener {
     ghost closes: { Self → Output → Watched Self.Stream → Self → Type 0 } = { λ _ _ _ _. ⊤ };
 
     /// Waits for the next connection and returns it, or `None` if it could not be accepted. The connection is `Watched`
-    /// from the start, and unused. `said` is the output written before.
-    fn accept<W: Write>(&mut self, said: &Watched<W>) -> Option<Watched<Self::Stream>>
-        ensures accepts { accepts self.old (output_of W.contents said.now) result self.new }
+    /// from the start, and unused. `printed` is the output written before.
+    fn accept<W: Write>(&mut self, printed: &Watched<W>) -> Option<Watched<Self::Stream>>
+        ensures accepts { accepts self.old (output_of W.contents printed.now) result self.new }
         ensures unused { IfSome result IsUnused };
 
-    /// Closes a connection. `said` is the output written before.
-    fn close<W: Write>(&mut self, connection: Watched<Self::Stream>, said: &Watched<W>)
-        ensures { closes self.old (output_of W.contents said.now) connection self.new };
+    /// Closes a connection. `printed` is the output written before.
+    fn close<W: Write>(&mut self, connection: Watched<Self::Stream>, printed: &Watched<W>)
+        ensures { closes self.old (output_of W.contents printed.now) connection self.new };
 }
 
 impl Listener for TcpListener {
     type Stream = TcpStream;
 
-    fn accept<W: Write>(&mut self, _said: &Watched<W>) -> Option<Watched<TcpStream>> {
+    fn accept<W: Write>(&mut self, _printed: &Watched<W>) -> Option<Watched<TcpStream>> {
         match TcpListener::accept(self) {
             Ok((stream, _peer)) => Some(Watched::new(stream)),
             Err(_) => None,
         }
     }
 
-    fn close<W: Write>(&mut self, connection: Watched<TcpStream>, _said: &Watched<W>)
+    fn close<W: Write>(&mut self, connection: Watched<TcpStream>, _printed: &Watched<W>)
         ensures { ⊤ }
     {
         drop(connection);

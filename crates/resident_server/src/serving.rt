@@ -3,11 +3,11 @@ ghost use Rattle.std.specs.Prelude.{◌≡◌, IfOk, string_bytes};
 ghost use Rattle.room_types.specs.Streams.{output_of};
 ghost use Rattle.room_types.specs.Watched.{StopsAtFailure};
 ghost use Rattle.resident_server.specs.Network.{network_of};
-ghost use Rattle.resident_server.specs.Serving.{MeetsEach, MeetsOne, ServesAll, ServesPort};
+ghost use Rattle.resident_server.specs.Serving.{ServesEach, ServesNext, ServesAll, ServesPort};
 ghost use Rattle.resident_server.specs.Texts.{listening_text, served_text};
 
 use crate::listener::{Listener, Ports};
-use office_lines::say::say;
+use office_lines::print::print;
 use office_store::{Desk, Unavailable};
 use office_texts::{ACCEPTED, UNAVAILABLE};
 use resident_desk::serve_one;
@@ -41,7 +41,7 @@ pub fn serve_port<S: Alter, P: Ports, W: Write>(
             ports.stop(listener);
             status
         }
-        Err(Unavailable) => say(output, "unavailable\n", UNAVAILABLE),
+        Err(Unavailable) => print(output, "unavailable\n", UNAVAILABLE),
     }
 }
 
@@ -61,49 +61,49 @@ pub fn serve_listener<S: Alter, L: Listener, W: Write>(
         L.accepts L.closes listener.old desk.old listener.new desk.new port count result
         (output_of W.contents output.old) (output_of W.contents output.new) }
 {
-    let Ok(lines) = served_connection_lines(alloc, port, count) else {
-        return say(output, "unavailable\n", UNAVAILABLE);
+    let Ok(lines) = prepare_lines(alloc, port, count) else {
+        return print(output, "unavailable\n", UNAVAILABLE);
     };
-    if say(output, lines.listening.as_str(), ACCEPTED) != ACCEPTED {
+    if print(output, lines.listening.as_str(), ACCEPTED) != ACCEPTED {
         return UNAVAILABLE;
     }
     serve_each(alloc, desk, listener, output, count);
-    say(output, lines.served.as_str(), ACCEPTED)
+    print(output, lines.served.as_str(), ACCEPTED)
 }
 
 /// Accepts `count` connections one after another, and serves a resident on each. A connection that could not be accepted
-/// counts. `said` is the output written before.
+/// counts. `printed` is the output written before.
 pub fn serve_each<S: Alter, L: Listener, W: Write>(
     alloc: Global,
     desk: &mut Desk<S>,
     listener: &mut L,
-    said: &Watched<W>,
+    printed: &Watched<W>,
     count: u32,
 )
-    ensures meets { MeetsEach S.Store L.Stream.Stream.own L.Stream.remaining L.Stream.contents
-        L.accepts L.closes (output_of W.contents said.now) listener.old desk.old count listener.new desk.new }
+    ensures serves { ServesEach S.Store L.Stream.Stream.own L.Stream.remaining L.Stream.contents
+        L.accepts L.closes (output_of W.contents printed.now) listener.old desk.old count listener.new desk.new }
 {
     'connections: for _ in 0..count {
-        meet_one(alloc, desk, listener, said);
+        serve_next(alloc, desk, listener, printed);
     }
 }
 
 // Accepts one connection and, if that succeeds, serves a resident on it and closes it.
-fn meet_one<S: Alter, L: Listener, W: Write>(
+fn serve_next<S: Alter, L: Listener, W: Write>(
     alloc: Global,
     desk: &mut Desk<S>,
     listener: &mut L,
-    said: &Watched<W>,
+    printed: &Watched<W>,
 )
-    ensures meets { MeetsOne S.Store L.Stream.Stream.own L.Stream.remaining L.Stream.contents
-        L.accepts L.closes (output_of W.contents said.now) listener.old desk.old listener.new desk.new }
+    ensures serves { ServesNext S.Store L.Stream.Stream.own L.Stream.remaining L.Stream.contents
+        L.accepts L.closes (output_of W.contents printed.now) listener.old desk.old listener.new desk.new }
 {
-    let mut connection = match listener.accept(said) {
+    let mut connection = match listener.accept(printed) {
         Some(connection) => connection,
         None => return,
     };
     let _served = serve_one(alloc, desk, &mut connection);
-    listener.close(connection, said);
+    listener.close(connection, printed);
 }
 
 // The lines printed before and after.
@@ -113,7 +113,7 @@ struct Lines {
     served: String,
 }
 
-fn served_connection_lines(alloc: Global, port: u16, count: u32) -> Result<Lines, AllocError>
+fn prepare_lines(alloc: Global, port: u16, count: u32) -> Result<Lines, AllocError>
     ensures listening { IfOk result (λ lines. string_bytes lines.listening ≡ listening_text port) }
     ensures served { IfOk result (λ lines. string_bytes lines.served ≡ served_text count) }
 {

@@ -1,16 +1,16 @@
 //! Tests of serving single connections over a desk in memory.
+mod exchanges;
 mod failing;
 mod faults;
 mod lists;
 mod sockets;
-mod talks;
-mod told;
+mod whole_office;
 
 use crate::asserting::{assert_same, holds};
 use crate::desk::failing::NarrowWriter;
 use http::StatusCode;
 use office_store::{Desk, Handler};
-use office_words::{Sentence, read_line};
+use office_words::{ParsedLine, parse_line};
 use resident_desk::{Served, serve_one};
 use room_types::Watched;
 use room_types::stream::Pair;
@@ -54,7 +54,7 @@ const WELL: Served = Served::Answered {
 
 // How serving a connection ended, whether its stream failed, the number of its reads and flushes, and the bytes written.
 #[derive(Drop)]
-struct Talk {
+struct Exchange {
     how: Served,
     failed: bool,
     reads: u64,
@@ -70,26 +70,26 @@ fn open_round(rt: &impl Abort, alloc: Global) -> Desk<MemStore> {
 }
 
 /// Drops the desk. All tests drop theirs here, so that dropping one is proved in one place.
-pub fn let_go(desk: Desk<MemStore>) {
+pub fn drop_desk(desk: Desk<MemStore>) {
     drop(desk);
 }
 
 // Handles these lines of the office at the desk.
 fn handle_lines(rt: &impl Abort, alloc: Global, desk: &mut Desk<MemStore>, lines: &str) {
     for line in lines.lines() {
-        let sentence = read_line(alloc, line.as_bytes()).expect(rt, "memory");
-        handle_sentence(alloc, desk, sentence);
+        let parsed = parse_line(alloc, line.as_bytes()).expect(rt, "memory");
+        handle_parsed(alloc, desk, parsed);
     }
 }
 
-fn handle_sentence(alloc: Global, desk: &mut Desk<MemStore>, sentence: Sentence) {
-    if let Sentence::Asks(request) = sentence {
+fn handle_parsed(alloc: Global, desk: &mut Desk<MemStore>, parsed: ParsedLine) {
+    if let ParsedLine::Valid(request) = parsed {
         let _answer = desk.handle(alloc, &request);
     }
 }
 
 // Serves a connection with this reader.
-fn served<R: Read + Drop>(alloc: Global, desk: &mut Desk<MemStore>, reader: R) -> Talk {
+fn served<R: Read + Drop>(alloc: Global, desk: &mut Desk<MemStore>, reader: R) -> Exchange {
     served_on(alloc, desk, reader, NarrowWriter::wide(alloc))
 }
 
@@ -99,10 +99,10 @@ fn served_on<R: Read + Drop>(
     desk: &mut Desk<MemStore>,
     reader: R,
     writer: NarrowWriter,
-) -> Talk {
+) -> Exchange {
     let mut stream = Watched::new(Pair { reader, writer });
     let how = serve_one(alloc, desk, &mut stream);
-    Talk {
+    Exchange {
         how,
         failed: stream.failed(),
         reads: stream.reads(),
@@ -119,9 +119,9 @@ fn is_answered(
     request: &str,
     answer: &str,
 ) {
-    let talk = served(alloc, desk, request.as_bytes());
-    holds(rt, !talk.failed, request);
-    assert_same!(rt; talk.written.as_slice(), answer.as_bytes(), request);
+    let exchange = served(alloc, desk, request.as_bytes());
+    holds(rt, !exchange.failed, request);
+    assert_same!(rt; exchange.written.as_slice(), answer.as_bytes(), request);
 }
 
 /// Reads everything up to the end.

@@ -2,7 +2,7 @@
 ghost use Rattle.std.specs.Prelude.{⊤};
 
 use crate::asserting::assert_same;
-use crate::desk::{let_go, read_whole};
+use crate::desk::{drop_desk, read_whole};
 use office_lines::do_line::do_line;
 use office_store::Desk;
 use resident_server::{Listener, serve_listener};
@@ -36,7 +36,10 @@ impl<'a> Script<'a> {
 impl<'a> Listener for Script<'a> {
     type Stream = Pair<&'a [u8], Vec<u8>>;
 
-    fn accept<W: Write>(&mut self, _said: &Watched<W>) -> Option<Watched<Pair<&'a [u8], Vec<u8>>>> {
+    fn accept<W: Write>(
+        &mut self,
+        _printed: &Watched<W>,
+    ) -> Option<Watched<Pair<&'a [u8], Vec<u8>>>> {
         match self.coming {
             [Some(text), rest @ ..] => {
                 self.coming = rest;
@@ -53,7 +56,11 @@ impl<'a> Listener for Script<'a> {
         }
     }
 
-    fn close<W: Write>(&mut self, connection: Watched<Pair<&'a [u8], Vec<u8>>>, _said: &Watched<W>)
+    fn close<W: Write>(
+        &mut self,
+        connection: Watched<Pair<&'a [u8], Vec<u8>>>,
+        _printed: &Watched<W>,
+    )
         ensures { ⊤ }
     {
         let _ = self.written.push(connection.into_inner().writer);
@@ -81,16 +88,22 @@ const TIM_TAN: &[u8] =
     b"person T1\nname Tim Tan\nhome H1\nround 1 open\nchoices H2\nwithdrawn yes\ngoing no\nresult hidden\n";
 
 // The printed answer of the office to this line.
-fn said(alloc: Global, desk: &mut Desk<MemStore>, line: &str) -> Vec<u8> {
+fn printed(alloc: Global, desk: &mut Desk<MemStore>, line: &str) -> Vec<u8> {
     let mut output = Watched::new(Vec::new(alloc));
     do_line(alloc, desk, line.as_bytes(), &mut output);
     output.into_inner()
 }
 
 // Asserts that this is the printed answer of the office to the line.
-fn is_said(rt: &impl Abort, alloc: Global, desk: &mut Desk<MemStore>, line: &str, wanted: &[u8]) {
-    let said = said(alloc, desk, line);
-    assert_same!(rt; said.as_slice(), wanted, line);
+fn is_printed(
+    rt: &impl Abort,
+    alloc: Global,
+    desk: &mut Desk<MemStore>,
+    line: &str,
+    wanted: &[u8],
+) {
+    let printed = printed(alloc, desk, line);
+    assert_same!(rt; printed.as_slice(), wanted, line);
 }
 
 // A desk with an open round and Tim Tan.
@@ -103,7 +116,7 @@ fn open_desk(rt: &impl Abort, alloc: Global) -> Desk<MemStore> {
         "home T1 H1",
         "open",
     ] {
-        let _said = said(alloc, &mut desk, line);
+        let _printed = printed(alloc, &mut desk, line);
     }
     desk
 }
@@ -113,7 +126,7 @@ fn open_desk(rt: &impl Abort, alloc: Global) -> Desk<MemStore> {
 struct Ended {
     status: u8,
     flushes: u64,
-    said: Vec<u8>,
+    printed: Vec<u8>,
 }
 
 fn served<L: Listener>(
@@ -129,7 +142,7 @@ fn served<L: Listener>(
     Ended {
         status,
         flushes,
-        said: output.into_inner(),
+        printed: output.into_inner(),
     }
 }
 
@@ -141,15 +154,15 @@ fn serves_each_connection_in_turn(rt: HostRuntime) {
     let ended = served(alloc, &mut desk, &mut listener, 8080, 4);
     served_four(&rt, &ended);
     are_written(&rt, &listener.written);
-    is_said(&rt, alloc, &mut desk, "me key00000000000t1", TIM_TAN);
-    let_go(desk);
+    is_printed(&rt, alloc, &mut desk, "me key00000000000t1", TIM_TAN);
+    drop_desk(desk);
 }
 
 fn served_four(rt: &impl Abort, ended: &Ended) {
     assert_same!(rt; ended.status, 0);
     assert_same!(rt; ended.flushes, 2);
     assert_same!(rt;
-        ended.said.as_slice(),
+        ended.printed.as_slice(),
         b"listening on 127.0.0.1:8080\nserved 4\n".as_slice()
     );
 }
@@ -167,27 +180,27 @@ fn are_written(rt: &impl Abort, written: &[Vec<u8>]) {
 
 // If the server cannot print that it listens, it serves nobody.
 #[test]
-fn serves_nobody_where_output_fails(rt: HostRuntime) {
+fn serves_nobody_if_output_fails(rt: HostRuntime) {
     let alloc = rt.alloc();
     let mut desk = open_desk(&rt, alloc);
     let mut listener = Script::new(alloc, &[Some(WITHDRAWS)]);
     assert_same!(rt;
-        served_unheard(alloc, &mut desk, &mut listener),
+        served_without_output(alloc, &mut desk, &mut listener),
         (3, true)
     );
     assert_same!(rt; listener.coming.len(), 1);
-    is_said(
+    is_printed(
         &rt,
         alloc,
         &mut desk,
         "round",
         b"round 1 open people 1 withdrawn 0\n",
     );
-    let_go(desk);
+    drop_desk(desk);
 }
 
 // The exit status of a server whose output takes no bytes, and whether the output failed.
-fn served_unheard<L: Listener>(
+fn served_without_output<L: Listener>(
     alloc: Global,
     desk: &mut Desk<MemStore>,
     listener: &mut L,
@@ -210,7 +223,7 @@ fn serves_over_a_socket(rt: HostRuntime) {
     let ended = served(rt.alloc(), &mut desk, &mut listener, 1, 1);
     assert_same!(rt; ended.status, 0);
     is_recorded(&rt, rt.alloc(), &mut resident);
-    let_go(desk);
+    drop_desk(desk);
 }
 
 // The resident sends a list and then shuts the sending side.

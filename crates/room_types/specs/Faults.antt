@@ -1,5 +1,5 @@
 -- The texts of errors.
 use Rattle.std.specs.Prelude.{ℕ, List, codes}
 
-abbrev pub want_of_memory_text : List ℕ
-want_of_memory_text = codes "memory was refused"
+abbrev pub out_of_memory_text : List ℕ
+out_of_memory_text = codes "memory was refused"

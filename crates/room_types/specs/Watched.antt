@@ -67,8 +67,8 @@ is_end buf (Ok n) = nat_lt 0 (length buf) && n == 0
 is_end buf (Err e) = false
 
 -- the buffer of a call is empty
-abbrev pub has_no_room : List ℕ → Bool
-has_no_room buf = length buf == 0
+abbrev pub is_empty_buffer : List ℕ → Bool
+is_empty_buffer buf = length buf == 0
 
 -- Unless the writer had already failed, its `wasted` flag is unchanged. So where the flag was false, no call came after a
 -- failure, and no write had an empty buffer.

@@ -6,7 +6,7 @@ ghost use Rattle.room_types.specs.Choices.{choices_fault, IsChoices, RepeatsRoom
 
 use crate::fault::{OutOfMemory, TypeFault};
 use crate::grammars::RoomCode;
-use crate::table::Copied;
+use crate::table::ExactClone;
 use std::alloc::{AllocError, Global};
 use std::marker::Model;
 
@@ -86,7 +86,7 @@ impl Clone for Choices {
     }
 }
 
-impl Copied for Choices {
+impl ExactClone for Choices {
     ghost same = { λ x y h. h };
 }
 

@@ -1,6 +1,6 @@
 //! Errors of the small types.
 ghost use Rattle.std.specs.Prelude.{◌≡◌, Some};
-ghost use Rattle.room_types.specs.Faults.{want_of_memory_text};
+ghost use Rattle.room_types.specs.Faults.{out_of_memory_text};
 
 use crate::grammars::RoomCode;
 use std::alloc::{AllocError, AllocFailed};
@@ -24,7 +24,7 @@ impl<T: Drop> From<AllocFailed<T>> for OutOfMemory {
 }
 
 impl fmt::Display for OutOfMemory {
-    ghost output = { λ _. Some want_of_memory_text };
+    ghost output = { λ _. Some out_of_memory_text };
 
     fn fmt<W: fmt::Write>(&self, f: &mut fmt::Formatter<W>) -> fmt::Result {
         f.write_str("memory was refused")

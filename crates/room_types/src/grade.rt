@@ -4,7 +4,7 @@ ghost use Rattle.std.specs.Bool.{Decides};
 ghost use Rattle.room_types.specs.Grades.{grade_limit, grade_of, grade_text};
 
 use crate::fault::TypeFault;
-use crate::table::Copied;
+use crate::table::ExactClone;
 use std::fmt;
 use std::marker::Model;
 
@@ -82,7 +82,7 @@ impl Grade {
     }
 }
 
-impl Copied for Grade {
+impl ExactClone for Grade {
     ghost same = { λ x y h. h };
 }
 

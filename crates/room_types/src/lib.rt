@@ -31,7 +31,7 @@ pub use crate::moves::{Move, Wave};
 pub use crate::phase::Phase;
 pub use crate::rows::{GradeRow, PersonRow, ResultRow, RoomRow, State};
 pub use crate::stream::Stream;
-pub use crate::table::{Copied, Table};
+pub use crate::table::{ExactClone, Table};
 pub use crate::text::{Grammar, Text};
 pub use crate::watched::Watched;
 pub use crate::word::{WORD_DIGITS, Word};

@@ -4,7 +4,7 @@ ghost use Rattle.std.specs.Prelude.{◌≡◌, IfOk};
 use crate::fault::OutOfMemory;
 use crate::grammars::{PersonId, RoomCode};
 use crate::rows::copy_optional;
-use crate::table::Copied;
+use crate::table::ExactClone;
 use std::alloc::AllocError;
 
 /// When a move takes place on the day of moving.
@@ -54,6 +54,6 @@ impl Clone for Move {
     }
 }
 
-impl Copied for Move {
+impl ExactClone for Move {
     ghost same = { λ x y h. h };
 }

@@ -15,7 +15,7 @@ use std::io::Write;
 pub fn send<W: Write>(output: &mut Watched<W>, text: &[u8]) -> Result<(), usize>
     ensures sent { OnOk result
         (Puts (output_of W.contents output.old) (output_of W.contents output.new) text.now) }
-    ensures front { IfErr result
+    ensures prefix { IfErr result
         (λ sent. Puts (output_of W.contents output.old) (output_of W.contents output.new)
         (take sent text.now)) }
     ensures short { IfErr result (λ sent. sent < length text.now) }

@@ -13,15 +13,15 @@ use std::collections::btree_map::Iter;
 use std::marker::Model;
 
 /// Types whose clones are equal to the original, which `Clone` alone does not promise.
-pub trait Copied: Clone {
+pub trait ExactClone: Clone {
     ghost same: { (x y : Self) → Self.is_clone x y → y ≡ x };
 }
 
-impl Copied for bool {
+impl ExactClone for bool {
     ghost same = { λ x y h. h };
 }
 
-impl Copied for () {
+impl ExactClone for () {
     ghost same = { λ x y h. h };
 }
 
@@ -125,7 +125,7 @@ impl<G: Grammar, V: Drop> Table<G, V> {
     }
 }
 
-impl<G: Grammar, V: Copied> Table<G, V> {
+impl<G: Grammar, V: ExactClone> Table<G, V> {
     /// Copies the map. Does not allocate if it is empty.
     pub fn copy(&self) -> Result<Self, OutOfMemory>
         ensures copy { IfOk result (λ copy. copy ≡ self.now) }

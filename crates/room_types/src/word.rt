@@ -3,7 +3,7 @@ ghost use Rattle.std.specs.Prelude.{◌≡◌, Some, None, MatchResult, IfSome, 
 ghost use Rattle.room_types.specs.Words.{word_of, word_text, hex_digit, hex_value};
 
 use crate::fault::TypeFault;
-use crate::table::Copied;
+use crate::table::ExactClone;
 use std::fmt;
 use std::marker::Model;
 
@@ -60,7 +60,7 @@ impl Word {
     }
 }
 
-impl Copied for Word {
+impl ExactClone for Word {
     ghost same = { λ x y h. h };
 }
 

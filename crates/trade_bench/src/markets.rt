@@ -144,7 +144,7 @@ fn shuffled(
 ) -> Result<Vec<usize>, AllocError> {
     let mut rooms = numbers(alloc, count)?;
     for place in 0..rooms.len() {
-        swap_on(&mut rooms, place, generator);
+        shuffle_step(&mut rooms, place, generator);
     }
     Ok(rooms)
 }
@@ -169,7 +169,7 @@ fn drawn_homes(
 }
 
 // Swaps a random room at or after this place into this place.
-fn swap_on(rooms: &mut [usize], place: usize, generator: &mut Generator)
+fn shuffle_step(rooms: &mut [usize], place: usize, generator: &mut Generator)
     requires { place < length rooms.old }
 {
     let other = place + generator.below(rooms.len() - place);
@@ -189,7 +189,7 @@ fn list_without(
         if list.len() == listed {
             break;
         }
-        swap_on(rooms, place, generator);
+        shuffle_step(rooms, place, generator);
         if home != Some(rooms[place]) {
             list.push(rooms[place])?;
         }

@@ -10,7 +10,7 @@ use trade_line::problem::Problem;
 use trade_line::trade::run;
 
 // The number of people times the number of runs of one measurement.
-const TURNS: usize = 50_000;
+const PERSON_RUNS: usize = 50_000;
 
 /// Runs the mechanism once. This includes allocating its line and its bench.
 pub fn once(alloc: Global, problem: &Problem) -> Result<Outcome, OutOfMemory> {
@@ -34,7 +34,7 @@ pub fn check(problem: &Problem, outcome: &Outcome) -> u64 {
 
 /// Measures the average nanoseconds of a run.
 pub fn time(rt: &HostRuntime, problem: &Problem) -> anyhow::Result<u128> {
-    let repeats = (TURNS / problem.people().max(1)).max(1);
+    let repeats = (PERSON_RUNS / problem.people().max(1)).max(1);
     let start = Instant::now(rt)?;
     for _ in 0..repeats {
         once(rt.alloc(), problem)?;

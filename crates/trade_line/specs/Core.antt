@@ -20,7 +20,7 @@ IsInStrictCore m f =
     → (p : ℕ) → group p ≡ true → rank m p (f p) ≤ rank m p (a p)
 
 -- g is in the strict core, and no other assignment is
-pub record IsOnlyInStrictCore (m : Market) (g : ℕ → Option ℕ) : Type 0 where
+pub record IsUniqueInStrictCore (m : Market) (g : ℕ → Option ℕ) : Type 0 where
   pub assignment : IsAssignment m g
   pub core : IsInStrictCore m g
   pub only :

@@ -3,7 +3,7 @@
 use Rattle.std.specs.Prelude.{◌≡◌, ℕ, ◌<◌, Bool, true, false, List, [], ◌∷◌, Some}
 use Rattle.trade_line.specs.Market.{Market, home, tenant}
 use Rattle.trade_line.specs.Member.{among}
-use Rattle.trade_line.specs.TopTradingCycles.{Stage, wish, first, successor, on_cycle, leave}
+use Rattle.trade_line.specs.TopTradingCycles.{Stage, wish, first, successor, is_on_cycle, leave}
 
 -- everybody who remains is a person of the market
 abbrev pub IsStageOf : Market → Stage → Type 0
@@ -11,21 +11,21 @@ IsStageOf m s = (p : ℕ) → s.people p ≡ true → p < m.people
 
 -- a group made of whole cycles of the stage
 pub record AreCycles (m : Market) (s : Stage) (group : ℕ → Bool) : Type 0 where
-  pub each : (p : ℕ) → group p ≡ true → on_cycle m s p ≡ true
+  pub each : (p : ℕ) → group p ≡ true → is_on_cycle m s p ≡ true
   pub closed : (p : ℕ) → group p ≡ true → group (successor m s p) ≡ true
 
 -- when the group leaves with the rooms that it wishes for, everybody else who is on a cycle has the same
 -- wish, points to the same person, and is still on a cycle
 pub record LeavesOtherCycles (m : Market) (s : Stage) (group : ℕ → Bool) : Type 0 where
   pub wishes :
-      (p : ℕ) → on_cycle m s p ≡ true → group p ≡ false
+      (p : ℕ) → is_on_cycle m s p ≡ true → group p ≡ false
       → wish m (leave m s group) p ≡ wish m s p
   pub pointing :
-      (p : ℕ) → on_cycle m s p ≡ true → group p ≡ false
+      (p : ℕ) → is_on_cycle m s p ≡ true → group p ≡ false
       → successor m (leave m s group) p ≡ successor m s p
   pub cycles :
-      (p : ℕ) → on_cycle m s p ≡ true → group p ≡ false
-      → on_cycle m (leave m s group) p ≡ true
+      (p : ℕ) → is_on_cycle m s p ≡ true → group p ≡ false
+      → is_on_cycle m (leave m s group) p ≡ true
 
 -- p wishes for the home of q
 abbrev pub WishesForHomeOf : Market → Stage → ℕ → ℕ → Type 0

@@ -3,8 +3,8 @@ use Rattle.std.specs.Prelude.{ℕ, List, codes}
 use Rattle.trade_line.specs.declared.fault.TradeFault.{TradeFault}
 use Rattle.trade_line.specs.declared.fault.TradeFault.TheVariants.{BadIndex, HomeShared, ListRepeats, OwnRoomListed, OutOfMemory}
 
-abbrev pub want_of_memory_text : List ℕ
-want_of_memory_text = codes "memory was refused"
+abbrev pub out_of_memory_text : List ℕ
+out_of_memory_text = codes "memory was refused"
 
 abbrev pub fault_text : TradeFault → List ℕ
 fault_text BadIndex =
@@ -12,4 +12,4 @@ fault_text BadIndex =
 fault_text HomeShared = codes "two people have the same home"
 fault_text ListRepeats = codes "a list has a room twice"
 fault_text OwnRoomListed = codes "a person lists their own home"
-fault_text OutOfMemory = want_of_memory_text
+fault_text OutOfMemory = out_of_memory_text

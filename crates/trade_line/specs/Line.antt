@@ -12,9 +12,9 @@ tail_of [] = []
 tail_of (x ∷ xs) = xs
 
 -- whether nobody is left
-abbrev pub is_none_left : List ℕ → Bool
-is_none_left [] = true
-is_none_left (x ∷ xs) = false
+abbrev pub is_empty : List ℕ → Bool
+is_empty [] = true
+is_empty (x ∷ xs) = false
 
 -- the list without p
 abbrev pub without : ℕ → List ℕ → List ℕ

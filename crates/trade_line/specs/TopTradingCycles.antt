@@ -46,8 +46,8 @@ abbrev pub remaining_count : Market → Stage → ℕ
 remaining_count m s = count_below m.people s.people
 
 -- p remains, and is reached from p by 1 to `remaining_count` successors
-unfoldable pub on_cycle : Market → Stage → ℕ → Bool
-on_cycle m s p = s.people p
+unfoldable pub is_on_cycle : Market → Stage → ℕ → Bool
+is_on_cycle m s p = s.people p
     && some_below (remaining_count m s) (λ k. iterate (successor m s) (suc k) p == p)
 
 -- whether one of the group wishes for r
@@ -63,12 +63,12 @@ leave m s group = record {
 
 -- everybody on a cycle leaves
 abbrev pub step : Market → Stage → Stage
-step m s = leave m s (on_cycle m s)
+step m s = leave m s (is_on_cycle m s)
 
 -- what p gets in the next k steps
 unfoldable pub gets_within : Market → ℕ → Stage → ℕ → Option ℕ
 gets_within m zero s p = None
-gets_within m (suc k) s p = cond (on_cycle m s p) (wish m s p) (gets_within m k (step m s) p)
+gets_within m (suc k) s p = cond (is_on_cycle m s p) (wish m s p) (gets_within m k (step m s) p)
 
 -- what p gets
 unfoldable pub gets : Market → ℕ → Option ℕ

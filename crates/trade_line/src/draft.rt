@@ -20,7 +20,7 @@ pub(crate) struct Draft {
 }
 
 // Returns whether each home is below `room_count`.
-fn are_draft_homes_known(homes: &[Option<usize>], room_count: usize) -> bool
+fn are_homes_known(homes: &[Option<usize>], room_count: usize) -> bool
     ensures { IsTrue result ↔ All (λ home. IfSome home (λ room. room < room_count)) homes.now }
 {
     homes.iter().all(|home| match home {
@@ -30,19 +30,17 @@ fn are_draft_homes_known(homes: &[Option<usize>], room_count: usize) -> bool
 }
 
 // Returns whether each room of the list is below `room_count`.
-pub(crate) fn is_draft_list_known(list: &[usize], room_count: usize) -> bool
+pub(crate) fn is_list_known(list: &[usize], room_count: usize) -> bool
     ensures { IsTrue result ↔ All (λ room. room < room_count) list.now }
 {
     list.iter().all(|room| *room < room_count)
 }
 
 // Returns whether each room of each list is below `room_count`.
-fn are_draft_lists_known(lists: &[Vec<usize>], room_count: usize) -> bool
+fn are_lists_known(lists: &[Vec<usize>], room_count: usize) -> bool
     ensures { IsTrue result ↔ All (λ list. All (λ room. room < room_count) list.items) lists.now }
 {
-    lists
-        .iter()
-        .all(|list| is_draft_list_known(list, room_count))
+    lists.iter().all(|list| is_list_known(list, room_count))
 }
 
 // Returns whether the list has no room twice. `last` has the last person who listed each room; the entries of the rooms read
@@ -81,8 +79,8 @@ impl Draft {
         if self.homes.len() != self.order_len || self.lists.len() != self.order_len {
             return false;
         }
-        are_draft_homes_known(&self.homes, self.room_count)
-            && are_draft_lists_known(&self.lists, self.room_count)
+        are_homes_known(&self.homes, self.room_count)
+            && are_lists_known(&self.lists, self.room_count)
     }
 
     // Returns the tenant of each room, or the fault that two people have the same home.

@@ -1,6 +1,6 @@
 //! Theorems about the definitions, for every market. Each contract is the theorem; the function does nothing.
 ghost use Rattle.std.specs.Prelude.{◌≡◌, ℕ, ◌<◌, Bool, Option, List, ◌∷◌};
-ghost use Rattle.trade_line.specs.Core.{HasNoVacantRoom, IsOnlyInStrictCore, IsStrictCoreByTradesApart, KeepsSelfContained};
+ghost use Rattle.trade_line.specs.Core.{HasNoVacantRoom, IsUniqueInStrictCore, IsStrictCoreByTradesApart, KeepsSelfContained};
 ghost use Rattle.trade_line.specs.Cycles.{AreCycles, IsChain, IsLoop, IsStageOf, LeavesOtherCycles};
 ghost use Rattle.trade_line.specs.Groups.{IsGroupStrategyproof, IsNonbossy};
 ghost use Rattle.trade_line.specs.Market.{Market, IsMarket};
@@ -11,37 +11,37 @@ ghost use Rattle.trade_line.specs.TopTradingCycles.{Stage, gets, start};
 
 /// Strategy-proofness: while all others keep their lists, no other list gets a person a room that their own list ranks above
 /// the room that it gets them (Roth 1982; Abdulkadiroglu and Sönmez 1999).
-pub fn own_list_is_best()
+pub fn strategyproof()
     ensures { (m : Market) → IsMarket m → IsStrategyproof m }
 {}
 
 /// Group strategy-proofness: if a group hands in other lists together while all others keep theirs, then somebody in the
 /// group gets what their own list ranks below what they get with the recorded lists, or everybody, in the group or not, gets
 /// the same (Bird 1984; Pápai 2000).
-pub fn no_group_gains()
+pub fn group_strategyproof()
     ensures { (m : Market) → IsMarket m → IsGroupStrategyproof m }
 {}
 
 /// Nonbossiness: if a person gets the same with another list, then so does everybody else (Satterthwaite and Sonnenschein
 /// 1981; Pápai 2000).
-pub fn nobody_is_bossy()
+pub fn nonbossy()
     ensures { (m : Market) → IsMarket m → IsNonbossy m }
 {}
 
 /// If somebody lives in each room, top trading cycles give the only assignment in the strict core. At such an assignment no
 /// group of tenants can trade their own homes so that none of them loses and one of them gains (Roth and Postlewaite 1977).
-pub fn strict_core_is_one_assignment()
-    ensures { (m : Market) → IsMarket m → HasNoVacantRoom m → IsOnlyInStrictCore m (gets m) }
+pub fn unique_strict_core()
+    ensures { (m : Market) → IsMarket m → HasNoVacantRoom m → IsUniqueInStrictCore m (gets m) }
 {}
 
 /// In any market, if a group of tenants get one another's homes by top trading cycles, and rank no room outside the group
 /// above what they get, then each assignment in the strict core gives them the same.
-pub fn strict_core_keeps_self_contained_groups()
+pub fn self_contained_groups()
     ensures { (m : Market) → IsMarket m → KeepsSelfContained m (gets m) }
 {}
 
 /// An assignment is in the strict core if and only if no group of tenants has a better trade apart.
-pub fn trades_apart_tell_the_strict_core()
+pub fn strict_core_equivalence()
     ensures { (m : Market) → IsMarket m → IsStrictCoreByTradesApart m }
 {}
 
@@ -54,7 +54,7 @@ pub fn other_cycles_stay()
 
 /// Whole cycles may be removed one group at a time, in any order: each series of removals that continues until nobody remains
 /// gives what top trading cycles give, and such a series exists.
-pub fn cycles_leave_in_any_order()
+pub fn any_removal_order()
     ensures same { (m : Market) (f : ℕ → Option ℕ) → IsGivenByRemovals m f (start m)
         → (p : ℕ) → p < m.people → f p ≡ gets m p }
     ensures given { (m : Market) → IsGivenByRemovals m (gets m) (start m) }

@@ -2,7 +2,7 @@
 ghost use Rattle.std.specs.Prelude.{◌≡◌, ℕ, ◌<◌, List, ◌∷◌, IfOk, OnErr, IsTrue, false};
 ghost use Rattle.std.specs.List.{range_with_len};
 ghost use Rattle.trade_line.specs.Member.{among};
-ghost use Rattle.trade_line.specs.Line.{front_of, tail_of, is_none_left, without};
+ghost use Rattle.trade_line.specs.Line.{front_of, tail_of, is_empty, without};
 
 use crate::out_of_memory::OutOfMemory;
 use std::alloc::Global;
@@ -31,7 +31,7 @@ pub trait Line: Drop {
 
     /// Returns whether the line is empty.
     fn is_empty(&self) -> bool
-        ensures { result ≡ is_none_left (people self.now) };
+        ensures { result ≡ is_empty (people self.now) };
 
     /// Moves a person of the line to the front. The others keep their order.
     fn bring_to_front(&mut self, person: usize)
@@ -40,7 +40,7 @@ pub trait Line: Drop {
 
     /// Removes the first person from the line, which must not be empty.
     fn drop_front(&mut self)
-        requires { is_none_left (people self.old) ≡ false }
+        requires { is_empty (people self.old) ≡ false }
         ensures { people self.new ≡ tail_of (people self.old) };
 
     /// Removes a person of the line from any position. The others keep their order.

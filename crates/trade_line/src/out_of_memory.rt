@@ -1,6 +1,6 @@
 //! The error of a failed allocation.
 ghost use Rattle.std.specs.Prelude.{Some};
-ghost use Rattle.trade_line.specs.Faults.{want_of_memory_text};
+ghost use Rattle.trade_line.specs.Faults.{out_of_memory_text};
 
 use std::alloc::{AllocError, AllocFailed};
 use std::error::Error;
@@ -11,7 +11,7 @@ use std::fmt;
 pub struct OutOfMemory;
 
 impl fmt::Display for OutOfMemory {
-    ghost output = { λ _. Some want_of_memory_text };
+    ghost output = { λ _. Some out_of_memory_text };
 
     fn fmt<W: fmt::Write>(&self, f: &mut fmt::Formatter<W>) -> fmt::Result {
         f.write_str("memory was refused")

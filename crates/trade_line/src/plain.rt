@@ -1,6 +1,6 @@
 //! Top trading cycles in simultaneous steps, as in the definition: slow and simple. Tests compare `run` with it.
 ghost use Rattle.std.specs.Prelude.{◌≡◌, ◌<◌, IfOk, OnErr, Some, None, length, replicate, true, false};
-ghost use Rattle.trade_line.specs.TopTradingCycles.{wish, first, successor, remaining_count, on_cycle, step, ttc};
+ghost use Rattle.trade_line.specs.TopTradingCycles.{wish, first, successor, remaining_count, is_on_cycle, step, ttc};
 ghost use Rattle.trade_line.specs.Inner.Plain.{remains, AreMarks, Gives};
 
 use crate::out_of_memory::OutOfMemory;
@@ -74,7 +74,7 @@ fn count(problem: &Problem, stage: &Remaining) -> usize
 fn is_on_cycle(problem: &Problem, stage: &Remaining, person: usize) -> bool
     requires marks { AreMarks problem.now stage.now }
     requires person { person < problem.now.people }
-    ensures { result ≡ on_cycle problem.now (remains stage.now) person }
+    ensures { result ≡ is_on_cycle problem.now (remains stage.now) person }
 {
     if !stage.people[person] {
         return false;

@@ -3,12 +3,12 @@ ghost use Rattle.std.specs.Prelude.{◌≡◌, ◌<◌, All, IfOk, IfErr, OnOk};
 ghost use Rattle.trade_line.specs.Market.{Market, IsMarket, home, list_of, tenant};
 ghost use Rattle.trade_line.specs.Problem.{market_of, IsFirstFault};
 ghost use Rattle.trade_line.specs.OtherList.{with_list, IsListFor, IsFirstListFault};
-ghost use Rattle.trade_line.specs.Inner.Draft.{told_market};
+ghost use Rattle.trade_line.specs.Inner.Draft.{market_from};
 ghost use Rattle.trade_line.specs.Inner.Tenants.{IsTenants};
 
-use crate::draft::{Draft, is_distinct, is_draft_list_known, lacks};
+use crate::draft::{Draft, is_distinct, is_list_known, lacks};
 use crate::fault::TradeFault;
-use crate::lists::Lists;
+use crate::flat_lists::FlatLists;
 use std::alloc::Global;
 use std::marker::Model;
 
@@ -19,17 +19,17 @@ pub struct Problem {
     order_len: usize,
     room_count: usize,
     homes: Vec<Option<usize>>,
-    lists: Lists,
+    lists: FlatLists,
     tenants: Vec<Option<usize>>,
 }
 
 impl Model for Problem {
     ghost Value = { Market };
 
-    ghost view = { λ p. told_market p.order_len p.room_count p.homes.items p.lists };
+    ghost view = { λ p. market_from p.order_len p.room_count p.homes.items p.lists };
 
-    ghost invariant = { λ p. IsMarket (told_market p.order_len p.room_count p.homes.items p.lists)
-        × IsTenants (told_market p.order_len p.room_count p.homes.items p.lists) p.tenants.items };
+    ghost invariant = { λ p. IsMarket (market_from p.order_len p.room_count p.homes.items p.lists)
+        × IsTenants (market_from p.order_len p.room_count p.homes.items p.lists) p.tenants.items };
 }
 
 impl Problem {
@@ -72,7 +72,7 @@ impl Problem {
         if !draft.is_own_unlisted() {
             return Err(TradeFault::OwnRoomListed);
         }
-        let lists = Lists::copied(alloc, &draft.lists)?;
+        let lists = FlatLists::copied(alloc, &draft.lists)?;
         Ok(Problem {
             order_len: draft.order_len,
             room_count: draft.room_count,
@@ -115,16 +115,11 @@ impl Problem {
     }
 
     // Checks that the person can hand in the list. Otherwise reports the first fault.
-    fn check_problem_list(
-        &self,
-        alloc: Global,
-        person: usize,
-        list: &[usize],
-    ) -> Result<(), TradeFault>
+    fn check_list(&self, alloc: Global, person: usize, list: &[usize]) -> Result<(), TradeFault>
         ensures fits { OnOk result (IsListFor self.now person list.now) }
         ensures first_fault { IfErr result (IsFirstListFault self.now person list.now) }
     {
-        if person >= self.order_len || !is_draft_list_known(list, self.room_count) {
+        if person >= self.order_len || !is_list_known(list, self.room_count) {
             return Err(TradeFault::BadIndex);
         }
         let nobody = self.order_len;
@@ -150,7 +145,7 @@ impl Problem {
         ensures fits { OnOk result (IsListFor self.now person list.items) }
         ensures first_fault { IfErr result (IsFirstListFault self.now person list.items) }
     {
-        self.check_problem_list(alloc, person, &list)?;
+        self.check_list(alloc, person, &list)?;
         let homes = Vec::from_slice(alloc, &self.homes)?;
         let tenants = Vec::from_slice(alloc, &self.tenants)?;
         let lists = self.lists.with_list(alloc, person, &list)?;

@@ -9,7 +9,7 @@ ghost use Rattle.trade_line.specs.Line.{front_of};
 ghost use Rattle.trade_line.specs.Assignment.{IsAssignment, IsIndividuallyRational, IsEfficient, given_in};
 ghost use Rattle.trade_line.specs.TradeApart.{HasNoBetterTradeApart};
 ghost use Rattle.trade_line.specs.Inner.State.{state_of, stage_at};
-ghost use Rattle.trade_line.specs.Inner.Turn.{Standing, Asks, Onward};
+ghost use Rattle.trade_line.specs.Inner.Turn.{IsConsistent, Asks, Onward};
 ghost use Rattle.trade_line.specs.Inner.Loop.{Ring, Closed};
 ghost use Rattle.trade_line.specs.Inner.Looks.{AreCursors, KeepsCursors, TurnReads};
 
@@ -86,7 +86,7 @@ fn turn<L: Line>(
     cursors: &mut Vec<usize>,
 ) -> usize
     requires front { front_of (L.people line.old) ≡ Some person }
-    requires standing { Standing problem.now (state_of (L.people line.old) progress.old) }
+    requires consistent { IsConsistent problem.now (state_of (L.people line.old) progress.old) }
     requires cursors { AreCursors problem.now (state_of (L.people line.old) progress.old)
         cursors.old.items }
     ensures onward { Onward problem.now (state_of (L.people line.old) progress.old)

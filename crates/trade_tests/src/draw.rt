@@ -49,7 +49,7 @@ impl Rng for Counting {
 }
 
 #[test]
-fn the_first_half_of_a_word_is_the_low_one(rt: HostRuntime) -> Result<(), Fail> {
+fn draws_the_low_half_of_a_word_first(rt: HostRuntime) -> Result<(), Fail> {
     let mut generator = Counting { last: 0 };
     let words = words_from(rt.alloc(), &mut generator, 2)?;
     assert!(rt;
@@ -61,7 +61,7 @@ fn the_first_half_of_a_word_is_the_low_one(rt: HostRuntime) -> Result<(), Fail> 
 }
 
 #[test]
-fn no_words_are_drawn_for_nobody(rt: HostRuntime) -> Result<(), Fail> {
+fn draws_no_words_for_nobody(rt: HostRuntime) -> Result<(), Fail> {
     let mut generator = Counting { last: 0 };
     let words = words_from(rt.alloc(), &mut generator, 0)?;
     assert!(rt; words.is_empty());
@@ -70,14 +70,14 @@ fn no_words_are_drawn_for_nobody(rt: HostRuntime) -> Result<(), Fail> {
 }
 
 #[test]
-fn equal_words_by_identifier(rt: HostRuntime) -> Result<(), Fail> {
+fn orders_equal_words_by_identifier(rt: HostRuntime) -> Result<(), Fail> {
     let alloc = rt.alloc();
-    let lots = vec![in alloc;
+    let tickets = vec![in alloc;
         (person(&rt, alloc, "E1"), Grade::first(), Word::new(5)),
         (person(&rt, alloc, "E2"), Grade::first(), Word::new(5)),
         (person(&rt, alloc, "E3"), Grade::first(), Word::new(0)),
     ]?;
-    let people = order(alloc, &lots)?;
+    let people = order(alloc, &tickets)?;
     assert!(rt;
         matches!(people.as_slice(), [first, second, third]
             if first.as_str() == "E3" && second.as_str() == "E1" && third.as_str() == "E2")
@@ -87,14 +87,14 @@ fn equal_words_by_identifier(rt: HostRuntime) -> Result<(), Fail> {
 
 // The same draw, but the person with the least word has grade 1.
 #[test]
-fn a_smaller_grade_before_a_smaller_word(rt: HostRuntime) -> Result<(), Fail> {
+fn orders_by_grade_before_word(rt: HostRuntime) -> Result<(), Fail> {
     let alloc = rt.alloc();
-    let lots = vec![in alloc;
+    let tickets = vec![in alloc;
         (person(&rt, alloc, "E1"), Grade::first(), Word::new(5)),
         (person(&rt, alloc, "E2"), Grade::first(), Word::new(5)),
         (person(&rt, alloc, "E3"), grade(&rt, "1"), Word::new(0)),
     ]?;
-    let people = order(alloc, &lots)?;
+    let people = order(alloc, &tickets)?;
     assert!(rt;
         matches!(people.as_slice(), [first, second, third]
             if first.as_str() == "E1" && second.as_str() == "E2" && third.as_str() == "E3")

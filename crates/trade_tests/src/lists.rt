@@ -2,7 +2,7 @@ ghost use Rattle.std.specs.Prelude.{◌≡◌, Some};
 
 use crate::asserting::assert_same;
 use office_lists::{
-    Mover, in_moving_order, move_day_text, people_text, results_text, rooms_text, waves,
+    Relocation, in_moving_order, move_day_text, people_text, results_text, rooms_text, waves,
 };
 use room_types::{Grammar, Move, PersonRow, ResultRow, RoomRow, State, Text, Wave};
 use std::alloc::Global;
@@ -13,7 +13,7 @@ mod exports;
 mod lists;
 
 #[test]
-fn a_table_of_rooms(rt: HostRuntime) -> Result<(), Fail> {
+fn prints_a_table_of_rooms(rt: HostRuntime) -> Result<(), Fail> {
     let alloc = rt.alloc();
     let rows = vec![in alloc;
         room_row(
@@ -35,7 +35,7 @@ fn a_table_of_rooms(rt: HostRuntime) -> Result<(), Fail> {
 }
 
 #[test]
-fn a_table_of_people(rt: HostRuntime) -> Result<(), Fail> {
+fn prints_a_table_of_people(rt: HostRuntime) -> Result<(), Fail> {
     let alloc = rt.alloc();
     let rows = vec![in alloc;
         person_row(&rt, alloc, "T1", Some("H1"), "Tim Tan"),
@@ -50,7 +50,7 @@ fn a_table_of_people(rt: HostRuntime) -> Result<(), Fail> {
 }
 
 #[test]
-fn a_table_of_results(rt: HostRuntime) -> Result<(), Fail> {
+fn prints_a_table_of_results(rt: HostRuntime) -> Result<(), Fail> {
     let alloc = rt.alloc();
     let rows = vec![in alloc;
         result_row(&rt, alloc, "N", Some("V")),
@@ -66,7 +66,7 @@ fn a_table_of_results(rt: HostRuntime) -> Result<(), Fail> {
 }
 
 #[test]
-fn tables_of_nobody(rt: HostRuntime) -> Result<(), Fail> {
+fn prints_empty_tables(rt: HostRuntime) -> Result<(), Fail> {
     let alloc = rt.alloc();
     let rooms = rooms_text(alloc, &[])?;
     assert_same!(rt; rooms.as_str(), "room      state     tenant\n");
@@ -76,7 +76,7 @@ fn tables_of_nobody(rt: HostRuntime) -> Result<(), Fail> {
 }
 
 #[test]
-fn move_day_of_a_swap_with_a_newcomer_behind(rt: HostRuntime) -> Result<(), Fail> {
+fn prints_the_move_day_of_a_swap_and_a_newcomer(rt: HostRuntime) -> Result<(), Fail> {
     let alloc = rt.alloc();
     let moves = vec![in alloc;
         moved(&rt, alloc, 1, "T2", Some("H2"), "H1", Wave::Swap),
@@ -92,7 +92,7 @@ fn move_day_of_a_swap_with_a_newcomer_behind(rt: HostRuntime) -> Result<(), Fail
 }
 
 #[test]
-fn move_day_of_a_chain(rt: HostRuntime) -> Result<(), Fail> {
+fn prints_the_move_day_of_a_chain(rt: HostRuntime) -> Result<(), Fail> {
     let alloc = rt.alloc();
     assert_same!(rt;
         move_day_text(alloc, &[])?.as_str(),
@@ -113,7 +113,7 @@ fn move_day_of_a_chain(rt: HostRuntime) -> Result<(), Fail> {
 }
 
 #[test]
-fn waves_of_a_swap_with_a_newcomer_behind(rt: HostRuntime) -> Result<(), Fail> {
+fn computes_the_waves_of_a_swap_and_a_newcomer(rt: HostRuntime) -> Result<(), Fail> {
     let alloc = rt.alloc();
     let entries = vec![in alloc;
         entry(&rt, alloc, "N", None, "V"),
@@ -129,7 +129,7 @@ fn waves_of_a_swap_with_a_newcomer_behind(rt: HostRuntime) -> Result<(), Fail> {
 }
 
 #[test]
-fn waves_of_a_chain(rt: HostRuntime) -> Result<(), Fail> {
+fn computes_the_waves_of_a_chain(rt: HostRuntime) -> Result<(), Fail> {
     let alloc = rt.alloc();
     let none = waves(alloc, &[])?;
     assert!(rt; none.is_empty());
@@ -144,7 +144,7 @@ fn waves_of_a_chain(rt: HostRuntime) -> Result<(), Fail> {
 
 // T2 leaves the college, and T1 moves into the room.
 #[test]
-fn waves_and_move_day_of_somebody_who_leaves(rt: HostRuntime) -> Result<(), Fail> {
+fn lets_a_departing_tenant_move_out_first(rt: HostRuntime) -> Result<(), Fail> {
     let alloc = rt.alloc();
     let entries = vec![in alloc;
         entry(&rt, alloc, "T1", Some("H1"), "H2"),
@@ -168,7 +168,7 @@ fn waves_and_move_day_of_somebody_who_leaves(rt: HostRuntime) -> Result<(), Fail
     Ok(())
 }
 
-fn entry(rt: &impl Abort, alloc: Global, person: &str, from: Option<&str>, to: &str) -> Mover
+fn entry(rt: &impl Abort, alloc: Global, person: &str, from: Option<&str>, to: &str) -> Relocation
     ensures { result.2 ≡ Some to.now }
 {
     (

@@ -12,7 +12,7 @@ mod streams;
 mod worked;
 
 #[test]
-fn compares_by_bytes(rt: HostRuntime) -> Result<(), TypeFault> {
+fn compares_texts_and_words(rt: HostRuntime) -> Result<(), TypeFault> {
     let alloc = rt.alloc();
     let short = RoomCode::read(alloc, "H1")?;
     let long = RoomCode::read(alloc, "H10")?;
@@ -51,7 +51,7 @@ fn copies_moves(rt: HostRuntime) -> Result<(), TypeFault> {
 }
 
 #[test]
-fn keeps_tables(rt: HostRuntime) -> Result<(), TypeFault> {
+fn inserts_copies_and_removes_table_entries(rt: HostRuntime) -> Result<(), TypeFault> {
     let alloc = rt.alloc();
     let code = RoomCode::read(alloc, "R2")?;
     let mut table = twelve_codes(alloc, &code)?;
@@ -86,7 +86,7 @@ fn ascending(alloc: Global, table: &Table<RoomCodes, bool>) -> Result<String, Al
 }
 
 #[test]
-fn keeps_listings(rt: HostRuntime) -> Result<(), TypeFault> {
+fn counts_the_items_of_listings(rt: HostRuntime) -> Result<(), TypeFault> {
     let alloc = rt.alloc();
     assert_same!(rt; Listing::new(codes(alloc, 3)?).as_slice().len(), 3);
     let mut listing = Listing::empty(alloc);
@@ -155,7 +155,7 @@ fn wanted_at(call: u32) -> Option<ErrorKind> {
 // Each of ten calls of a `Watched`, also those after a failure, makes one call of the device with the whole buffer, and returns
 // what the device returned. That the device was called again after its failure shows as wasted.
 #[test]
-fn passes_calls_on(rt: HostRuntime) {
+fn forwards_each_call_to_the_device(rt: HostRuntime) {
     let mut input = watched_faulty();
     let mut output = watched_faulty();
     let mut flushed = watched_faulty();
@@ -178,7 +178,7 @@ fn passes_calls_on(rt: HostRuntime) {
 }
 
 #[test]
-fn watches_streams(rt: HostRuntime) -> io::Result<()> {
+fn counts_reads_and_notices_the_end(rt: HostRuntime) -> io::Result<()> {
     let mut input = Watched::new("ab".as_bytes());
     let mut byte = [0u8; 1];
     for taken in [1, 1, 0] {
@@ -190,7 +190,7 @@ fn watches_streams(rt: HostRuntime) -> io::Result<()> {
 }
 
 #[test]
-fn watches_full_streams(rt: HostRuntime) -> io::Result<()> {
+fn notices_a_full_writer(rt: HostRuntime) -> io::Result<()> {
     let mut space = [0u8; 3];
     let mut output = Watched::new(&mut space[..]);
     assert_same!(rt; output.write(b"abcd")?, 3);

@@ -1,7 +1,7 @@
 //! Desks over the database of another desk, or over one that statements created, while an allocation fails.
 ghost use Rattle.std.specs.Prelude.{◌≡◌, false, IfErr, IfOk};
 
-use crate::asking::{furnish, let_go, lines_asked, office_after};
+use crate::asking::{drop_desk, furnish, office_after, parse_requests};
 use crate::refused::verdict;
 use crate::same::is_same_office;
 use crate::tables::Tables;
@@ -14,15 +14,15 @@ use std::alloc::Global;
 /// Whether a desk that adopts the database of another desk shows the office after the lines of these texts. If it does not
 /// adopt it, it was out of memory, and the connection is returned unchanged: the next desk adopts it.
 pub fn office_is_adopted(alloc: Global, texts: &[&str]) -> Result<bool, OutOfMemory> {
-    let requests = lines_asked(alloc, texts)?;
+    let requests = parse_requests(alloc, texts)?;
     let office = office_after(alloc, &requests)?;
     let connection = connection_after(alloc, &requests)?;
     taken_judged(alloc, connection, false, &office)
 }
 
 /// The same for a database in which these tables are created.
-pub fn office_is_brought_over(alloc: Global, tables: &Tables) -> Result<bool, OutOfMemory> {
-    let requests = lines_asked(alloc, tables.lines)?;
+pub fn office_is_opened(alloc: Global, tables: &Tables) -> Result<bool, OutOfMemory> {
+    let requests = parse_requests(alloc, tables.lines)?;
     let office = office_after(alloc, &requests)?;
     let connection = tables_made(alloc, tables.statements)?;
     taken_judged(alloc, connection, tables.are_earlier, &office)
@@ -89,9 +89,9 @@ fn connection_after(
     };
     match furnish(alloc, &mut desk, requests) {
         Ok(()) => Ok(desk.release()),
-        Err(wanting) => {
-            let_go(desk);
-            Err(wanting)
+        Err(failures) => {
+            drop_desk(desk);
+            Err(failures)
         }
     }
 }
@@ -113,18 +113,18 @@ fn back_judged(
     }
 }
 
-// Whether the desk shows the office. `wanting` calls before were out of memory.
+// Whether the desk shows the office. `failures` calls before were out of memory.
 fn shown_judged(
     alloc: Global,
     mut desk: Desk<MemStore>,
     office: &Office,
-    wanting: usize,
+    failures: usize,
 ) -> Result<bool, OutOfMemory> {
     let found = desk.load(alloc);
-    let_go(desk);
+    drop_desk(desk);
     match found {
-        Ok(found) if is_same_office(office, &found) => verdict(wanting),
+        Ok(found) if is_same_office(office, &found) => verdict(failures),
         Ok(_) => Ok(false),
-        Err(_) => verdict(wanting.saturating_add(1)),
+        Err(_) => verdict(failures.saturating_add(1)),
     }
 }

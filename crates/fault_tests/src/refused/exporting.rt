@@ -1,5 +1,5 @@
 //! Exports from the tables of a desk while an allocation fails.
-use crate::asking::{furnish, let_go, lines_asked, office_after};
+use crate::asking::{drop_desk, furnish, office_after, parse_requests};
 use crate::refused::verdict;
 use crate::same::is_same_office;
 use office_lists::ExportKind;
@@ -28,55 +28,55 @@ const EXPORTS: [(ExportKind, &str); 4] = [
 
 /// Whether each export after the lines of these texts is written completely, or a prefix of it whose length is reported, and
 /// the office is unchanged.
-pub fn exports_are_told(alloc: Global, texts: &[&str]) -> Result<bool, OutOfMemory> {
-    let requests = lines_asked(alloc, texts)?;
+pub fn exports_match(alloc: Global, texts: &[&str]) -> Result<bool, OutOfMemory> {
+    let requests = parse_requests(alloc, texts)?;
     let office = office_after(alloc, &requests)?;
-    told(alloc, &requests, &office)
+    observed(alloc, &requests, &office)
 }
 
-fn told(alloc: Global, requests: &[Request], office: &Office) -> Result<bool, OutOfMemory> {
+fn observed(alloc: Global, requests: &[Request], office: &Office) -> Result<bool, OutOfMemory> {
     let Ok(mut desk) = Desk::in_memory(alloc) else {
         return Err(OutOfMemory {});
     };
-    let told = told_at(alloc, &mut desk, requests, office);
-    let_go(desk);
-    told
+    let observed = observed_at(alloc, &mut desk, requests, office);
+    drop_desk(desk);
+    observed
 }
 
-fn told_at(
+fn observed_at(
     alloc: Global,
     desk: &mut Desk<MemStore>,
     requests: &[Request],
     office: &Office,
 ) -> Result<bool, OutOfMemory> {
     furnish(alloc, desk, requests)?;
-    let mut wanting = 0usize;
+    let mut failures = 0usize;
     for (kind, wanted) in &EXPORTS {
         match is_exported(alloc, desk, *kind, wanted.as_bytes()) {
             Ok(true) => {}
             Ok(false) => return Ok(false),
-            Err(_) => wanting = wanting.saturating_add(1),
+            Err(_) => failures = failures.saturating_add(1),
         }
     }
-    office_judged(alloc, desk, office, wanting)
+    office_judged(alloc, desk, office, failures)
 }
 
-// Whether the desk still holds the office. `wanting` exports before were out of memory.
+// Whether the desk still holds the office. `failures` exports before were out of memory.
 fn office_judged(
     alloc: Global,
     desk: &mut Desk<MemStore>,
     office: &Office,
-    wanting: usize,
+    failures: usize,
 ) -> Result<bool, OutOfMemory> {
     match desk.load(alloc) {
         Ok(found) => {
             if is_same_office(office, &found) {
-                verdict(wanting)
+                verdict(failures)
             } else {
                 Ok(false)
             }
         }
-        Err(_) => verdict(wanting.saturating_add(1)),
+        Err(_) => verdict(failures.saturating_add(1)),
     }
 }
 

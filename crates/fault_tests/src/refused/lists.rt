@@ -45,7 +45,7 @@ const LISTS: [(ListKind, &str, &str); 8] = [
 
 /// Whether each list is read, or refused for its first bad record.
 pub fn lists_are_read(alloc: Global) -> Result<bool, OutOfMemory> {
-    let mut wanting = 0usize;
+    let mut failures = 0usize;
     for (kind, list, wanted) in &LISTS {
         match read_as(alloc, *kind, list.as_bytes()) {
             Ok(text) => {
@@ -53,10 +53,10 @@ pub fn lists_are_read(alloc: Global) -> Result<bool, OutOfMemory> {
                     return Ok(false);
                 }
             }
-            Err(_) => wanting = wanting.saturating_add(1),
+            Err(_) => failures = failures.saturating_add(1),
         }
     }
-    verdict(wanting)
+    verdict(failures)
 }
 
 // The result of reading the list, as a text.

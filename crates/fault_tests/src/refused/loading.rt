@@ -1,5 +1,5 @@
 //! An office loaded twice from its tables, and checked, while an allocation fails.
-use crate::asking::{furnish, let_go, lines_asked, office_after};
+use crate::asking::{drop_desk, furnish, office_after, parse_requests};
 use crate::refused::verdict;
 use crate::same::is_same_office;
 use office_state::{Office, sound};
@@ -17,7 +17,7 @@ struct Read {
 
 /// Whether the office after the lines of these texts is loaded correctly each time, and is lawful.
 pub fn office_is_read(alloc: Global, texts: &[&str]) -> Result<bool, OutOfMemory> {
-    let requests = lines_asked(alloc, texts)?;
+    let requests = parse_requests(alloc, texts)?;
     let read = read_twice(alloc, &requests)?;
     read_judged(alloc, &read, &requests)
 }
@@ -28,9 +28,9 @@ fn read_judged(alloc: Global, read: &Read, requests: &[Request]) -> Result<bool,
     counts_judged(judged(alloc, read, &office))
 }
 
-fn counts_judged((is_right, wanting): (bool, usize)) -> Result<bool, OutOfMemory> {
+fn counts_judged((is_right, failures): (bool, usize)) -> Result<bool, OutOfMemory> {
     if is_right {
-        verdict(wanting)
+        verdict(failures)
     } else {
         Ok(false)
     }
@@ -38,18 +38,18 @@ fn counts_judged((is_right, wanting): (bool, usize)) -> Result<bool, OutOfMemory
 
 // Whether nothing wrong was loaded, and the number of calls that were out of memory.
 fn judged(alloc: Global, read: &Read, office: &Office) -> (bool, usize) {
-    let (is_right, wanting) = counted(&read.first, office, 0);
-    let (is_right_again, wanting) = counted(&read.second, office, wanting);
+    let (is_right, failures) = counted(&read.first, office, 0);
+    let (is_right_again, failures) = counted(&read.second, office, failures);
     match sound(alloc, office) {
-        Ok(is_lawful) => (is_right && is_right_again && is_lawful, wanting),
-        Err(_) => (is_right && is_right_again, wanting.saturating_add(1)),
+        Ok(is_lawful) => (is_right && is_right_again && is_lawful, failures),
+        Err(_) => (is_right && is_right_again, failures.saturating_add(1)),
     }
 }
 
-fn counted(found: &Option<Office>, office: &Office, wanting: usize) -> (bool, usize) {
+fn counted(found: &Option<Office>, office: &Office, failures: usize) -> (bool, usize) {
     match found {
-        Some(found) => (is_same_office(office, found), wanting),
-        None => (true, wanting.saturating_add(1)),
+        Some(found) => (is_same_office(office, found), failures),
+        None => (true, failures.saturating_add(1)),
     }
 }
 
@@ -58,7 +58,7 @@ fn read_twice(alloc: Global, requests: &[Request]) -> Result<Read, OutOfMemory> 
         return Err(OutOfMemory {});
     };
     let read = read_at(alloc, &mut desk, requests);
-    let_go(desk);
+    drop_desk(desk);
     read
 }
 

@@ -1,5 +1,5 @@
 //! A rehearsal while an allocation fails.
-use crate::asking::let_go;
+use crate::asking::drop_desk;
 use office_lines::rehearse::rehearse;
 use office_lines::{Ending, Rehearsed};
 use office_store::Desk;
@@ -9,7 +9,7 @@ use std::alloc::Global;
 
 // How a rehearsal ended, and its output.
 #[derive(Drop)]
-struct Told {
+struct Observed {
     how: Rehearsed,
     text: Vec<u8>,
 }
@@ -18,61 +18,65 @@ struct Told {
 /// it ends after exactly as many bytes as it reports, which are a prefix of the other's output, or one of its lines is printed
 /// as unavailable.
 pub fn is_rehearsed(alloc: Global, lines: &str) -> Result<bool, OutOfMemory> {
-    let told = told_of(alloc, lines)?;
-    let again = told_of(alloc, lines)?;
-    Ok(is_told(&told, &again)? && is_told(&again, &told)?)
+    let observed = rehearsal_of(alloc, lines)?;
+    let again = rehearsal_of(alloc, lines)?;
+    Ok(agrees(&observed, &again)? && agrees(&again, &observed)?)
 }
 
 // The verdict on one rehearsal, compared with the other. At most one of the two was out of memory.
-fn is_told(told: &Told, other: &Told) -> Result<bool, OutOfMemory> {
-    match told.how.ending {
+fn agrees(observed: &Observed, other: &Observed) -> Result<bool, OutOfMemory> {
+    match observed.how.ending {
         Ending::NoMemory { sent } => {
-            if told.text.len() as u128 == sent && other.text.starts_with(&told.text) {
+            if observed.text.len() as u128 == sent && other.text.starts_with(&observed.text) {
                 Err(OutOfMemory {})
             } else {
                 Ok(false)
             }
         }
-        Ending::Ended => match told.how.status {
-            0 => Ok(is_same_text(told, other) || other.how.status != 0),
-            _ => is_unavailable(told),
+        Ending::Ended => match observed.how.status {
+            0 => Ok(is_same_text(observed, other) || other.how.status != 0),
+            _ => is_unavailable(observed),
         },
         _ => Ok(false),
     }
 }
 
 // Whether both printed the same, and not nothing.
-fn is_same_text(told: &Told, other: &Told) -> bool {
-    !told.text.is_empty() && told.text.as_slice() == other.text.as_slice()
+fn is_same_text(observed: &Observed, other: &Observed) -> bool {
+    !observed.text.is_empty() && observed.text.as_slice() == other.text.as_slice()
 }
 
-fn is_unavailable(told: &Told) -> Result<bool, OutOfMemory> {
-    let is_line = told
+fn is_unavailable(observed: &Observed) -> Result<bool, OutOfMemory> {
+    let is_line = observed
         .text
         .split(|byte| *byte == b'\n')
         .any(|line| line == b"unavailable".as_slice());
-    if told.how.status == 3 && is_line {
+    if observed.how.status == 3 && is_line {
         Err(OutOfMemory {})
     } else {
         Ok(false)
     }
 }
 
-fn told_of(alloc: Global, lines: &str) -> Result<Told, OutOfMemory> {
+fn rehearsal_of(alloc: Global, lines: &str) -> Result<Observed, OutOfMemory> {
     let Ok(mut desk) = Desk::in_memory(alloc) else {
         return Err(OutOfMemory {});
     };
-    let told = told_at(alloc, &mut desk, lines);
-    let_go(desk);
-    told
+    let observed = observed_at(alloc, &mut desk, lines);
+    drop_desk(desk);
+    observed
 }
 
-fn told_at(alloc: Global, desk: &mut Desk<MemStore>, lines: &str) -> Result<Told, OutOfMemory> {
+fn observed_at(
+    alloc: Global,
+    desk: &mut Desk<MemStore>,
+    lines: &str,
+) -> Result<Observed, OutOfMemory> {
     let mut input = Watched::new(lines.as_bytes());
     // Writing into this capacity does not allocate.
     let mut output = Watched::new(Vec::with_capacity(alloc, 4_096)?);
     let how = rehearse(alloc, desk, &mut input, &mut output);
-    Ok(Told {
+    Ok(Observed {
         how,
         text: output.into_inner(),
     })

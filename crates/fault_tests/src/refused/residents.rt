@@ -1,5 +1,5 @@
 //! Requests of residents while an allocation fails.
-use crate::asking::{ask_lines, furnish, let_go, lines_asked, office_after};
+use crate::asking::{ask_lines, drop_desk, furnish, office_after, parse_requests};
 use crate::refused::verdict;
 use crate::same::is_same_office;
 use http::StatusCode;
@@ -147,9 +147,9 @@ pub const RESULTS: [Step; 2] = [
 // The requests that the office carried out, the number of responses that the desk is unavailable, and the office afterwards, if
 // it could be loaded.
 #[derive(Drop)]
-struct Told {
+struct Observed {
     requests: Vec<Request>,
-    wanting: usize,
+    failures: usize,
     office: Option<Office>,
 }
 
@@ -167,35 +167,35 @@ pub fn are_served(alloc: Global, steps: &[Step]) -> Result<bool, OutOfMemory> {
     let Ok(mut desk) = Desk::in_memory(alloc) else {
         return Err(OutOfMemory {});
     };
-    let told = told_in_turn(alloc, &mut desk, steps);
-    let_go(desk);
-    match told? {
-        Some(told) => office_judged(alloc, &told),
+    let observed = observed_in_turn(alloc, &mut desk, steps);
+    drop_desk(desk);
+    match observed? {
+        Some(observed) => office_judged(alloc, &observed),
         None => Ok(false),
     }
 }
 
 // `None` if a response is neither of the two.
-fn told_in_turn(
+fn observed_in_turn(
     alloc: Global,
     desk: &mut Desk<MemStore>,
     steps: &[Step],
-) -> Result<Option<Told>, OutOfMemory> {
+) -> Result<Option<Observed>, OutOfMemory> {
     let mut requests = Vec::new(alloc);
-    let mut wanting = 0usize;
+    let mut failures = 0usize;
     does(alloc, desk, &mut requests, OPEN_ROUND)?;
     for step in steps {
         does(alloc, desk, &mut requests, step.lines)?;
         match answer_of(alloc, desk, step)? {
             Answered::AsWorked => ask_lines(alloc, &mut requests, step.records)?,
-            Answered::Unavailable => wanting = wanting.saturating_add(1),
+            Answered::Unavailable => failures = failures.saturating_add(1),
             Answered::Otherwise => return Ok(None),
         }
     }
     let office = desk.load(alloc).ok();
-    Ok(Some(Told {
+    Ok(Some(Observed {
         requests,
-        wanting,
+        failures,
         office,
     }))
 }
@@ -207,7 +207,7 @@ fn does(
     noted: &mut Vec<Request>,
     lines: &str,
 ) -> Result<(), OutOfMemory> {
-    let requests = lines_asked(alloc, &[lines])?;
+    let requests = parse_requests(alloc, &[lines])?;
     furnish(alloc, desk, &requests)?;
     ask_lines(alloc, noted, lines)
 }
@@ -256,16 +256,16 @@ fn answer_text(alloc: Global, step: &Step) -> Result<String, AllocError> {
 }
 
 // Whether the office loaded afterwards is the one after all of these requests.
-fn office_judged(alloc: Global, told: &Told) -> Result<bool, OutOfMemory> {
-    let office = office_after(alloc, &told.requests)?;
-    match &told.office {
+fn office_judged(alloc: Global, observed: &Observed) -> Result<bool, OutOfMemory> {
+    let office = office_after(alloc, &observed.requests)?;
+    match &observed.office {
         Some(found) => {
             if is_same_office(&office, found) {
-                verdict(told.wanting)
+                verdict(observed.failures)
             } else {
                 Ok(false)
             }
         }
-        None => verdict(told.wanting.saturating_add(1)),
+        None => verdict(observed.failures.saturating_add(1)),
     }
 }

@@ -18,23 +18,23 @@ const GRADE: &[u8] = b"person,grade\nT1,0\n";
 /// Whether each export is written completely, or a prefix of it whose length is reported.
 pub fn rows_are_sent(alloc: Global) -> Result<bool, OutOfMemory> {
     let mut all = 0usize;
-    for wanting in [
+    for failures in [
         room_sent(alloc)?,
         person_sent(alloc)?,
         move_sent(alloc)?,
         grade_sent(alloc)?,
     ] {
-        let Some(wanting) = wanting else {
+        let Some(failures) = failures else {
             return Ok(false);
         };
-        all = all.saturating_add(wanting);
+        all = all.saturating_add(failures);
     }
     verdict(all)
 }
 
 // The number of calls that were out of memory, or `None` if something else was written than the export, or than the prefix of
 // it whose length is reported.
-fn wanting_in(ended: &Result<(), WriteEnd>, written: &[u8], wanted: &[u8]) -> Option<usize> {
+fn failures_in(ended: &Result<(), WriteEnd>, written: &[u8], wanted: &[u8]) -> Option<usize> {
     match ended {
         Ok(()) if written == wanted => Some(0),
         Err(WriteEnd::OutOfMemory { sent })
@@ -64,7 +64,7 @@ fn room_sent(alloc: Global) -> Result<Option<usize>, OutOfMemory> {
     }];
     let mut output = output(alloc)?;
     let ended = write_rooms(alloc, &rows, &mut output);
-    Ok(wanting_in(&ended, &output.into_inner(), ROOM))
+    Ok(failures_in(&ended, &output.into_inner(), ROOM))
 }
 
 fn person_sent(alloc: Global) -> Result<Option<usize>, OutOfMemory> {
@@ -78,7 +78,7 @@ fn person_sent(alloc: Global) -> Result<Option<usize>, OutOfMemory> {
     }];
     let mut output = output(alloc)?;
     let ended = write_people(alloc, &rows, &mut output);
-    Ok(wanting_in(&ended, &output.into_inner(), PERSON))
+    Ok(failures_in(&ended, &output.into_inner(), PERSON))
 }
 
 fn move_sent(alloc: Global) -> Result<Option<usize>, OutOfMemory> {
@@ -91,7 +91,7 @@ fn move_sent(alloc: Global) -> Result<Option<usize>, OutOfMemory> {
     }];
     let mut output = output(alloc)?;
     let ended = write_moves(alloc, &rows, &mut output);
-    Ok(wanting_in(&ended, &output.into_inner(), MOVE))
+    Ok(failures_in(&ended, &output.into_inner(), MOVE))
 }
 
 fn grade_sent(alloc: Global) -> Result<Option<usize>, OutOfMemory> {
@@ -101,5 +101,5 @@ fn grade_sent(alloc: Global) -> Result<Option<usize>, OutOfMemory> {
     }];
     let mut output = output(alloc)?;
     let ended = write_grades(alloc, &rows, &mut output);
-    Ok(wanting_in(&ended, &output.into_inner(), GRADE))
+    Ok(failures_in(&ended, &output.into_inner(), GRADE))
 }

@@ -1,5 +1,5 @@
 //! Stories: requests to an office of which a file stops.
-use crate::asking::{ask_lines, ask_list, lines_asked, office_after};
+use crate::asking::{ask_lines, ask_list, office_after, parse_requests};
 use crate::stops::files::{Calls, Held, StoppingFile, files_of};
 use crate::stops::visits::{Opening, Visit, visit_files, write_files};
 use crate::tables::Tables;
@@ -22,7 +22,7 @@ pub struct Story {
 }
 
 /// Creates an office in empty files.
-pub fn making(alloc: Global) -> Option<Story> {
+pub fn creation(alloc: Global) -> Option<Story> {
     let requests = Vec::new(alloc);
     let offices = offices_of(alloc, &requests).ok()?;
     Some(Story {
@@ -36,23 +36,23 @@ pub fn making(alloc: Global) -> Option<Story> {
 /// A small year, one command at a time. A room is shut for a while.
 pub fn small_year(alloc: Global) -> Option<Story> {
     let texts = [REGISTER, "shut V\nreopen V\n", ROUND, "settle\n"];
-    story_of(alloc, lines_asked(alloc, &texts).ok()?)
+    story_of(alloc, parse_requests(alloc, &texts).ok()?)
 }
 
 /// A year with grades in which a person leaves the college, and a cancelled round from which another person would have left.
 pub fn year_of_leavers(alloc: Global) -> Option<Story> {
     let texts = [REGISTER, LEAVING, "settle\nopen\ngoing T1\ncancel\n"];
-    story_of(alloc, lines_asked(alloc, &texts).ok()?)
+    story_of(alloc, parse_requests(alloc, &texts).ok()?)
 }
 
 /// Opens the office in these tables, and settles the round.
-pub fn bringing_over(alloc: Global, tables: &Tables) -> Option<Story> {
+pub fn story_from_tables(alloc: Global, tables: &Tables) -> Option<Story> {
     let files = files_of(alloc, b"", b"", Calls::ALL)?;
     let held = held_in(alloc, write_files(alloc, files, tables.statements)?)?;
-    let lines = lines_asked(alloc, tables.lines).ok()?;
+    let lines = parse_requests(alloc, tables.lines).ok()?;
     let mut offices = Vec::new(alloc);
     offices.push(office_after(alloc, &lines).ok()?).ok()?;
-    let requests = lines_asked(alloc, &["settle\n"]).ok()?;
+    let requests = parse_requests(alloc, &["settle\n"]).ok()?;
     offices.push(settled_office(alloc, tables)?).ok()?;
     Some(Story {
         held,
@@ -67,17 +67,17 @@ pub fn bringing_over(alloc: Global, tables: &Tables) -> Option<Story> {
 }
 
 fn settled_office(alloc: Global, tables: &Tables) -> Option<Office> {
-    let mut requests = lines_asked(alloc, tables.lines).ok()?;
+    let mut requests = parse_requests(alloc, tables.lines).ok()?;
     ask_lines(alloc, &mut requests, "settle\n").ok()?;
     office_after(alloc, &requests).ok()
 }
 
 /// Imports of lists, two of them twice.
-pub fn coming_lists(alloc: Global) -> Option<Story> {
-    story_of(alloc, lists_coming(alloc).ok()?)
+pub fn imports(alloc: Global) -> Option<Story> {
+    story_of(alloc, import_requests(alloc).ok()?)
 }
 
-fn lists_coming(alloc: Global) -> Result<Vec<Request>, OutOfMemory> {
+fn import_requests(alloc: Global) -> Result<Vec<Request>, OutOfMemory> {
     let mut requests = Vec::new(alloc);
     ask_list(alloc, &mut requests, ListKind::Rooms, "r-1", ROOMS)?;
     ask_list(alloc, &mut requests, ListKind::People, "p-1", PEOPLE)?;
@@ -121,12 +121,12 @@ fn nothing_held(alloc: Global) -> Held {
 // The bytes of the files of an empty office.
 fn empty_office_held(alloc: Global) -> Option<Held> {
     let files = files_of(alloc, b"", b"", Calls::ALL)?;
-    let making = Visit {
+    let creation = Visit {
         opening: Opening::Made,
         requests: &[],
         is_read: false,
     };
-    let (made, files) = visit_files(alloc, files, making);
+    let (made, files) = visit_files(alloc, files, creation);
     if made.fault.is_some() {
         return None;
     }

@@ -5,14 +5,14 @@ use Rattle.std.proofs.lemmas.List.Sorted.{IsPermutation-refl, IsPermutation-tran
 use Rattle.room_types.specs.Texts.{Text}
 use Rattle.room_types.specs.declared.moves.Move.{Move}
 use Rattle.office_state.specs.declared.office.Assigned.{Assigned}
-use Rattle.office_state.specs.declared.office.kept_list.KeptList.{KeptList}
+use Rattle.office_state.specs.declared.office.stored_import.StoredImport.{StoredImport}
 use Rattle.office_rows.specs.Tables.{Tables}
 use Rattle.office_rows.specs.declared.records.ChoiceRecord.{ChoiceRecord}
 use Rattle.office_rows.specs.declared.records.PersonRecord.{PersonRecord}
 use Rattle.office_rows.specs.SameRows.{AreSameRows}
 
-pub alike_tables-alike-refl : (tables : Tables) → AreSameRows tables tables
-alike_tables-alike-refl t = record {
+pub alike-refl : (tables : Tables) → AreSameRows tables tables
+alike-refl t = record {
   rooms = IsPermutation-refl t.rooms;
   people = IsPermutation-refl t.people;
   rounds = IsPermutation-refl t.rounds;
@@ -25,8 +25,8 @@ alike_tables-alike-refl t = record {
   going = IsPermutation-refl t.going;
 }
 
-pub alike_tables-alike-trans : (a b c : Tables) → AreSameRows a b → AreSameRows b c → AreSameRows a c
-alike_tables-alike-trans a b c h k = record {
+pub alike-trans : (a b c : Tables) → AreSameRows a b → AreSameRows b c → AreSameRows a c
+alike-trans a b c h k = record {
   rooms = IsPermutation-trans _ _ _ h.rooms k.rooms;
   people = IsPermutation-trans _ _ _ h.people k.people;
   rounds = IsPermutation-trans _ _ _ h.rounds k.rounds;
@@ -42,7 +42,7 @@ alike_tables-alike-trans a b c h k = record {
 module _ (t : Tables) where
   pub alike_tables-rooms_alike : (xs ys : List (Text × Bool)) → IsPermutation xs ys
       → AreSameRows (record t { rooms = xs }) (record t { rooms = ys })
-  alike_tables-rooms_alike xs ys same = let still = alike_tables-alike-refl t in record {
+  alike_tables-rooms_alike xs ys same = let still = alike-refl t in record {
     rooms = same;
     people = still.people;
     rounds = still.rounds;
@@ -57,7 +57,7 @@ module _ (t : Tables) where
 
   pub alike_tables-people_alike : (xs ys : List PersonRecord) → IsPermutation xs ys
       → AreSameRows (record t { people = xs }) (record t { people = ys })
-  alike_tables-people_alike xs ys same = let still = alike_tables-alike-refl t in record {
+  alike_tables-people_alike xs ys same = let still = alike-refl t in record {
     rooms = still.rooms;
     people = same;
     rounds = still.rounds;
@@ -72,7 +72,7 @@ module _ (t : Tables) where
 
   pub alike_tables-choices_alike : (xs ys : List ChoiceRecord) → IsPermutation xs ys
       → AreSameRows (record t { choices = xs }) (record t { choices = ys })
-  alike_tables-choices_alike xs ys same = let still = alike_tables-alike-refl t in record {
+  alike_tables-choices_alike xs ys same = let still = alike-refl t in record {
     rooms = still.rooms;
     people = still.people;
     rounds = still.rounds;
@@ -87,7 +87,7 @@ module _ (t : Tables) where
 
   pub alike_tables-words_alike : (xs ys : List (Text × ℕ)) → IsPermutation xs ys
       → AreSameRows (record t { words = xs }) (record t { words = ys })
-  alike_tables-words_alike xs ys same = let still = alike_tables-alike-refl t in record {
+  alike_tables-words_alike xs ys same = let still = alike-refl t in record {
     rooms = still.rooms;
     people = still.people;
     rounds = still.rounds;
@@ -102,7 +102,7 @@ module _ (t : Tables) where
 
   pub alike_tables-results_alike : (xs ys : List (Text × Assigned)) → IsPermutation xs ys
       → AreSameRows (record t { results = xs }) (record t { results = ys })
-  alike_tables-results_alike xs ys same = let still = alike_tables-alike-refl t in record {
+  alike_tables-results_alike xs ys same = let still = alike-refl t in record {
     rooms = still.rooms;
     people = still.people;
     rounds = still.rounds;
@@ -117,7 +117,7 @@ module _ (t : Tables) where
 
   pub alike_tables-moves_alike : (xs ys : List Move) → IsPermutation xs ys
       → AreSameRows (record t { moves = xs }) (record t { moves = ys })
-  alike_tables-moves_alike xs ys same = let still = alike_tables-alike-refl t in record {
+  alike_tables-moves_alike xs ys same = let still = alike-refl t in record {
     rooms = still.rooms;
     people = still.people;
     rounds = still.rounds;
@@ -130,9 +130,9 @@ module _ (t : Tables) where
     going = still.going;
   }
 
-  pub alike_tables-lists_alike : (xs ys : List (Text × KeptList)) → IsPermutation xs ys
+  pub alike_tables-lists_alike : (xs ys : List (Text × StoredImport)) → IsPermutation xs ys
       → AreSameRows (record t { lists = xs }) (record t { lists = ys })
-  alike_tables-lists_alike xs ys same = let still = alike_tables-alike-refl t in record {
+  alike_tables-lists_alike xs ys same = let still = alike-refl t in record {
     rooms = still.rooms;
     people = still.people;
     rounds = still.rounds;
@@ -147,7 +147,7 @@ module _ (t : Tables) where
 
   pub alike_tables-grades_alike : (xs ys : List (Text × ℕ)) → IsPermutation xs ys
       → AreSameRows (record t { grades = xs }) (record t { grades = ys })
-  alike_tables-grades_alike xs ys same = let still = alike_tables-alike-refl t in record {
+  alike_tables-grades_alike xs ys same = let still = alike-refl t in record {
     rooms = still.rooms;
     people = still.people;
     rounds = still.rounds;
@@ -162,7 +162,7 @@ module _ (t : Tables) where
 
   pub alike_tables-going_alike : (xs ys : List Text) → IsPermutation xs ys
       → AreSameRows (record t { going = xs }) (record t { going = ys })
-  alike_tables-going_alike xs ys same = let still = alike_tables-alike-refl t in record {
+  alike_tables-going_alike xs ys same = let still = alike-refl t in record {
     rooms = still.rooms;
     people = still.people;
     rounds = still.rounds;

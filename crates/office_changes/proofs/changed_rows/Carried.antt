@@ -7,19 +7,19 @@ use Rattle.office_state.specs.declared.change.Change.{Change}
 use Rattle.office_state.specs.declared.office.Office.{Office}
 use Rattle.office_cells.specs.Columns.{room_columns, person_columns, round_columns, choice_columns}
 use Rattle.office_cells.specs.Columns.{word_columns, result_columns, move_columns, list_columns, grade_columns, going_columns}
-use Rattle.office_cells.specs.Spelled.{IsSpelled}
+use Rattle.office_cells.specs.WellFormed.{IsWellFormed}
 use Rattle.office_rows.specs.Tables.{Tables, rows_of}
 use Rattle.office_tables.specs.Makes.{Makes}
 use Rattle.office_tables.specs.Tables.{HasTables}
 use Rattle.office_tables.proofs.statements.Held.{statements-held_permuted}
 use Rattle.office_rows.specs.SameRows.{AreSameRows}
-use Rattle.office_changes.specs.Carries.{Turns, CarriesOne}
-use Rattle.office_changes.proofs.alike_tables.Spelled.{alike_tables-spelled_alike}
+use Rattle.office_changes.specs.StoresChanges.{Turns, StoresChange}
+use Rattle.office_changes.proofs.alike_tables.WellFormed.{well_formed_alike}
 
 -- A database that has some tables has all those with the same rows.
-pub changed_rows-has_alike : (db : Database) (these those : Tables) → AreSameRows these those → HasTables db those
+pub has_alike : (db : Database) (these those : Tables) → AreSameRows these those → HasTables db those
     → HasTables db these
-changed_rows-has_alike db these those same h = record {
+has_alike db these those same h = record {
   schema = h.schema;
   rows = record {
     rooms = statements-held_permuted room_columns (db.trees 0) _ _ same.rooms h.rows.rooms;
@@ -36,32 +36,32 @@ changed_rows-has_alike db these those same h = record {
 }
 
 -- a statement that keeps the form of rows
-pub changed_rows-turns : (old new : State) (f : Tables → Tables) → ((tables : Tables) → IsSpelled tables → IsSpelled (f tables))
+pub turns : (old new : State) (f : Tables → Tables) → ((tables : Tables) → IsWellFormed tables → IsWellFormed (f tables))
     → Makes old new f → Turns old new f
-changed_rows-turns old new f keeps m = record {
-  shown = λ tables clean spelled was. (m.shown tables clean was, keeps tables spelled);
+turns old new f keeps m = record {
+  shown = λ tables clean well_formed was. (m.shown tables clean was, keeps tables well_formed);
   mode = m.mode;
 }
 
 -- one call after another
-pub changed_rows-turns_then : (old mid new : State) (f g : Tables → Tables) → (HasCleanDisk new → HasCleanDisk mid)
+pub turns_then : (old mid new : State) (f g : Tables → Tables) → (HasCleanDisk new → HasCleanDisk mid)
     → Turns old mid f → Turns mid new g → Turns old new (λ tables. g (f tables))
-changed_rows-turns_then old mid new f g early m n = record {
-  shown = λ tables clean spelled was.
-      let then = m.shown tables (early clean) spelled was in
+turns_then old mid new f g early m n = record {
+  shown = λ tables clean well_formed was.
+      let then = m.shown tables (early clean) well_formed was in
       n.shown (f tables) clean then.1 then.0;
   mode = λ clean. n.mode clean ∙ m.mode (early clean);
 }
 
 -- the calls of a change
-pub changed_rows-carries : (first : Office) (old new : State) (change : Change) (f : Tables → Tables)
+pub stores : (first : Office) (old new : State) (change : Change) (f : Tables → Tables)
     → ((office : Office) → Fits first office change → AreSameRows (rows_of (applied office change)) (f (rows_of office)))
-    → Turns old new f → CarriesOne first old new change
-changed_rows-carries first old new change f same m = record {
-  shown = λ office clean fits spelled was.
-      let then = m.shown (rows_of office) clean spelled was in (
-        changed_rows-has_alike new.now _ _ (same office fits) then.0,
-        alike_tables-spelled_alike _ _ (same office fits) then.1,
+    → Turns old new f → StoresChange first old new change
+stores first old new change f same m = record {
+  shown = λ office clean fits well_formed was.
+      let then = m.shown (rows_of office) clean well_formed was in (
+        has_alike new.now _ _ (same office fits) then.0,
+        well_formed_alike _ _ (same office fits) then.1,
       );
   mode = m.mode;
 }

@@ -17,7 +17,7 @@ use Rattle.room_types.specs.declared.kinds.ListKind.{ListKind}
 use Rattle.room_types.specs.declared.moves.Move.{Move}
 use Rattle.room_types.specs.declared.phase.Phase.{Phase}
 use Rattle.room_types.proofs.maps.Trees.{maps-entries-empty}
-use Rattle.room_types.proofs.options.Options.{options-none_if_not_some, options-some_of}
+use Rattle.room_types.proofs.options.Options.{none_if_not_some, some_of}
 use Rattle.office_state.specs.Change as changes
 use Rattle.office_state.specs.Change.{applied}
 use Rattle.office_state.specs.Office.Moves.{moves_of}
@@ -27,7 +27,7 @@ use Rattle.office_state.specs.declared.change.Change.TheVariants.{PutChoices, Pu
 use Rattle.office_state.specs.declared.change.Change.TheVariants.{PutRound, ClearRound, KeepList, PutGrade, PutGoing}
 use Rattle.office_state.specs.declared.office.Office.{Office}
 use Rattle.office_state.specs.declared.office.person.Person.{Person}
-use Rattle.office_state.proofs.offices.Dropping.{offices-person_dropped}
+use Rattle.office_state.proofs.offices.Dropping.{person_dropped}
 use Rattle.office_rows.specs.Rows.{person_row, person_rows, choices_from, list_rows}
 use Rattle.office_rows.specs.SameRows.{AreSameRows}
 use Rattle.office_rows.specs.Tables.{Tables, rows_at, rows_of}
@@ -38,21 +38,21 @@ use Rattle.office_changes.specs.Inner.Choosing.{with_choices}
 use Rattle.office_changes.specs.Inner.Grading.{with_grade_recorded}
 use Rattle.office_tables.specs.Edits.{with_room, with_shut, with_person, without_person, with_home, with_withdrawn}
 use Rattle.office_tables.specs.Edits.{without_withdrawn, with_round, with_choice, without_choices_of, without_round_tables}
-use Rattle.office_tables.specs.Edits.{with_word, with_result, with_move, with_kept, with_grade, without_grade_of}
+use Rattle.office_tables.specs.Edits.{with_word, with_result, with_move, with_import, with_grade, without_grade_of}
 use Rattle.office_tables.specs.Edits.{with_going, taking_part}
-use Rattle.office_changes.proofs.alike_tables.Alike.{alike_tables-alike-refl, alike_tables-rooms_alike}
+use Rattle.office_changes.proofs.alike_tables.Alike.{alike-refl, alike_tables-rooms_alike}
 use Rattle.office_changes.proofs.alike_tables.Alike.{alike_tables-people_alike, alike_tables-choices_alike}
 use Rattle.office_changes.proofs.alike_tables.Alike.{alike_tables-words_alike}
 use Rattle.office_changes.proofs.alike_tables.Alike.{alike_tables-results_alike, alike_tables-moves_alike}
 use Rattle.office_changes.proofs.alike_tables.Alike.{alike_tables-lists_alike, alike_tables-grades_alike}
-use Rattle.office_changes.proofs.alike_tables.Alike.{alike_tables-going_alike, alike_tables-alike-trans}
+use Rattle.office_changes.proofs.alike_tables.Alike.{alike_tables-going_alike, alike-trans}
 use Rattle.office_changes.proofs.changed_rows.Entries.{changed_rows-rows_put, changed_rows-rows_gone, changed_rows-row_gone}
 use Rattle.office_changes.proofs.changed_rows.Entries.{changed_rows-row_added, changed_rows-row_put}
 use Rattle.office_changes.proofs.changed_rows.Entries.{changed_rows-row_unknown, changed_rows-row_changed}
 
 -- The test of a statement picks the rows of one key.
-changed_rows-tells : (a b : Text) → text_eq a b ≡ eq_by_cmp text_cmp a b
-changed_rows-tells a b = sym (is_eq-slice_cmp a b)
+tells : (a b : Text) → text_eq a b ≡ eq_by_cmp text_cmp a b
+tells a b = sym (is_eq-slice_cmp a b)
 
 -- ---- tables whose rows are the entries themselves
 
@@ -66,22 +66,22 @@ module _ {X : Type 0} (m : TextMap X) (k : Text) where
       subst (λ l. IsPermutation l ((k, v) ∷ maps.entries m)) (map-id (maps.entries (maps.insert m k v)))
       (subst (λ l. IsPermutation (map (λ e. e) (maps.entries (maps.insert m k v))) ((k, v) ∷ l))
       (map-id (maps.entries m))
-      (changed_rows-row_added (λ e. e) (λ r. r.0) (λ e. refl) k is_its (λ r. changed_rows-tells r.0 k) m v
-      (options-none_if_not_some (maps.get m k) new)))
+      (changed_rows-row_added (λ e. e) (λ r. r.0) (λ e. refl) k is_its (λ r. tells r.0 k) m v
+      (none_if_not_some (maps.get m k) new)))
 
   changed_rows-entry_changed : (v : X) → maps.contains_key m k ≡ true
       → maps.entries (maps.insert m k v) ≡ update_where is_its (λ r. (r.0, v)) (maps.entries m)
   changed_rows-entry_changed v known =
-      let kept = options-some_of (maps.get m k) known in
+      let kept = some_of (maps.get m k) known in
       sym (map-id (maps.entries (maps.insert m k v)))
-      ∙ changed_rows-row_changed (λ e. e) (λ r. r.0) (λ e. refl) k is_its (λ r. changed_rows-tells r.0 k)
+      ∙ changed_rows-row_changed (λ e. e) (λ r. r.0) (λ e. refl) k is_its (λ r. tells r.0 k)
       (λ r. (r.0, v)) m v kept.0 kept.1 refl
       ∙ ap (update_where is_its (λ r. (r.0, v))) (map-id (maps.entries m))
 
   changed_rows-entry_gone : maps.entries (maps.remove m k) ≡ delete_where is_its (maps.entries m)
   changed_rows-entry_gone =
       sym (map-id (maps.entries (maps.remove m k)))
-      ∙ changed_rows-row_gone (λ e. e) (λ r. r.0) (λ e. refl) k is_its (λ r. changed_rows-tells r.0 k) m
+      ∙ changed_rows-row_gone (λ e. e) (λ r. r.0) (λ e. refl) k is_its (λ r. tells r.0 k) m
       ∙ ap (delete_where is_its) (map-id (maps.entries m))
 
   changed_rows-entry_put : (v : X)
@@ -90,7 +90,7 @@ module _ {X : Type 0} (m : TextMap X) (k : Text) where
       subst (λ l. IsPermutation l ((k, v) ∷ delete_where is_its (maps.entries m))) (map-id (maps.entries (maps.insert m k v)))
       (subst (λ l. IsPermutation (map (λ e. e) (maps.entries (maps.insert m k v))) ((k, v) ∷ delete_where is_its l))
       (map-id (maps.entries m))
-      (changed_rows-row_put (λ e. e) (λ r. r.0) (λ e. refl) k is_its (λ r. changed_rows-tells r.0 k) m v))
+      (changed_rows-row_put (λ e. e) (λ r. r.0) (λ e. refl) k is_its (λ r. tells r.0 k) m v))
 
 -- ---- rooms
 
@@ -133,18 +133,18 @@ module _ (office : Office) (person : Text) where
       (subst (λ r. IsPermutation (person_rows (maps.insert office.people person v) office.withdrawn)
       (r ∷ person_rows office.people office.withdrawn)) head
       (changed_rows-row_added shown (λ (r : PersonRecord). r.id) (λ e. refl) person is_that
-      (λ r. changed_rows-tells r.id person) office.people v
-      (options-none_if_not_some (maps.get office.people person) new)))
+      (λ r. tells r.id person) office.people v
+      (none_if_not_some (maps.get office.people person) new)))
 
   -- Deleting a person deletes their grade.
   changed_rows-person_out : AreSameRows (rows_of (changes.without_person office person))
       (without_person person (without_grade_of person (rows_of office)))
   unfolding rows_at without_person without_grade_of
   changed_rows-person_out =
-      alike_tables-alike-trans _ _ _
+      alike-trans _ _ _
       (alike_tables-people_alike (rows_of (changes.without_person office person)) _ _ (IsPermutation-same _ _
       (changed_rows-row_gone shown (λ (r : PersonRecord). r.id) (λ e. refl) person is_that
-      (λ r. changed_rows-tells r.id person) office.people)))
+      (λ r. tells r.id person) office.people)))
       (alike_tables-grades_alike (without_person person (rows_of office)) _ _
       (IsPermutation-same _ _ (changed_rows-entry_gone office.grades person)))
 
@@ -154,7 +154,7 @@ module _ (office : Office) (person : Text) where
       (without_person person (without_grade_of person (rows_of office)))
   changed_rows-person_gone graded =
       subst (λ new. AreSameRows (rows_of new) (without_person person (without_grade_of person (rows_of office))))
-      (sym (offices-person_dropped office person graded)) changed_rows-person_out
+      (sym (person_dropped office person graded)) changed_rows-person_out
 
   pub changed_rows-home_put : (home : Option Text)
       → AreSameRows (rows_of (applied office (PutHome person home))) (with_home person home (rows_of office))
@@ -169,11 +169,11 @@ module _ (office : Office) (person : Text) where
         | None ↦ λ unknown.
             alike_tables-people_alike (rows_of office) _ _ (IsPermutation-same _ _
             (changed_rows-row_unknown shown (λ (r : PersonRecord). r.id) (λ e. refl) person is_that
-            (λ r. changed_rows-tells r.id person) f office.people unknown))
+            (λ r. tells r.id person) f office.people unknown))
         | Some kept ↦ λ known.
             alike_tables-people_alike (rows_of office) _ _ (IsPermutation-same _ _
             (changed_rows-row_changed shown (λ (r : PersonRecord). r.id) (λ e. refl) person is_that
-            (λ r. changed_rows-tells r.id person) f office.people
+            (λ r. tells r.id person) f office.people
             (record kept { home = home }) kept known refl))
       ] refl
 
@@ -204,22 +204,22 @@ module _ (office : Office) (person : Text) where
 
 -- ---- choices
 
-changed_rows-choices_keyed : (person : Text) (place : ℕ) (rooms : List Text)
+choices_keyed : (person : Text) (place : ℕ) (rooms : List Text)
     → AllByRecursion (λ (r : ChoiceRecord). r.person ≡ person) (choices_from person place rooms)
-changed_rows-choices_keyed person place [] = tt
-changed_rows-choices_keyed person place (room ∷ rooms) = (refl, changed_rows-choices_keyed person (place + 1) rooms)
+choices_keyed person place [] = tt
+choices_keyed person place (room ∷ rooms) = (refl, choices_keyed person (place + 1) rooms)
 
-changed_rows-choices_added : (person : Text) (place : ℕ) (rooms : List Text) (t : Tables)
+choices_added : (person : Text) (place : ℕ) (rooms : List Text) (t : Tables)
     → AreSameRows (record t { choices = choices_from person place rooms ++ t.choices }) (with_choices person place rooms t)
 unfolding with_choice
-changed_rows-choices_added person place [] t = alike_tables-alike-refl t
-changed_rows-choices_added person place (room ∷ rooms) t =
+choices_added person place [] t = alike-refl t
+choices_added person place (room ∷ rooms) t =
     let c : ChoiceRecord = record { person = person; place = place; room = room } in
     let rest : List ChoiceRecord = choices_from person (place + 1) rooms in
-    alike_tables-alike-trans _ _ _
+    alike-trans _ _ _
     (alike_tables-choices_alike t (c ∷ (rest ++ t.choices)) (rest ++ c ∷ t.choices)
     (IsPermutation-sym _ _ (IsPermutation-middle rest c t.choices)))
-    (changed_rows-choices_added person (place + 1) rooms (with_choice person place room t))
+    (choices_added person (place + 1) rooms (with_choice person place room t))
 
 module _ (office : Office) (person : Text) where
   abbrev is_choice : ChoiceRecord → Bool
@@ -233,16 +233,16 @@ module _ (office : Office) (person : Text) where
   changed_rows-choices_put [] =
       alike_tables-choices_alike (rows_of office) _ _ (IsPermutation-same _ _
       (changed_rows-rows_gone list_rows (λ (r : ChoiceRecord). r.person)
-      (λ e. changed_rows-choices_keyed e.0 0 e.1) person is_choice
-      (λ r. changed_rows-tells r.person person) office.choices))
+      (λ e. choices_keyed e.0 0 e.1) person is_choice
+      (λ r. tells r.person person) office.choices))
   changed_rows-choices_put (room ∷ rooms) =
-      alike_tables-alike-trans _ _ _
+      alike-trans _ _ _
       (alike_tables-choices_alike (rows_of office) _ _
       (changed_rows-rows_put list_rows (λ (r : ChoiceRecord). r.person)
-      (λ e. changed_rows-choices_keyed e.0 0 e.1) person is_choice
-      (λ r. changed_rows-tells r.person person)
+      (λ e. choices_keyed e.0 0 e.1) person is_choice
+      (λ r. tells r.person person)
       office.choices (room ∷ rooms)))
-      (changed_rows-choices_added person 0 (room ∷ rooms) (without_choices_of person (rows_of office)))
+      (choices_added person 0 (room ∷ rooms) (without_choices_of person (rows_of office)))
 
 -- ---- words, results, moves and imported lists
 
@@ -263,20 +263,20 @@ module _ (office : Office) (person : Text) where
       (changed_rows-entry_added office.results person (record { room = room }) new)
 
 -- A person moves who has not moved in the round.
-pub changed_rows-move_added : (office : Office) (move : Move)
+pub move_added : (office : Office) (move : Move)
     → maps.contains_key (moves_of office.moves move.round) move.person ≡ false
     → AreSameRows (rows_of (applied office (AddMove move))) (with_move move (rows_of office))
 unfolding rows_at with_move
-changed_rows-move_added office move new =
+move_added office move new =
     alike_tables-moves_alike (rows_of office) _ _ (IsPermutation-sym _ _ (rows_read-rows_more office.moves move new))
 
 -- An imported list is stored under a new label.
-pub changed_rows-list_kept : (office : Office) (label : Text) (kind : ListKind) (bytes : List ℕ) (count : ℕ)
+pub list_kept : (office : Office) (label : Text) (kind : ListKind) (bytes : List ℕ) (count : ℕ)
     → maps.contains_key office.lists label ≡ false
     → AreSameRows (rows_of (applied office (KeepList label kind bytes count)))
-    (with_kept label (record { kind = kind; bytes = bytes; count = count }) (rows_of office))
-unfolding rows_at with_kept
-changed_rows-list_kept office label kind bytes count new =
+    (with_import label (record { kind = kind; bytes = bytes; count = count }) (rows_of office))
+unfolding rows_at with_import
+list_kept office label kind bytes count new =
     alike_tables-lists_alike (rows_of office) _ _
     (changed_rows-entry_added office.lists label (record { kind = kind; bytes = bytes; count = count }) new)
 
@@ -300,31 +300,31 @@ module _ (office : Office) (person : Text) where
   changed_rows-going_put new =
       alike_tables-going_alike (rows_of office) _ _
       (changed_rows-row_added (λ (e : Text × Unit {0}). e.0) (λ k. k) (λ e. refl) person (λ k. text_eq k person)
-      (λ k. changed_rows-tells k person) office.going tt
-      (options-none_if_not_some (maps.get office.going person) new))
+      (λ k. tells k person) office.going tt
+      (none_if_not_some (maps.get office.going person) new))
 
 -- ---- the round
 
-pub changed_rows-round_put : (office : Office) (number : ℕ) (phase : Phase)
+pub round_put : (office : Office) (number : ℕ) (phase : Phase)
     → AreSameRows (rows_of (applied office (PutRound number phase))) (with_round number phase (rows_of office))
 unfolding rows_at with_round
-changed_rows-round_put office number phase = alike_tables-alike-refl (rows_of (applied office (PutRound number phase)))
+round_put office number phase = alike-refl (rows_of (applied office (PutRound number phase)))
 
-changed_rows-unmarked : (people : TextMap Person) (withdrawn : TextMap (Unit {0}))
+unmarked : (people : TextMap Person) (withdrawn : TextMap (Unit {0}))
     → person_rows people maps.empty ≡ map taking_part (person_rows people withdrawn)
-changed_rows-unmarked people withdrawn =
+unmarked people withdrawn =
     map_same _ _ (λ e. ap (λ o. record { id = e.0; person = e.1; withdrawn = is_some o }) (get-empty text_cmp e.0))
     (maps.entries people)
     ∙ sym (map-map taking_part (person_row withdrawn) (maps.entries people))
 
 -- Lists, withdrawals, words and results are deleted, and nobody leaves.
-pub changed_rows-round_cleared : (office : Office)
+pub round_cleared : (office : Office)
     → AreSameRows (rows_of (applied office ClearRound))
     (without_withdrawn (without_round_tables (rows_of office)))
 unfolding rows_at without_withdrawn without_round_tables
-changed_rows-round_cleared office = let still = alike_tables-alike-refl (rows_of office) in record {
+round_cleared office = let still = alike-refl (rows_of office) in record {
   rooms = still.rooms;
-  people = IsPermutation-same _ _ (changed_rows-unmarked office.people office.withdrawn);
+  people = IsPermutation-same _ _ (unmarked office.people office.withdrawn);
   rounds = still.rounds;
   choices = IsPermutation-same _ _ (ap (flat_map list_rows) (maps-entries-empty nat_list_cmp_total));
   words = IsPermutation-same _ _ (maps-entries-empty nat_list_cmp_total);

@@ -17,32 +17,32 @@ use Rattle.std.specs.FinMap.Entries.{below_all, by_order, where_key, is_sorted-w
 use Rattle.sqlite_keyed.specs.Lists.{update_where, delete_where}
 use Rattle.sqlite_keyed.proofs.ListLemmas.{filter_all, filter_none}
 use Rattle.room_types.specs.Texts.{Text, TextMap, text_cmp}
-use Rattle.room_types.proofs.maps.TextMaps.{maps-exact_texts, maps-first_holds, maps-second_holds, maps-less_from_test}
-use Rattle.room_types.proofs.maps.Entries.{maps-key_after, maps-none_below, maps-below_less}
+use Rattle.room_types.proofs.maps.TextMaps.{exact_texts, first_holds, second_holds, less_from_test}
+use Rattle.room_types.proofs.maps.Entries.{key_after, maps-none_below, maps-below_less}
 
-changed_rows-earlier : (k x : Text) → text_cmp k x ≡ Greater → eq_by_cmp text_cmp x k ≡ false
-changed_rows-earlier k x e = ap is_eq (nat_list_cmp_total.antisymm x k ∙ ap ordering_reverse e)
+earlier : (k x : Text) → text_cmp k x ≡ Greater → eq_by_cmp text_cmp x k ≡ false
+earlier k x e = ap is_eq (nat_list_cmp_total.antisymm x k ∙ ap ordering_reverse e)
 
-changed_rows-turned : {A : Type 0} (b : Bool) (x y : A) → cond (not b) x y ≡ cond b y x
-changed_rows-turned true x y = refl
-changed_rows-turned false x y = refl
+turned : {A : Type 0} (b : Bool) (x y : A) → cond (not b) x y ≡ cond b y x
+turned true x y = refl
+turned false x y = refl
 
 -- the entries of the other keys
 abbrev others : {X : Type 0} → Text → List (Text × X) → List (Text × X)
 others k es = where_key text_cmp (λ x. not (eq_by_cmp text_cmp k x)) es
 
-changed_rows-entries-remove : {X : Type 0} (m : TextMap X) (k : Text)
+entries-remove : {X : Type 0} (m : TextMap X) (k : Text)
     → maps.entries (maps.remove m k) ≡ others k (maps.entries m)
-changed_rows-entries-remove {X = X} m k =
+entries-remove {X = X} m k =
     let p : Text → Bool = λ x. not (eq_by_cmp text_cmp k x) in
     let es : List (Text × X) = where_key text_cmp p (maps.entries m) in
     let sorted : T (is_sorted text_cmp es) = is_sorted-where_key text_cmp p (maps.entries m) (entries_sorted m) in
-    let same : maps.remove m k ≡ from_sorted es = same_map nat_list_cmp_total maps-exact_texts _ _ (λ q.
+    let same : maps.remove m k ≡ from_sorted es = same_map nat_list_cmp_total exact_texts _ _ (λ q.
     get-remove nat_list_cmp_total m k q
     ∙ ap (λ b. cond b None (maps.get m q)) ((eq_by_cmp_equiv nat_list_cmp_total).symm q k)
-    ∙ sym (changed_rows-turned (eq_by_cmp text_cmp k q) (maps.get m q) None)
+    ∙ sym (turned (eq_by_cmp text_cmp k q) (maps.get m q) None)
     ∙ ap (λ o. cond (p q) o None) (get-entries m q)
-    ∙ sym (find-where_key text_cmp p q (λ x t. ap p (sym (maps-exact_texts q x t))) (maps.entries m))
+    ∙ sym (find-where_key text_cmp p q (λ x t. ap p (sym (exact_texts q x t))) (maps.entries m))
     ∙ sym (get-from_sorted text_cmp es q sorted)) in
     ap maps.entries same ∙ entries-from_sorted text_cmp es sorted
 
@@ -91,8 +91,8 @@ module _ {X Row : Type 0} (rows : Text × X → List Row) (key : Row → Text)
       → delete_where mine (flat_map rows es) ≡ flat_map rows es
   changed_rows-kept_later [] b = refl
   changed_rows-kept_later (e ∷ es) b =
-      changed_rows-stays e es (maps-key_after nat_list_cmp_total k e.0 (maps-less_from_test _ (maps-first_holds _ _ b)))
-      ∙ ap (λ l. rows e ++ l) (changed_rows-kept_later es (maps-second_holds _ _ b))
+      changed_rows-stays e es (key_after nat_list_cmp_total k e.0 (less_from_test _ (first_holds _ _ b)))
+      ∙ ap (λ l. rows e ++ l) (changed_rows-kept_later es (second_holds _ _ b))
 
   -- Inserting an entry gives its rows and those of the other keys.
   changed_rows-put-rows : (v : X) (es : List (Text × X)) → T (is_sorted text_cmp es)
@@ -104,15 +104,15 @@ module _ {X Row : Type 0} (rows : Text × X → List Row) (key : Row → Text)
       (rows (k, v) ++ delete_where mine (rows e ++ flat_map rows es))) [
         | Less ↦ λ c.
             let kept : delete_where mine (rows e ++ flat_map rows es) ≡ rows e ++ flat_map rows es =
-            changed_rows-stays e es (maps-key_after nat_list_cmp_total k e.0 c)
+            changed_rows-stays e es (key_after nat_list_cmp_total k e.0 c)
             ∙ ap (λ l. rows e ++ l)
-            (changed_rows-kept_later es (maps-below_less nat_list_cmp_total k e.0 es c (maps-first_holds _ _ s))) in
+            (changed_rows-kept_later es (maps-below_less nat_list_cmp_total k e.0 es c (first_holds _ _ s))) in
             subst (λ l. IsPermutation (rows (k, v) ++ (rows e ++ flat_map rows es)) (rows (k, v) ++ l)) (sym kept)
             (IsPermutation-refl _)
         | Equal ↦ λ c.
-            let same : k ≡ e.0 = maps-exact_texts k e.0 c in
+            let same : k ≡ e.0 = exact_texts k e.0 c in
             let below : T (below_all text_cmp k es) = subst (λ q. T (below_all text_cmp q es)) (sym same)
-            (maps-first_holds _ _ s) in
+            (first_holds _ _ s) in
             let out : delete_where mine (rows e ++ flat_map rows es) ≡ flat_map rows es =
             changed_rows-goes e es (sym same) ∙ changed_rows-kept_later es below in
             subst (λ l. IsPermutation (rows (e.0, v) ++ flat_map rows es) (rows (k, v) ++ l)) (sym out)
@@ -121,9 +121,9 @@ module _ {X Row : Type 0} (rows : Text × X → List Row) (key : Row → Text)
         | Greater ↦ λ c.
             let left : List Row = delete_where mine (flat_map rows es) in
             subst (λ l. IsPermutation (rows e ++ flat_map rows (put text_cmp k v es)) (rows (k, v) ++ l))
-            (sym (changed_rows-stays e es (changed_rows-earlier k e.0 c)))
+            (sym (changed_rows-stays e es (earlier k e.0 c)))
             (IsPermutation-trans _ _ _
-            (IsPermutation-append_right (rows e) _ _ (changed_rows-put-rows v es (maps-second_holds _ _ s)))
+            (IsPermutation-append_right (rows e) _ _ (changed_rows-put-rows v es (second_holds _ _ s)))
             (subst (λ l. IsPermutation (rows e ++ (rows (k, v) ++ left)) l) (append_assoc (rows (k, v)) (rows e) left)
             (subst (λ l. IsPermutation l ((rows (k, v) ++ rows e) ++ left)) (append_assoc (rows e) (rows (k, v)) left)
             (IsPermutation-append_left left _ _ (IsPermutation-append_comm (rows e) (rows (k, v)))))))
@@ -136,10 +136,10 @@ module _ {X Row : Type 0} (rows : Text × X → List Row) (key : Row → Text)
       → flat_map rows (cond (not (is_eq o)) (e ∷ others k es) (others k es))
       ≡ delete_where mine (rows e ++ flat_map rows es)) [
         | Less ↦ λ c. ap (λ l. rows e ++ l) (changed_rows-gone-rows es)
-            ∙ sym (changed_rows-stays e es (maps-key_after nat_list_cmp_total k e.0 c))
-        | Equal ↦ λ c. changed_rows-gone-rows es ∙ sym (changed_rows-goes e es (sym (maps-exact_texts k e.0 c)))
+            ∙ sym (changed_rows-stays e es (key_after nat_list_cmp_total k e.0 c))
+        | Equal ↦ λ c. changed_rows-gone-rows es ∙ sym (changed_rows-goes e es (sym (exact_texts k e.0 c)))
         | Greater ↦ λ c. ap (λ l. rows e ++ l) (changed_rows-gone-rows es)
-            ∙ sym (changed_rows-stays e es (changed_rows-earlier k e.0 c))
+            ∙ sym (changed_rows-stays e es (earlier k e.0 c))
       ] refl
 
   changed_rows-kept-rows : (es : List (Text × X)) → find text_cmp k es ≡ None → delete_where mine (flat_map rows es)
@@ -148,10 +148,10 @@ module _ {X Row : Type 0} (rows : Text × X → List Row) (key : Row → Text)
   changed_rows-kept-rows (e ∷ es) h =
       elim (text_cmp k e.0) as (λ o. text_cmp k e.0 ≡ o → cond (is_eq o) (Some e.1) (find text_cmp k es) ≡ None
       → delete_where mine (rows e ++ flat_map rows es) ≡ rows e ++ flat_map rows es) [
-        | Less ↦ λ c m. changed_rows-stays e es (maps-key_after nat_list_cmp_total k e.0 c)
+        | Less ↦ λ c m. changed_rows-stays e es (key_after nat_list_cmp_total k e.0 c)
             ∙ ap (λ l. rows e ++ l) (changed_rows-kept-rows es m)
         | Equal ↦ λ c m. absurd (cc)
-        | Greater ↦ λ c m. changed_rows-stays e es (changed_rows-earlier k e.0 c)
+        | Greater ↦ λ c m. changed_rows-stays e es (earlier k e.0 c)
             ∙ ap (λ l. rows e ++ l) (changed_rows-kept-rows es m)
       ] refl h
 
@@ -166,7 +166,7 @@ module _ {X Row : Type 0} (rows : Text × X → List Row) (key : Row → Text)
   -- Removing a key removes its rows.
   pub changed_rows-rows_gone : (m : TextMap X)
       → flat_map rows (maps.entries (maps.remove m k)) ≡ delete_where mine (flat_map rows (maps.entries m))
-  changed_rows-rows_gone m = ap (flat_map rows) (changed_rows-entries-remove m k) ∙ changed_rows-gone-rows (maps.entries m)
+  changed_rows-rows_gone m = ap (flat_map rows) (entries-remove m k) ∙ changed_rows-gone-rows (maps.entries m)
 
   -- A key without a value has no rows.
   pub changed_rows-rows_kept : (m : TextMap X) → maps.get m k ≡ None
@@ -218,18 +218,18 @@ module _ {X Row : Type 0} (row : Text × X → Row) (key : Row → Text) (keyed 
     changed_rows-same_later [] b = refl
     changed_rows-same_later (e ∷ es) b =
         ap₂ (λ r rs. r ∷ rs)
-        (changed_rows-other e (maps-key_after nat_list_cmp_total k e.0 (maps-less_from_test _ (maps-first_holds _ _ b))))
-        (changed_rows-same_later es (maps-second_holds _ _ b))
+        (changed_rows-other e (key_after nat_list_cmp_total k e.0 (less_from_test _ (first_holds _ _ b))))
+        (changed_rows-same_later es (second_holds _ _ b))
 
     changed_rows-unchanged : (es : List (Text × X)) → find text_cmp k es ≡ None → update_where mine f (map row es) ≡ map row es
     changed_rows-unchanged [] h = refl
     changed_rows-unchanged (e ∷ es) h =
         elim (text_cmp k e.0) as (λ o. text_cmp k e.0 ≡ o → cond (is_eq o) (Some e.1) (find text_cmp k es) ≡ None
         → cond (mine (row e)) (f (row e)) (row e) ∷ update_where mine f (map row es) ≡ row e ∷ map row es) [
-          | Less ↦ λ c m. ap₂ (λ r rs. r ∷ rs) (changed_rows-other e (maps-key_after nat_list_cmp_total k e.0 c))
+          | Less ↦ λ c m. ap₂ (λ r rs. r ∷ rs) (changed_rows-other e (key_after nat_list_cmp_total k e.0 c))
               (changed_rows-unchanged es m)
           | Equal ↦ λ c m. absurd (cc)
-          | Greater ↦ λ c m. ap₂ (λ r rs. r ∷ rs) (changed_rows-other e (changed_rows-earlier k e.0 c))
+          | Greater ↦ λ c m. ap₂ (λ r rs. r ∷ rs) (changed_rows-other e (earlier k e.0 c))
               (changed_rows-unchanged es m)
         ] refl h
 
@@ -241,20 +241,20 @@ module _ {X Row : Type 0} (row : Text × X → Row) (key : Row → Text) (keyed 
         → cond (mine (row e)) (f (row e)) (row e) ∷ update_where mine f (map row es)
         ≡ map row (by_order o ((k, v) ∷ e ∷ es) ((e.0, v) ∷ es) (e ∷ put text_cmp k v es))) [
           | Less ↦ λ c m. let none = maps-none_below text_cmp k es
-              (maps-below_less nat_list_cmp_total k e.0 es c (maps-first_holds _ _ s)) in absurd (cc)
+              (maps-below_less nat_list_cmp_total k e.0 es c (first_holds _ _ s)) in absurd (cc)
           | Equal ↦ λ c m.
-              let same : k ≡ e.0 = maps-exact_texts k e.0 c in
+              let same : k ≡ e.0 = exact_texts k e.0 c in
               let value : e.1 ≡ kept = cc in
               let hit : mine (row e) ≡ true =
               tells (row e) ∙ ap (λ q. eq_by_cmp text_cmp q k) (keyed e ∙ sym same)
               ∙ ap is_eq (tied_itself nat_list_cmp_total k) in
               let from : f (row e) ≡ f (row (k, kept)) = ap₂ (λ q x. f (row (q, x))) (sym same) value in
               let below : T (below_all text_cmp k es) = subst (λ q. T (below_all text_cmp q es)) (sym same)
-              (maps-first_holds _ _ s) in
+              (first_holds _ _ s) in
               ap₂ (λ r rs. r ∷ rs) (ap (λ b. cond b (f (row e)) (row e)) hit ∙ from ∙ to ∙ ap (λ q. row (q, v)) same)
               (changed_rows-same_later es below)
-          | Greater ↦ λ c m. ap₂ (λ r rs. r ∷ rs) (changed_rows-other e (changed_rows-earlier k e.0 c))
-              (changed_rows-changed v kept es (maps-second_holds _ _ s) m to)
+          | Greater ↦ λ c m. ap₂ (λ r rs. r ∷ rs) (changed_rows-other e (earlier k e.0 c))
+              (changed_rows-changed v kept es (second_holds _ _ s) m to)
         ] refl h
 
     -- An unknown key has no row, and nothing changes.

@@ -2,36 +2,36 @@
 use Rattle.std.proofs.Common.{◌≡◌, false, None, refl}
 use Rattle.std.proofs.lemmas.Bool.{not-false}
 use Rattle.room_types.specs.Texts.{Text}
-use Rattle.office_state.specs.Change.{LeadsOn}
+use Rattle.office_state.specs.Change.{LeadsTo}
 use Rattle.office_state.specs.Office.Invariants.{IsLawful}
 use Rattle.office_state.specs.declared.office.Office.{Office}
 use Rattle.office_state.specs.Office.Limits.{room_limit}
-use Rattle.office_state.proofs.offices.Register.{offices-room_put, offices-len-put_within}
-use Rattle.office_state.proofs.round_phases.Untouched.{round_phases-prepared, round_phases-undrawn, round_phases-results_undrawn}
-use Rattle.office_state.proofs.round_phases.Untouched.{round_phases-moves_stay}
-use Rattle.office_state.proofs.offices.KeptLists.{offices-room_known}
+use Rattle.office_state.proofs.offices.Register.{offices-room_put, len-put_within}
+use Rattle.office_state.proofs.round_phases.Untouched.{prepared, undrawn, results_undrawn}
+use Rattle.office_state.proofs.round_phases.Untouched.{moves_stay}
+use Rattle.office_state.proofs.offices.ChoiceLists.{offices-room_known}
 use Rattle.office_core.specs.Refusal.Checks.{first_refusal}
-use Rattle.office_core.proofs.refusals.Checks.{refusals-none_applies}
+use Rattle.office_core.proofs.refusals.Checks.{none_applies}
 use Rattle.office_core.specs.Command.AddRoom.{checks, next, changes_of}
 
-pub commands-add_room-leads : (office : Office) (room : Text) → IsLawful office
+pub add_room-leads : (office : Office) (room : Text) → IsLawful office
     → first_refusal (checks office room) ≡ None
-    → LeadsOn office (next office room) (changes_of office room)
-commands-add_room-leads office room l h =
-    let n = refusals-none_applies (checks office room) h in
-    let u = round_phases-undrawn office l (round_phases-prepared office.phase (not-false _ n.0)) in
+    → LeadsTo office (next office room) (changes_of office room)
+add_room-leads office room l h =
+    let n = none_applies (checks office room) h in
+    let u = undrawn office l (prepared office.phase (not-false _ n.0)) in
     let lawful : IsLawful (next office room) = record {
       kept = l.kept;
       grades = l.grades;
       leavers = l.leavers;
       register = offices-room_put office.rooms office.people l.register room
-          (offices-len-put_within office.rooms room false room_limit n.1.0 n.1.1.0);
+          (len-put_within office.rooms room false room_limit n.1.0 n.1.1.0);
       lists = offices-room_known office.rooms office.people office.choices office.withdrawn l.lists room
           false;
       round = l.round;
       words = l.words;
-      results = round_phases-results_undrawn (next office room) u.has_no_results u.no_results;
-      moves = round_phases-moves_stay office (next office room) refl (λ round o. o) l.moves;
+      results = results_undrawn (next office room) u.has_no_results u.no_results;
+      moves = moves_stay office (next office room) refl (λ round o. o) l.moves;
     } in
     record {
       leads = refl;

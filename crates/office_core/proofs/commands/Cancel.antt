@@ -1,20 +1,20 @@
 -- Cancelling preserves the invariants.
 use Rattle.std.proofs.Common.{◌≡◌, None, refl}
-use Rattle.office_state.specs.Change.{LeadsOn}
+use Rattle.office_state.specs.Change.{LeadsTo}
 use Rattle.office_state.specs.Office.Invariants.{IsLawful}
 use Rattle.office_state.specs.declared.office.Office.{Office}
-use Rattle.office_state.proofs.round_phases.Over.{round_phases-over-idle}
-use Rattle.office_state.proofs.round_phases.Untouched.{round_phases-moves_stay}
+use Rattle.office_state.proofs.round_phases.Over.{over-idle}
+use Rattle.office_state.proofs.round_phases.Untouched.{moves_stay}
 use Rattle.office_core.specs.Refusal.Checks.{first_refusal}
 use Rattle.office_core.specs.Command.Cancel.{checks, next, changes_of}
-use Rattle.office_core.proofs.commands.Ended.{commands-ended-lawful}
+use Rattle.office_core.proofs.commands.Ended.{ended-lawful}
 
-pub commands-cancel-leads : (office : Office) → IsLawful office → first_refusal (checks office) ≡ None
-    → LeadsOn office (next office) (changes_of office)
-commands-cancel-leads office l h =
+pub cancel-leads : (office : Office) → IsLawful office → first_refusal (checks office) ≡ None
+    → LeadsTo office (next office) (changes_of office)
+cancel-leads office l h =
     let lawful : IsLawful (next office) =
-    commands-ended-lawful office office.people office.moves l l.register l.grades
-    (round_phases-moves_stay office (next office) refl (round_phases-over-idle office) l.moves) in
+    ended-lawful office office.people office.moves l l.register l.grades
+    (moves_stay office (next office) refl (over-idle office) l.moves) in
     record {
       leads = refl;
       apart = (l.register.homes, (l.register.homes, l.register.homes));

@@ -4,28 +4,28 @@ use Rattle.std.specs.FinMap as map
 use Rattle.room_types.specs.Texts.{TextMap}
 use Rattle.room_types.specs.declared.phase.Phase.TheVariants.{Idle}
 use Rattle.office_state.specs.Change.{without_round}
-use Rattle.office_state.specs.Office.Invariants.{AreGrades, AreMoves, IsLawful, IsRegister}
+use Rattle.office_state.specs.Office.Invariants.{AreValidGrades, AreValidMoves, IsLawful, IsValidRegister}
 use Rattle.office_state.specs.Office.Moves.{RoundMap}
 use Rattle.office_state.specs.declared.office.Office.{Office}
 use Rattle.office_state.specs.declared.office.moves.RoundMoves.{RoundMoves}
 use Rattle.office_state.specs.declared.office.person.Person.{Person}
-use Rattle.office_state.proofs.offices.Empty.{offices-no_leavers, offices-no_lists}
-use Rattle.office_state.proofs.round_phases.Untouched.{round_phases-results_undrawn}
+use Rattle.office_state.proofs.offices.Empty.{no_leavers, no_lists}
+use Rattle.office_state.proofs.round_phases.Untouched.{results_undrawn}
 
 -- the office between two rounds, with these people and moves
 abbrev pub ended : Office → TextMap Person → RoundMap RoundMoves → Office
 ended office people moves =
     record (without_round office) { people = people; moves = moves; phase = Idle }
 
-pub commands-ended-lawful : (office : Office) (people : TextMap Person) (moves : RoundMap RoundMoves)
-    → IsLawful office → IsRegister office.rooms people → AreGrades people office.grades
-    → AreMoves (ended office people moves) → IsLawful (ended office people moves)
-commands-ended-lawful office people moves l register are_grades are_moves = record {
+pub ended-lawful : (office : Office) (people : TextMap Person) (moves : RoundMap RoundMoves)
+    → IsLawful office → IsValidRegister office.rooms people → AreValidGrades people office.grades
+    → AreValidMoves (ended office people moves) → IsLawful (ended office people moves)
+ended-lawful office people moves l register are_grades are_moves = record {
   kept = l.kept;
   grades = are_grades;
-  leavers = offices-no_leavers Idle people map.empty;
+  leavers = no_leavers Idle people map.empty;
   register = register;
-  lists = offices-no_lists office.rooms people;
+  lists = no_lists office.rooms people;
   round = record {
     few_rounds = l.round.few_rounds;
     numbered = λ e. absurd (cc);
@@ -33,6 +33,6 @@ commands-ended-lawful office people moves l register are_grades are_moves = reco
     idle_withdrawn = λ _. refl;
   };
   words = record { none = λ _. refl; each = λ e. absurd (cc) };
-  results = round_phases-results_undrawn (ended office people moves) refl refl;
+  results = results_undrawn (ended office people moves) refl refl;
   moves = are_moves;
 }

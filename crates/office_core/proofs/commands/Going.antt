@@ -3,30 +3,30 @@ use Rattle.std.proofs.Common.{◌≡◌, Bool, true, false, [], ◌∷◌, None,
 use Rattle.std.proofs.lemmas.Bool.{not-false}
 use Rattle.std.specs.FinMap as map
 use Rattle.room_types.specs.Texts.{Text}
-use Rattle.office_state.specs.Change.{LeadsOn}
+use Rattle.office_state.specs.Change.{LeadsTo}
 use Rattle.office_state.specs.Office.Invariants.{IsLawful}
 use Rattle.office_state.specs.Office.{is_going}
 use Rattle.office_state.specs.declared.office.Office.{Office}
 use Rattle.office_state.specs.declared.change.Change.TheVariants.{PutGoing}
-use Rattle.office_state.proofs.round_phases.Untouched.{round_phases-prepared, round_phases-open_preparing, round_phases-open_busy, round_phases-undrawn}
-use Rattle.office_state.proofs.round_phases.Untouched.{round_phases-words_undrawn, round_phases-results_undrawn, round_phases-moves_stay}
+use Rattle.office_state.proofs.round_phases.Untouched.{prepared, open_preparing, open_busy, undrawn}
+use Rattle.office_state.proofs.round_phases.Untouched.{words_undrawn, results_undrawn, moves_stay}
 use Rattle.office_state.proofs.offices.Leavers.{offices-leaver_put}
 use Rattle.office_core.specs.Refusal.Checks.{first_refusal}
-use Rattle.office_core.proofs.refusals.Checks.{refusals-none_applies}
-use Rattle.office_core.proofs.commands.Withdraw.{commands-put_again}
+use Rattle.office_core.proofs.refusals.Checks.{none_applies}
+use Rattle.office_core.proofs.commands.Withdraw.{put_again}
 use Rattle.office_core.specs.Command.Going.{checks, next, changes_of}
 
-commands-going-leads_by : (office : Office) (person : Text) (b : Bool) → is_going office person ≡ b
+going-leads_by : (office : Office) (person : Text) (b : Bool) → is_going office person ≡ b
     → IsLawful office → IsLawful (next office person) → map.contains_key office.people person ≡ true
-    → LeadsOn office (next office person) (cond b [] (PutGoing person ∷ []))
-commands-going-leads_by office person true again l lawful known =
+    → LeadsTo office (next office person) (cond b [] (PutGoing person ∷ []))
+going-leads_by office person true again l lawful known =
     record {
-      leads = ap (λ m. record office { going = m }) (sym (commands-put_again office.going person again));
+      leads = ap (λ m. record office { going = m }) (sym (put_again office.going person again));
       apart = l.register.homes;
       fits = tt;
       lawful = lawful;
     }
-commands-going-leads_by office person false first l lawful known =
+going-leads_by office person false first l lawful known =
     record {
       leads = refl;
       apart = (l.register.homes, l.register.homes);
@@ -34,15 +34,15 @@ commands-going-leads_by office person false first l lawful known =
       lawful = lawful;
     }
 
-pub commands-going-leads : (office : Office) (person : Text) → IsLawful office
+pub going-leads : (office : Office) (person : Text) → IsLawful office
     → first_refusal (checks office person) ≡ None
-    → LeadsOn office (next office person) (changes_of office person)
-commands-going-leads office person l h =
-    let n = refusals-none_applies (checks office person) h in
-    let busy = round_phases-open_busy office.phase (not-false _ n.0) in
+    → LeadsTo office (next office person) (changes_of office person)
+going-leads office person l h =
+    let n = none_applies (checks office person) h in
+    let busy = open_busy office.phase (not-false _ n.0) in
     let known = not-false _ n.1.0 in
-    let u = round_phases-undrawn office l (round_phases-prepared office.phase
-    (round_phases-open_preparing office.phase (not-false _ n.0))) in
+    let u = undrawn office l (prepared office.phase
+    (open_preparing office.phase (not-false _ n.0))) in
     let new : Office = next office person in
     let lawful : IsLawful new = record {
       kept = l.kept;
@@ -52,9 +52,9 @@ commands-going-leads office person l h =
       grades = l.grades;
       leavers = offices-leaver_put office.phase office.people office.withdrawn office.going l.leavers person
           busy known n.1.1.0;
-      words = round_phases-words_undrawn office.phase office.people office.withdrawn new.going office.words
+      words = words_undrawn office.phase office.people office.withdrawn new.going office.words
           u.has_no_words u.no_words;
-      results = round_phases-results_undrawn new u.has_no_results u.no_results;
-      moves = round_phases-moves_stay office new refl (λ round o. o) l.moves;
+      results = results_undrawn new u.has_no_results u.no_results;
+      moves = moves_stay office new refl (λ round o. o) l.moves;
     } in
-    commands-going-leads_by office person (is_going office person) refl l lawful known
+    going-leads_by office person (is_going office person) refl l lawful known

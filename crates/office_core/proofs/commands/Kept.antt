@@ -25,13 +25,13 @@ record IsPast (phase : Phase) : Type 0 where
   drawn : is_drawn phase ≡ false
   preparing : is_preparing phase ≡ false
 
-commands-past : (phase : Phase) → has_results phase ≡ true → IsPast phase
-commands-past Idle h = absurd (cc)
-commands-past Opened h = absurd (cc)
-commands-past Closed h = absurd (cc)
-commands-past Drawn h = absurd (cc)
-commands-past Ran h = record { idle = refl; opened = refl; closed = refl; drawn = refl; preparing = refl }
-commands-past Published h =
+past : (phase : Phase) → has_results phase ≡ true → IsPast phase
+past Idle h = absurd (cc)
+past Opened h = absurd (cc)
+past Closed h = absurd (cc)
+past Drawn h = absurd (cc)
+past Ran h = record { idle = refl; opened = refl; closed = refl; drawn = refl; preparing = refl }
+past Published h =
     record { idle = refl; opened = refl; closed = refl; drawn = refl; preparing = refl }
 
 -- the first check does not refuse
@@ -39,67 +39,67 @@ abbrev FirstPasses : List Check → Type 0
 FirstPasses [] = Unit {0}
 FirstPasses (check ∷ checks) = check.0 ≡ false
 
-commands-passes : (all : List Check) → first_refusal all ≡ None → FirstPasses all
-commands-passes [] ok = tt
-commands-passes (check ∷ rest) ok = by check.0 refl
+passes : (all : List Check) → first_refusal all ≡ None → FirstPasses all
+passes [] ok = tt
+passes (check ∷ rest) ok = by check.0 refl
   where
     by : (b : Bool) → check.0 ≡ b → check.0 ≡ false
     by true e = absurd (let z : first_refusal (check ∷ rest)
         ≡ Some check.1 = ap (λ b. if b then Some check.1 else first_refusal rest) e in cc)
     by false e = e
 
-commands-stops : (may : Bool) → may ≡ false → not may ≡ false → ⊥
-commands-stops may e h = let z : not may ≡ true = ap not e in cc
+stops : (may : Bool) → may ≡ false → not may ≡ false → ⊥
+stops may e h = let z : not may ≡ true = ap not e in cc
 
 -- and no list may be imported under a new label
-commands-comes_too_late : (kind : ListKind) (phase : Phase) → IsPast phase → may_import kind phase ≡ false
-commands-comes_too_late Rooms phase p = p.preparing
-commands-comes_too_late People phase p = p.preparing
-commands-comes_too_late Choices phase p = p.opened
-commands-comes_too_late Grades phase p = p.preparing
+may_import-past : (kind : ListKind) (phase : Phase) → IsPast phase → may_import kind phase ≡ false
+may_import-past Rooms phase p = p.preparing
+may_import-past People phase p = p.preparing
+may_import-past Choices phase p = p.opened
+may_import-past Grades phase p = p.preparing
 
-pub commands-results_kept : (office : Office) (c : Command) → has_results office.phase ≡ true
+pub results_kept : (office : Office) (c : Command) → has_results office.phase ≡ true
     → accepts office c ≡ None → ends_round c ≡ false → KeepsResults office (next office c)
-commands-results_kept office (command.AddRoom room) there ok goes_on =
-    absurd (commands-stops (is_preparing office.phase) (commands-past office.phase there).preparing
-    (commands-passes (checks office (command.AddRoom room)) ok))
-commands-results_kept office (command.AddPerson person name key home) there ok goes_on =
-    absurd (commands-stops (is_preparing office.phase) (commands-past office.phase there).preparing
-    (commands-passes (checks office (command.AddPerson person name key home)) ok))
-commands-results_kept office (command.SetHome person room) there ok goes_on =
-    absurd (commands-stops (is_idle office.phase) (commands-past office.phase there).idle
-    (commands-passes (checks office (command.SetHome person room)) ok))
-commands-results_kept office (command.Leave person) there ok goes_on =
-    absurd (commands-stops (is_idle office.phase) (commands-past office.phase there).idle
-    (commands-passes (checks office (command.Leave person)) ok))
-commands-results_kept office (command.Remove person) there ok goes_on =
-    absurd (commands-stops (is_idle office.phase) (commands-past office.phase there).idle
-    (commands-passes (checks office (command.Remove person)) ok))
-commands-results_kept office (command.Shut room) there ok goes_on =
-    absurd (commands-stops (is_preparing office.phase) (commands-past office.phase there).preparing
-    (commands-passes (checks office (command.Shut room)) ok))
-commands-results_kept office (command.Reopen room) there ok goes_on =
-    absurd (commands-stops (is_preparing office.phase) (commands-past office.phase there).preparing
-    (commands-passes (checks office (command.Reopen room)) ok))
-commands-results_kept office command.OpenRound there ok goes_on =
-    absurd (commands-stops (is_idle office.phase) (commands-past office.phase there).idle
-    (commands-passes (checks office command.OpenRound) ok))
-commands-results_kept office (command.SetChoices person choices) there ok goes_on =
-    absurd (commands-stops (is_open office.phase) (commands-past office.phase there).opened
-    (commands-passes (checks office (command.SetChoices person choices)) ok))
-commands-results_kept office (command.Withdraw person) there ok goes_on =
-    absurd (commands-stops (is_open office.phase) (commands-past office.phase there).opened
-    (commands-passes (checks office (command.Withdraw person)) ok))
-commands-results_kept office command.CloseRound there ok goes_on =
-    absurd (commands-stops (is_open office.phase) (commands-past office.phase there).opened
-    (commands-passes (checks office command.CloseRound) ok))
-commands-results_kept office (command.Draw words) there ok goes_on =
-    absurd (commands-stops (is_closed office.phase) (commands-past office.phase there).closed
-    (commands-passes (checks office (command.Draw words)) ok))
-commands-results_kept office command.Run there ok goes_on =
-    absurd (commands-stops (is_drawn office.phase) (commands-past office.phase there).drawn
-    (commands-passes (checks office command.Run) ok))
-commands-results_kept office command.Publish there ok goes_on = record {
+results_kept office (command.AddRoom room) there ok goes_on =
+    absurd (stops (is_preparing office.phase) (past office.phase there).preparing
+    (passes (checks office (command.AddRoom room)) ok))
+results_kept office (command.AddPerson person name key home) there ok goes_on =
+    absurd (stops (is_preparing office.phase) (past office.phase there).preparing
+    (passes (checks office (command.AddPerson person name key home)) ok))
+results_kept office (command.SetHome person room) there ok goes_on =
+    absurd (stops (is_idle office.phase) (past office.phase there).idle
+    (passes (checks office (command.SetHome person room)) ok))
+results_kept office (command.Leave person) there ok goes_on =
+    absurd (stops (is_idle office.phase) (past office.phase there).idle
+    (passes (checks office (command.Leave person)) ok))
+results_kept office (command.Remove person) there ok goes_on =
+    absurd (stops (is_idle office.phase) (past office.phase there).idle
+    (passes (checks office (command.Remove person)) ok))
+results_kept office (command.Shut room) there ok goes_on =
+    absurd (stops (is_preparing office.phase) (past office.phase there).preparing
+    (passes (checks office (command.Shut room)) ok))
+results_kept office (command.Reopen room) there ok goes_on =
+    absurd (stops (is_preparing office.phase) (past office.phase there).preparing
+    (passes (checks office (command.Reopen room)) ok))
+results_kept office command.OpenRound there ok goes_on =
+    absurd (stops (is_idle office.phase) (past office.phase there).idle
+    (passes (checks office command.OpenRound) ok))
+results_kept office (command.SetChoices person choices) there ok goes_on =
+    absurd (stops (is_open office.phase) (past office.phase there).opened
+    (passes (checks office (command.SetChoices person choices)) ok))
+results_kept office (command.Withdraw person) there ok goes_on =
+    absurd (stops (is_open office.phase) (past office.phase there).opened
+    (passes (checks office (command.Withdraw person)) ok))
+results_kept office command.CloseRound there ok goes_on =
+    absurd (stops (is_open office.phase) (past office.phase there).opened
+    (passes (checks office command.CloseRound) ok))
+results_kept office (command.Draw words) there ok goes_on =
+    absurd (stops (is_closed office.phase) (past office.phase there).closed
+    (passes (checks office (command.Draw words)) ok))
+results_kept office command.Run there ok goes_on =
+    absurd (stops (is_drawn office.phase) (past office.phase there).drawn
+    (passes (checks office command.Run) ok))
+results_kept office command.Publish there ok goes_on = record {
   entries = record {
     rooms = refl;
     people = refl;
@@ -113,9 +113,9 @@ commands-results_kept office command.Publish there ok goes_on = record {
   results = refl;
   still = refl;
 }
-commands-results_kept office command.Settle there ok goes_on = absurd (cc)
-commands-results_kept office command.Cancel there ok goes_on = absurd (cc)
-commands-results_kept office (command.Import label kind bytes) there ok goes_on =
+results_kept office command.Settle there ok goes_on = absurd (cc)
+results_kept office command.Cancel there ok goes_on = absurd (cc)
+results_kept office (command.Import label kind bytes) there ok goes_on =
     elim (map.get office.lists label) as
     (λ o. first_refusal (checks_where o office kind bytes) ≡ None
     → KeepsResults office (next_where o office label kind bytes)) [
@@ -133,13 +133,13 @@ commands-results_kept office (command.Import label kind bytes) there ok goes_on 
         results = refl;
         still = there;
       }
-      | None ↦ λ first. absurd (commands-stops (may_import kind office.phase)
-          (commands-comes_too_late kind office.phase (commands-past office.phase there))
-          (commands-passes (new_label_checks office kind bytes) first))
+      | None ↦ λ first. absurd (stops (may_import kind office.phase)
+          (may_import-past kind office.phase (past office.phase there))
+          (passes (new_label_checks office kind bytes) first))
     ] ok
-commands-results_kept office (command.SetGrade person grade) there ok goes_on =
-    absurd (commands-stops (is_preparing office.phase) (commands-past office.phase there).preparing
-    (commands-passes (checks office (command.SetGrade person grade)) ok))
-commands-results_kept office (command.Going person) there ok goes_on =
-    absurd (commands-stops (is_open office.phase) (commands-past office.phase there).opened
-    (commands-passes (checks office (command.Going person)) ok))
+results_kept office (command.SetGrade person grade) there ok goes_on =
+    absurd (stops (is_preparing office.phase) (past office.phase there).preparing
+    (passes (checks office (command.SetGrade person grade)) ok))
+results_kept office (command.Going person) there ok goes_on =
+    absurd (stops (is_open office.phase) (past office.phase there).opened
+    (passes (checks office (command.Going person)) ok))

@@ -2,23 +2,23 @@
 use Rattle.std.proofs.Common.{◌≡◌, None, refl}
 use Rattle.std.proofs.lemmas.Bool.{not-false}
 use Rattle.room_types.specs.Texts.{Text}
-use Rattle.office_state.specs.Change.{LeadsOn}
+use Rattle.office_state.specs.Change.{LeadsTo}
 use Rattle.office_state.specs.Office.Invariants.{IsLawful}
 use Rattle.office_state.specs.declared.office.Office.{Office}
-use Rattle.office_state.proofs.offices.Homes.{offices-moved-lawful}
-use Rattle.office_state.proofs.round_phases.Untouched.{round_phases-prepared, round_phases-idle_preparing}
+use Rattle.office_state.proofs.offices.Homes.{moved-lawful}
+use Rattle.office_state.proofs.round_phases.Untouched.{prepared, idle_preparing}
 use Rattle.office_core.specs.Refusal.Checks.{first_refusal}
-use Rattle.office_core.proofs.refusals.Checks.{refusals-none_applies}
+use Rattle.office_core.proofs.refusals.Checks.{none_applies}
 use Rattle.office_core.specs.Command.Leave.{checks, next, changes_of}
 
-pub commands-leave-leads : (office : Office) (person : Text) → IsLawful office
+pub leave-leads : (office : Office) (person : Text) → IsLawful office
     → first_refusal (checks office person) ≡ None
-    → LeadsOn office (next office person) (changes_of office person)
-commands-leave-leads office person l h =
-    let n = refusals-none_applies (checks office person) h in
-    let before = round_phases-prepared office.phase (round_phases-idle_preparing office.phase (not-false _ n.0)) in
+    → LeadsTo office (next office person) (changes_of office person)
+leave-leads office person l h =
+    let n = none_applies (checks office person) h in
+    let before = prepared office.phase (idle_preparing office.phase (not-false _ n.0)) in
     let lawful : IsLawful (next office person) =
-    offices-moved-lawful office person None l before (λ q r e f. cc) (λ r e. cc) in
+    moved-lawful office person None l before (λ q r e f. cc) (λ r e. cc) in
     record {
       leads = refl;
       apart = (l.register.homes, lawful.register.homes);

@@ -3,24 +3,24 @@ use Rattle.std.proofs.Common.{◌≡◌, None, refl, arith}
 use Rattle.std.proofs.lemmas.Bool.{not-false}
 use Rattle.std.proofs.lemmas.Bool.{leb-false}
 use Rattle.room_types.specs.declared.phase.Phase.TheVariants.{Opened}
-use Rattle.office_state.specs.Change.{LeadsOn}
+use Rattle.office_state.specs.Change.{LeadsTo}
 use Rattle.office_state.specs.Office.Invariants.{IsLawful}
 use Rattle.office_state.specs.declared.office.Office.{Office}
 use Rattle.office_state.specs.Office.Limits.{round_limit}
 use Rattle.office_state.proofs.offices.Leavers.{offices-leaver_phase}
-use Rattle.office_state.proofs.round_phases.Over.{round_phases-over-begun}
-use Rattle.office_state.proofs.round_phases.Untouched.{round_phases-prepared, round_phases-idle_preparing, round_phases-undrawn}
-use Rattle.office_state.proofs.round_phases.Untouched.{round_phases-words_undrawn, round_phases-results_undrawn, round_phases-moves_stay}
+use Rattle.office_state.proofs.round_phases.Over.{over-begun}
+use Rattle.office_state.proofs.round_phases.Untouched.{prepared, idle_preparing, undrawn}
+use Rattle.office_state.proofs.round_phases.Untouched.{words_undrawn, results_undrawn, moves_stay}
 use Rattle.office_core.specs.Refusal.Checks.{first_refusal}
-use Rattle.office_core.proofs.refusals.Checks.{refusals-none_applies}
+use Rattle.office_core.proofs.refusals.Checks.{none_applies}
 use Rattle.office_core.specs.Command.OpenRound.{checks, next, changes_of}
 
-pub commands-open_round-leads : (office : Office) → IsLawful office → first_refusal (checks office) ≡ None
-    → LeadsOn office (next office) (changes_of office)
-commands-open_round-leads office l h =
-    let n = refusals-none_applies (checks office) h in
+pub open_round-leads : (office : Office) → IsLawful office → first_refusal (checks office) ≡ None
+    → LeadsTo office (next office) (changes_of office)
+open_round-leads office l h =
+    let n = none_applies (checks office) h in
     let idle = not-false _ n.0 in
-    let u = round_phases-undrawn office l (round_phases-prepared office.phase (round_phases-idle_preparing office.phase idle)) in
+    let u = undrawn office l (prepared office.phase (idle_preparing office.phase idle)) in
     let few = leb-false round_limit office.number n.1.0 in
     let lawful : IsLawful (next office) = record {
       kept = l.kept;
@@ -35,9 +35,9 @@ commands-open_round-leads office l h =
         idle_choices = λ e. absurd (cc);
         idle_withdrawn = λ e. absurd (cc);
       };
-      words = round_phases-words_undrawn Opened office.people office.withdrawn office.going office.words refl u.no_words;
-      results = round_phases-results_undrawn (next office) refl u.no_results;
-      moves = round_phases-moves_stay office (next office) refl (round_phases-over-begun office idle) l.moves;
+      words = words_undrawn Opened office.people office.withdrawn office.going office.words refl u.no_words;
+      results = results_undrawn (next office) refl u.no_results;
+      moves = moves_stay office (next office) refl (over-begun office idle) l.moves;
     } in
     record {
       leads = refl;

@@ -2,23 +2,23 @@
 use Rattle.std.proofs.Common.{◌≡◌, None, refl, ◌∙◌, sym}
 use Rattle.std.proofs.lemmas.Bool.{not-false}
 use Rattle.room_types.specs.declared.phase.Phase.TheVariants.{Published}
-use Rattle.office_state.specs.Change.{LeadsOn}
+use Rattle.office_state.specs.Change.{LeadsTo}
 use Rattle.office_state.specs.Office.Invariants.{IsLawful}
 use Rattle.office_state.specs.declared.office.Office.{Office}
 use Rattle.office_state.proofs.offices.Leavers.{offices-leaver_phase}
-use Rattle.office_state.proofs.round_phases.Over.{round_phases-over-under_way}
-use Rattle.office_state.proofs.round_outcomes.Stays.{round_outcomes-round_results-along}
-use Rattle.office_state.proofs.round_phases.Untouched.{round_phases-ran_worded, round_phases-ran_busy, round_phases-ran_given, round_phases-moves_stay}
+use Rattle.office_state.proofs.round_phases.Over.{over-under_way}
+use Rattle.office_state.proofs.round_outcomes.Stays.{round_results-along}
+use Rattle.office_state.proofs.round_phases.Untouched.{ran_worded, ran_busy, ran_given, moves_stay}
 use Rattle.office_core.specs.Refusal.Checks.{first_refusal}
 use Rattle.office_core.specs.Command.Publish.{checks, next, changes_of}
-use Rattle.office_core.proofs.refusals.Checks.{refusals-none_applies}
+use Rattle.office_core.proofs.refusals.Checks.{none_applies}
 
-pub commands-publish-leads : (office : Office) → IsLawful office → first_refusal (checks office) ≡ None
-    → LeadsOn office (next office) (changes_of office)
-commands-publish-leads office l h =
-    let n = refusals-none_applies (checks office) h in
+pub publish-leads : (office : Office) → IsLawful office → first_refusal (checks office) ≡ None
+    → LeadsTo office (next office) (changes_of office)
+publish-leads office l h =
+    let n = none_applies (checks office) h in
     let ran = not-false _ n.0 in
-    let busy = round_phases-ran_busy office.phase ran in
+    let busy = ran_busy office.phase ran in
     let lawful : IsLawful (next office) = record {
       kept = l.kept;
       grades = l.grades;
@@ -34,15 +34,15 @@ commands-publish-leads office l h =
       };
       words = record {
         none = λ e. absurd (cc);
-        each = λ _. l.words.each (round_phases-ran_worded office.phase ran);
+        each = λ _. l.words.each (ran_worded office.phase ran);
       };
       results = record {
         none = λ e. absurd (cc);
-        given = λ _. l.results.given (round_phases-ran_given office.phase ran)
-            ∙ sym (round_outcomes-round_results-along office office.results Published);
+        given = λ _. l.results.given (ran_given office.phase ran)
+            ∙ sym (round_results-along office office.results Published);
       };
-      moves = round_phases-moves_stay office (next office) refl
-          (round_phases-over-under_way office Published busy refl) l.moves;
+      moves = moves_stay office (next office) refl
+          (over-under_way office Published busy refl) l.moves;
     } in
     record {
       leads = refl;

@@ -9,11 +9,11 @@ use Rattle.std.specs.Ordering.{eq_by_cmp, is_eq}
 use Rattle.std.specs.FinMap as map
 use Rattle.std.specs.FinMap.{entries_sorted, find, get-empty, get-entries, is_sorted}
 use Rattle.std.specs.FinMap.Entries.{below_all}
-use Rattle.room_types.proofs.maps.TextMaps.{maps-first_holds, maps-get-put_other, maps-second_holds, maps-text_cases}
+use Rattle.room_types.proofs.maps.TextMaps.{first_holds, maps-get-put_other, second_holds, text_cases}
 use Rattle.room_types.specs.Texts.{Text, text_cmp}
 use Rattle.room_types.proofs.maps.Entries.{maps-none_below}
 use Rattle.room_types.specs.declared.phase.Phase.TheVariants.{Ran}
-use Rattle.office_state.specs.Change.{applied_all, LeadsOn, StaysApart, AllFit}
+use Rattle.office_state.specs.Change.{applied_all, LeadsTo, HomesStayDistinct, AllFit}
 use Rattle.office_state.specs.Office.Invariants.{IsLawful, HomesDiffer}
 use Rattle.office_state.specs.Office.{knows_person, sits_out}
 use Rattle.office_state.specs.Round.{round_results}
@@ -23,43 +23,43 @@ use Rattle.office_state.specs.declared.change.Change.TheVariants.{PutRound}
 use Rattle.office_state.specs.declared.office.Assigned.{Assigned}
 use Rattle.office_state.specs.declared.office.Office.{Office}
 use Rattle.office_state.proofs.offices.Leavers.{offices-leaver_phase}
-use Rattle.office_state.proofs.round_phases.Over.{round_phases-over-under_way}
-use Rattle.office_state.proofs.round_problems.Puts.{round_problems-with_all-entries}
-use Rattle.office_state.proofs.round_outcomes.Results.{round_outcomes-contains_key-round_results}
-use Rattle.office_state.proofs.round_outcomes.Stays.{round_outcomes-round_results-along}
-use Rattle.office_state.proofs.round_phases.Untouched.{round_phases-drawn_worded, round_phases-drawn_busy, round_phases-drawn_unran}
-use Rattle.office_state.proofs.round_phases.Untouched.{round_phases-moves_stay}
+use Rattle.office_state.proofs.round_phases.Over.{over-under_way}
+use Rattle.office_state.proofs.round_problems.Puts.{with_all-entries}
+use Rattle.office_state.proofs.round_outcomes.Results.{contains_key-round_results}
+use Rattle.office_state.proofs.round_outcomes.Stays.{round_results-along}
+use Rattle.office_state.proofs.round_phases.Untouched.{drawn_worded, drawn_busy, drawn_unran}
+use Rattle.office_state.proofs.round_phases.Untouched.{moves_stay}
 use Rattle.office_core.specs.Refusal.Checks.{first_refusal}
-use Rattle.office_core.specs.Command.Run.{checks, next, changes_of, result_put}
-use Rattle.office_core.proofs.refusals.Checks.{refusals-none_applies}
+use Rattle.office_core.specs.Command.Run.{checks, next, changes_of, result_change}
+use Rattle.office_core.proofs.refusals.Checks.{none_applies}
 
-commands-results-lead : (office : Office) (es : List (Text × Assigned)) (rest : List Change)
-    → applied_all office (map_list result_put es ++ rest)
+results-lead : (office : Office) (es : List (Text × Assigned)) (rest : List Change)
+    → applied_all office (map_list result_change es ++ rest)
     ≡ applied_all (record office { results = with_all office.results es }) rest
-commands-results-lead office [] rest = refl
-commands-results-lead office (e ∷ es) rest =
-    commands-results-lead (record office { results = map.insert office.results e.0 e.1 }) es rest
+results-lead office [] rest = refl
+results-lead office (e ∷ es) rest =
+    results-lead (record office { results = map.insert office.results e.0 e.1 }) es rest
 
-commands-results-apart : (office : Office) (es : List (Text × Assigned)) (rest : List Change)
-    → HomesDiffer office → StaysApart (record office { results = with_all office.results es }) rest
-    → StaysApart office (map_list result_put es ++ rest)
-commands-results-apart office [] rest differ s = s
-commands-results-apart office (e ∷ es) rest differ s = (
+results-apart : (office : Office) (es : List (Text × Assigned)) (rest : List Change)
+    → HomesDiffer office → HomesStayDistinct (record office { results = with_all office.results es }) rest
+    → HomesStayDistinct office (map_list result_change es ++ rest)
+results-apart office [] rest differ s = s
+results-apart office (e ∷ es) rest differ s = (
   differ,
-  commands-results-apart (record office { results = map.insert office.results e.0 e.1 }) es rest
+  results-apart (record office { results = map.insert office.results e.0 e.1 }) es rest
       differ s,
 )
 
-commands-found_later : {X : Type 0} (b : Bool) (x : X) (o : Option X) → is_some o ≡ true
+found_later : {X : Type 0} (b : Bool) (x : X) (o : Option X) → is_some o ≡ true
     → is_some (cond b (Some x) o) ≡ true
-commands-found_later true x o e = refl
-commands-found_later false x o e = e
+found_later true x o e = refl
+found_later false x o e = e
 
 -- a person who is found after an entry of a sorted table is another one
-commands-found_below : {X : Type 0} (p : Text) (es : List (Text × X)) → T (below_all text_cmp p es)
+found_below : {X : Type 0} (p : Text) (es : List (Text × X)) → T (below_all text_cmp p es)
     → (q : Text) → is_some (find text_cmp q es) ≡ true → eq_by_cmp text_cmp q p ≡ false
-commands-found_below p es below q found =
-    elim (maps-text_cases q p) as (λ _. eq_by_cmp text_cmp q p ≡ false) [
+found_below p es below q found =
+    elim (text_cases q p) as (λ _. eq_by_cmp text_cmp q p ≡ false) [
       | inl same ↦
           let no : true ≡ false = sym found
           ∙ ap (λ k. is_some (find text_cmp k es)) same
@@ -69,31 +69,31 @@ commands-found_below p es below q found =
     ]
 
 -- the changes fit if each person who gets a result is known and has none yet
-commands-results-fit : (first office : Office) (es : List (Text × Assigned)) (rest : List Change)
+results-fit : (first office : Office) (es : List (Text × Assigned)) (rest : List Change)
     → T (is_sorted text_cmp es)
     → ((q : Text) → is_some (find text_cmp q es) ≡ true
     → (knows_person office q ≡ true) × (map.contains_key office.results q ≡ false))
     → AllFit first (record office { results = with_all office.results es }) rest
-    → AllFit first office (map_list result_put es ++ rest)
-commands-results-fit first office [] rest sorted new s = s
-commands-results-fit first office (e ∷ es) rest sorted new s = (
+    → AllFit first office (map_list result_change es ++ rest)
+results-fit first office [] rest sorted new s = s
+results-fit first office (e ∷ es) rest sorted new s = (
   new e.0 (ap (λ o. is_some (cond (is_eq o) (Some e.1) (find text_cmp e.0 es)))
       (tied_itself nat_list_cmp_total e.0)),
-  commands-results-fit first (record office { results = map.insert office.results e.0 e.1 }) es rest
-      (maps-second_holds _ _ sorted)
-      (λ q h. let there = new q (commands-found_later (eq_by_cmp text_cmp q e.0) e.1 (find text_cmp q es) h) in (
+  results-fit first (record office { results = map.insert office.results e.0 e.1 }) es rest
+      (second_holds _ _ sorted)
+      (λ q h. let there = new q (found_later (eq_by_cmp text_cmp q e.0) e.1 (find text_cmp q es) h) in (
         there.0,
         ap is_some (maps-get-put_other office.results e.0 e.1 q
-            (commands-found_below e.0 es (maps-first_holds _ _ sorted) q h)) ∙ there.1,
+            (found_below e.0 es (first_holds _ _ sorted) q h)) ∙ there.1,
       )) s,
 )
 
-pub commands-run-leads : (office : Office) → IsLawful office → first_refusal (checks office) ≡ None
-    → LeadsOn office (next office) (changes_of office)
-commands-run-leads office l h =
-    let n = refusals-none_applies (checks office) h in
+pub run-leads : (office : Office) → IsLawful office → first_refusal (checks office) ≡ None
+    → LeadsTo office (next office) (changes_of office)
+run-leads office l h =
+    let n = none_applies (checks office) h in
     let drawn = not-false _ n.0 in
-    let busy = round_phases-drawn_busy office.phase drawn in
+    let busy = drawn_busy office.phase drawn in
     let new : Office = next office in
     let rest : List Change = PutRound office.number Ran ∷ [] in
     let entries = map.entries (round_results office) in
@@ -112,27 +112,27 @@ commands-run-leads office l h =
       };
       words = record {
         none = λ e. absurd (cc);
-        each = λ _. l.words.each (round_phases-drawn_worded office.phase drawn);
+        each = λ _. l.words.each (drawn_worded office.phase drawn);
       };
       results = record {
         none = λ e. absurd (cc);
-        given = λ _. sym (round_outcomes-round_results-along office (round_results office) Ran);
+        given = λ _. sym (round_results-along office (round_results office) Ran);
       };
-      moves = round_phases-moves_stay office new refl (round_phases-over-under_way office Ran busy refl) l.moves;
+      moves = moves_stay office new refl (over-under_way office Ran busy refl) l.moves;
     } in
     record {
-      leads = commands-results-lead office entries rest
+      leads = results-lead office entries rest
           ∙ ap (λ results. record office { results = results; phase = Ran })
-          (ap (λ kept. with_all kept entries) (l.results.none (round_phases-drawn_unran office.phase drawn))
-          ∙ round_problems-with_all-entries (round_results office));
-      apart = commands-results-apart office entries rest l.register.homes
+          (ap (λ kept. with_all kept entries) (l.results.none (drawn_unran office.phase drawn))
+          ∙ with_all-entries (round_results office));
+      apart = results-apart office entries rest l.register.homes
           (l.register.homes, l.register.homes);
-      fits = commands-results-fit office office entries rest (entries_sorted (round_results office))
+      fits = results-fit office office entries rest (entries_sorted (round_results office))
           (λ q e. (
             (and_parts (knows_person office q) (not (sits_out office q))
-                (sym (round_outcomes-contains_key-round_results office q)
+                (sym (contains_key-round_results office q)
                 ∙ ap is_some (get-entries (round_results office) q) ∙ e)).0,
-            ap (λ kept. map.contains_key kept q) (l.results.none (round_phases-drawn_unran office.phase drawn))
+            ap (λ kept. map.contains_key kept q) (l.results.none (drawn_unran office.phase drawn))
                 ∙ ap is_some (get-empty text_cmp q),
           ))
           (tt, tt);

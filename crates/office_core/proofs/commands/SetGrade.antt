@@ -2,22 +2,22 @@
 use Rattle.std.proofs.Common.{◌≡◌, ℕ, None, refl}
 use Rattle.std.proofs.lemmas.Bool.{not-false}
 use Rattle.room_types.specs.Texts.{Text}
-use Rattle.office_state.specs.Change.{LeadsOn}
+use Rattle.office_state.specs.Change.{LeadsTo}
 use Rattle.office_state.specs.Office.Invariants.{IsLawful}
 use Rattle.office_state.specs.declared.office.Office.{Office}
-use Rattle.office_state.proofs.round_phases.Untouched.{round_phases-prepared, round_phases-undrawn}
-use Rattle.office_state.proofs.round_phases.Untouched.{round_phases-results_undrawn, round_phases-moves_stay}
+use Rattle.office_state.proofs.round_phases.Untouched.{prepared, undrawn}
+use Rattle.office_state.proofs.round_phases.Untouched.{results_undrawn, moves_stay}
 use Rattle.office_state.proofs.offices.Grades.{offices-grade_put}
 use Rattle.office_core.specs.Refusal.Checks.{first_refusal}
-use Rattle.office_core.proofs.refusals.Checks.{refusals-none_applies}
+use Rattle.office_core.proofs.refusals.Checks.{none_applies}
 use Rattle.office_core.specs.Command.SetGrade.{checks, next, changes_of}
 
-pub commands-set_grade-leads : (office : Office) (person : Text) (grade : ℕ) → IsLawful office
+pub set_grade-leads : (office : Office) (person : Text) (grade : ℕ) → IsLawful office
     → first_refusal (checks office person) ≡ None
-    → LeadsOn office (next office person grade) (changes_of office person grade)
-commands-set_grade-leads office person grade l h =
-    let n = refusals-none_applies (checks office person) h in
-    let u = round_phases-undrawn office l (round_phases-prepared office.phase (not-false _ n.0)) in
+    → LeadsTo office (next office person grade) (changes_of office person grade)
+set_grade-leads office person grade l h =
+    let n = none_applies (checks office person) h in
+    let u = undrawn office l (prepared office.phase (not-false _ n.0)) in
     let new : Office = next office person grade in
     let lawful : IsLawful new = record {
       kept = l.kept;
@@ -27,8 +27,8 @@ commands-set_grade-leads office person grade l h =
       grades = offices-grade_put office.people office.grades l.grades person grade (not-false _ n.1.0);
       leavers = l.leavers;
       words = l.words;
-      results = round_phases-results_undrawn new u.has_no_results u.no_results;
-      moves = round_phases-moves_stay office new refl (λ round o. o) l.moves;
+      results = results_undrawn new u.has_no_results u.no_results;
+      moves = moves_stay office new refl (λ round o. o) l.moves;
     } in
     record {
       leads = refl;

@@ -4,27 +4,27 @@ use Rattle.std.proofs.lemmas.Bool.{not-false}
 use Rattle.std.specs.FinMap as map
 use Rattle.room_types.specs.Texts.{Text}
 use Rattle.std.specs.Prelude.{unwrap_or}
-use Rattle.office_state.specs.Change.{LeadsOn}
+use Rattle.office_state.specs.Change.{LeadsTo}
 use Rattle.office_state.specs.Office.Invariants.{IsLawful}
 use Rattle.office_state.specs.declared.office.Office.{Office}
-use Rattle.office_state.proofs.offices.Homes.{offices-moved-lawful}
-use Rattle.office_state.proofs.offices.People.{offices-nobody_has}
-use Rattle.office_state.proofs.round_phases.Untouched.{round_phases-prepared, round_phases-idle_preparing}
+use Rattle.office_state.proofs.offices.Homes.{moved-lawful}
+use Rattle.office_state.proofs.offices.People.{nobody_has}
+use Rattle.office_state.proofs.round_phases.Untouched.{prepared, idle_preparing}
 use Rattle.office_core.specs.Refusal.Checks.{first_refusal}
-use Rattle.office_core.proofs.refusals.Checks.{refusals-none_applies}
+use Rattle.office_core.proofs.refusals.Checks.{none_applies}
 use Rattle.office_core.specs.Command.SetHome.{checks, next, changes_of}
 use Rattle.office_core.proofs.refusals.Checks.{refusals-may_live}
 
-pub commands-set_home-leads : (office : Office) (person room : Text) → IsLawful office
+pub set_home-leads : (office : Office) (person room : Text) → IsLawful office
     → first_refusal (checks office person room) ≡ None
-    → LeadsOn office (next office person room) (changes_of office person room)
-commands-set_home-leads office person room l h =
-    let n = refusals-none_applies (checks office person room) h in
+    → LeadsTo office (next office person room) (changes_of office person room)
+set_home-leads office person room l h =
+    let n = none_applies (checks office person room) h in
     let may = refusals-may_live office room n.1.1.1 in
-    let before = round_phases-prepared office.phase (round_phases-idle_preparing office.phase (not-false _ n.0)) in
+    let before = prepared office.phase (idle_preparing office.phase (not-false _ n.0)) in
     let lawful : IsLawful (next office person room) =
-    offices-moved-lawful office person (Some room) l before
-    (λ q r e f. absurd (offices-nobody_has (λ p. p.home) office.people room may.1 q (f ∙ sym e)))
+    moved-lawful office person (Some room) l before
+    (λ q r e f. absurd (nobody_has (λ p. p.home) office.people room may.1 q (f ∙ sym e)))
     (λ r e. ap (λ (o : Option Text). map.get office.rooms (unwrap_or o room)) (sym e) ∙ may.0) in
     record {
       leads = refl;

@@ -6,24 +6,24 @@ use Rattle.std.proofs.lemmas.Bool.{ltb-false, not-false}
 use Rattle.std.specs.FinMap as map
 use Rattle.std.specs.Option.{is_some}
 use Rattle.room_types.specs.Choices.{IsChoices}
-use Rattle.room_types.proofs.maps.TextMaps.{maps-contains_key-put, maps-get-put_other, maps-get-put_same, maps-text_cases}
+use Rattle.room_types.proofs.maps.TextMaps.{maps-contains_key-put, maps-get-put_other, maps-get-put_same, text_cases}
 use Rattle.room_types.specs.Texts.{Text, TextMap}
 use Rattle.room_types.specs.declared.kinds.ListKind.{ListKind}
 use Rattle.room_types.specs.declared.kinds.ListKind.TheVariants.{Rooms, People, Choices, Grades}
 use Rattle.office_lists.specs.Records.{list_fault, record_limit, records_of}
 use Rattle.office_lists.specs.declared.fault.Cause.TheVariants.{Denied}
-use Rattle.office_state.specs.Change.{AllFit, Fits, LeadsOn, StaysApart, applied, applied_all}
+use Rattle.office_state.specs.Change.{AllFit, Fits, LeadsTo, HomesStayDistinct, applied, applied_all}
 use Rattle.office_state.specs.Office.{knows_room}
-use Rattle.office_state.specs.Office.Invariants.{AreKept, IsLawful}
+use Rattle.office_state.specs.Office.Invariants.{AreValidImports, IsLawful}
 use Rattle.office_state.specs.Office.Limits.{byte_limit, label_limit}
 use Rattle.office_state.specs.Office.Phases.{is_preparing}
 use Rattle.office_state.specs.declared.change.Change.{Change}
 use Rattle.office_state.specs.declared.change.Change.TheVariants.{KeepList}
 use Rattle.office_state.specs.declared.office.Office.{Office}
-use Rattle.office_state.specs.declared.office.kept_list.KeptList.{KeptList}
-use Rattle.office_state.proofs.offices.Register.{offices-len-put_within}
-use Rattle.office_state.proofs.round_phases.Untouched.{round_phases-moves_stay, round_phases-open_preparing, round_phases-prepared}
-use Rattle.office_state.proofs.round_phases.Untouched.{round_phases-results_undrawn, round_phases-undrawn}
+use Rattle.office_state.specs.declared.office.stored_import.StoredImport.{StoredImport}
+use Rattle.office_state.proofs.offices.Register.{len-put_within}
+use Rattle.office_state.proofs.round_phases.Untouched.{moves_stay, open_preparing, prepared}
+use Rattle.office_state.proofs.round_phases.Untouched.{results_undrawn, undrawn}
 use Rattle.office_core.specs.Command.Import.{EntryCommand, bad_list, changes_by, changes_of, changes_where}
 use Rattle.office_core.specs.Command.Import.{checks, checks_where, choices_command, entries_in, grade_command}
 use Rattle.office_core.specs.Command.Import.{new_label_changes, new_label_checks, first_denied, keeping}
@@ -33,13 +33,13 @@ use Rattle.office_core.specs.Command.Import.{room_command}
 use Rattle.office_core.specs.Refusal.{number_of}
 use Rattle.office_core.specs.Refusal.Checks.{first_refusal}
 use Rattle.office_core.specs.declared.refusal.Refusal.TheVariants as refused
-use Rattle.office_core.proofs.commands.AddPerson.{commands-add_person-leads}
-use Rattle.office_core.proofs.commands.AddRoom.{commands-add_room-leads}
-use Rattle.office_core.proofs.imports.ListChecks.{imports-first_of_list}
-use Rattle.office_core.proofs.imports.Records.{Each, imports-each_recordable, imports-few_records, imports-none_of}
-use Rattle.office_core.proofs.commands.SetChoices.{commands-set_choices-leads}
-use Rattle.office_core.proofs.commands.SetGrade.{commands-set_grade-leads}
-use Rattle.office_core.proofs.refusals.Checks.{refusals-none_applies}
+use Rattle.office_core.proofs.commands.AddPerson.{add_person-leads}
+use Rattle.office_core.proofs.commands.AddRoom.{add_room-leads}
+use Rattle.office_core.proofs.imports.ListChecks.{first_of_list}
+use Rattle.office_core.proofs.imports.Records.{Each, each_recordable, few_records, none_of}
+use Rattle.office_core.proofs.commands.SetChoices.{set_choices-leads}
+use Rattle.office_core.proofs.commands.SetGrade.{set_grade-leads}
+use Rattle.office_core.proofs.refusals.Checks.{none_applies}
 
 -- every room that the first office knows is known
 abbrev pub Grows : Office → Office → Type 0
@@ -61,57 +61,57 @@ record Steps (command : EntryCommand) (Good : command.Entry → Type 0) : Type 0
   pub phase : (office : Office) (entry : command.Entry)
       → (command.next office entry).phase ≡ office.phase
 
-imports-unknown_first : (first office : Office) (room : Text) → Grows first office
+unknown_first : (first office : Office) (room : Text) → Grows first office
     → knows_room office room ≡ false → knows_room office room ≡ knows_room first room
-imports-unknown_first first office room grows new =
+unknown_first first office room grows new =
     elim (knows_room first room) as
     (λ b. knows_room first room ≡ b → knows_room office room ≡ b) [
       | true ↦ λ e. grows room e
       | false ↦ λ e. new
     ] refl
 
-imports-room_steps : Steps room_command (λ room. Unit {0})
-imports-room_steps = record {
+room_steps : Steps room_command (λ room. Unit {0})
+room_steps = record {
   applies = λ office room. refl;
-  lawful = λ office room good l h. (commands-add_room-leads office room l h).lawful;
+  lawful = λ office room good l h. (add_room-leads office room l h).lawful;
   fits = λ first office room good grows l h.
-      imports-unknown_first first office room grows (refusals-none_applies (room_command.checks office room) h).1.0;
+      unknown_first first office room grows (none_applies (room_command.checks office room) h).1.0;
   grows = λ first office room grows q known.
       maps-contains_key-put office.rooms room false q (grows q known);
   lists = λ office room. refl;
   phase = λ office room. refl;
 }
 
-imports-person_steps : Steps person_command (λ entry. Unit {0})
-imports-person_steps = record {
+person_steps : Steps person_command (λ entry. Unit {0})
+person_steps = record {
   applies = λ office e. refl;
   lawful = λ office e good l h.
-      (commands-add_person-leads office e.person e.name e.key e.home l h).lawful;
+      (add_person-leads office e.person e.name e.key e.home l h).lawful;
   fits = λ first office e good grows l h.
-      (commands-add_person-leads office e.person e.name e.key e.home l h).fits.0;
+      (add_person-leads office e.person e.name e.key e.home l h).fits.0;
   grows = λ first office e grows q known. grows q known;
   lists = λ office e. refl;
   phase = λ office e. refl;
 }
 
-imports-choices_steps : Steps choices_command (λ entry. IsChoices entry.choices)
-imports-choices_steps = record {
+choices_steps : Steps choices_command (λ entry. IsChoices entry.choices)
+choices_steps = record {
   applies = λ office e. refl;
   lawful = λ office e good l h.
-      (commands-set_choices-leads office e.person e.choices good l h).lawful;
+      (set_choices-leads office e.person e.choices good l h).lawful;
   fits = λ first office e good grows l h.
-      (commands-set_choices-leads office e.person e.choices good l h).fits.0;
+      (set_choices-leads office e.person e.choices good l h).fits.0;
   grows = λ first office e grows q known. grows q known;
   lists = λ office e. refl;
   phase = λ office e. refl;
 }
 
-imports-grade_steps : Steps grade_command (λ entry. Unit {0})
-imports-grade_steps = record {
+grade_steps : Steps grade_command (λ entry. Unit {0})
+grade_steps = record {
   applies = λ office e. refl;
-  lawful = λ office e good l h. (commands-set_grade-leads office e.person e.grade l h).lawful;
+  lawful = λ office e good l h. (set_grade-leads office e.person e.grade l h).lawful;
   fits = λ first office e good grows l h.
-      (commands-set_grade-leads office e.person e.grade l h).fits.0;
+      (set_grade-leads office e.person e.grade l h).fits.0;
   grows = λ first office e grows q known. grows q known;
   lists = λ office e. refl;
   phase = λ office e. refl;
@@ -122,8 +122,8 @@ record Leads (command : EntryCommand) (first office : Office) (entries : List co
     (rest : List Change) : Type 0 where
   pub leads : applied_all office (changes_by command entries ++ rest)
       ≡ applied_all (office_after command office entries) rest
-  pub apart : StaysApart (office_after command office entries) rest
-      → StaysApart office (changes_by command entries ++ rest)
+  pub apart : HomesStayDistinct (office_after command office entries) rest
+      → HomesStayDistinct office (changes_by command entries ++ rest)
   pub fits : AllFit first (office_after command office entries) rest
       → AllFit first office (changes_by command entries ++ rest)
   pub lawful : IsLawful (office_after command office entries)
@@ -146,7 +146,7 @@ module _ (command : EntryCommand) (Good : command.Entry → Type 0) (steps : Ste
   imports-all_lead first office at (entry ∷ entries) rest good grows l h =
       let after = command.next office entry in
       let others = changes_by command entries ++ rest in
-      let n = imports-none_of (λ refusal. Some (refused.BadRecord at (Denied (number_of refusal))))
+      let n = none_of (λ refusal. Some (refused.BadRecord at (Denied (number_of refusal))))
       (first_refusal (command.checks office entry)) (first_denied command after (at + 1) entries)
       (λ x e. cc) h in
       let same = steps.applies office entry in
@@ -156,7 +156,7 @@ module _ (command : EntryCommand) (Good : command.Entry → Type 0) (steps : Ste
         leads = ap (λ o. applied_all o others) same ∙ later.leads;
         apart = λ s. (
           l.register.homes,
-          subst (λ o. StaysApart o others) (sym same) (later.apart s),
+          subst (λ o. HomesStayDistinct o others) (sym same) (later.apart s),
         );
         fits = λ f. (
           steps.fits first office entry good.0 grows l n.0,
@@ -168,11 +168,11 @@ module _ (command : EntryCommand) (Good : command.Entry → Type 0) (steps : Ste
       }
 
 -- what holds for all stored lists and for one more holds for all after that one is stored
-imports-all_put : (P : KeptList → Type 0) (lists : TextMap KeptList) (label : Text) (list : KeptList)
-    → ((q : Text) (kept : KeptList) → map.get lists q ≡ Some kept → P kept) → P list
-    → (q : Text) (kept : KeptList) → map.get (map.insert lists label list) q ≡ Some kept → P kept
-imports-all_put P lists label list all one q kept h =
-    elim (maps-text_cases q label) as (λ _. P kept) [
+all_put : (P : StoredImport → Type 0) (lists : TextMap StoredImport) (label : Text) (list : StoredImport)
+    → ((q : Text) (kept : StoredImport) → map.get lists q ≡ Some kept → P kept) → P list
+    → (q : Text) (kept : StoredImport) → map.get (map.insert lists label list) q ≡ Some kept → P kept
+all_put P lists label list all one q kept h =
+    elim (text_cases q label) as (λ _. P kept) [
       | inl same ↦
           let here : Some list ≡ Some kept =
           sym (ap (λ k. map.get (map.insert lists label list) k) same
@@ -182,23 +182,23 @@ imports-all_put P lists label list all one q kept h =
       | inr other ↦ all q kept (sym (maps-get-put_other lists label list q other) ∙ h)
     ]
 
-imports-kept_put : (lists : TextMap KeptList) (label : Text) (list : KeptList) → AreKept lists
+kept_put : (lists : TextMap StoredImport) (label : Text) (list : StoredImport) → AreValidImports lists
     → map.get lists label ≡ None → nat_le label_limit (map.len lists) ≡ false
     → length list.bytes ≤ byte_limit → list.count ≤ record_limit
-    → AreKept (map.insert lists label list)
-imports-kept_put lists label list kept new few short counted = record {
-  few = offices-len-put_within lists label list label_limit (ap is_some new) few;
-  short = imports-all_put (λ k. length k.bytes ≤ byte_limit) lists label list kept.short short;
-  counted = imports-all_put (λ k. k.count ≤ record_limit) lists label list kept.counted counted;
+    → AreValidImports (map.insert lists label list)
+kept_put lists label list kept new few short counted = record {
+  few = len-put_within lists label list label_limit (ap is_some new) few;
+  short = all_put (λ k. length k.bytes ≤ byte_limit) lists label list kept.short short;
+  counted = all_put (λ k. k.count ≤ record_limit) lists label list kept.counted counted;
 }
 
 -- storing a list before the draw preserves the invariants
-imports-keeping-lawful : (office : Office) (label : Text) (kind : ListKind) (bytes : List ℕ)
+keeping-lawful : (office : Office) (label : Text) (kind : ListKind) (bytes : List ℕ)
     → IsLawful office → is_preparing office.phase ≡ true
-    → AreKept (keeping office label kind bytes).lists
+    → AreValidImports (keeping office label kind bytes).lists
     → IsLawful (keeping office label kind bytes)
-imports-keeping-lawful office label kind bytes l before kept =
-    let u = round_phases-undrawn office l (round_phases-prepared office.phase before) in
+keeping-lawful office label kind bytes l before kept =
+    let u = undrawn office l (prepared office.phase before) in
     let new : Office = keeping office label kind bytes in
     record {
       kept = kept;
@@ -208,8 +208,8 @@ imports-keeping-lawful office label kind bytes l before kept =
       lists = l.lists;
       round = l.round;
       words = l.words;
-      results = round_phases-results_undrawn new u.has_no_results u.no_results;
-      moves = round_phases-moves_stay office new refl (λ round o. o) l.moves;
+      results = results_undrawn new u.has_no_results u.no_results;
+      moves = moves_stay office new refl (λ round o. o) l.moves;
     }
 
 module _ (office : Office) (label : Text) (kind : ListKind) (bytes : List ℕ) (l : IsLawful office)
@@ -220,23 +220,23 @@ module _ (office : Office) (label : Text) (kind : ListKind) (bytes : List ℕ) (
   imports-tried-leads : (command : EntryCommand) (Good : command.Entry → Type 0) → Steps command Good
       → (list_fault command.form (records_of bytes) ≡ None → Each Good (entries_in command bytes))
       → list_refusal command office bytes ≡ None
-      → LeadsOn office (keeping (office_after command office (entries_in command bytes)) label kind bytes)
+      → LeadsTo office (keeping (office_after command office (entries_in command bytes)) label kind bytes)
       (changes_by command (entries_in command bytes) ++ KeepList label kind bytes (record_count bytes) ∷ [])
   imports-tried-leads command Good steps good h =
       let entries = entries_in command bytes in
-      let n = imports-none_of (λ fault. Some (bad_list fault)) (list_fault command.form (records_of bytes))
+      let n = none_of (λ fault. Some (bad_list fault)) (list_fault command.form (records_of bytes))
       (first_denied command office 1 entries) (λ x e. cc) h in
       let keep : Change = KeepList label kind bytes (record_count bytes) in
       let led = imports-all_lead command Good steps office office 1 entries (keep ∷ []) (good n.0)
       (λ room known. known) l n.1 in
       let after = office_after command office entries in
-      let kept : AreKept (keeping after label kind bytes).lists =
-      subst (λ lists. AreKept (map.insert lists label
+      let kept : AreValidImports (keeping after label kind bytes).lists =
+      subst (λ lists. AreValidImports (map.insert lists label
       (record { kind = kind; bytes = bytes; count = record_count bytes }))) (sym led.lists)
-      (imports-kept_put office.lists label
+      (kept_put office.lists label
       (record { kind = kind; bytes = bytes; count = record_count bytes }) l.kept new few
-      (ltb-false byte_limit (length bytes) short) (imports-few_records command.form bytes n.0)) in
-      let lawful = imports-keeping-lawful after label kind bytes led.lawful
+      (ltb-false byte_limit (length bytes) short) (few_records command.form bytes n.0)) in
+      let lawful = keeping-lawful after label kind bytes led.lawful
       (ap is_preparing led.phase ∙ before) kept in
       record {
         leads = led.leads;
@@ -245,55 +245,55 @@ module _ (office : Office) (label : Text) (kind : ListKind) (bytes : List ℕ) (
         lawful = lawful;
       }
 
-imports-each_any : {A : Type 0} (list : List A) → Each (λ x. Unit {0}) list
-imports-each_any [] = tt
-imports-each_any (x ∷ rest) = (tt, imports-each_any rest)
+each_any : {A : Type 0} (list : List A) → Each (λ x. Unit {0}) list
+each_any [] = tt
+each_any (x ∷ rest) = (tt, each_any rest)
 
-imports-comes_before : (kind : ListKind) (office : Office) → may_import kind office.phase ≡ true
+comes_before : (kind : ListKind) (office : Office) → may_import kind office.phase ≡ true
     → is_preparing office.phase ≡ true
-imports-comes_before Rooms office h = h
-imports-comes_before People office h = h
-imports-comes_before Choices office h = round_phases-open_preparing office.phase h
-imports-comes_before Grades office h = h
+comes_before Rooms office h = h
+comes_before People office h = h
+comes_before Choices office h = open_preparing office.phase h
+comes_before Grades office h = h
 
 -- importing a list under a new label leads to a lawful office
-imports-new-leads : (office : Office) (label : Text) (kind : ListKind) (bytes : List ℕ) → IsLawful office
+new-leads : (office : Office) (label : Text) (kind : ListKind) (bytes : List ℕ) → IsLawful office
     → map.get office.lists label ≡ None → first_refusal (new_label_checks office kind bytes) ≡ None
-    → LeadsOn office (keeping (office_with kind office bytes) label kind bytes)
+    → LeadsTo office (keeping (office_with kind office bytes) label kind bytes)
     (new_label_changes label kind bytes)
-imports-new-leads office label kind bytes l new h =
-    let n = refusals-none_applies (new_label_checks office kind bytes) h in
+new-leads office label kind bytes l new h =
+    let n = none_applies (new_label_checks office kind bytes) h in
     let may = not-false (may_import kind office.phase) n.0 in
     let good : refusal_of kind office bytes ≡ None =
-    sym (imports-first_of_list office kind bytes may n.1.0 n.1.1.0) ∙ h in
-    by kind n.1.0 n.1.1.0 (imports-comes_before kind office may) good
+    sym (first_of_list office kind bytes may n.1.0 n.1.1.0) ∙ h in
+    by kind n.1.0 n.1.1.0 (comes_before kind office may) good
   where
     by : (kind : ListKind) → nat_le label_limit (map.len office.lists) ≡ false
         → nat_lt byte_limit (length bytes) ≡ false → is_preparing office.phase ≡ true
         → refusal_of kind office bytes ≡ None
-        → LeadsOn office (keeping (office_with kind office bytes) label kind bytes)
+        → LeadsTo office (keeping (office_with kind office bytes) label kind bytes)
         (new_label_changes label kind bytes)
     by Rooms few short before good =
         imports-tried-leads office label Rooms bytes l new few short before room_command (λ x. Unit {0})
-        imports-room_steps (λ e. imports-each_any (entries_in room_command bytes)) good
+        room_steps (λ e. each_any (entries_in room_command bytes)) good
     by People few short before good =
         imports-tried-leads office label People bytes l new few short before person_command (λ x. Unit {0})
-        imports-person_steps (λ e. imports-each_any (entries_in person_command bytes)) good
+        person_steps (λ e. each_any (entries_in person_command bytes)) good
     by Choices few short before good =
         imports-tried-leads office label Choices bytes l new few short before choices_command
-        (λ entry. IsChoices entry.choices) imports-choices_steps (imports-each_recordable bytes) good
+        (λ entry. IsChoices entry.choices) choices_steps (each_recordable bytes) good
     by Grades few short before good =
         imports-tried-leads office label Grades bytes l new few short before grade_command (λ x. Unit {0})
-        imports-grade_steps (λ e. imports-each_any (entries_in grade_command bytes)) good
+        grade_steps (λ e. each_any (entries_in grade_command bytes)) good
 
-pub imports-import-leads : (office : Office) (label : Text) (kind : ListKind) (bytes : List ℕ)
+pub import-leads : (office : Office) (label : Text) (kind : ListKind) (bytes : List ℕ)
     → IsLawful office → first_refusal (checks office label kind bytes) ≡ None
-    → LeadsOn office (next office label kind bytes) (changes_of office label kind bytes)
-imports-import-leads office label kind bytes l h =
+    → LeadsTo office (next office label kind bytes) (changes_of office label kind bytes)
+import-leads office label kind bytes l h =
     elim (map.get office.lists label) as
     (λ o. map.get office.lists label ≡ o → first_refusal (checks_where o office kind bytes) ≡ None
-    → LeadsOn office (next_where o office label kind bytes) (changes_where o label kind bytes)) [
+    → LeadsTo office (next_where o office label kind bytes) (changes_where o label kind bytes)) [
       | Some kept ↦ λ known. λ ok.
           record { leads = refl; apart = l.register.homes; fits = tt; lawful = l }
-      | None ↦ λ new. λ ok. imports-new-leads office label kind bytes l new ok
+      | None ↦ λ new. λ ok. new-leads office label kind bytes l new ok
     ] refl h

@@ -7,7 +7,7 @@ use Rattle.std.proofs.lemmas.Bool.{not-false}
 use Rattle.std.proofs.lemmas.List.Elements.{All-nil, All-cons}
 use Rattle.std.specs.FinMap as map
 use Rattle.room_types.specs.Texts.{Text}
-use Rattle.room_types.proofs.options.Options.{options-none_if_not_some}
+use Rattle.room_types.proofs.options.Options.{none_if_not_some}
 use Rattle.office_state.specs.Office.{knows_room, tenant}
 use Rattle.office_state.specs.declared.office.Office.{Office}
 use Rattle.office_core.specs.Refusal.Checks.{Check, first_refusal, room_checks, home_checks}
@@ -18,34 +18,34 @@ abbrev pub NoneApplies : List Check → Type 0
 NoneApplies [] = Unit {0}
 NoneApplies (check ∷ others) = (check.0 ≡ false) × NoneApplies others
 
-pub refusals-none_applies : (list : List Check) → first_refusal list ≡ None → NoneApplies list
-refusals-none_applies [] h = tt
-refusals-none_applies (check ∷ others) h =
+pub none_applies : (list : List Check) → first_refusal list ≡ None → NoneApplies list
+none_applies [] h = tt
+none_applies (check ∷ others) h =
     elim (check.0) as (λ b. cond b (Some check.1) (first_refusal others) ≡ None
     → (b ≡ false) × NoneApplies others) [
       | true ↦ λ e. cc
-      | false ↦ λ e. (refl, refusals-none_applies others e)
+      | false ↦ λ e. (refl, none_applies others e)
     ] h
 
 -- a room that passes its checks is recorded as not shut
-refusals-open_room : (o : Option Bool) → not (is_some o) ≡ false → unwrap_or o false ≡ false → o ≡ Some false
-refusals-open_room None known unshut = cc
-refusals-open_room (Some shut) known unshut = ap (λ b. Some b) unshut
+open_room : (o : Option Bool) → not (is_some o) ≡ false → unwrap_or o false ≡ false → o ≡ Some false
+open_room None known unshut = cc
+open_room (Some shut) known unshut = ap (λ b. Some b) unshut
 
 -- a room that passes the checks of a home is not shut and has no tenant
 pub refusals-may_live : (office : Office) (room : Text) → NoneApplies (home_checks office room)
     → (map.get office.rooms room ≡ Some false) × (tenant office room ≡ None)
 refusals-may_live office room n =
-    (refusals-open_room (map.get office.rooms room) n.0 n.1.0, options-none_if_not_some (tenant office room) n.1.1.0)
+    (open_room (map.get office.rooms room) n.0 n.1.0, none_if_not_some (tenant office room) n.1.1.0)
 
 -- the same for an optional home, with other checks after its own
-pub refusals-may_live_if_any : (office : Office) (home : Option Text) (others : List Check)
+pub refusals-may_have_home : (office : Office) (home : Option Text) (others : List Check)
     → NoneApplies (home_checks_if_any office home ++ others)
     → ((room : Text) → home ≡ Some room
     → (map.get office.rooms room ≡ Some false) × (tenant office room ≡ None))
     × NoneApplies others
-refusals-may_live_if_any office None others n = ((λ room e. cc), n)
-refusals-may_live_if_any office (Some home) others n =
+refusals-may_have_home office None others n = ((λ room e. cc), n)
+refusals-may_have_home office (Some home) others n =
     let may = refusals-may_live office home (n.0, (n.1.0, (n.1.1.0, tt))) in (
       (λ room e.
           let same : home ≡ room = cc in (
@@ -56,10 +56,10 @@ refusals-may_live_if_any office (Some home) others n =
       n.1.1.1,
     )
 
-pub refusals-known_all : (office : Office) (codes : List Text)
+pub known_all : (office : Office) (codes : List Text)
     → NoneApplies (flat_map (room_checks office) codes)
     → All (λ code. knows_room office code ≡ true) codes
-refusals-known_all office [] n = All-nil (λ c. knows_room office c ≡ true)
-refusals-known_all office (code ∷ codes) n =
+known_all office [] n = All-nil (λ c. knows_room office c ≡ true)
+known_all office (code ∷ codes) n =
     All-cons (λ c. knows_room office c ≡ true) code codes (not-false (knows_room office code) n.0)
-    (refusals-known_all office codes n.1.1)
+    (known_all office codes n.1.1)

@@ -7,22 +7,22 @@ use Rattle.std.specs.FinMap.{len-entries}
 use Rattle.room_types.specs.Texts.{Text, TextMap}
 use Rattle.office_state.specs.Empty.{is_empty}
 
-reply_rows-none_of_none : {A B : Type 0} (f : A → B) (es : List A) → eqb (length es) 0 ≡ true → map f es ≡ []
-reply_rows-none_of_none f [] e = refl
-reply_rows-none_of_none f (x ∷ es) e = absurd (omega (arith, eqb-true (length (x ∷ es)) 0 e))
+none_of_none : {A B : Type 0} (f : A → B) (es : List A) → eqb (length es) 0 ≡ true → map f es ≡ []
+none_of_none f [] e = refl
+none_of_none f (x ∷ es) e = absurd (omega (arith, eqb-true (length (x ∷ es)) 0 e))
 
-reply_rows-some_of_some : {A B : Type 0} (f : A → B) (es : List A) → eqb (length es) 0 ≡ false
+some_of_some : {A B : Type 0} (f : A → B) (es : List A) → eqb (length es) 0 ≡ false
     → is_empty (map f es) ≡ false
-reply_rows-some_of_some f [] e = cc
-reply_rows-some_of_some f (x ∷ es) e = refl
+some_of_some f [] e = cc
+some_of_some f (x ∷ es) e = refl
 
 pub reply_rows_no_rows : {X B : Type 0} (f : Text × X → B) (m : TextMap X) → eqb (maps.len m) 0 ≡ true
     → map f (maps.entries m) ≡ []
-reply_rows_no_rows f m e = reply_rows-none_of_none f (maps.entries m) (ap (λ n. eqb n 0) (sym (len-entries m)) ∙ e)
+reply_rows_no_rows f m e = none_of_none f (maps.entries m) (ap (λ n. eqb n 0) (sym (len-entries m)) ∙ e)
 
 pub reply_rows_some_rows : {X B : Type 0} (f : Text × X → B) (m : TextMap X) → eqb (maps.len m) 0 ≡ false
     → is_empty (map f (maps.entries m)) ≡ false
-reply_rows_some_rows f m e = reply_rows-some_of_some f (maps.entries m) (ap (λ n. eqb n 0) (sym (len-entries m)) ∙ e)
+reply_rows_some_rows f m e = some_of_some f (maps.entries m) (ap (λ n. eqb n 0) (sym (len-entries m)) ∙ e)
 
 pub reply_rows_some_ordered : {A B : Type 0} (f : A → B) (es : List A) → 0 < length es
     → is_empty (map f es) ≡ false

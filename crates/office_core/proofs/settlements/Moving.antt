@@ -15,63 +15,63 @@ use Rattle.std.proofs.lemmas.List.FromFn.{get_or-map-range_with_len}
 use Rattle.std.proofs.lemmas.List.Sorted.{All-permutation, Contains-permutation, list_any-IsPermutation, ranks_by, sorted_far}
 use Rattle.std.proofs.lemmas.List.Sums.{passes_at_first}
 use Rattle.room_types.specs.Ascending.{ascending}
-use Rattle.room_types.proofs.maps.TextMaps.{maps-tied_text}
+use Rattle.room_types.proofs.maps.TextMaps.{tied_text}
 use Rattle.room_types.specs.Texts.{Text, text_cmp}
 use Rattle.room_types.specs.declared.moves.Move.{Move}
 use Rattle.room_types.specs.declared.moves.Wave.{Wave}
 use Rattle.room_types.specs.declared.moves.Wave.TheVariants.{Swap, Nth}
 use Rattle.room_types.proofs.arranged.Arrangements.{arranged-one_arrangement}
 use Rattle.office_lists.specs.MoveDay.{is_swap, move_cmp, wave_cmp}
-use Rattle.office_lists.specs.Waves.{Mover, NewRoomsDiffer, leaver, leavers, end_numbers, next, wave_of, waves_of, IsWave}
+use Rattle.office_lists.specs.Waves.{Relocation, NewRoomsDiffer, leaver, leavers, end_numbers, next, wave_of, waves_of, IsWave}
 use Rattle.office_lists.proofs.move_days.Following.{move_days-number-later}
-use Rattle.office_lists.proofs.move_days.Leavers.{move_days-as_many_waves, has_left, move_days-has_left_room, move_days-left_room, move_days-one_wave_each, move_days-position_found}
-use Rattle.office_lists.proofs.move_days.Lists.{move_days-move_total}
+use Rattle.office_lists.proofs.move_days.Leavers.{move_days-length-waves_of, has_left, has_left_room, left_room, move_days-one_wave_each, position_found}
+use Rattle.office_lists.proofs.move_days.MoveDayLists.{move_total}
 use Rattle.office_state.specs.Round.Settlement.{moves_with}
-use Rattle.office_state.proofs.moving_people.Movers.{is_mover}
-use Rattle.office_core.specs.Command.Settle.{first_out, goers, swaps}
+use Rattle.office_state.proofs.moving_people.Relocations.{relocates}
+use Rattle.office_core.specs.Command.Settle.{first_out, departures, swaps}
 
 -- a move as a relocation, without its round and wave
-abbrev pub mover_of : Move → Mover
-mover_of move = (move.person, move.from, move.to)
+abbrev pub relocation_of : Move → Relocation
+relocation_of move = (move.person, move.from, move.to)
 
 -- ---- the same people
 
-settlements-any_mover : (ms : List Move) (q : Text)
-    → is_mover (map_list mover_of ms) q ≡ list_any (λ (m : Move). eq_by_cmp text_cmp q m.person) ms
-settlements-any_mover [] q = refl
-settlements-any_mover (m ∷ ms) q = ap (λ b. eq_by_cmp text_cmp q m.person || b) (settlements-any_mover ms q)
+any_relocation : (ms : List Move) (q : Text)
+    → relocates (map_list relocation_of ms) q ≡ list_any (λ (m : Move). eq_by_cmp text_cmp q m.person) ms
+any_relocation [] q = refl
+any_relocation (m ∷ ms) q = ap (λ b. eq_by_cmp text_cmp q m.person || b) (any_relocation ms q)
 
-pub settlements-is_mover-ascending : (ms : List Move) (q : Text)
-    → is_mover (map_list mover_of (ascending move_cmp ms)) q ≡ is_mover (map_list mover_of ms) q
-settlements-is_mover-ascending ms q =
-    settlements-any_mover (ascending move_cmp ms) q
+pub relocates-ascending : (ms : List Move) (q : Text)
+    → relocates (map_list relocation_of (ascending move_cmp ms)) q ≡ relocates (map_list relocation_of ms) q
+relocates-ascending ms q =
+    any_relocation (ascending move_cmp ms) q
     ∙ sym (list_any-IsPermutation (λ (m : Move). eq_by_cmp text_cmp q m.person) ms
-    (ascending move_cmp ms) (arranged-one_arrangement move_cmp move_days-move_total ms).some.same_items)
-    ∙ sym (settlements-any_mover ms q)
+    (ascending move_cmp ms) (arranged-one_arrangement move_cmp move_total ms).some.same_items)
+    ∙ sym (any_relocation ms q)
 
 -- a person of one of the moves that pass a test is a person of one of all moves
-settlements-is_mover-some : (test : Move → Bool) (ms : List Move) (q : Text)
-    → is_mover (map_list mover_of (filter test ms)) q ≡ true → is_mover (map_list mover_of ms) q ≡ true
-settlements-is_mover-some test [] q h = h
-settlements-is_mover-some test (m ∷ ms) q h =
+relocates-some : (test : Move → Bool) (ms : List Move) (q : Text)
+    → relocates (map_list relocation_of (filter test ms)) q ≡ true → relocates (map_list relocation_of ms) q ≡ true
+relocates-some test [] q h = h
+relocates-some test (m ∷ ms) q h =
     elim (test m) as
-    (λ b. is_mover (map_list mover_of (cond b (m ∷ filter test ms) (filter test ms))) q ≡ true
-    → is_mover (map_list mover_of (m ∷ ms)) q ≡ true) [
+    (λ b. relocates (map_list relocation_of (cond b (m ∷ filter test ms) (filter test ms))) q ≡ true
+    → relocates (map_list relocation_of (m ∷ ms)) q ≡ true) [
       | true ↦ λ there. elim (eq_by_cmp text_cmp q m.person) as
-          (λ b. (b || is_mover (map_list mover_of (filter test ms)) q) ≡ true
-          → (b || is_mover (map_list mover_of ms) q) ≡ true) [
+          (λ b. (b || relocates (map_list relocation_of (filter test ms)) q) ≡ true
+          → (b || relocates (map_list relocation_of ms) q) ≡ true) [
             | true ↦ λ _. refl
-            | false ↦ settlements-is_mover-some test ms q
+            | false ↦ relocates-some test ms q
           ] there
-      | false ↦ λ there. or_right (eq_by_cmp text_cmp q m.person) _ (settlements-is_mover-some test ms q there)
+      | false ↦ λ there. or_right (eq_by_cmp text_cmp q m.person) _ (relocates-some test ms q there)
     ] h
 
-settlements-is_mover-append : (ms others : List Move) (q : Text)
-    → is_mover (map_list mover_of (ms ++ others)) q
-    ≡ (is_mover (map_list mover_of ms) q || is_mover (map_list mover_of others) q)
-settlements-is_mover-append [] others q = refl
-settlements-is_mover-append (m ∷ ms) others q =
-    ap (λ b. eq_by_cmp text_cmp q m.person || b) (settlements-is_mover-append ms others q)
+relocates-append : (ms others : List Move) (q : Text)
+    → relocates (map_list relocation_of (ms ++ others)) q
+    ≡ (relocates (map_list relocation_of ms) q || relocates (map_list relocation_of others) q)
+relocates-append [] others q = refl
+relocates-append (m ∷ ms) others q =
+    ap (λ b. eq_by_cmp text_cmp q m.person || b) (relocates-append ms others q)
     ∙ either (eq_by_cmp text_cmp q m.person) _ _
   where
     either : (a b c : Bool) → (a || (b || c)) ≡ ((a || b) || c)
@@ -79,87 +79,87 @@ settlements-is_mover-append (m ∷ ms) others q =
     either false b c = refl
 
 -- a person who leaves before anybody arrives is a person of one of the moves
-pub settlements-is_mover-first_out : (ms : List Move) (q : Text)
-    → is_mover (map_list mover_of (first_out ms)) q ≡ true → is_mover (map_list mover_of ms) q ≡ true
-settlements-is_mover-first_out ms q h =
-    by (is_mover (map_list mover_of (goers ms)) q) (is_mover (map_list mover_of (swaps ms)) q)
-    (settlements-is_mover-some (λ move. not (is_some move.to)) ms q)
-    (settlements-is_mover-some (λ move. is_swap move.wave) ms q)
-    (sym (settlements-is_mover-append (goers ms) (swaps ms) q) ∙ h)
+pub relocates-first_out : (ms : List Move) (q : Text)
+    → relocates (map_list relocation_of (first_out ms)) q ≡ true → relocates (map_list relocation_of ms) q ≡ true
+relocates-first_out ms q h =
+    by (relocates (map_list relocation_of (departures ms)) q) (relocates (map_list relocation_of (swaps ms)) q)
+    (relocates-some (λ move. not (is_some move.to)) ms q)
+    (relocates-some (λ move. is_swap move.wave) ms q)
+    (sym (relocates-append (departures ms) (swaps ms) q) ∙ h)
   where
-    by : (a b : Bool) → (a ≡ true → is_mover (map_list mover_of ms) q ≡ true)
-        → (b ≡ true → is_mover (map_list mover_of ms) q ≡ true) → (a || b) ≡ true
-        → is_mover (map_list mover_of ms) q ≡ true
+    by : (a b : Bool) → (a ≡ true → relocates (map_list relocation_of ms) q ≡ true)
+        → (b ≡ true → relocates (map_list relocation_of ms) q ≡ true) → (a || b) ≡ true
+        → relocates (map_list relocation_of ms) q ≡ true
     by true b f g e = f refl
     by false b f g e = g e
 
 -- a person who does not leave before anybody arrives does not swap
-pub settlements-no_swap : (ms : List Move) (q : Text)
-    → is_mover (map_list mover_of (first_out ms)) q ≡ false → is_mover (map_list mover_of (swaps ms)) q ≡ false
-settlements-no_swap ms q h =
-    (or_parts (is_mover (map_list mover_of (goers ms)) q) (is_mover (map_list mover_of (swaps ms)) q)
-    (sym (settlements-is_mover-append (goers ms) (swaps ms) q) ∙ h)).1
+pub no_swap : (ms : List Move) (q : Text)
+    → relocates (map_list relocation_of (first_out ms)) q ≡ false → relocates (map_list relocation_of (swaps ms)) q ≡ false
+no_swap ms q h =
+    (or_parts (relocates (map_list relocation_of (departures ms)) q) (relocates (map_list relocation_of (swaps ms)) q)
+    (sym (relocates-append (departures ms) (swaps ms) q) ∙ h)).1
 
 -- the person of a move whose wave is a swap is among those who swap
-settlements-swap_at : (ms : List Move) (k : ℕ) (d : Move) → k < length ms → is_swap (get_or ms k d).wave ≡ true
-    → is_mover (map_list mover_of (swaps ms)) (get_or ms k d).person ≡ true
-settlements-swap_at [] k d within h = absurd (omega arith)
-settlements-swap_at (m ∷ ms) zero d within h =
-    ap (λ b. is_mover (map_list mover_of (cond b (m ∷ swaps ms) (swaps ms))) m.person) h
-    ∙ ap (λ o. is_eq o || is_mover (map_list mover_of (swaps ms)) m.person)
+swap_at : (ms : List Move) (k : ℕ) (d : Move) → k < length ms → is_swap (get_or ms k d).wave ≡ true
+    → relocates (map_list relocation_of (swaps ms)) (get_or ms k d).person ≡ true
+swap_at [] k d within h = absurd (omega arith)
+swap_at (m ∷ ms) zero d within h =
+    ap (λ b. relocates (map_list relocation_of (cond b (m ∷ swaps ms) (swaps ms))) m.person) h
+    ∙ ap (λ o. is_eq o || relocates (map_list relocation_of (swaps ms)) m.person)
     (tied_itself nat_list_cmp_total m.person)
-settlements-swap_at (m ∷ ms) (suc k) d within h =
-    let there = settlements-swap_at ms k d (omega (arith, within)) h in
+swap_at (m ∷ ms) (suc k) d within h =
+    let there = swap_at ms k d (omega (arith, within)) h in
     elim (is_swap m.wave) as
-    (λ b. is_mover (map_list mover_of (cond b (m ∷ swaps ms) (swaps ms))) (get_or ms k d).person ≡ true) [
+    (λ b. relocates (map_list relocation_of (cond b (m ∷ swaps ms) (swaps ms))) (get_or ms k d).person ≡ true) [
       | true ↦ or_right (eq_by_cmp text_cmp (get_or ms k d).person m.person) _ there
       | false ↦ there
     ]
 
 -- a person who relocates has a position in the list
-settlements-mover_at : (ms : List Mover) (q : Text) → is_mover ms q ≡ true
-    → (j : ℕ) × (j < length ms) × ((d : Mover) → (get_or ms j d).0 ≡ q)
-settlements-mover_at ms q h =
-    let there = Any-from_list_any (λ (m : Mover). eq_by_cmp text_cmp q m.0) ms h in (
+relocation_at : (ms : List Relocation) (q : Text) → relocates ms q ≡ true
+    → (j : ℕ) × (j < length ms) × ((d : Relocation) → (get_or ms j d).0 ≡ q)
+relocation_at ms q h =
+    let there = Any-from_list_any (λ (m : Relocation). eq_by_cmp text_cmp q m.0) ms h in (
       there.0,
       there.2,
-      λ d. ap (λ (m : Mover). m.0) (get_or_default ms there.0 d there.1 there.2 ∙ there.3)
-          ∙ sym (maps-tied_text q there.1.0 there.4),
+      λ d. ap (λ (m : Relocation). m.0) (get_or_default ms there.0 d there.1 there.2 ∙ there.3)
+          ∙ sym (tied_text q there.1.0 there.4),
     )
 
 -- ---- the moves of the relocations
 
-pub settlements-movers_of : (n : ℕ) (ms : List Mover) (ws : List Wave) → length ws ≡ length ms
-    → map_list mover_of (moves_with n ms ws) ≡ ms
-settlements-movers_of n [] [] h = refl
-settlements-movers_of n [] (w ∷ ws) h = absurd (omega (arith, h))
-settlements-movers_of n (m ∷ ms) [] h = absurd (omega (arith, h))
-settlements-movers_of n (m ∷ ms) (w ∷ ws) h = ap (λ others. m ∷ others) (settlements-movers_of n ms ws (omega (arith, h)))
+pub relocations_of : (n : ℕ) (ms : List Relocation) (ws : List Wave) → length ws ≡ length ms
+    → map_list relocation_of (moves_with n ms ws) ≡ ms
+relocations_of n [] [] h = refl
+relocations_of n [] (w ∷ ws) h = absurd (omega (arith, h))
+relocations_of n (m ∷ ms) [] h = absurd (omega (arith, h))
+relocations_of n (m ∷ ms) (w ∷ ws) h = ap (λ others. m ∷ others) (relocations_of n ms ws (omega (arith, h)))
 
-pub settlements-length-moves_with : (n : ℕ) (ms : List Mover) (ws : List Wave) → length ws ≡ length ms
+pub length-moves_with : (n : ℕ) (ms : List Relocation) (ws : List Wave) → length ws ≡ length ms
     → length (moves_with n ms ws) ≡ length ms
-settlements-length-moves_with n ms ws h =
-    sym (length-map (moves_with n ms ws) mover_of) ∙ ap length (settlements-movers_of n ms ws h)
+length-moves_with n ms ws h =
+    sym (length-map (moves_with n ms ws) relocation_of) ∙ ap length (relocations_of n ms ws h)
 
 -- the move of relocation `k`
-abbrev move_at : ℕ → List Mover → List Wave → ℕ → Move
+abbrev move_at : ℕ → List Relocation → List Wave → ℕ → Move
 move_at n ms ws k =
-    let m : Mover = get_or ms k ([], None, None) in
+    let m : Relocation = get_or ms k ([], None, None) in
     record { round = n; person = m.0; from = m.1; to = m.2; wave = get_or ws k Swap }
 
-settlements-moves_with-at : (n : ℕ) (ms : List Mover) (ws : List Wave) (k : ℕ) (d : Move) → length ws ≡ length ms
+moves_with-at : (n : ℕ) (ms : List Relocation) (ws : List Wave) (k : ℕ) (d : Move) → length ws ≡ length ms
     → k < length ms → get_or (moves_with n ms ws) k d ≡ move_at n ms ws k
-settlements-moves_with-at n [] ws k d h within = absurd (omega arith)
-settlements-moves_with-at n (m ∷ ms) [] k d h within = absurd (omega (arith, h))
-settlements-moves_with-at n (m ∷ ms) (w ∷ ws) zero d h within = refl
-settlements-moves_with-at n (m ∷ ms) (w ∷ ws) (suc k) d h within =
-    settlements-moves_with-at n ms ws k d (omega (arith, h)) (omega (arith, within))
+moves_with-at n [] ws k d h within = absurd (omega arith)
+moves_with-at n (m ∷ ms) [] k d h within = absurd (omega (arith, h))
+moves_with-at n (m ∷ ms) (w ∷ ws) zero d h within = refl
+moves_with-at n (m ∷ ms) (w ∷ ws) (suc k) d h within =
+    moves_with-at n ms ws k d (omega (arith, h)) (omega (arith, within))
 
-pub settlements-all_moves : (P : Move → Type 0) (n : ℕ) (ms : List Mover) (ws : List Wave) → length ws ≡ length ms
+pub all_moves : (P : Move → Type 0) (n : ℕ) (ms : List Relocation) (ws : List Wave) → length ws ≡ length ms
     → ((k : ℕ) → k < length ms → P (move_at n ms ws k)) → All P (moves_with n ms ws)
-settlements-all_moves P n ms ws many h = λ k d within.
-    let in' : k < length ms = omega (arith, within, settlements-length-moves_with n ms ws many) in
-    subst P (sym (settlements-moves_with-at n ms ws k d many in')) (h k in')
+all_moves P n ms ws many h = λ k d within.
+    let in' : k < length ms = omega (arith, within, length-moves_with n ms ws many) in
+    subst P (sym (moves_with-at n ms ws k d many in')) (h k in')
 
 -- ---- who comes before
 
@@ -179,11 +179,11 @@ IsCleared home moves m = (q room : Text) → m.to ≡ Some room → home q ≡ S
     → (q ≡ m.person)
     ⊎ ((b : Move) × Contains moves b × (b.person ≡ q) × (is_lt (move_cmp b m) ≡ true))
 
-pub settlements-empty_in_order : (home : Text → Option Text) (moves : List Move)
+pub empty_in_order : (home : Text → Option Text) (moves : List Move)
     → All (IsCleared home moves) moves → FindEmpty home (ascending move_cmp moves)
-settlements-empty_in_order home moves h =
+empty_in_order home moves h =
     let rows = ascending move_cmp moves in
-    let so = (arranged-one_arrangement move_cmp move_days-move_total moves).some in
+    let so = (arranged-one_arrangement move_cmp move_total moves).some in
     let each : All (IsCleared home moves) rows =
     All-permutation (IsCleared home moves) moves rows so.same_items h in
     λ k d within q room goes lives. elim (each k d within q room goes lives) as
@@ -199,29 +199,29 @@ settlements-empty_in_order home moves h =
             | inl before ↦ inr (there.0, before, ap (λ (m : Move). m.person) at ∙ below.2)
             | inr after ↦
                 let far : is_lt (move_cmp (get_or rows there.0 d) (get_or rows k d)) ≡ false =
-                sorted_far (λ x y. is_lt (move_cmp x y)) (ranks_by move_days-move_total (λ x. x)) rows so.ascends k there.0 d
+                sorted_far (λ x y. is_lt (move_cmp x y)) (ranks_by move_total (λ x. x)) rows so.ascends k there.0 d
                 (omega (arith, after)) there.1 in
                 absurd (false≢true (sym far ∙ ap (λ b. is_lt (move_cmp b (get_or rows k d))) at ∙ below.3))
           ]
     ]
 
 -- a move of a wave is below any move of the next wave
-settlements-next_wave : (n : ℕ) (a b : Move) → a.wave ≡ Nth n → b.wave ≡ Nth (suc n) → is_lt (move_cmp a b) ≡ true
-settlements-next_wave n a b p q =
+next_wave : (n : ℕ) (a b : Move) → a.wave ≡ Nth n → b.wave ≡ Nth (suc n) → is_lt (move_cmp a b) ≡ true
+next_wave n a b p q =
     (λ i. is_lt (ordering_then (wave_cmp (p i) (q i)) (text_cmp a.person b.person)))
     ∙ ap (λ c. is_lt (ordering_then c (text_cmp a.person b.person)))
     (sym (nat_cmp_is n (suc n) Less (omega arith)))
 
 -- `before` gives the homes before the day, no two in one room, and `now` the homes once those who swap have left. The old room of
 -- a relocation is the person's home, and anyone who lived in its new room is its person, or relocates too.
-module _ (n : ℕ) (ms : List Mover) (differ : NewRoomsDiffer ms) (before now : Text → Option Text)
+module _ (n : ℕ) (ms : List Relocation) (differ : NewRoomsDiffer ms) (before now : Text → Option Text)
     (apart : (p q room : Text) → before p ≡ Some room → before q ≡ Some room → p ≡ q)
     (from : (k : ℕ) → k < length ms → (get_or ms k ([], None, None)).1 ≡ before (get_or ms k ([], None, None)).0)
     (kept : (q room : Text) → now q ≡ Some room → (before q ≡ Some room)
-    × (is_mover (map_list mover_of (swaps (moves_with n ms (waves_of ms)))) q ≡ false))
+    × (relocates (map_list relocation_of (swaps (moves_with n ms (waves_of ms)))) q ≡ false))
     (known : (k : ℕ) (q room : Text) → k < length ms → (get_or ms k ([], None, None)).2 ≡ Some room
-    → before q ≡ Some room → (q ≡ (get_or ms k ([], None, None)).0) ⊎ (is_mover ms q ≡ true)) where
-  abbrev nobody : Mover
+    → before q ≡ Some room → (q ≡ (get_or ms k ([], None, None)).0) ⊎ (relocates ms q ≡ true)) where
+  abbrev nobody : Relocation
   nobody = ([], None, None)
 
   abbrev moves : List Move
@@ -235,36 +235,36 @@ module _ (n : ℕ) (ms : List Mover) (differ : NewRoomsDiffer ms) (before now : 
 
   -- the relocation of the person who lives in the new room of relocation `i`, if that person relocates
   settlements-holder : (i : ℕ) (q room : Text) → i < length ms → (get_or ms i nobody).2 ≡ Some room
-      → before q ≡ Some room → is_mover ms q ≡ true
+      → before q ≡ Some room → relocates ms q ≡ true
       → (k : ℕ) × (k < length ms) × ((get_or ms k nobody).0 ≡ q) × (next (leavers ms) i ≡ Some k)
-  settlements-holder i q room within goes lives mover =
-      let at = settlements-mover_at ms q mover in
+  settlements-holder i q room within goes lives relocation =
+      let at = relocation_at ms q relocation in
       let old : (get_or ms at.0 nobody).1 ≡ Some room =
       from at.0 at.1 ∙ ap before (at.2 nobody) ∙ lives in
-      let found = move_days-position_found (has_left room) ms at.0 nobody at.1 (move_days-has_left_room room (get_or ms at.0 nobody) old) in
+      let found = position_found (has_left room) ms at.0 nobody at.1 (has_left_room room (get_or ms at.0 nobody) old) in
       let k : ℕ = position_or_len (has_left room) ms in
       let there : (get_or ms k nobody).1 ≡ Some room =
-      move_days-left_room room (get_or ms k nobody) (passes_at_first (has_left room) ms nobody found.0) in (
+      left_room room (get_or ms k nobody) (passes_at_first (has_left room) ms nobody found.0) in (
         k,
         found.0,
         apart _ q room (sym (from k found.0) ∙ there) lives,
-        get_or-map (λ (entry : Mover). option_and_then (leaver ms) entry.2) ms i nobody None within
+        get_or-map (λ (entry : Relocation). option_and_then (leaver ms) entry.2) ms i nobody None within
             ∙ ap (option_and_then (leaver ms)) goes ∙ found.1,
       )
 
   pub settlements-all_cleared : All (IsCleared now moves) moves
-  settlements-all_cleared = settlements-all_moves (IsCleared now moves) n ms (waves_of ms) (move_days-as_many_waves ms) (λ i within q room goes lives.
+  settlements-all_cleared = all_moves (IsCleared now moves) n ms (waves_of ms) (move_days-length-waves_of ms) (λ i within q room goes lives.
       let lived = kept q room lives in
       elim (known i q room within goes lived.0) as
       (λ _. (q ≡ (get_or ms i nobody).0) ⊎ ((b : Move) × Contains moves b × (b.person ≡ q)
       × (is_lt (move_cmp b (move_at n ms (waves_of ms) i)) ≡ true))) [
         | inl own ↦ inl own
-        | inr mover ↦
+        | inr relocation ↦
             let one = move_days-one_wave_each ms differ in
-            let h = settlements-holder i q room within goes lived.0 mover in
+            let h = settlements-holder i q room within goes lived.0 relocation in
             let b : Move = move_at n ms (waves_of ms) h.0 in
-            let is : get_or moves h.0 b ≡ b = settlements-moves_with-at n ms (waves_of ms) h.0 b (move_days-as_many_waves ms) h.1 in
-            let in' : h.0 < length moves = omega (arith, h.1, settlements-length-moves_with n ms (waves_of ms) (move_days-as_many_waves ms)) in
+            let is : get_or moves h.0 b ≡ b = moves_with-at n ms (waves_of ms) h.0 b (move_days-length-waves_of ms) h.1 in
+            let in' : h.0 < length moves = omega (arith, h.1, length-moves_with n ms (waves_of ms) (move_days-length-waves_of ms)) in
             inr (
               b,
               (h.0, in', is),
@@ -272,16 +272,16 @@ module _ (n : ℕ) (ms : List Mover) (differ : NewRoomsDiffer ms) (before now : 
               elim (wave h.0) as
                   (λ w. wave h.0 ≡ w → is_lt (move_cmp b (move_at n ms (waves_of ms) i)) ≡ true) [
                     | Swap ↦ λ swap.
-                        let gone = settlements-swap_at moves h.0 b in'
+                        let gone = swap_at moves h.0 b in'
                         (ap (λ (m : Move). is_swap m.wave) is ∙ ap is_swap (settlements-wave_is h.0 h.1 ∙ swap)) in
                         absurd (false≢true (sym lived.1
-                        ∙ ap (is_mover (map_list mover_of (swaps moves))) (sym (ap (λ (m : Move). m.person) is ∙ h.2))
+                        ∙ ap (relocates (map_list relocation_of (swaps moves))) (sym (ap (λ (m : Move). m.person) is ∙ h.2))
                         ∙ gone))
                     | Nth number ↦ λ numbered.
                         let later : IsWave (end_numbers ms) (leavers ms) i (Nth (suc number)) =
                         move_days-number-later (end_numbers ms) (leavers ms) number i h.0 h.3
                         (subst (IsWave (end_numbers ms) (leavers ms) h.0) numbered (one.some h.0 h.1)) in
-                        settlements-next_wave number b (move_at n ms (waves_of ms) i) (settlements-wave_is h.0 h.1 ∙ numbered)
+                        next_wave number b (move_at n ms (waves_of ms) i) (settlements-wave_is h.0 h.1 ∙ numbered)
                         (settlements-wave_is i within ∙ sym (one.one i (Nth (suc number)) within later))
                   ] refl,
             )

@@ -6,14 +6,14 @@ use Rattle.std.proofs.lemmas.List.Elements.{filter_more}
 use Rattle.room_types.specs.declared.moves.Move.{Move}
 use Rattle.room_types.specs.declared.moves.Wave.{Wave}
 use Rattle.office_lists.specs.MoveDay.{is_swap}
-use Rattle.office_lists.specs.Waves.{Mover, waves_of}
-use Rattle.office_lists.proofs.move_days.Leavers.{move_days-as_many_waves}
-use Rattle.office_state.specs.Round.Settlement.{movers, moves_with, settled_moves}
+use Rattle.office_lists.specs.Waves.{Relocation, waves_of}
+use Rattle.office_lists.proofs.move_days.Leavers.{move_days-length-waves_of}
+use Rattle.office_state.specs.Round.Settlement.{relocations, moves_with, settled_moves}
 use Rattle.office_state.specs.declared.office.Office.{Office}
-use Rattle.office_core.specs.Command.Settle.{goers, swaps}
-use Rattle.office_core.proofs.settlements.Moving.{settlements-length-moves_with}
+use Rattle.office_core.specs.Command.Settle.{departures, swaps}
+use Rattle.office_core.proofs.settlements.Moving.{length-moves_with}
 
-pub settlements_moves_with_more : (round : ℕ) (ms : List Mover) (waves : List Wave) (i : ℕ) (d : Mover)
+pub settlements_moves_with_more : (round : ℕ) (ms : List Relocation) (waves : List Wave) (i : ℕ) (d : Relocation)
     (e : Wave) → i < length ms → i < length waves
     → moves_with round (drop i ms) (drop i waves)
     ≡ record {
@@ -33,13 +33,13 @@ pub settlements_swaps_more : (moves : List Move) (i : ℕ) (d : Move) → i < le
     ≡ swaps (take i moves) ++ cond (is_swap (get_or moves i d).wave) (get_or moves i d ∷ []) []
 settlements_swaps_more moves i d within = filter_more (λ move. is_swap move.wave) moves i d within
 
-pub settlements_goers_more : (moves : List Move) (i : ℕ) (d : Move) → i < length moves
-    → goers (take (i + 1) moves)
-    ≡ goers (take i moves) ++ cond (not (is_some (get_or moves i d).to)) (get_or moves i d ∷ []) []
-settlements_goers_more moves i d within = filter_more (λ move. not (is_some move.to)) moves i d within
+pub settlements_departures_more : (moves : List Move) (i : ℕ) (d : Move) → i < length moves
+    → departures (take (i + 1) moves)
+    ≡ departures (take i moves) ++ cond (not (is_some (get_or moves i d).to)) (get_or moves i d ∷ []) []
+settlements_departures_more moves i d within = filter_more (λ move. not (is_some move.to)) moves i d within
 
 -- there are as many moves as relocations
-pub settlements-as_many_settled : (office : Office) → length (settled_moves office) ≡ length (movers office)
-settlements-as_many_settled office =
-    settlements-length-moves_with office.number (movers office) (waves_of (movers office))
-    (move_days-as_many_waves (movers office))
+pub as_many_settled : (office : Office) → length (settled_moves office) ≡ length (relocations office)
+as_many_settled office =
+    length-moves_with office.number (relocations office) (waves_of (relocations office))
+    (move_days-length-waves_of (relocations office))

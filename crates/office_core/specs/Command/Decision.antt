@@ -4,7 +4,7 @@ use Rattle.std.specs.Prelude.{Result}
 use Rattle.office_state.specs.Empty.{is_empty}
 use Rattle.office_state.specs.declared.change.Change.{Change}
 use Rattle.office_core.specs.Refusal.Checks.{Check, first_refusal, names_room}
-use Rattle.office_core.specs.Refusal.Checks.{tells_of_list}
+use Rattle.office_core.specs.Refusal.Checks.{names_record}
 use Rattle.office_core.specs.declared.command.decision.Decision.{Decision}
 use Rattle.office_core.specs.declared.refusal.Refusal.{Refusal}
 use Rattle.office_core.specs.declared.refusal.Refusal.TheVariants.{OutOfMemory}
@@ -12,15 +12,15 @@ use Rattle.office_core.specs.declared.reply.Reply.{Reply}
 
 -- whether deciding needs memory: for the room that the first refusal names, for the list that is read to find it, or, if none
 -- applies, for the changes, if there are any
-abbrev pub refusal_takes_memory : List Change → Option Refusal → Bool
-refusal_takes_memory changes None = not (is_empty changes)
-refusal_takes_memory changes (Some refusal) = names_room refusal || tells_of_list refusal
+abbrev pub refusal_allocates : List Change → Option Refusal → Bool
+refusal_allocates changes None = not (is_empty changes)
+refusal_allocates changes (Some refusal) = names_room refusal || names_record refusal
 
 -- the refusal is the first that applies, or `OutOfMemory` if deciding needs memory
 abbrev pub IsRefusal : List Change → List Check → Refusal → Type 0
 IsRefusal changes checks refusal =
     (first_refusal checks ≡ Some refusal)
-    ⊎ ((refusal ≡ OutOfMemory) × (refusal_takes_memory changes (first_refusal checks) ≡ true))
+    ⊎ ((refusal ≡ OutOfMemory) × (refusal_allocates changes (first_refusal checks) ≡ true))
 
 -- no check refuses, and the decision has the reply and the changes
 pub record IsDecision (checks : List Check) (reply : Reply) (changes : List Change)

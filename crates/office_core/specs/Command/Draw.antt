@@ -35,8 +35,8 @@ abbrev pub reply_to : Office → List ℕ → Reply
 reply_to office words = reply.Drawn (length (participants office))
 
 -- a change for each word
-abbrev pub words_put : List Text → List ℕ → List Change
-words_put people words = map_list (λ e. PutWord e.0 e.1) (zip people words)
+abbrev pub word_changes : List Text → List ℕ → List Change
+word_changes people words = map_list (λ e. PutWord e.0 e.1) (zip people words)
 
 abbrev pub changes_of : Office → List ℕ → List Change
-changes_of office words = words_put (participants office) words ++ PutRound office.number Drawn ∷ []
+changes_of office words = word_changes (participants office) words ++ PutRound office.number Drawn ∷ []

@@ -22,7 +22,7 @@ use Rattle.office_state.specs.declared.change.Change.{Change}
 use Rattle.office_state.specs.declared.change.Change.TheVariants.{KeepList, PutRoom, PutPerson}
 use Rattle.office_state.specs.declared.change.Change.TheVariants.{PutChoices, PutGrade}
 use Rattle.office_state.specs.declared.office.Office.{Office}
-use Rattle.office_state.specs.declared.office.kept_list.KeptList.{KeptList}
+use Rattle.office_state.specs.declared.office.stored_import.StoredImport.{StoredImport}
 use Rattle.office_core.specs.Command.AddPerson as add_person
 use Rattle.office_core.specs.Command.AddRoom as add_room
 use Rattle.office_core.specs.Command.SetChoices as set_choices
@@ -157,7 +157,7 @@ is_same_kind Grades Grades = true
 is_same_kind _ _ = false
 
 -- this is the stored list
-abbrev pub is_same_import : KeptList → ListKind → List ℕ → Bool
+abbrev pub is_same_import : StoredImport → ListKind → List ℕ → Bool
 is_same_import kept kind bytes = is_same_kind kept.kind kind && text_eq kept.bytes bytes
 
 -- a check that refuses for this, if there is a refusal
@@ -166,7 +166,7 @@ check_of None = []
 check_of (Some refusal) = (true, refusal) ∷ []
 
 -- the checks of a list under a known label
-abbrev pub known_label_checks : KeptList → ListKind → List ℕ → List Check
+abbrev pub known_label_checks : StoredImport → ListKind → List ℕ → List Check
 known_label_checks kept kind bytes = (not (is_same_import kept kind bytes), ListDiffers) ∷ []
 
 -- the checks of a list under a new label
@@ -191,20 +191,20 @@ keeping office label kind bytes =
     }
 
 -- by cases of the list stored under the label
-abbrev pub checks_where : Option KeptList → Office → ListKind → List ℕ → List Check
+abbrev pub checks_where : Option StoredImport → Office → ListKind → List ℕ → List Check
 checks_where (Some kept) office kind bytes = known_label_checks kept kind bytes
 checks_where None office kind bytes = new_label_checks office kind bytes
 
-abbrev pub next_where : Option KeptList → Office → Text → ListKind → List ℕ → Office
+abbrev pub next_where : Option StoredImport → Office → Text → ListKind → List ℕ → Office
 next_where (Some kept) office label kind bytes = office
 next_where None office label kind bytes =
     keeping (office_with kind office bytes) label kind bytes
 
-abbrev pub reply_where : Option KeptList → List ℕ → Reply
+abbrev pub reply_where : Option StoredImport → List ℕ → Reply
 reply_where (Some kept) bytes = reply.Added kept.count
 reply_where None bytes = reply.Added (record_count bytes)
 
-abbrev pub changes_where : Option KeptList → Text → ListKind → List ℕ → List Change
+abbrev pub changes_where : Option StoredImport → Text → ListKind → List ℕ → List Change
 changes_where (Some kept) label kind bytes = []
 changes_where None label kind bytes = new_label_changes label kind bytes
 

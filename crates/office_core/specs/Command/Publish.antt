@@ -2,7 +2,7 @@
 use Rattle.std.specs.Prelude.{not, List, [], ◌∷◌, length}
 use Rattle.room_types.specs.declared.phase.Phase.TheVariants.{Published}
 use Rattle.office_state.specs.Office.{participants}
-use Rattle.office_state.specs.Office.Phases.{is_ran}
+use Rattle.office_state.specs.Office.Phases.{has_run}
 use Rattle.office_state.specs.declared.office.Office.{Office}
 use Rattle.office_state.specs.declared.change.Change.{Change}
 use Rattle.office_state.specs.declared.change.Change.TheVariants.{PutRound}
@@ -12,7 +12,7 @@ use Rattle.office_core.specs.declared.reply.Reply.{Reply}
 use Rattle.office_core.specs.declared.reply.Reply.TheVariants as reply
 
 abbrev pub checks : Office → List Check
-checks office = (not (is_ran office.phase), BadPhase office.phase) ∷ []
+checks office = (not (has_run office.phase), BadPhase office.phase) ∷ []
 
 abbrev pub next : Office → Office
 next office = record office { phase = Published }

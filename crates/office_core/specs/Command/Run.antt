@@ -25,9 +25,9 @@ abbrev pub reply_to : Office → Reply
 reply_to office = reply.Ran (length (participants office))
 
 -- a change for each result
-abbrev pub result_put : Text × Assigned → Change
-result_put entry = PutResult entry.0 entry.1.room
+abbrev pub result_change : Text × Assigned → Change
+result_change entry = PutResult entry.0 entry.1.room
 
 abbrev pub changes_of : Office → List Change
 changes_of office =
-    map result_put (maps.entries (round_results office)) ++ PutRound office.number Ran ∷ []
+    map result_change (maps.entries (round_results office)) ++ PutRound office.number Ran ∷ []

@@ -8,7 +8,7 @@ use Rattle.room_types.specs.declared.moves.Move.{Move}
 use Rattle.office_lists.specs.MoveDay.{is_swap, move_cmp}
 use Rattle.office_state.specs.Change.{without_round}
 use Rattle.office_state.specs.Office.Phases.{is_published}
-use Rattle.office_state.specs.Round.Settlement.{movers, settled_moves, settled_people, with_moves}
+use Rattle.office_state.specs.Round.Settlement.{relocations, settled_moves, settled_people, with_moves}
 use Rattle.office_state.specs.declared.office.Office.{Office}
 use Rattle.office_state.specs.declared.change.Change.{Change}
 use Rattle.office_state.specs.declared.change.Change.TheVariants.{PutHome, AddMove, ClearRound}
@@ -29,7 +29,7 @@ next office = record (without_round office) {
 }
 
 abbrev pub reply_to : Office → Reply
-reply_to office = reply.Settled (length (movers office))
+reply_to office = reply.Settled (length (relocations office))
 
 -- the change by which the person of a move leaves the old room
 abbrev pub leaving : Move → Change
@@ -40,12 +40,12 @@ abbrev pub swaps : List Move → List Move
 swaps = filter (λ move. is_swap move.wave)
 
 -- the moves of those who move into no room
-abbrev pub goers : List Move → List Move
-goers = filter (λ move. not (is_some move.to))
+abbrev pub departures : List Move → List Move
+departures = filter (λ move. not (is_some move.to))
 
 -- the moves of those who leave before anybody arrives
 abbrev pub first_out : List Move → List Move
-first_out moves = goers moves ++ swaps moves
+first_out moves = departures moves ++ swaps moves
 
 -- the change by which the person of a move arrives in the new room
 abbrev pub arriving : Move → Change

@@ -12,7 +12,7 @@ use Rattle.office_state.specs.declared.office.person.Person.{Person}
 use Rattle.office_core.specs.Command.Import.{EntryCommand, changes_by, entries_in, first_denied}
 use Rattle.office_core.specs.Command.Import.{list_refusal}
 use Rattle.office_core.specs.Refusal.{number_of}
-use Rattle.office_core.specs.Refusal.Checks.{is_want}
+use Rattle.office_core.specs.Refusal.Checks.{is_out_of_memory}
 use Rattle.office_core.specs.declared.command.import.register.Register.{Register}
 use Rattle.office_core.specs.declared.refusal.Refusal.{Refusal}
 use Rattle.office_core.specs.declared.refusal.Refusal.TheVariants.{BadRecord, OutOfMemory}
@@ -20,11 +20,11 @@ use Rattle.office_core.specs.declared.refusal.Refusal.TheVariants.{BadRecord, Ou
 -- the refusal of the list for its record `at`, whose command has this refusal; `OutOfMemory` is unchanged
 abbrev pub denial_of : ℕ → Refusal → Refusal
 denial_of at refusal =
-    if is_want refusal then OutOfMemory else BadRecord at (Denied (number_of refusal))
+    if is_out_of_memory refusal then OutOfMemory else BadRecord at (Denied (number_of refusal))
 
 -- the refusal is the wanted one, or `OutOfMemory`
-abbrev pub IsOrMemory : Option Refusal → Refusal → Type 0
-IsOrMemory wanted refusal = (wanted ≡ Some refusal) ⊎ (refusal ≡ OutOfMemory)
+abbrev pub IsOrOutOfMemory : Option Refusal → Refusal → Type 0
+IsOrOutOfMemory wanted refusal = (wanted ≡ Some refusal) ⊎ (refusal ≡ OutOfMemory)
 
 -- the office refuses none of these records, and there is a change for each
 pub record AreAllowed (command : EntryCommand) (office : Office) (entries : List command.Entry)

@@ -31,15 +31,15 @@ standing_of office person kept = record {
 }
 
 -- the answer for the person with this identifier, if known
-abbrev pub told_person : Office → Text → Option Person → Result Reply Refusal
-told_person office person None = Err UnknownPerson
-told_person office person (Some kept) = Ok (reply.Me (standing_of office person kept))
+abbrev pub person_answer : Office → Text → Option Person → Result Reply Refusal
+person_answer office person None = Err UnknownPerson
+person_answer office person (Some kept) = Ok (reply.Me (standing_of office person kept))
 
 -- the answer for the owner of a key, if it has one
-abbrev pub told_owner : Office → Option Text → Result Reply Refusal
-told_owner office None = Err UnknownPerson
-told_owner office (Some person) = told_person office person (map.get office.people person)
+abbrev pub owner_answer : Office → Option Text → Result Reply Refusal
+owner_answer office None = Err UnknownPerson
+owner_answer office (Some person) = person_answer office person (map.get office.people person)
 
 -- the answer: what the owner of the key sees
-abbrev pub told : Office → Text → Result Reply Refusal
-told office key = told_owner office (owner office key)
+abbrev pub returned : Office → Text → Result Reply Refusal
+returned office key = owner_answer office (owner office key)

@@ -26,6 +26,6 @@ abbrev pub move_rows : Office → ℕ → List Move
 move_rows office round = map (move_row round) (maps.entries (moves_of office.moves round))
 
 -- the moves of the round; refused unless the round is over
-abbrev pub told : Office → ℕ → Result Reply Refusal
-told office round =
+abbrev pub returned : Office → ℕ → Result Reply Refusal
+returned office round =
     if is_over office round then Ok (reply.Moves (move_rows office round)) else Err NoSuchRound

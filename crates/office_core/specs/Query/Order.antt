@@ -22,6 +22,6 @@ abbrev pub order_rows : Office → List OrderRow
 order_rows office = map (order_row office) (round_people office)
 
 -- the order; refused before the draw
-abbrev pub told : Office → Result Reply Refusal
-told office = if has_words office.phase then Ok (reply.Order (order_rows office)) else Err
+abbrev pub returned : Office → Result Reply Refusal
+returned office = if has_words office.phase then Ok (reply.Order (order_rows office)) else Err
     (BadPhase office.phase)

@@ -15,5 +15,5 @@ person_row entry = record { person = entry.0; name = entry.1.name; home = entry.
 abbrev pub person_rows : Office → List PersonRow
 person_rows office = map person_row (maps.entries office.people)
 
-abbrev pub told : Office → Result Reply Refusal
-told office = Ok (reply.People (person_rows office))
+abbrev pub returned : Office → Result Reply Refusal
+returned office = Ok (reply.People (person_rows office))

@@ -18,6 +18,6 @@ abbrev pub result_rows : Office → List ResultRow
 result_rows office = map result_row (maps.entries office.results)
 
 -- the results; refused before the run
-abbrev pub told : Office → Result Reply Refusal
-told office = if has_results office.phase then Ok (reply.Results (result_rows office)) else Err
+abbrev pub returned : Office → Result Reply Refusal
+returned office = if has_results office.phase then Ok (reply.Results (result_rows office)) else Err
     (BadPhase office.phase)

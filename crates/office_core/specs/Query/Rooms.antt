@@ -26,5 +26,5 @@ room_row office entry =
 abbrev pub room_rows : Office → List RoomRow
 room_rows office = map (room_row office) (maps.entries office.rooms)
 
-abbrev pub told : Office → Result Reply Refusal
-told office = Ok (reply.Rooms (room_rows office))
+abbrev pub returned : Office → Result Reply Refusal
+returned office = Ok (reply.Rooms (room_rows office))

@@ -6,8 +6,8 @@ use Rattle.office_core.specs.declared.refusal.Refusal.{Refusal}
 use Rattle.office_core.specs.declared.reply.Reply.{Reply}
 use Rattle.office_core.specs.declared.reply.Reply.TheVariants as reply
 
-abbrev pub told : Office → Result Reply Refusal
-told office =
+abbrev pub returned : Office → Result Reply Refusal
+returned office =
     Ok
     (reply.Round office.number office.phase (map.len office.people) (map.len office.withdrawn)
     (map.len office.going))

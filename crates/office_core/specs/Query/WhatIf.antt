@@ -27,12 +27,12 @@ GainsNothing office person (reply.WouldGet room) =
 GainsNothing office person _ = Unit {0}
 
 -- the reply, unless there is a refusal
-abbrev pub told_unless : Option Refusal → Reply → Result Reply Refusal
-told_unless None reply = Ok reply
-told_unless (Some refusal) reply = Err refusal
+abbrev pub answer_unless : Option Refusal → Reply → Result Reply Refusal
+answer_unless None reply = Ok reply
+answer_unless (Some refusal) reply = Err refusal
 
 -- the answer: the first refusal that applies, or the room that this list would give
-abbrev pub told : Office → Text → List Text → Result Reply Refusal
-told office person choices =
-    told_unless (first_refusal (checks office person choices))
+abbrev pub returned : Office → Text → List Text → Result Reply Refusal
+returned office person choices =
+    answer_unless (first_refusal (checks office person choices))
     (reply.WouldGet (result_by office person choices))

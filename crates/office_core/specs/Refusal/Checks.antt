@@ -39,11 +39,11 @@ names_room (RoomShut room) = true
 names_room _ = false
 
 -- the refusal names a record of a list: the list is read to find it
-abbrev pub tells_of_list : Refusal → Bool
-tells_of_list (BadRecord at cause) = true
-tells_of_list _ = false
+abbrev pub names_record : Refusal → Bool
+names_record (BadRecord at cause) = true
+names_record _ = false
 
 -- the refusal is `OutOfMemory`, which is no decision of the office
-abbrev pub is_want : Refusal → Bool
-is_want OutOfMemory = true
-is_want _ = false
+abbrev pub is_out_of_memory : Refusal → Bool
+is_out_of_memory OutOfMemory = true
+is_out_of_memory _ = false

@@ -2,9 +2,9 @@
 ghost use Rattle.office_core.specs.Command.Decision.{IsDecided};
 ghost use Rattle.office_core.specs.Command.AddPerson.{checks, reply_to, changes_of};
 
-use crate::command::decision::{Decision, command_decision_with_change};
+use crate::command::decision::{Decision, decision_of_one};
 use crate::refusal::Refusal;
-use crate::refusal::rooms::may_live_if_any;
+use crate::refusal::rooms::may_have_home;
 use crate::reply::Reply;
 use office_state::phases::is_preparing;
 use office_state::{Change, Office, PEOPLE_LIMIT};
@@ -39,7 +39,7 @@ pub fn add_person(
     if office.owner(key).is_some() {
         return Err(Refusal::KeyInUse);
     }
-    may_live_if_any(office, home)?;
+    may_have_home(office, home)?;
     if office.people.len() >= PEOPLE_LIMIT {
         return Err(Refusal::LimitReached);
     }
@@ -49,5 +49,5 @@ pub fn add_person(
         key: key.copy()?,
         home: copy_optional(home)?,
     };
-    command_decision_with_change(alloc, Reply::Done, change)
+    decision_of_one(alloc, Reply::Done, change)
 }

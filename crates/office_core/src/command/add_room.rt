@@ -3,7 +3,7 @@ ghost use Rattle.office_core.specs.Command.Decision.{IsDecided};
 ghost use Rattle.office_core.specs.Command.AddRoom.{checks, reply_to, changes_of};
 ghost use Rattle.office_core.specs.Inner.Passes.{Passes};
 
-use crate::command::decision::{Decision, command_decision_with_change};
+use crate::command::decision::{Decision, decision_of_one};
 use crate::refusal::Refusal;
 use crate::reply::Reply;
 use office_state::phases::is_preparing;
@@ -24,7 +24,7 @@ pub fn add_room(alloc: Global, office: &Office, room: &RoomCode) -> Result<Decis
 {
     may_add_room(office, &office.rooms, room)?;
     let room = room.copy()?;
-    command_decision_with_change(alloc, Reply::Done, Change::PutRoom { room, shut: false })
+    decision_of_one(alloc, Reply::Done, Change::PutRoom { room, shut: false })
 }
 
 /// Checks that the room may be added to the office, with `rooms` in place of the office's own.

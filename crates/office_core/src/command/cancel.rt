@@ -2,10 +2,10 @@
 ghost use Rattle.office_core.specs.Command.Decision.{IsDecided};
 ghost use Rattle.office_core.specs.Command.Cancel.{checks, reply_to, changes_of};
 
-use crate::command::decision::{Decision, command_decision_with_changes};
+use crate::command::decision::{Decision, decision_of_two};
 use crate::refusal::Refusal;
 use crate::reply::Reply;
-use office_state::phases::round_phase_may_cancel;
+use office_state::phases::may_cancel;
 use office_state::{Change, Office};
 use room_types::Phase;
 use std::alloc::Global;
@@ -18,12 +18,12 @@ use std::alloc::Global;
 pub fn cancel(alloc: Global, office: &Office) -> Result<Decision, Refusal>
     ensures { IsDecided (checks office.now) (reply_to office.now) (changes_of office.now) result }
 {
-    if !round_phase_may_cancel(office.phase) {
+    if !may_cancel(office.phase) {
         return Err(Refusal::BadPhase(office.phase));
     }
     let over = Change::PutRound {
         number: office.number,
         phase: Phase::Idle,
     };
-    command_decision_with_changes(alloc, Reply::Cancelled, Change::ClearRound, over)
+    decision_of_two(alloc, Reply::Cancelled, Change::ClearRound, over)
 }

@@ -2,7 +2,7 @@
 ghost use Rattle.office_core.specs.Command.Decision.{IsDecided};
 ghost use Rattle.office_core.specs.Command.CloseRound.{checks, reply_to, changes_of};
 
-use crate::command::decision::{Decision, command_decision_with_change};
+use crate::command::decision::{Decision, decision_of_one};
 use crate::refusal::Refusal;
 use crate::reply::Reply;
 use office_state::phases::is_open;
@@ -26,5 +26,5 @@ pub fn close_round(alloc: Global, office: &Office) -> Result<Decision, Refusal>
         number: office.number,
         phase: Phase::Closed,
     };
-    command_decision_with_change(alloc, Reply::Closed { participants }, change)
+    decision_of_one(alloc, Reply::Closed { participants }, change)
 }

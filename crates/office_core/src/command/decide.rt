@@ -1,6 +1,6 @@
 //! Decides commands.
 ghost use Rattle.std.specs.Prelude.{IfOk, OnOk};
-ghost use Rattle.office_state.specs.Change.{LeadsOn};
+ghost use Rattle.office_state.specs.Change.{LeadsTo};
 ghost use Rattle.office_state.specs.Office.Invariants.{IsLawful};
 ghost use Rattle.office_core.specs.Command.Decision.{IsDecided};
 ghost use Rattle.office_core.specs.Command.{checks, next, reply_to, changes_of};
@@ -46,14 +46,14 @@ pub fn decide(alloc: Global, office: &Office, command: &Command) -> Result<Decis
     ensures decides { IsDecided (checks office.now command.now) (reply_to office.now command.now)
         (changes_of office.now command.now) result }
     ensures leads { IfOk result
-        (λ decision. LeadsOn office.now (next office.now command.now) decision.changes.items) }
+        (λ decision. LeadsTo office.now (next office.now command.now) decision.changes.items) }
     ensures ascending { IfOk result (λ decision. RowsAscend decision.reply) }
 {
-    command_decision(alloc, office, command)
+    dispatch(alloc, office, command)
 }
 
 // Calls the command's own function.
-fn command_decision(alloc: Global, office: &Office, command: &Command) -> Result<Decision, Refusal>
+fn dispatch(alloc: Global, office: &Office, command: &Command) -> Result<Decision, Refusal>
     requires { IsLawful office.now }
     ensures formed { OnOk result (IsFormed command.now) }
     ensures decides { IsDecided (checks office.now command.now) (reply_to office.now command.now)

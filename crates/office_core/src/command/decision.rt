@@ -14,7 +14,7 @@ pub struct Decision {
 }
 
 /// Returns the decision with this reply and one change, or `OutOfMemory`.
-pub(crate) fn command_decision_with_change(
+pub(crate) fn decision_of_one(
     alloc: Global,
     reply: Reply,
     change: Change,
@@ -28,7 +28,7 @@ pub(crate) fn command_decision_with_change(
 }
 
 /// Returns the decision with this reply and these two changes, or `OutOfMemory`.
-pub(crate) fn command_decision_with_changes(
+pub(crate) fn decision_of_two(
     alloc: Global,
     reply: Reply,
     first: Change,

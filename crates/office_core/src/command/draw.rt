@@ -1,7 +1,7 @@
 //! Gives each participant a lottery number.
 ghost use Rattle.std.specs.Prelude.{◌≡◌, IfOk, length};
 ghost use Rattle.office_core.specs.Command.Decision.{IsDecided};
-ghost use Rattle.office_core.specs.Command.Draw.{checks, reply_to, changes_of, words_put};
+ghost use Rattle.office_core.specs.Command.Draw.{checks, reply_to, changes_of, word_changes};
 
 use crate::command::decision::Decision;
 use crate::refusal::Refusal;
@@ -31,7 +31,7 @@ pub fn draw(alloc: Global, office: &Office, words: &[Word]) -> Result<Decision, 
         return Err(Refusal::WrongWordCount { want, got });
     }
     let people = office.participants(alloc)?;
-    let mut changes = words_put(alloc, people.as_slice(), words)?;
+    let mut changes = word_changes(alloc, people.as_slice(), words)?;
     changes.push(Change::PutRound {
         number: office.number,
         phase: Phase::Drawn,
@@ -43,10 +43,14 @@ pub fn draw(alloc: Global, office: &Office, words: &[Word]) -> Result<Decision, 
 }
 
 // Returns a change for each word.
-#[tactic(auto, using(crate::proofs::commands::Words::commands_words_put_more))]
-fn words_put(alloc: Global, people: &[PersonId], words: &[Word]) -> Result<Vec<Change>, OutOfMemory>
+#[tactic(auto, using(crate::proofs::commands::Words::commands_word_changes_more))]
+fn word_changes(
+    alloc: Global,
+    people: &[PersonId],
+    words: &[Word],
+) -> Result<Vec<Change>, OutOfMemory>
     requires { length words.now ≡ length people.now }
-    ensures { IfOk result (λ changes. changes.items ≡ words_put people.now words.now) }
+    ensures { IfOk result (λ changes. changes.items ≡ word_changes people.now words.now) }
 {
     let mut changes = Vec::new(alloc);
     for (i, person) in people.iter().enumerate() {

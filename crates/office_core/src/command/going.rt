@@ -2,7 +2,7 @@
 ghost use Rattle.office_core.specs.Command.Decision.{IsDecided};
 ghost use Rattle.office_core.specs.Command.Going.{checks, reply_to, changes_of};
 
-use crate::command::decision::{Decision, command_decision_with_change};
+use crate::command::decision::{Decision, decision_of_one};
 use crate::refusal::Refusal;
 use crate::reply::Reply;
 use office_state::phases::is_open;
@@ -40,5 +40,5 @@ pub fn going(alloc: Global, office: &Office, person: &PersonId) -> Result<Decisi
         return Err(Refusal::NoHome);
     }
     let person = person.copy()?;
-    command_decision_with_change(alloc, Reply::Going, Change::PutGoing { person })
+    decision_of_one(alloc, Reply::Going, Change::PutGoing { person })
 }

@@ -6,7 +6,7 @@ ghost use Rattle.office_core.specs.Command.Import.{checks, reply_to, changes_of}
 ghost use Rattle.office_core.specs.Command.Import.{known_label_checks, new_label_checks, new_label_changes};
 ghost use Rattle.office_core.specs.Command.Import.{may_import, is_same_import, record_changes};
 ghost use Rattle.office_core.specs.Command.Import.{record_count, refusal_of};
-ghost use Rattle.office_core.specs.Inner.Tries.{IsOrMemory};
+ghost use Rattle.office_core.specs.Inner.Tries.{IsOrOutOfMemory};
 
 pub mod choices;
 pub mod denial;
@@ -23,7 +23,7 @@ use crate::command::import::rooms::rooms_added;
 use crate::refusal::Refusal;
 use crate::reply::Reply;
 use office_state::phases::{is_open, is_preparing};
-use office_state::{BYTE_LIMIT, Change, KeptList, LABEL_LIMIT, Office};
+use office_state::{BYTE_LIMIT, Change, LABEL_LIMIT, Office, StoredImport};
 use room_types::{Label, ListKind, Listing, Phase};
 use std::alloc::Global;
 
@@ -58,7 +58,7 @@ pub fn import(
 // Decides to import a list under a known label.
 fn import_known(
     alloc: Global,
-    kept: &KeptList,
+    kept: &StoredImport,
     kind: ListKind,
     bytes: &Listing<u8>,
 ) -> Result<Decision, Refusal>
@@ -75,7 +75,7 @@ fn import_known(
 }
 
 // Returns whether this is the stored list.
-fn is_same_import(kept: &KeptList, kind: ListKind, bytes: &Listing<u8>) -> bool
+fn is_same_import(kept: &StoredImport, kind: ListKind, bytes: &Listing<u8>) -> bool
     ensures { result ≡ is_same_import kept.now kind bytes.now }
 {
     kept.kind == kind && kept.bytes.as_slice() == bytes.as_slice()
@@ -102,7 +102,7 @@ fn import_new(
     if bytes.len() > BYTE_LIMIT {
         return Err(Refusal::LimitReached);
     }
-    let mut changes = import_records_added(alloc, office, kind, bytes.as_slice())?;
+    let mut changes = record_changes(alloc, office, kind, bytes.as_slice())?;
     let count = changes.len() as u16;
     changes.push(Change::KeepList {
         label: label.copy()?,
@@ -128,7 +128,7 @@ fn may_import(kind: ListKind, phase: Phase) -> bool
 
 // Returns a change for each record of the list.
 #[tactic(auto, using(crate::proofs::imports::ListChecks::imports_as_many))]
-fn import_records_added(
+fn record_changes(
     alloc: Global,
     office: &Office,
     kind: ListKind,
@@ -138,7 +138,7 @@ fn import_records_added(
     ensures changed { IfOk result (λ changes. changes.items ≡ record_changes kind bytes.now) }
     ensures as_many { IfOk result (λ changes. length changes.items ≡ record_count bytes.now) }
     ensures few { IfOk result (λ changes. length changes.items ≤ record_limit) }
-    ensures refused { IfErr result (IsOrMemory (refusal_of kind office.now bytes.now)) }
+    ensures refused { IfErr result (IsOrOutOfMemory (refusal_of kind office.now bytes.now)) }
 {
     match kind {
         ListKind::Rooms => rooms_added(alloc, office, bytes),

@@ -2,7 +2,7 @@
 ghost use Rattle.office_core.specs.Command.Decision.{IsDecided};
 ghost use Rattle.office_core.specs.Command.Leave.{checks, reply_to, changes_of};
 
-use crate::command::decision::{Decision, command_decision_with_change};
+use crate::command::decision::{Decision, decision_of_one};
 use crate::refusal::Refusal;
 use crate::reply::Reply;
 use office_state::phases::is_idle;
@@ -29,5 +29,5 @@ pub fn leave(alloc: Global, office: &Office, person: &PersonId) -> Result<Decisi
         return Err(Refusal::NoHome);
     }
     let person = person.copy()?;
-    command_decision_with_change(alloc, Reply::Done, Change::PutHome { person, home: None })
+    decision_of_one(alloc, Reply::Done, Change::PutHome { person, home: None })
 }

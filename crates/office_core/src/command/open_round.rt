@@ -2,7 +2,7 @@
 ghost use Rattle.office_core.specs.Command.Decision.{IsDecided};
 ghost use Rattle.office_core.specs.Command.OpenRound.{checks, reply_to, changes_of};
 
-use crate::command::decision::{Decision, command_decision_with_change};
+use crate::command::decision::{Decision, decision_of_one};
 use crate::refusal::Refusal;
 use crate::reply::Reply;
 use office_state::phases::is_idle;
@@ -30,5 +30,5 @@ pub fn open_round(alloc: Global, office: &Office) -> Result<Decision, Refusal>
         number: round,
         phase: Phase::Opened,
     };
-    command_decision_with_change(alloc, Reply::Opened { round }, change)
+    decision_of_one(alloc, Reply::Opened { round }, change)
 }

@@ -2,10 +2,10 @@
 ghost use Rattle.office_core.specs.Command.Decision.{IsDecided};
 ghost use Rattle.office_core.specs.Command.Publish.{checks, reply_to, changes_of};
 
-use crate::command::decision::{Decision, command_decision_with_change};
+use crate::command::decision::{Decision, decision_of_one};
 use crate::refusal::Refusal;
 use crate::reply::Reply;
-use office_state::phases::is_ran;
+use office_state::phases::has_run;
 use office_state::{Change, Office};
 use room_types::Phase;
 use std::alloc::Global;
@@ -18,7 +18,7 @@ use std::alloc::Global;
 pub fn publish(alloc: Global, office: &Office) -> Result<Decision, Refusal>
     ensures { IsDecided (checks office.now) (reply_to office.now) (changes_of office.now) result }
 {
-    if !is_ran(office.phase) {
+    if !has_run(office.phase) {
         return Err(Refusal::BadPhase(office.phase));
     }
     let participants = office.participant_count();
@@ -26,5 +26,5 @@ pub fn publish(alloc: Global, office: &Office) -> Result<Decision, Refusal>
         number: office.number,
         phase: Phase::Published,
     };
-    command_decision_with_change(alloc, Reply::Published { participants }, change)
+    decision_of_one(alloc, Reply::Published { participants }, change)
 }

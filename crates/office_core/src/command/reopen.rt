@@ -2,8 +2,8 @@
 ghost use Rattle.office_core.specs.Command.Decision.{IsDecided};
 ghost use Rattle.office_core.specs.Command.Reopen.{checks, reply_to, changes_of};
 
-use crate::command::decision::{Decision, command_decision_with_change};
-use crate::refusal::{Refusal, refusal_of_unknown_room};
+use crate::command::decision::{Decision, decision_of_one};
+use crate::refusal::{Refusal, unknown_room_refusal};
 use crate::reply::Reply;
 use office_state::phases::is_preparing;
 use office_state::{Change, Office};
@@ -23,11 +23,11 @@ pub fn reopen(alloc: Global, office: &Office, room: &RoomCode) -> Result<Decisio
         return Err(Refusal::BadPhase(office.phase));
     }
     if !office.rooms.contains_key(room) {
-        return Err(refusal_of_unknown_room(room));
+        return Err(unknown_room_refusal(room));
     }
     if !office.is_shut(room) {
         return Err(Refusal::NotShut);
     }
     let room = room.copy()?;
-    command_decision_with_change(alloc, Reply::Done, Change::PutRoom { room, shut: false })
+    decision_of_one(alloc, Reply::Done, Change::PutRoom { room, shut: false })
 }

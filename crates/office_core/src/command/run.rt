@@ -3,7 +3,7 @@ ghost use Rattle.std.specs.Prelude.{◌≡◌, IfOk, map as map_list};
 ghost use Rattle.std.specs.FinMap as map;
 ghost use Rattle.office_state.specs.Office.Invariants.{IsLawful};
 ghost use Rattle.office_core.specs.Command.Decision.{IsDecided};
-ghost use Rattle.office_core.specs.Command.Run.{checks, reply_to, changes_of, result_put};
+ghost use Rattle.office_core.specs.Command.Run.{checks, reply_to, changes_of, result_change};
 
 use crate::command::decision::Decision;
 use crate::refusal::Refusal;
@@ -32,7 +32,7 @@ pub fn run(alloc: Global, office: &Office) -> Result<Decision, Refusal>
     }
     let results = round_results(alloc, office)?;
     let participants = office.participant_count();
-    let mut changes = results_put(alloc, &results)?;
+    let mut changes = result_changes(alloc, &results)?;
     changes.push(Change::PutRound {
         number: office.number,
         phase: Phase::Ran,
@@ -44,12 +44,12 @@ pub fn run(alloc: Global, office: &Office) -> Result<Decision, Refusal>
 }
 
 // Returns a change for each result.
-fn results_put(
+fn result_changes(
     alloc: Global,
     results: &Table<PersonIds, Assigned>,
 ) -> Result<Vec<Change>, OutOfMemory>
     ensures { IfOk result (λ changes.
-        changes.items ≡ map_list result_put (map.entries results.now)) }
+        changes.items ≡ map_list result_change (map.entries results.now)) }
 {
     let mut changes = Vec::new(alloc);
     for (id, given) in results.iter() {

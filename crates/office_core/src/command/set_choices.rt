@@ -5,7 +5,7 @@ ghost use Rattle.office_core.specs.Command.Decision.{IsDecided};
 ghost use Rattle.office_core.specs.Command.SetChoices.{checks, reply_to, changes_of};
 ghost use Rattle.office_core.specs.Inner.Passes.{Passes};
 
-use crate::command::decision::{Decision, command_decision_with_change};
+use crate::command::decision::{Decision, decision_of_one};
 use crate::refusal::Refusal;
 use crate::refusal::rooms::may_list_all;
 use crate::reply::Reply;
@@ -37,7 +37,7 @@ pub fn set_choices(
         choices: choices.copy()?,
     };
     let choices = choices.copy()?;
-    command_decision_with_change(alloc, Reply::Chosen { choices }, change)
+    decision_of_one(alloc, Reply::Chosen { choices }, change)
 }
 
 /// Checks that this list may replace the person's list.

@@ -3,7 +3,7 @@ ghost use Rattle.office_core.specs.Command.Decision.{IsDecided};
 ghost use Rattle.office_core.specs.Command.SetGrade.{checks, reply_to, changes_of};
 ghost use Rattle.office_core.specs.Inner.Passes.{Passes};
 
-use crate::command::decision::{Decision, command_decision_with_change};
+use crate::command::decision::{Decision, decision_of_one};
 use crate::refusal::Refusal;
 use crate::reply::Reply;
 use office_state::phases::is_preparing;
@@ -27,7 +27,7 @@ pub fn set_grade(
 {
     may_grade(office, person)?;
     let person = person.copy()?;
-    command_decision_with_change(alloc, Reply::Done, Change::PutGrade { person, grade })
+    decision_of_one(alloc, Reply::Done, Change::PutGrade { person, grade })
 }
 
 /// Checks that the person may be given a grade.

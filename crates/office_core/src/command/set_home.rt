@@ -2,7 +2,7 @@
 ghost use Rattle.office_core.specs.Command.Decision.{IsDecided};
 ghost use Rattle.office_core.specs.Command.SetHome.{checks, reply_to, changes_of};
 
-use crate::command::decision::{Decision, command_decision_with_change};
+use crate::command::decision::{Decision, decision_of_one};
 use crate::refusal::Refusal;
 use crate::refusal::rooms::may_live;
 use crate::reply::Reply;
@@ -41,5 +41,5 @@ pub fn set_home(
         person: person.copy()?,
         home: Some(room.copy()?),
     };
-    command_decision_with_change(alloc, Reply::Done, change)
+    decision_of_one(alloc, Reply::Done, change)
 }

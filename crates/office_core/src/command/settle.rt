@@ -5,14 +5,14 @@ ghost use Rattle.office_state.specs.Office.Invariants.{IsLawful};
 ghost use Rattle.office_state.specs.Office.Phases.{is_published};
 ghost use Rattle.office_state.specs.Round.Settlement.{moves_with, settled_moves};
 ghost use Rattle.office_core.specs.Command.Decision.{IsDecided};
-ghost use Rattle.office_core.specs.Command.Settle.{checks, reply_to, changes_of, leaving, first_out, goers, swaps, arriving};
+ghost use Rattle.office_core.specs.Command.Settle.{checks, reply_to, changes_of, leaving, first_out, departures, swaps, arriving};
 
 use crate::command::decision::Decision;
 use crate::refusal::Refusal;
 use crate::reply::Reply;
-use office_lists::{Mover, in_moving_order, waves};
+use office_lists::{Relocation, in_moving_order, waves};
 use office_state::phases::is_published;
-use office_state::round::movers;
+use office_state::round::relocations;
 use office_state::{Change, Office};
 use room_types::rows::copy_optional;
 use room_types::{Move, OutOfMemory, Phase, Wave};
@@ -36,10 +36,10 @@ pub fn settle(alloc: Global, office: &Office) -> Result<Decision, Refusal>
     let moves = settled_moves(alloc, office)?;
     let moves = moves.as_slice();
     let mut changes = Vec::new(alloc);
-    first_leave(&mut changes, moves)?;
+    push_first_out(&mut changes, moves)?;
     let in_order = in_moving_order(alloc, moves)?;
-    all_arrive(&mut changes, in_order.as_slice())?;
-    all_recorded(&mut changes, moves)?;
+    push_arrivals(&mut changes, in_order.as_slice())?;
+    push_records(&mut changes, moves)?;
     changes.push(Change::ClearRound)?;
     changes.push(Change::PutRound {
         number: office.number,
@@ -57,9 +57,14 @@ fn settled_moves(alloc: Global, office: &Office) -> Result<Vec<Move>, OutOfMemor
     requires published { IsTrue (is_published office.now.phase) }
     ensures { IfOk result (λ moves. moves.items ≡ settled_moves office.now) }
 {
-    let movers = movers(alloc, office)?;
-    let waves = waves(alloc, movers.as_slice())?;
-    moves_with(alloc, office.number, movers.as_slice(), waves.as_slice())
+    let relocations = relocations(alloc, office)?;
+    let waves = waves(alloc, relocations.as_slice())?;
+    moves_with(
+        alloc,
+        office.number,
+        relocations.as_slice(),
+        waves.as_slice(),
+    )
 }
 
 // Returns the moves of these relocations, with these waves.
@@ -67,19 +72,19 @@ fn settled_moves(alloc: Global, office: &Office) -> Result<Vec<Move>, OutOfMemor
 fn moves_with(
     alloc: Global,
     round: u16,
-    movers: &[Mover],
+    relocations: &[Relocation],
     waves: &[Wave],
 ) -> Result<Vec<Move>, OutOfMemory>
-    requires { length waves.now ≡ length movers.now }
-    ensures { IfOk result (λ moves. moves.items ≡ moves_with round movers.now waves.now) }
+    requires { length waves.now ≡ length relocations.now }
+    ensures { IfOk result (λ moves. moves.items ≡ moves_with round relocations.now waves.now) }
 {
     let mut moves = Vec::new(alloc);
-    for (i, mover) in movers.iter().enumerate() {
+    for (i, relocation) in relocations.iter().enumerate() {
         moves.push(Move {
             round,
-            person: mover.0.copy()?,
-            from: copy_optional(&mover.1)?,
-            to: copy_optional(&mover.2)?,
+            person: relocation.0.copy()?,
+            from: copy_optional(&relocation.1)?,
+            to: copy_optional(&relocation.2)?,
             wave: waves[i],
         })?;
     }
@@ -87,19 +92,19 @@ fn moves_with(
 }
 
 // Appends a change for each person who leaves before anybody arrives.
-fn first_leave(changes: &mut Vec<Change>, moves: &[Move]) -> Result<(), OutOfMemory>
+fn push_first_out(changes: &mut Vec<Change>, moves: &[Move]) -> Result<(), OutOfMemory>
     ensures { OnOk result (changes.new.items ≡ changes.old.items
         ++ map_list leaving (first_out moves.now)) }
 {
-    goers_leave(changes, moves)?;
-    swaps_leave(changes, moves)
+    push_departures(changes, moves)?;
+    push_swaps(changes, moves)
 }
 
 // Appends a change by which each person who moves into no room leaves.
-#[tactic(auto, using(crate::proofs::settlements::Recorded::settlements_goers_more))]
-fn goers_leave(changes: &mut Vec<Change>, moves: &[Move]) -> Result<(), OutOfMemory>
+#[tactic(auto, using(crate::proofs::settlements::Recorded::settlements_departures_more))]
+fn push_departures(changes: &mut Vec<Change>, moves: &[Move]) -> Result<(), OutOfMemory>
     ensures { OnOk result (changes.new.items ≡ changes.old.items
-        ++ map_list leaving (goers moves.now)) }
+        ++ map_list leaving (departures moves.now)) }
 {
     for moved in moves {
         if moved.to.is_none() {
@@ -112,7 +117,7 @@ fn goers_leave(changes: &mut Vec<Change>, moves: &[Move]) -> Result<(), OutOfMem
 
 // Appends a change by which each person who swaps leaves.
 #[tactic(auto, using(crate::proofs::settlements::Recorded::settlements_swaps_more))]
-fn swaps_leave(changes: &mut Vec<Change>, moves: &[Move]) -> Result<(), OutOfMemory>
+fn push_swaps(changes: &mut Vec<Change>, moves: &[Move]) -> Result<(), OutOfMemory>
     ensures { OnOk result (changes.new.items ≡ changes.old.items
         ++ map_list leaving (swaps moves.now)) }
 {
@@ -126,7 +131,7 @@ fn swaps_leave(changes: &mut Vec<Change>, moves: &[Move]) -> Result<(), OutOfMem
 }
 
 // Appends a change by which each person arrives in the new room, in the given order.
-fn all_arrive(changes: &mut Vec<Change>, moves: &[&Move]) -> Result<(), OutOfMemory>
+fn push_arrivals(changes: &mut Vec<Change>, moves: &[&Move]) -> Result<(), OutOfMemory>
     ensures { OnOk result (changes.new.items ≡ changes.old.items
         ++ map_list arriving (map_list (λ moved. moved.now) moves.now)) }
 {
@@ -139,7 +144,7 @@ fn all_arrive(changes: &mut Vec<Change>, moves: &[&Move]) -> Result<(), OutOfMem
 }
 
 // Appends a change that records each move.
-fn all_recorded(changes: &mut Vec<Change>, moves: &[Move]) -> Result<(), OutOfMemory>
+fn push_records(changes: &mut Vec<Change>, moves: &[Move]) -> Result<(), OutOfMemory>
     ensures { OnOk result (changes.new.items ≡ changes.old.items
         ++ map_list (λ (move : Move). Change.AddMove move) moves.now) }
 {

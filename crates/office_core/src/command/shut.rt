@@ -2,9 +2,7 @@
 ghost use Rattle.office_core.specs.Command.Decision.{IsDecided};
 ghost use Rattle.office_core.specs.Command.Shut.{checks, reply_to, changes_of};
 
-use crate::command::decision::{
-    Decision, command_decision_with_change, command_decision_with_changes,
-};
+use crate::command::decision::{Decision, decision_of_one, decision_of_two};
 use crate::refusal::Refusal;
 use crate::refusal::rooms::may_list;
 use crate::reply::Reply;
@@ -38,8 +36,8 @@ pub fn shut(alloc: Global, office: &Office, room: &RoomCode) -> Result<Decision,
                 home: None,
             };
             let displaced = Some(tenant.copy()?);
-            command_decision_with_changes(alloc, Reply::Shut { displaced }, left, closed)
+            decision_of_two(alloc, Reply::Shut { displaced }, left, closed)
         }
-        None => command_decision_with_change(alloc, Reply::Shut { displaced: None }, closed),
+        None => decision_of_one(alloc, Reply::Shut { displaced: None }, closed),
     }
 }

@@ -2,7 +2,7 @@
 ghost use Rattle.office_core.specs.Command.Decision.{IsDecided};
 ghost use Rattle.office_core.specs.Command.Withdraw.{checks, reply_to, changes_of};
 
-use crate::command::decision::{Decision, command_decision_with_change};
+use crate::command::decision::{Decision, decision_of_one};
 use crate::refusal::Refusal;
 use crate::reply::Reply;
 use office_state::phases::is_open;
@@ -36,5 +36,5 @@ pub fn withdraw(alloc: Global, office: &Office, person: &PersonId) -> Result<Dec
         });
     }
     let person = person.copy()?;
-    command_decision_with_change(alloc, Reply::Withdrawn, Change::PutWithdrawn { person })
+    decision_of_one(alloc, Reply::Withdrawn, Change::PutWithdrawn { person })
 }

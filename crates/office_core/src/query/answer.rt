@@ -1,8 +1,8 @@
 //! Answers queries.
 ghost use Rattle.std.specs.Prelude.{IfOk};
 ghost use Rattle.office_state.specs.Office.Invariants.{IsLawful};
-ghost use Rattle.office_core.specs.Query.Answer.{Tells};
-ghost use Rattle.office_core.specs.Query.{told, GainsNothing};
+ghost use Rattle.office_core.specs.Query.Answer.{IsAnswered};
+ghost use Rattle.office_core.specs.Query.{returned, GainsNothing};
 ghost use Rattle.office_core.specs.Replies.{RowsAscend};
 
 use crate::query::Query;
@@ -31,7 +31,7 @@ use std::alloc::Global;
 /// of `Rooms`, `People`, `Order`, `Results` and `Moves` that have no rows.
 pub fn answer(alloc: Global, office: &Office, query: &Query) -> Result<Reply, Refusal>
     requires { IsLawful office.now }
-    ensures told { Tells (told office.now query.now) result }
+    ensures returned { IsAnswered (returned office.now query.now) result }
     ensures no_gain { IfOk result (GainsNothing office.now query.now) }
     ensures ascending { IfOk result RowsAscend }
 {

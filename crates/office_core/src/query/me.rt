@@ -1,12 +1,12 @@
 //! What the owner of a key sees.
 ghost use Rattle.std.specs.Prelude.{◌≡◌, IfOk};
 ghost use Rattle.office_state.specs.Office.{choices_of};
-ghost use Rattle.office_core.specs.Query.Answer.{Tells};
-ghost use Rattle.office_core.specs.Query.Me.{told, standing_of, shown_result};
+ghost use Rattle.office_core.specs.Query.Answer.{IsAnswered};
+ghost use Rattle.office_core.specs.Query.Me.{returned, standing_of, shown_result};
 
 use crate::refusal::Refusal;
 use crate::reply::{Reply, Standing};
-use office_state::{Office, Person, copy_found_in_office};
+use office_state::{Office, Person, copy_found};
 use room_types::rows::copy_optional;
 use room_types::{Choices, Key, OutOfMemory, PersonId, RoomCode};
 use std::alloc::Global;
@@ -17,7 +17,7 @@ use std::alloc::Global;
 ///
 /// `UnknownPerson` if nobody has the key; `OutOfMemory` only if somebody has.
 pub fn me(alloc: Global, office: &Office, key: &Key) -> Result<Reply, Refusal>
-    ensures { Tells (told office.now key.now) result }
+    ensures { IsAnswered (returned office.now key.now) result }
 {
     let Some(id) = office.owner(key) else {
         return Err(Refusal::UnknownPerson);
@@ -76,5 +76,5 @@ fn shown_result(office: &Office, person: &PersonId) -> Result<Option<RoomCode>, 
     if !office.is_shown(person) {
         return Ok(None);
     }
-    copy_found_in_office(office.recorded_result(person))
+    copy_found(office.recorded_result(person))
 }

@@ -1,8 +1,8 @@
 //! The moves of a round that is over.
 ghost use Rattle.std.specs.Prelude.{◌≡◌, IfOk, OnErr, false};
 ghost use Rattle.office_state.specs.Empty.{is_empty};
-ghost use Rattle.office_core.specs.Query.Answer.{Tells};
-ghost use Rattle.office_core.specs.Query.Moves.{told, move_rows};
+ghost use Rattle.office_core.specs.Query.Answer.{IsAnswered};
+ghost use Rattle.office_core.specs.Query.Moves.{returned, move_rows};
 
 use crate::refusal::Refusal;
 use crate::reply::Reply;
@@ -17,7 +17,7 @@ use std::alloc::Global;
 ///
 /// `NoSuchRound` unless the round is over; `OutOfMemory` only if it is over and has moves.
 pub fn moves(alloc: Global, office: &Office, round: u16) -> Result<Reply, Refusal>
-    ensures { Tells (told office.now round) result }
+    ensures { IsAnswered (returned office.now round) result }
 {
     if !office.is_over(round) {
         return Err(Refusal::NoSuchRound);

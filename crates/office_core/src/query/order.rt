@@ -1,13 +1,13 @@
 //! The participants in the drawn order.
 ghost use Rattle.std.specs.Prelude.{◌≡◌, ◌<◌, IfOk, OnErr, length, map};
-ghost use Rattle.office_core.specs.Query.Answer.{Tells};
-ghost use Rattle.office_core.specs.Query.Order.{told, order_row};
+ghost use Rattle.office_core.specs.Query.Answer.{IsAnswered};
+ghost use Rattle.office_core.specs.Query.Order.{returned, order_row};
 
 use crate::refusal::Refusal;
 use crate::reply::{OrderRow, Reply};
 use office_state::Office;
-use office_state::phases::round_phase_has_words;
-use office_state::round::{round_people, round_word_of};
+use office_state::phases::has_words;
+use office_state::round::{round_people, word_of};
 use room_types::{Listing, OutOfMemory, PersonId};
 use std::alloc::Global;
 
@@ -18,9 +18,9 @@ use std::alloc::Global;
 /// `BadPhase` unless lottery numbers are drawn; `OutOfMemory` only if they are and there are participants.
 #[tactic(auto, using(crate::proofs::reply_rows::Listings::reply_rows_some_ordered))]
 pub fn order(alloc: Global, office: &Office) -> Result<Reply, Refusal>
-    ensures { Tells (told office.now) result }
+    ensures { IsAnswered (returned office.now) result }
 {
-    if !round_phase_has_words(office.phase) {
+    if !has_words(office.phase) {
         return Err(Refusal::BadPhase(office.phase));
     }
     let people = round_people(alloc, office)?;
@@ -40,7 +40,7 @@ fn order_rows(
     let mut rows = Vec::new(alloc);
     for person in people {
         rows.push(OrderRow {
-            word: round_word_of(office, person),
+            word: word_of(office, person),
             person: person.copy()?,
             grade: office.grade_of(person),
         })?;

@@ -1,6 +1,6 @@
 //! The people by identifier.
-ghost use Rattle.office_core.specs.Query.Answer.{Tells};
-ghost use Rattle.office_core.specs.Query.People.{told};
+ghost use Rattle.office_core.specs.Query.Answer.{IsAnswered};
+ghost use Rattle.office_core.specs.Query.People.{returned};
 
 use crate::refusal::Refusal;
 use crate::reply::Reply;
@@ -15,7 +15,7 @@ use std::alloc::Global;
 ///
 /// `OutOfMemory`, only if there are people.
 pub fn people(alloc: Global, office: &Office) -> Result<Reply, Refusal>
-    ensures { Tells (told office.now) result }
+    ensures { IsAnswered (returned office.now) result }
 {
     let mut rows = Vec::new(alloc);
     for (id, person) in office.people.iter() {

@@ -1,8 +1,8 @@
 //! The results of the participants.
 ghost use Rattle.std.specs.Prelude.{◌≡◌, IfOk, OnErr, false};
 ghost use Rattle.office_state.specs.Empty.{is_empty};
-ghost use Rattle.office_core.specs.Query.Answer.{Tells};
-ghost use Rattle.office_core.specs.Query.Results.{told, result_rows};
+ghost use Rattle.office_core.specs.Query.Answer.{IsAnswered};
+ghost use Rattle.office_core.specs.Query.Results.{returned, result_rows};
 
 use crate::refusal::Refusal;
 use crate::reply::Reply;
@@ -18,7 +18,7 @@ use std::alloc::Global;
 ///
 /// `BadPhase` before the round has run. `OutOfMemory` if an allocation fails; without results none is made.
 pub fn results(alloc: Global, office: &Office) -> Result<Reply, Refusal>
-    ensures { Tells (told office.now) result }
+    ensures { IsAnswered (returned office.now) result }
 {
     if !has_results(office.phase) {
         return Err(Refusal::BadPhase(office.phase));

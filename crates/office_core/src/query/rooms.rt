@@ -1,11 +1,11 @@
 //! The rooms by code.
 ghost use Rattle.std.specs.Prelude.{◌≡◌};
-ghost use Rattle.office_core.specs.Query.Answer.{Tells};
-ghost use Rattle.office_core.specs.Query.Rooms.{told, state_of};
+ghost use Rattle.office_core.specs.Query.Answer.{IsAnswered};
+ghost use Rattle.office_core.specs.Query.Rooms.{returned, state_of};
 
 use crate::refusal::Refusal;
 use crate::reply::Reply;
-use office_state::{Office, copy_found_in_office};
+use office_state::{Office, copy_found};
 use room_types::{Listing, PersonId, RoomRow, State};
 use std::alloc::Global;
 
@@ -16,7 +16,7 @@ use std::alloc::Global;
 /// `OutOfMemory`, only if there are rooms.
 #[tactic(auto, using(crate::proofs::reply_rows::Listings::reply_rows_no_rows, crate::proofs::reply_rows::Listings::reply_rows_some_rows))]
 pub fn rooms(alloc: Global, office: &Office) -> Result<Reply, Refusal>
-    ensures { Tells (told office.now) result }
+    ensures { IsAnswered (returned office.now) result }
 {
     if office.rooms.len() == 0 {
         return Ok(Reply::Rooms(Listing::new(Vec::new(alloc))));
@@ -24,7 +24,7 @@ pub fn rooms(alloc: Global, office: &Office) -> Result<Reply, Refusal>
     let tenants = office.tenants(alloc)?;
     let mut rows = Vec::new(alloc);
     for (room, shut) in office.rooms.iter() {
-        let tenant = copy_found_in_office(tenants.get(room))?;
+        let tenant = copy_found(tenants.get(room))?;
         let state = state_of(*shut, &tenant);
         let room = room.copy()?;
         rows.push(RoomRow {

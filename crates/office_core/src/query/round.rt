@@ -1,6 +1,6 @@
 //! The number and phase of the round, with counts.
 ghost use Rattle.std.specs.Prelude.{◌≡◌};
-ghost use Rattle.office_core.specs.Query.Round.{told};
+ghost use Rattle.office_core.specs.Query.Round.{returned};
 
 use crate::refusal::Refusal;
 use crate::reply::Reply;
@@ -9,7 +9,7 @@ use office_state::Office;
 /// Returns the last round's number, the phase, and how many people there are, have withdrawn and leave the college. Never fails;
 /// does not allocate.
 pub fn round(office: &Office) -> Result<Reply, Refusal>
-    ensures { result ≡ told office.now }
+    ensures { result ≡ returned office.now }
 {
     Ok(Reply::Round {
         number: office.number,

@@ -1,9 +1,9 @@
 //! What another list would give a participant.
 ghost use Rattle.std.specs.Prelude.{◌≡◌, IfOk};
 ghost use Rattle.office_state.specs.Office.Invariants.{IsLawful};
-ghost use Rattle.office_core.specs.Query.Answer.{Tells};
+ghost use Rattle.office_core.specs.Query.Answer.{IsAnswered};
 ghost use Rattle.office_core.specs.Inner.Passes.{Passes};
-ghost use Rattle.office_core.specs.Query.WhatIf.{told, checks, GainsNothing};
+ghost use Rattle.office_core.specs.Query.WhatIf.{returned, checks, GainsNothing};
 
 use crate::refusal::Refusal;
 use crate::refusal::rooms::may_list_all;
@@ -29,7 +29,7 @@ pub fn what_if(
     choices: &Choices,
 ) -> Result<Reply, Refusal>
     requires { IsLawful office.now }
-    ensures told { Tells (told office.now person.now choices.now) result }
+    ensures returned { IsAnswered (returned office.now person.now choices.now) result }
     ensures no_gain { IfOk result (GainsNothing office.now person.now) }
 {
     may_ask(office, person, choices)?;

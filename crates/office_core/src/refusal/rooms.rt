@@ -4,7 +4,7 @@ ghost use Rattle.std.specs.List.{flat_map};
 ghost use Rattle.office_core.specs.Inner.Passes.{Passes};
 ghost use Rattle.office_core.specs.Refusal.Checks.{room_checks, home_checks, home_checks_if_any};
 
-use crate::refusal::{Refusal, refusal_of_shut_room, refusal_of_unknown_room};
+use crate::refusal::{Refusal, shut_room_refusal, unknown_room_refusal};
 use office_state::Office;
 use room_types::RoomCode;
 
@@ -17,10 +17,10 @@ pub fn may_list(office: &Office, room: &RoomCode) -> Result<(), Refusal>
     ensures { Passes (room_checks office.now room.now) result }
 {
     if !office.rooms.contains_key(room) {
-        return Err(refusal_of_unknown_room(room));
+        return Err(unknown_room_refusal(room));
     }
     if office.is_shut(room) {
-        return Err(refusal_of_shut_room(room));
+        return Err(shut_room_refusal(room));
     }
     Ok(())
 }
@@ -59,7 +59,7 @@ pub fn may_live(office: &Office, room: &RoomCode) -> Result<(), Refusal>
 /// # Errors
 ///
 /// Those of `may_live`.
-pub fn may_live_if_any(office: &Office, home: &Option<RoomCode>) -> Result<(), Refusal>
+pub fn may_have_home(office: &Office, home: &Option<RoomCode>) -> Result<(), Refusal>
     ensures { Passes (home_checks_if_any office.now home.now) result }
 {
     match home {

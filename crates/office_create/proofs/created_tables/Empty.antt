@@ -11,7 +11,7 @@ use Rattle.room_types.proofs.maps.Trees.{maps-entries-empty}
 use Rattle.room_types.specs.declared.phase.Phase.TheVariants.{Idle}
 use Rattle.office_state.specs.Office.{empty_office}
 use Rattle.office_state.specs.declared.office.Assigned.{Assigned}
-use Rattle.office_state.specs.declared.office.kept_list.KeptList.{KeptList}
+use Rattle.office_state.specs.declared.office.stored_import.StoredImport.{StoredImport}
 use Rattle.office_state.specs.declared.office.moves.RoundMoves.{RoundMoves}
 use Rattle.office_state.specs.declared.office.person.Person.{Person}
 use Rattle.office_rows.specs.Rows.{person_row, list_rows, round_rows}
@@ -19,7 +19,7 @@ use Rattle.office_rows.specs.Tables.{Tables, rows_at, rows_of}
 use Rattle.office_cells.specs.Columns as columns
 use Rattle.std.specs.List.{AllByRecursion}
 use Rattle.sqlite.specs.State.{State, HasCleanDisk}
-use Rattle.office_tables.specs.Declaring.{FirstStand}
+use Rattle.office_tables.specs.Declaring.{DeclaresFirst}
 use Rattle.office_tables.specs.Edits.{with_first_round}
 use Rattle.office_tables.specs.Holds.{Holds}
 use Rattle.office_tables.specs.Schema.{no_schema, office_schema}
@@ -32,8 +32,8 @@ no_rows = record { rooms = []; people = []; rounds = []; choices = []; words = [
 created_tables-empty : {X : Type 0} (columns : X → Row) (rows : List Row) → rows ≡ [] → Holds columns rows []
 created_tables-empty columns rows none = subst (λ l. Holds columns l []) (sym none) (statements-none_held columns)
 
-created_tables-all_empty : (db : Database) → db.schema ≡ office_schema → AllByRecursion (λ t. db.trees t.tree ≡ []) office_schema.tables → HasTables db no_rows
-created_tables-all_empty db has none = record {
+all_empty : (db : Database) → db.schema ≡ office_schema → AllByRecursion (λ t. db.trees t.tree ≡ []) office_schema.tables → HasTables db no_rows
+all_empty db has none = record {
   schema = has;
   rows = record {
     rooms = created_tables-empty columns.room_columns (db.trees 0) none.0;
@@ -50,13 +50,13 @@ created_tables-all_empty db has none = record {
 }
 
 -- If nothing was declared, the tables are there now, without rows.
-pub created_tables-made_empty : (old new : State) → FirstStand 0 10 0 old new → HasCleanDisk new → old.now.schema ≡ no_schema → HasTables new.now no_rows
-created_tables-made_empty old new made clean none =
+pub made_empty : (old new : State) → DeclaresFirst 0 10 0 old new → HasCleanDisk new → old.now.schema ≡ no_schema → HasTables new.now no_rows
+made_empty old new made clean none =
     let all = made.shown clean none in
-    created_tables-all_empty new.now all.0 all.2
+    all_empty new.now all.0 all.2
 
 -- the rows of these entries, before the first round
-abbrev rows_from : List (Text × Bool) → List (Text × Person) → List (Text × List Text) → List (Text × ℕ) → List (Text × Assigned) → List (ℕ × RoundMoves) → List (Text × KeptList) → List (Text × ℕ) → List (Text × Unit {0}) → Tables
+abbrev rows_from : List (Text × Bool) → List (Text × Person) → List (Text × List Text) → List (Text × ℕ) → List (Text × Assigned) → List (ℕ × RoundMoves) → List (Text × StoredImport) → List (Text × ℕ) → List (Text × Unit {0}) → Tables
 rows_from rooms people choices words results moves lists grades going = record {
   rooms = rooms;
   people = list_map (person_row map.empty) people;
@@ -70,16 +70,16 @@ rows_from rooms people choices words results moves lists grades going = record {
   going = list_map (λ e. e.0) going;
 }
 
-created_tables-none_of : (rooms : List (Text × Bool)) (people : List (Text × Person)) (choices : List (Text × List Text)) (words : List (Text × ℕ)) (results : List (Text × Assigned)) (moves : List (ℕ × RoundMoves))
-    (lists : List (Text × KeptList)) (grades : List (Text × ℕ)) (going : List (Text × Unit {0})) → rooms ≡ [] → people ≡ [] → choices ≡ [] → words ≡ [] → results ≡ [] → moves ≡ [] → lists ≡ [] → grades ≡ [] → going ≡ []
+none_of : (rooms : List (Text × Bool)) (people : List (Text × Person)) (choices : List (Text × List Text)) (words : List (Text × ℕ)) (results : List (Text × Assigned)) (moves : List (ℕ × RoundMoves))
+    (lists : List (Text × StoredImport)) (grades : List (Text × ℕ)) (going : List (Text × Unit {0})) → rooms ≡ [] → people ≡ [] → choices ≡ [] → words ≡ [] → results ≡ [] → moves ≡ [] → lists ≡ [] → grades ≡ [] → going ≡ []
     → rows_from [] [] [] [] [] [] [] [] [] ≡ rows_from rooms people choices words results moves lists grades going
-created_tables-none_of rooms people choices words results moves lists grades going a b c d e f g h i = rw (a, b, c, d, e, f, g, h, i) refl
+none_of rooms people choices words results moves lists grades going a b c d e f g h i = rw (a, b, c, d, e, f, g, h, i) refl
 
-created_tables-no_entries : {X : Type 0} → map.entries (map.empty {X = X} {R = text_cmp}) ≡ []
-created_tables-no_entries = maps-entries-empty nat_list_cmp_total
+no_entries : {X : Type 0} → map.entries (map.empty {X = X} {R = text_cmp}) ≡ []
+no_entries = maps-entries-empty nat_list_cmp_total
 
 -- The empty office has no row but that of the round.
-pub created_tables-first_rows : with_first_round 0 Idle no_rows ≡ rows_of empty_office
+pub first_rows : with_first_round 0 Idle no_rows ≡ rows_of empty_office
 unfolding with_first_round rows_at
-created_tables-first_rows = created_tables-none_of (map.entries empty_office.rooms) (map.entries empty_office.people) (map.entries empty_office.choices) (map.entries empty_office.words) (map.entries empty_office.results)
-    (map.entries empty_office.moves) (map.entries empty_office.lists) (map.entries empty_office.grades) (map.entries empty_office.going) created_tables-no_entries created_tables-no_entries created_tables-no_entries created_tables-no_entries created_tables-no_entries (maps-entries-empty nat_cmp_total) created_tables-no_entries created_tables-no_entries created_tables-no_entries
+first_rows = none_of (map.entries empty_office.rooms) (map.entries empty_office.people) (map.entries empty_office.choices) (map.entries empty_office.words) (map.entries empty_office.results)
+    (map.entries empty_office.moves) (map.entries empty_office.lists) (map.entries empty_office.grades) (map.entries empty_office.going) no_entries no_entries no_entries no_entries no_entries (maps-entries-empty nat_cmp_total) no_entries no_entries no_entries

@@ -15,32 +15,32 @@ use Rattle.sqlite_sql.specs.Term.{holds}
 use Rattle.sqlite_sql.specs.Query.{Output, output}
 use Rattle.sqlite_trees.specs.Tree.{IsAscending}
 use Rattle.sqlite_keyed.proofs.ListLemmas.{filter-map, filter_none, IsPermutation-filter}
-use Rattle.room_types.proofs.maps.TextMaps.{maps-tied_text}
+use Rattle.room_types.proofs.maps.TextMaps.{tied_text}
 use Rattle.room_types.specs.Texts.{Text as Bytes, TextMap, text_cmp, text_eq}
 use Rattle.office_cells.specs.Cells.{count_or_null}
 use Rattle.office_cells.specs.Columns.{grade_columns, person_columns}
 use Rattle.office_rows.specs.declared.records.PersonRecord.{PersonRecord}
 use Rattle.office_tables.specs.Holds.{stored}
-use Rattle.office_tables.proofs.statements.Values.{statements-same_text}
+use Rattle.office_tables.proofs.statements.Values.{same_text}
 use Rattle.office_export.specs.Queries.{grades_query, is_theirs}
 use Rattle.office_export.proofs.export_answers.Joining.{joined}
 use Rattle.office_export.proofs.export_answers.Rising.{export_answers-entries_rise}
-use Rattle.office_export.proofs.export_answers.Tenants.{export_answers-few}
+use Rattle.office_export.proofs.export_answers.Tenants.{few}
 
 -- the test that joins a person and a grade
 abbrev pub meets : Row → Row → Bool
 meets person grade = list_all (holds ([] ∷ person ∷ grade ∷ [])) (is_theirs ∷ [])
 
-export_answers-grade_meets : (person : ℤ × PersonRecord) (grade : ℤ × (Bytes × ℕ)) → meets (stored person_columns person) (stored grade_columns grade) ≡ text_eq grade.1.0 person.1.id
-export_answers-grade_meets person grade = statements-same_text grade.1.0 person.1.id
+grade_meets : (person : ℤ × PersonRecord) (grade : ℤ × (Bytes × ℕ)) → meets (stored person_columns person) (stored grade_columns grade) ≡ text_eq grade.1.0 person.1.id
+grade_meets person grade = same_text grade.1.0 person.1.id
 
 -- the matches of a person
-export_answers-grades_found : (person : ℤ × PersonRecord) (grades : List (ℤ × (Bytes × ℕ)))
+grades_found : (person : ℤ × PersonRecord) (grades : List (ℤ × (Bytes × ℕ)))
     → filter (meets (stored person_columns person)) (map (stored grade_columns) grades)
     ≡ map (stored grade_columns) (filter (λ (e : ℤ × (Bytes × ℕ)). text_eq e.1.0 person.1.id) grades)
-export_answers-grades_found person grades =
+grades_found person grades =
     filter-map (meets (stored person_columns person)) (stored grade_columns) grades
-    ∙ ap (λ (test : ℤ × (Bytes × ℕ) → Bool). map (stored grade_columns) (filter test grades)) (λ i e. export_answers-grade_meets person e i)
+    ∙ ap (λ (test : ℤ × (Bytes × ℕ) → Bool). map (stored grade_columns) (filter test grades)) (λ i e. grade_meets person e i)
 
 -- the key of a person's row, and what is shown of it
 abbrev pub out : (Bytes → Option ℕ) → PersonRecord → Output
@@ -58,18 +58,18 @@ export_answers-grade_shown grade person (e ∷ []) (Some x) is named =
 export_answers-grade_shown grade person (e ∷ f ∷ grades) (Some x) is named = absurd (cc)
 
 -- what is shown of all people
-pub export_answers-grades_shown : (grade : Bytes → Option ℕ) (grades : List (ℤ × (Bytes × ℕ)))
+pub grades_shown : (grade : Bytes → Option ℕ) (grades : List (ℤ × (Bytes × ℕ)))
     → ((id : Bytes) → map (λ (e : ℤ × (Bytes × ℕ)). e.1.1) (filter (λ (e : ℤ × (Bytes × ℕ)). text_eq e.1.0 id) grades) ≡ option_to_list (grade id))
     → (people : List (ℤ × PersonRecord))
     → map (output grades_query) (flat_map (λ person. joined person (filter (meets person) (map (stored grade_columns) grades))) (map (stored person_columns) people))
     ≡ map (out grade) (map (λ (e : ℤ × PersonRecord). e.1) people)
-export_answers-grades_shown grade grades recorded [] = refl
-export_answers-grades_shown grade grades recorded (person ∷ people) =
+grades_shown grade grades recorded [] = refl
+grades_shown grade grades recorded (person ∷ people) =
     map-append (output grades_query) (joined (stored person_columns person) (filter (meets (stored person_columns person)) (map (stored grade_columns) grades))) _
     ∙ ap₂ ◌++◌
-    (ap (λ l. map (output grades_query) (joined (stored person_columns person) l)) (export_answers-grades_found person grades)
+    (ap (λ l. map (output grades_query) (joined (stored person_columns person) l)) (grades_found person grades)
     ∙ export_answers-grade_shown grade person (filter (λ (e : ℤ × (Bytes × ℕ)). text_eq e.1.0 person.1.id) grades) (grade person.1.id) refl (recorded person.1.id))
-    (export_answers-grades_shown grade grades recorded people)
+    (grades_shown grade grades recorded people)
 
 -- ---- a person has at most one recorded grade
 
@@ -99,15 +99,15 @@ module _ (id : Bytes) where
     where
       go : (b : Bool) → eq_by_cmp text_cmp id e.0 ≡ b → map (λ (f : Bytes × ℕ). f.1) (filter is_of es) ≡ option_to_list (find text_cmp id es)
           → map (λ (f : Bytes × ℕ). f.1) (cond (is_of e) (e ∷ filter is_of es) (filter is_of es)) ≡ option_to_list (cond (is_eq (text_cmp id e.0)) (Some e.1) (find text_cmp id es))
-      go true h more = rw (export_answers-is_of_sought e ∙ h, h, filter_none is_of es (export_answers-no_later e es (maps-tied_text id e.0 h) up.0)) refl
+      go true h more = rw (export_answers-is_of_sought e ∙ h, h, filter_none is_of es (export_answers-no_later e es (tied_text id e.0 h) up.0)) refl
       go false h more = rw (export_answers-is_of_sought e ∙ h, h) more
 
 -- Among the rows of all grades, in any order, those of a person hold the person's recorded grade.
-pub export_answers-grade_recorded : (grades : TextMap ℕ) (id : Bytes) (rows : List (Bytes × ℕ)) → IsPermutation (maps.entries grades) rows
+pub grade_recorded : (grades : TextMap ℕ) (id : Bytes) (rows : List (Bytes × ℕ)) → IsPermutation (maps.entries grades) rows
     → map (λ (e : Bytes × ℕ). e.1) (filter (λ (e : Bytes × ℕ). text_eq e.0 id) rows) ≡ option_to_list (maps.get grades id)
-export_answers-grade_recorded grades id rows same =
+grade_recorded grades id rows same =
     let test : Bytes × ℕ → Bool = λ e. text_eq e.0 id in
     let value : Bytes × ℕ → ℕ = λ e. e.1 in
     let sought : map value (filter test (maps.entries grades)) ≡ option_to_list (maps.get grades id) =
     export_answers-one_recorded id (maps.entries grades) (export_answers-entries_rise text_cmp grades) ∙ ap option_to_list (sym (get-entries grades id)) in
-    export_answers-few _ _ (subst (λ l. IsPermutation l (map value (filter test rows))) sought (IsPermutation-map value _ _ (IsPermutation-filter test _ _ same)))
+    few _ _ (subst (λ l. IsPermutation l (map value (filter test rows))) sought (IsPermutation-map value _ _ (IsPermutation-filter test _ _ same)))

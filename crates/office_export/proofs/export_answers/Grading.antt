@@ -26,10 +26,10 @@ use Rattle.office_export.specs.Asking.{AsksForExport}
 use Rattle.office_export.specs.Exports.{exported, grade_row}
 use Rattle.office_export.specs.Queries.{grades_query, grades_text, is_theirs, up}
 use Rattle.office_export.specs.Shown.{grade_record}
-use Rattle.office_export.proofs.export_answers.Graded.{export_answers-grade_recorded, export_answers-grades_shown, meets, out}
+use Rattle.office_export.proofs.export_answers.Graded.{grade_recorded, grades_shown, meets, out}
 use Rattle.office_export.proofs.export_answers.Joining.{joined}
-use Rattle.office_export.proofs.export_answers.Meanings.{export_answers-grades_meant, grade_names}
-use Rattle.office_export.proofs.export_answers.Ordering.{Rises, export_answers-answer_is, export_answers-text_before}
+use Rattle.office_export.proofs.export_answers.Meanings.{grades_meant, grade_names}
+use Rattle.office_export.proofs.export_answers.Ordering.{Rises, export_answers-answer_is, text_before}
 use Rattle.office_export.proofs.export_answers.Rising.{export_answers-entries_rise}
 
 abbrev from : Join
@@ -49,18 +49,18 @@ export_answers-outs_rise office =
     ascending-map (λ a b. output_cmp grades_query a b ≡ Less) shown (records office)
     (ascending-map (λ a b. output_cmp grades_query (shown a) (shown b) ≡ Less) row (maps.entries office.people)
     (ascending_weaker (λ a b. text_cmp a.0 b.0 ≡ Less) (λ a b. output_cmp grades_query (shown (row a)) (shown (row b)) ≡ Less)
-    (λ a b less. export_answers-text_before a.0 b.0 Equal less) (maps.entries office.people) (export_answers-entries_rise text_cmp office.people)))
+    (λ a b less. text_before a.0 b.0 Equal less) (maps.entries office.people) (export_answers-entries_rise text_cmp office.people)))
 
 -- the grade of a person, among the rows of the grades
-export_answers-graded : (office : Office) (rows : List Row) (h : Holds grade_columns rows (maps.entries office.grades)) (id : Bytes)
+graded : (office : Office) (rows : List Row) (h : Holds grade_columns rows (maps.entries office.grades)) (id : Bytes)
     → map (λ (e : ℤ × (Bytes × ℕ)). e.1.1) (filter (λ (e : ℤ × (Bytes × ℕ)). text_eq e.1.0 id) h.entries) ≡ option_to_list (recorded office id)
-export_answers-graded office rows h id =
+graded office rows h id =
     let of : ℤ × (Bytes × ℕ) → Bytes × ℕ = λ e. e.1 in
     let value : Bytes × ℕ → ℕ = λ e. e.1 in
     let test : Bytes × ℕ → Bool = λ e. text_eq e.0 id in
     sym (map-map value of (filter (λ e. test (of e)) h.entries))
     ∙ ap (map value) (sym (filter-map test of h.entries))
-    ∙ export_answers-grade_recorded office.grades id (map of h.entries) h.same
+    ∙ grade_recorded office.grades id (map of h.entries) h.same
 
 -- what is shown of all matches
 export_answers-outs_are : (office : Office) (people grades : List Row) (h : Holds person_columns people (records office)) (k : Holds grade_columns grades (maps.entries office.grades))
@@ -68,7 +68,7 @@ export_answers-outs_are : (office : Office) (people grades : List Row) (h : Hold
     ≡ map (out (recorded office)) (map (λ (e : ℤ × PersonRecord). e.1) h.entries)
 export_answers-outs_are office people grades h k =
     ap₂ (λ (l m : List Row). map (output grades_query) (flat_map (λ person. joined person (filter (meets person) m)) l)) h.rows_are k.rows_are
-    ∙ export_answers-grades_shown (recorded office) k.entries (export_answers-graded office grades k) h.entries
+    ∙ grades_shown (recorded office) k.entries (graded office grades k) h.entries
 
 export_answers-shown_again : (office : Office) (e : Bytes × Person) → grade_record ((out (recorded office) (person_row office.withdrawn e)).1) ≡ grade_fields (grade_row office e)
 export_answers-shown_again office e = go (recorded office e.0)
@@ -95,13 +95,13 @@ export_answers-answers db office rows holds lawful h =
     ∙ map_same _ (λ e. grade_fields (grade_row office e)) (export_answers-shown_again office) entries
     ∙ sym (map-map grade_fields (grade_row office) entries))
 
-pub export_answers-grades_exported_by_query : AsksForExport Grades grades_text grade_record
-export_answers-grades_exported_by_query = record {
+pub grades_exported_by_query : AsksForExport Grades grades_text grade_record
+grades_exported_by_query = record {
   query = grades_query;
   names = grade_names;
-  is = export_answers-grades_meant.is;
-  plain = export_answers-grades_meant.plain;
-  unlisted = export_answers-grades_meant.unlisted;
-  asks = export_answers-grades_meant.asks;
+  is = grades_meant.is;
+  plain = grades_meant.plain;
+  unlisted = grades_meant.unlisted;
+  asks = grades_meant.asks;
   answers = export_answers-answers;
 }

@@ -25,26 +25,26 @@ use Rattle.office_tables.specs.Schema.{office_schema}
 use Rattle.office_tables.specs.Steps.{Follows}
 use Rattle.office_tables.specs.Tables.{HoldsOffice}
 use Rattle.office_tables.specs.Texts.{alone}
-use Rattle.office_tables.proofs.statements.Steps.{statements-follows_then}
+use Rattle.office_tables.proofs.statements.Steps.{follows_then}
 use Rattle.office_load.specs.Asking.{NeverReturns, OnlyAsks}
 use Rattle.office_load.specs.Reading.{OnlyReads}
 use Rattle.office_export.specs.Asking.{AsksForExport}
-use Rattle.office_export.specs.Ending.{EndsBetween, PutsCount, PutsExport, PutsFront}
+use Rattle.office_export.specs.Ending.{EndsBetween, PutsCount, PutsExport, PutsPrefix}
 use Rattle.office_export.specs.declared.ending.ExportEnd.TheVariants.{Unavailable}
 use Rattle.office_export.specs.Exports.{exported}
-use Rattle.office_export.specs.Stepping.{IsAskedOf, KeepsTables, StandsOn}
-use Rattle.office_export.proofs.sent_rows.Sending.{AreSent, sent_rows-cut_counted, sent_rows-cut_front, sent_rows-cut_short, sent_rows-front_sent, sent_rows-more_sent, sent_rows-one_record, sent_rows-one_then, sent_rows-sent_counted, sent_rows-with_more, sent_rows-with_one}
+use Rattle.office_export.specs.Stepping.{IsAtStart, KeepsTables, HoldsLawfulOffice}
+use Rattle.office_export.proofs.sent_rows.Sending.{AreSent, sent_rows-cut_counted, sent_rows-cut_prefix, sent_rows-cut_short, prefix_sent, more_sent, one_record, one_then, sent_counted, with_more, with_one}
 
 -- ---- what is unchanged
 
-pub sent_rows-keeps_unchanged : (a b : State) → IsUnchanged a b → KeepsTables a b
-sent_rows-keeps_unchanged a b h o = (h.0.was_open, λ same. (h.0.now_is, h.0.committed_is))
+pub keeps_unchanged : (a b : State) → IsUnchanged a b → KeepsTables a b
+keeps_unchanged a b h o = (h.0.was_open, λ same. (h.0.now_is, h.0.committed_is))
 
-pub sent_rows-keeps_undone : (a b : State) → IsRolledBack a b → KeepsTables a b
-sent_rows-keeps_undone a b h o = (h.was_open o, λ same. ((h.undone o).0 ∙ sym same, (h.undone o).1))
+pub keeps_undone : (a b : State) → IsRolledBack a b → KeepsTables a b
+keeps_undone a b h o = (h.was_open o, λ same. ((h.undone o).0 ∙ sym same, (h.undone o).1))
 
-pub sent_rows-keeps_then : (a b c : State) → KeepsTables a b → KeepsTables b c → KeepsTables a c
-sent_rows-keeps_then a b c p q o =
+pub keeps_then : (a b c : State) → KeepsTables a b → KeepsTables b c → KeepsTables a c
+keeps_then a b c p q o =
     let later = q o in
     let early = p later.0 in (
       early.0,
@@ -55,27 +55,27 @@ sent_rows-keeps_then a b c p q o =
     )
 
 -- after a query that did not begin
-pub sent_rows-keeps_failed : (sql : List ℕ) (params : Row) (a b : State) (e : Error) → FailsToQuery sql params a b e → KeepsTables a b
+pub keeps_failed : (sql : List ℕ) (params : Row) (a b : State) (e : Error) → FailsToQuery sql params a b e → KeepsTables a b
 unfolding FailsToQuery IsNotRun
-sent_rows-keeps_failed sql params a b e (inl (inl h)) = sent_rows-keeps_unchanged a b h.1
-sent_rows-keeps_failed sql params a b e (inl (inr h)) = sent_rows-keeps_undone a b h.3
-sent_rows-keeps_failed sql params a b e (inr h) = go h.0.returning h.2
+keeps_failed sql params a b e (inl (inl h)) = keeps_unchanged a b h.1
+keeps_failed sql params a b e (inl (inr h)) = keeps_undone a b h.3
+keeps_failed sql params a b e (inr h) = go h.0.returning h.2
   where
     go : (what : Option Returning) → FailsToShow a b sql h.0 (timed params h.0.formats h.1.now) e what → KeepsTables a b
-    go None it = sent_rows-keeps_unchanged a b it.3
-    go (Some what) (inl it) = sent_rows-keeps_unchanged a b it.1
-    go (Some what) (inr it) = sent_rows-keeps_undone a b it.3
+    go None it = keeps_unchanged a b it.3
+    go (Some what) (inl it) = keeps_unchanged a b it.1
+    go (Some what) (inr it) = keeps_undone a b it.3
 
-sent_rows-shown_was_open : (sql : List ℕ) (params : Row) (a b : State) (rows : List Row) → Shown sql params a b rows → IsTrue a.is_open
+shown_was_open : (sql : List ℕ) (params : Row) (a b : State) (rows : List Row) → Shown sql params a b rows → IsTrue a.is_open
 unfolding Shown
-sent_rows-shown_was_open sql params a b rows h = go h.0.returning h.2
+shown_was_open sql params a b rows h = go h.0.returning h.2
   where
     go : (what : Option Returning) → ShowsRows a b sql h.0 (timed params h.0.formats h.1.now) rows what → IsTrue a.is_open
     go None it = it.3.0.was_open
     go (Some what) it = it.1.shown.was_open
 
-pub sent_rows-export_follows : (a b : State) (Commits : Trees → Type 0) → Survives a b Commits → (HasCleanDisk b → IsTrue b.is_open → IsTrue a.is_open) → Follows a b
-sent_rows-export_follows a b Commits survives was_open = record {
+pub export_follows : (a b : State) (Commits : Trees → Type 0) → Survives a b Commits → (HasCleanDisk b → IsTrue b.is_open → IsTrue a.is_open) → Follows a b
+export_follows a b Commits survives was_open = record {
   clean = λ h. omega (arith, h, survives.clean);
   was_open = was_open;
   counts = survives.counts;
@@ -84,96 +84,96 @@ sent_rows-export_follows a b Commits survives was_open = record {
 }
 
 -- A query that did not begin only reads.
-pub sent_rows-reads_refused : (sql : List ℕ) (params : Row) (a b : State) (Commits : Trees → Type 0) (e : Error) → Survives a b Commits → (IsTrue a.is_open → a.now ≡ a.committed)
+pub reads_refused : (sql : List ℕ) (params : Row) (a b : State) (Commits : Trees → Type 0) (e : Error) → Survives a b Commits → (IsTrue a.is_open → a.now ≡ a.committed)
     → (HasCleanDisk b → FailsToQuery sql params a b e) → OnlyReads a b
-sent_rows-reads_refused sql params a b Commits e survives settled h = record {
-  follows = sent_rows-export_follows a b Commits survives (λ clean o. (sent_rows-keeps_failed sql params a b e (h clean) o).0);
-  same = λ honest. let keeps = sent_rows-keeps_failed sql params a b e (h honest.0) honest.1 in (keeps.1 (settled keeps.0)).0;
+reads_refused sql params a b Commits e survives settled h = record {
+  follows = export_follows a b Commits survives (λ clean o. (keeps_failed sql params a b e (h clean) o).0);
+  same = λ intact. let keeps = keeps_failed sql params a b e (h intact.0) intact.1 in (keeps.1 (settled keeps.0)).0;
 }
 
-sent_rows-never_both : (r : Result Compiled CompileError) → NeverReturns r → Returns r → ⊥
-sent_rows-never_both (Ok c) never some = true≢false (sym (subst IsSome never some))
-sent_rows-never_both (Err e) never none = none
+never_both : (r : Result Compiled CompileError) → NeverReturns r → Returns r → ⊥
+never_both (Ok c) never some = true≢false (sym (subst IsSome never some))
+never_both (Err e) never none = none
 
 -- A query that began, and whose rows were read, only reads.
-pub sent_rows-reads_through : {S : Type 0} (g : Ghosts S) (sql : List ℕ) (params : Row) (a b c : Held S) (Commits : Trees → Type 0) → OnlyAsks sql
+pub reads_through : {S : Type 0} (g : Ghosts S) (sql : List ℕ) (params : Row) (a b c : Held S) (Commits : Trees → Type 0) → OnlyAsks sql
     → Survives (state g a) (state g b) Commits → (HasCleanDisk (state g b) → HasBegun g sql params a b)
     → (IsTrue (state g a).is_open → (state g a).now ≡ (state g a).committed)
     → Survives (state g b) (state g c) (λ _. ⊥) → (HasCleanDisk (state g c) → KeepsTables (state g b) (state g c)) → OnlyReads (state g a) (state g c)
-sent_rows-reads_through g sql params a b c Commits asks first begun settled next keeps =
+reads_through g sql params a b c Commits asks first begun settled next keeps =
     let before : HasCleanDisk (state g c) → HasCleanDisk (state g b) = λ clean. omega (arith, clean, next.clean) in
     record {
-      follows = statements-follows_then (state g a) (state g b) (state g c)
-          (sent_rows-export_follows (state g a) (state g b) Commits first (λ clean o. was_open (begun clean)))
-          (sent_rows-export_follows (state g b) (state g c) (λ _. ⊥) next (λ clean o. (keeps clean o).0));
-      same = λ honest.
-          let same = unchanged (begun (before honest.0)) in
-          let kept = sent_rows-keeps_then (state g a) (state g b) (state g c) (sent_rows-keeps_unchanged _ _ same) (keeps honest.0) honest.1 in
+      follows = follows_then (state g a) (state g b) (state g c)
+          (export_follows (state g a) (state g b) Commits first (λ clean o. was_open (begun clean)))
+          (export_follows (state g b) (state g c) (λ _. ⊥) next (λ clean o. (keeps clean o).0));
+      same = λ intact.
+          let same = unchanged (begun (before intact.0)) in
+          let kept = keeps_then (state g a) (state g b) (state g c) (keeps_unchanged _ _ same) (keeps intact.0) intact.1 in
           (kept.1 (settled kept.0)).0;
     }
   where
     was_open : HasBegun g sql params a b → IsTrue (state g a).is_open
     was_open (inl h) = h.1.0.was_open
-    was_open (inr h) = sent_rows-shown_was_open sql params (state g a) (state g b) _ h.1
+    was_open (inr h) = shown_was_open sql params (state g a) (state g b) _ h.1
 
     unchanged : HasBegun g sql params a b → IsUnchanged (state g a) (state g b)
     unchanged (inl h) = h.1
-    unchanged (inr h) = absurd (sent_rows-never_both (understood a.schema sql) (asks a.schema) h.0)
+    unchanged (inr h) = absurd (never_both (understood a.schema sql) (asks a.schema) h.0)
 
 -- A query that began over the rows of an office is at its start.
-pub sent_rows-asked_of : {S : Type 0} (g : Ghosts S) (text sql : List ℕ) (old now : Held S) (office : Office) → IsPlain (understood office_schema text) → sql ≡ text → StandsOn (state g old) office
-    → HasBegun g sql [] old now → IsAskedOf g text now office
-sent_rows-asked_of {S} g text sql old now office plain same stands begun =
-    let holds = stands.tables (was_open begun) in
+pub asked_of : {S : Type 0} (g : Ghosts S) (text sql : List ℕ) (old now : Held S) (office : Office) → IsPlain (understood office_schema text) → sql ≡ text → HoldsLawfulOffice (state g old) office
+    → HasBegun g sql [] old now → IsAtStart g text now office
+asked_of {S} g text sql old now office plain same holding begun =
+    let holds = holding.tables (was_open begun) in
     let at_old : IsPlain (understood old.schema sql) = subst (λ s. IsPlain (understood s sql)) (sym holds.schema) (subst (λ t. IsPlain (understood office_schema t)) (sym same) plain) in
     let given = begun_plain g sql [] old now at_old begun in
     record {
       begun = subst (λ t. HasGiven g t [] now []) same given.0;
       holds = subst (λ (d : Database). HoldsOffice d office) (sym given.1.0.now_is) holds;
-      lawful = stands.lawful;
+      lawful = holding.lawful;
     }
   where
     was_open : HasBegun g sql [] old now → IsTrue (state g old).is_open
     was_open (inl h) = h.1.0.was_open
-    was_open (inr h) = sent_rows-shown_was_open sql [] (state g old) (state g now) _ h.1
+    was_open (inr h) = shown_was_open sql [] (state g old) (state g now) _ h.1
 
-pub sent_rows-survives_next : (a b c : State) → Survives a b (λ _. ⊥) → Survives b c (λ _. ⊥) → Survives a c (λ _. ⊥)
-sent_rows-survives_next a b c p q = survives_then a b c _ _ (λ _. ⊥) (λ _ db none. none) (λ _ db none. none) p q
+pub survives_next : (a b c : State) → Survives a b (λ _. ⊥) → Survives b c (λ _. ⊥) → Survives a c (λ _. ⊥)
+survives_next a b c p q = survives_then a b c _ _ (λ _. ⊥) (λ _ db none. none) (λ _ db none. none) p q
 
 -- ---- the rows of an export
 
 module _ {S : Type 0} (g : Ghosts S) (kind : ExportKind) (text : List ℕ) (fields : Row → Record) (asks : AsksForExport kind text fields) where
-  module _ (first now : Held S) (office : Office) (asked : IsAskedOf g text first office) (same : IsUnchanged (state g first) (state g now)) where
+  module _ (first now : Held S) (office : Office) (asked : IsAtStart g text first office) (same : IsUnchanged (state g first) (state g now)) where
     has : (state g now).now.schema ≡ office_schema
     has = ap (λ (d : Database). d.schema) same.0.now_is ∙ asked.holds.schema
 
-    sent_rows-told : (rows : List Row) → Answers (state g now).now (alone asks.query) [] rows → header_of kind ∷ map fields rows ≡ exported kind office
-    sent_rows-told rows h = asks.answers (state g now).now office rows (subst (λ (d : Database). HoldsOffice d office) (sym same.0.now_is) asked.holds) asked.lawful h
+    sent_rows-returned : (rows : List Row) → Answers (state g now).now (alone asks.query) [] rows → header_of kind ∷ map fields rows ≡ exported kind office
+    sent_rows-returned rows h = asks.answers (state g now).now office rows (subst (λ (d : Database). HoldsOffice d office) (sym same.0.now_is) asked.holds) asked.lawful h
 
     -- The rows so far are the first of the export.
     pub sent_rows-first_rows : (given : List Row) → HasGiven g text [] now given → (tail : List Row) × (header_of kind ∷ map fields (given ++ tail) ≡ exported kind office)
     sent_rows-first_rows given so_far =
         let read = begins_as text [] (state g now) (state g now) office_schema has (Select (alone asks.query) asks.names) asks.is asks.plain asks.unlisted given (given_begin g text [] now given so_far) in
-        (read.1.0, sent_rows-told (given ++ read.1.0) (record { typed = read.0; answer = read.1.1 }))
+        (read.1.0, sent_rows-returned (given ++ read.1.0) (record { typed = read.0; answer = read.1.1 }))
 
     -- Once all rows have been read, they are the export.
     pub sent_rows-all_rows : (next : Held S) (given : List Row) → HasGiven g text [] now given → Advances g now next None → header_of kind ∷ map fields given ≡ exported kind office
     sent_rows-all_rows next given so_far ends =
-        sent_rows-told given (reads_as text [] (state g now) (state g next) office_schema has (Select (alone asks.query) asks.names) asks.is asks.plain asks.unlisted given (ends text [] given so_far))
+        sent_rows-returned given (reads_as text [] (state g now) (state g next) office_schema has (Select (alone asks.query) asks.names) asks.is asks.plain asks.unlisted given (ends text [] given so_far))
 
 -- The query runs on an open connection.
-sent_rows-given_open : {S : Type 0} (g : Ghosts S) (sql : List ℕ) (params : Row) (h : Held S) (given : List Row) → HasGiven g sql params h given → IsTrue (state g h).is_open
+given_open : {S : Type 0} (g : Ghosts S) (sql : List ℕ) (params : Row) (h : Held S) (given : List Row) → HasGiven g sql params h given → IsTrue (state g h).is_open
 unfolding HasGiven
-sent_rows-given_open g sql params h given it = it.0.is_open
+given_open g sql params h given it = it.0.is_open
 
-sent_rows-unchanged_still : (a : State) → IsTrue a.is_open → IsUnchanged a a
-sent_rows-unchanged_still a o = (record { was_open = o; is_open = o; now_is = refl; committed_is = refl; mode = refl }, record { changes = refl; last_rowid = refl }, refl)
+unchanged_still : (a : State) → IsTrue a.is_open → IsUnchanged a a
+unchanged_still a o = (record { was_open = o; is_open = o; now_is = refl; committed_is = refl; mode = refl }, record { changes = refl; last_rowid = refl }, refl)
 
-pub sent_rows-keeps_still : (a : State) → KeepsTables a a
-sent_rows-keeps_still a o = (o, λ same. (refl, refl))
+pub keeps_still : (a : State) → KeepsTables a a
+keeps_still a o = (o, λ same. (refl, refl))
 
-pub sent_rows-survives_still : (a : State) → Survives a a (λ _. ⊥)
-sent_rows-survives_still a = record { clean = omega arith; shield = λ s. s; counts = omega arith; limit = refl; closes = λ clean o. inl o; crash = λ clean db h. inl h }
+pub survives_still : (a : State) → Survives a a (λ _. ⊥)
+survives_still a = record { clean = omega arith; shield = λ s. s; counts = omega arith; limit = refl; closes = λ clean o. inl o; crash = λ clean db h. inl h }
 
 -- The header and the records of some rows were written. These are the rows that the running query has given, and the tables are
 -- unchanged.
@@ -185,14 +185,14 @@ UnderWay g kind text fields first now sent before after =
 module _ {S : Type 0} (g : Ghosts S) (kind : ExportKind) (text : List ℕ) (fields : Row → Record) where
   module _ (first now : Held S) (sent : ℕ) (before after : Output) (way : UnderWay g kind text fields first now sent before after) where
     -- an end before the next row
-    pub sent_rows-front_stopped : AsksForExport kind text fields → HasCleanDisk (state g now) → (office : Office) → IsAskedOf g text first office → PutsFront before after sent (export_bytes (exported kind office))
-    sent_rows-front_stopped asks clean office asked =
+    pub sent_rows-prefix_stopped : AsksForExport kind text fields → HasCleanDisk (state g now) → (office : Office) → IsAtStart g text first office → PutsPrefix before after sent (export_bytes (exported kind office))
+    sent_rows-prefix_stopped asks clean office asked =
         let given = way.2 clean asked.begun in
         let read = sent_rows-first_rows g kind text fields asks first now office asked given.1 way.0 given.0 in
-        sent_rows-front_sent (header_of kind ∷ map fields way.0) (map fields read.0) (exported kind office) sent before after (sent_rows-with_more (header_of kind) fields way.0 read.0 ∙ read.1) way.1
+        prefix_sent (header_of kind ∷ map fields way.0) (map fields read.0) (exported kind office) sent before after (with_more (header_of kind) fields way.0 read.0 ∙ read.1) way.1
 
     -- an end after the last row
-    pub sent_rows-whole_sent : AsksForExport kind text fields → (next : Held S) → HasCleanDisk (state g now) → Advances g now next None → (office : Office) → IsAskedOf g text first office
+    pub sent_rows-whole_sent : AsksForExport kind text fields → (next : Held S) → HasCleanDisk (state g now) → Advances g now next None → (office : Office) → IsAtStart g text first office
         → Puts before after (export_bytes (exported kind office))
     sent_rows-whole_sent asks next clean ends office asked =
         let given = way.2 clean asked.begun in
@@ -211,28 +211,28 @@ module _ {S : Type 0} (g : Ghosts S) (kind : ExportKind) (text : List ℕ) (fiel
       pub one_sent : (later : Output) → Puts after later bytes → UnderWay g kind text fields first next (sent + length bytes) before later
       one_sent later puts = (
         way.0 ++ row ∷ [],
-        subst (λ (records : List Record). AreSent records (sent + length bytes) before later) (sent_rows-with_one (header_of kind) fields way.0 row)
-            (sent_rows-more_sent (header_of kind ∷ map fields way.0) (fields row) sent before after later bytes is puts way.1),
+        subst (λ (records : List Record). AreSent records (sent + length bytes) before later) (with_one (header_of kind) fields way.0 row)
+            (more_sent (header_of kind ∷ map fields way.0) (fields row) sent before after later bytes is puts way.1),
         next_given,
       )
 
       -- The row's record is one of the export.
-      in_export : AsksForExport kind text fields → HasCleanDisk (state g next) → (office : Office) → IsAskedOf g text first office
+      in_export : AsksForExport kind text fields → HasCleanDisk (state g next) → (office : Office) → IsAtStart g text first office
           → (rest : List Record) × ((header_of kind ∷ map fields way.0) ++ fields row ∷ rest ≡ exported kind office)
       in_export asks clean office asked =
           let given = next_given clean asked.begun in
           let read = sent_rows-first_rows g kind text fields asks first next office asked given.1 (way.0 ++ row ∷ []) given.0 in
-          (map fields read.0, sent_rows-one_then (header_of kind) fields way.0 read.0 row ∙ read.1)
+          (map fields read.0, one_then (header_of kind) fields way.0 read.0 row ∙ read.1)
 
       -- A write failed within the row's record.
-      pub front_cut : (later : Output) (part : ℕ) → part < length bytes → Puts after later (take part bytes) → AsksForExport kind text fields
-          → HasCleanDisk (state g next) → (office : Office) → IsAskedOf g text first office → PutsFront before later (sent + part) (export_bytes (exported kind office))
-      front_cut later part short puts asks clean office asked =
+      pub prefix_cut : (later : Output) (part : ℕ) → part < length bytes → Puts after later (take part bytes) → AsksForExport kind text fields
+          → HasCleanDisk (state g next) → (office : Office) → IsAtStart g text first office → PutsPrefix before later (sent + part) (export_bytes (exported kind office))
+      prefix_cut later part short puts asks clean office asked =
           let rest = in_export asks clean office asked in
-          sent_rows-cut_front (header_of kind ∷ map fields way.0) sent part before after later bytes short puts way.1 (fields row) rest.0 (exported kind office) is rest.1
+          sent_rows-cut_prefix (header_of kind ∷ map fields way.0) sent part before after later bytes short puts way.1 (fields row) rest.0 (exported kind office) is rest.1
 
       pub short_cut : (later : Output) (part : ℕ) → part < length bytes → Puts after later (take part bytes) → AsksForExport kind text fields
-          → HasCleanDisk (state g next) → (office : Office) → IsAskedOf g text first office → sent + part < length (export_bytes (exported kind office))
+          → HasCleanDisk (state g next) → (office : Office) → IsAtStart g text first office → sent + part < length (export_bytes (exported kind office))
       short_cut later part short puts asks clean office asked =
           let rest = in_export asks clean office asked in
           sent_rows-cut_short (header_of kind ∷ map fields way.0) sent part before after later bytes short puts way.1 (fields row) rest.0 (exported kind office) is rest.1
@@ -241,7 +241,7 @@ module _ {S : Type 0} (g : Ghosts S) (kind : ExportKind) (text : List ℕ) (fiel
       counted_cut later part short puts = sent_rows-cut_counted (header_of kind ∷ map fields way.0) sent part before after later bytes short puts way.1
 
     pub sent_rows-counted_stopped : PutsCount before after sent
-    sent_rows-counted_stopped = sent_rows-sent_counted (header_of kind ∷ map fields way.0) sent before after way.1
+    sent_rows-counted_stopped = sent_counted (header_of kind ∷ map fields way.0) sent before after way.1
 
     pub sent_rows-formed_sent : PutsExport kind before after
     sent_rows-formed_sent = (map fields way.0, way.1.written)
@@ -253,6 +253,6 @@ module _ {S : Type 0} (g : Ghosts S) (kind : ExportKind) (text : List ℕ) (fiel
   pub sent_rows-head_sent : (first : Held S) (before after : Output) (bytes : List ℕ) → bytes ≡ record_bytes (header_of kind) → Puts before after bytes → UnderWay g kind text fields first first (length bytes) before after
   sent_rows-head_sent first before after bytes is puts = (
     [],
-    sent_rows-one_record (header_of kind) before after bytes is puts,
-    λ clean begun. (begun, sent_rows-unchanged_still (state g first) (sent_rows-given_open g text [] first [] begun)),
+    one_record (header_of kind) before after bytes is puts,
+    λ clean begun. (begun, unchanged_still (state g first) (given_open g text [] first [] begun)),
   )

@@ -4,9 +4,9 @@ use Rattle.std.proofs.Common.{ℕ, List, Result, Ok, Err, IfOk, inl, inr}
 use Rattle.sqlite.specs.Held.{Held}
 use Rattle.sqlite_trees.specs.declared.store.Store.{Ghosts}
 use Rattle.office_file.specs.Access.{FileAccess, file_access}
-use Rattle.office_file.specs.Adopted.{BeginsFound, IsFileFault}
-use Rattle.office_file.specs.Created.{BeginsBlank, IsCreateFault}
-use Rattle.office_file.specs.Migrated.{BeginsMigrated, IsMigrateFault}
+use Rattle.office_file.specs.Adopted.{OpensFound, IsFileFault}
+use Rattle.office_file.specs.Created.{OpensBlank, IsCreateFault}
+use Rattle.office_file.specs.Migrated.{OpensMigrated, IsMigrateFault}
 use Rattle.office_store.specs.Desk.{DeskState}
 use Rattle.office_store.specs.declared.desk.faults.DeskFault.{DeskFault}
 
@@ -17,7 +17,7 @@ module _ {F S : Type 0} (base : Ghosts S) (opens finds : Held S → Type 0) (fai
   abbrev system : FileAccess ⊤ S
   system = file_access base (λ _ _ connection _. opens connection) (λ _ _ connection _. finds connection) (λ _ _ _. ⊤) (λ _ _ _. ⊤)
 
-  pub system_files-begins_blank : (made : Result (DeskState S) DeskFault) → IfOk made (λ desk. BeginsBlank place files path desk files') → IfOk made (λ desk. BeginsBlank system tt path desk tt)
+  pub system_files-begins_blank : (made : Result (DeskState S) DeskFault) → IfOk made (λ desk. OpensBlank place files path desk files') → IfOk made (λ desk. OpensBlank system tt path desk tt)
   system_files-begins_blank (Ok desk) h = record { connection = h.connection; opened = h.opened; blank = h.blank; follows = h.follows }
   system_files-begins_blank (Err fault) h = tt
 
@@ -27,13 +27,13 @@ module _ {F S : Type 0} (base : Ghosts S) (opens finds : Held S → Type 0) (fai
   system_files-create_fault (Err fault) (inr h) =
       inr (record { connection = h.connection; between = tt; opened = h.opened; refused = h.refused; refuses = h.refuses; closed = tt })
 
-  pub system_files-begins_found : (found : Result (DeskState S) DeskFault) → IfOk found (λ desk. BeginsFound place files path desk files') → IfOk found (λ desk. BeginsFound system tt path desk tt)
+  pub system_files-begins_found : (found : Result (DeskState S) DeskFault) → IfOk found (λ desk. OpensFound place files path desk files') → IfOk found (λ desk. OpensFound system tt path desk tt)
   system_files-begins_found (Ok desk) h = record {
     connection = h.connection;
     opened = h.opened;
     laid = h.laid;
     follows = h.follows;
-    kept = h.kept;
+    cached = h.cached;
     shows = h.shows;
     unchanged = h.unchanged;
     other = h.other;
@@ -46,13 +46,13 @@ module _ {F S : Type 0} (base : Ghosts S) (opens finds : Held S → Type 0) (fai
   system_files-file_fault (Err fault) (inr h) =
       inr (record { connection = h.connection; between = tt; opened = h.opened; refused = h.refused; refuses = h.refuses; closed = tt })
 
-  pub system_files-begins_migrated : (found : Result (DeskState S) DeskFault) → IfOk found (λ desk. BeginsMigrated place files path desk files') → IfOk found (λ desk. BeginsMigrated system tt path desk tt)
+  pub system_files-begins_migrated : (found : Result (DeskState S) DeskFault) → IfOk found (λ desk. OpensMigrated place files path desk files') → IfOk found (λ desk. OpensMigrated system tt path desk tt)
   system_files-begins_migrated (Ok desk) h = record {
     connection = h.connection;
     opened = h.opened;
     laid = h.laid;
     follows = h.follows;
-    kept = h.kept;
+    cached = h.cached;
     shows = h.shows;
     taken = h.taken;
     other = h.other;

@@ -11,15 +11,15 @@ use Rattle.office_store.specs.declared.requests.Answer.{Answer}
 use Rattle.office_store.specs.declared.requests.Request.{Request}
 use Rattle.office_lines.specs.declared.ending.Ending.{Ending}
 use Rattle.office_lines.specs.declared.ending.Ending.TheVariants.{Ended, ReadFault, WriteFault, NoMemory}
-use Rattle.office_lines.specs.Lines.{is_short, line_limit, piece_limit, lines_of, last_part, unended}
+use Rattle.office_lines.specs.Lines.{is_short, line_limit, chunk_limit, lines_of, last_part, unended}
 use Rattle.room_types.specs.Streams.{Input, Output}
 use Rattle.office_lines.specs.Runs.{texts_of, greatest_status}
-use Rattle.office_lines.specs.Rehearsals.{WholeInput, PartOfInput, WholeLines, WantsMemory, Rehearses}
-use Rattle.office_lines.specs.Inner.Sessions.{ended_from, partial_from, State, Heard, Halted, Finished, Unfinished, Listened, Stopped, Cut, OnlyWhereFailed}
-use Rattle.office_lines.proofs.heard.Lines.{heard-ended_lines-is, heard-last_part-is}
-use Rattle.office_lines.proofs.rehearsals.Runs.{rehearsals-Run-append, rehearsals-greatest_status-append, rehearsals-texts_of-append, rehearsals-texts_front-append, rehearsals-texts_front-more, rehearsals-last_is_made-append}
-use Rattle.office_lines.proofs.heard.Sessions.{heard-short_unended}
-use Rattle.room_types.proofs.watched_bytes.Streams.{watched_bytes-Puts-trans}
+use Rattle.office_lines.specs.Rehearsals.{WholeInput, PartOfInput, WholeLines, NeedsMemory, Rehearses}
+use Rattle.office_lines.specs.Inner.Sessions.{ended_from, partial_from, State, Handled, Halted, Finished, Unfinished, InputHandled, Stopped, Cut, OnlyWhereFailed}
+use Rattle.office_lines.proofs.handled.Lines.{ended_lines-is, last_part-is}
+use Rattle.office_lines.proofs.rehearsals.Runs.{rehearsals-Run-append, greatest_status-append, texts_of-append, texts_of-init-append-le, texts_of-init-append, last_is_made-append}
+use Rattle.office_lines.proofs.handled.Sessions.{short_unended}
+use Rattle.room_types.proofs.watched_bytes.Streams.{Puts-trans}
 
 abbrev pub kept : {H : Type 0} → H → Output → List ℕ → ℕ → ℕ → State H
 kept handler out line sent status = record { handler = handler; out = out; partial_line = line; sent = sent; status = status }
@@ -29,58 +29,58 @@ abbrev pub start : {H : Type 0} → H → Output → State H
 start handler out = kept handler out [] 0 0
 
 -- a new session has that state
-pub rehearsals-is_start : {H : Type 0} (handler : H) (out : Output) (line : List ℕ) (sent status : ℕ) → line ≡ [] → sent ≡ 0 → status ≡ 0
+pub is_start : {H : Type 0} (handler : H) (out : Output) (line : List ℕ) (sent status : ℕ) → line ≡ [] → sent ≡ 0 → status ≡ 0
     → kept handler out line sent status ≡ start handler out
-rehearsals-is_start handler out line sent status e f g = rw (e, f, g) refl
+is_start handler out line sent status e f g = rw (e, f, g) refl
 
-rehearsals-lines_of-is : (bs : List ℕ) → lines_of bs ≡ ended_from [] bs ++ unended (partial_from [] bs)
-rehearsals-lines_of-is bs = ap (λ l. l ++ unended (last_part bs)) (heard-ended_lines-is bs) ∙ ap (λ p. ended_from [] bs ++ unended p) (heard-last_part-is bs)
+lines_of-is : (bs : List ℕ) → lines_of bs ≡ ended_from [] bs ++ unended (partial_from [] bs)
+lines_of-is bs = ap (λ l. l ++ unended (last_part bs)) (ended_lines-is bs) ∙ ap (λ p. ended_from [] bs ++ unended p) (last_part-is bs)
 
 module _ {H : Type 0} (handles : H → Request → Answer → H → Type 0) where
-  pub rehearsals-Listened-started : (o : H) (out : Output) (s t : State H) (u u' : Option (List ℕ)) (reads : ℕ) → s ≡ start o out
-      → (h : Listened handles s t u u') × (reads ≤ length h.bytes + 1) → (h : Listened handles (start o out) t u u') × (reads ≤ length h.bytes + 1)
-  rehearsals-Listened-started o out s t u u' reads e h = subst (λ (z : State H). (k : Listened handles z t u u') × (reads ≤ length k.bytes + 1)) e h
+  pub rehearsals-InputHandled-started : (o : H) (out : Output) (s t : State H) (u u' : Option (List ℕ)) (reads : ℕ) → s ≡ start o out
+      → (h : InputHandled handles s t u u') × (reads ≤ length h.bytes + 1) → (h : InputHandled handles (start o out) t u u') × (reads ≤ length h.bytes + 1)
+  rehearsals-InputHandled-started o out s t u u' reads e h = subst (λ (z : State H). (k : InputHandled handles z t u u') × (reads ≤ length k.bytes + 1)) e h
 
   pub rehearsals-Stopped-started : (o o' : H) (out out' : Output) (s : State H) (ending : Ending) (i i' : Input) → s ≡ start o out
       → Stopped handles s ending o' out' i i' → Stopped handles (start o out) ending o' out' i i'
   rehearsals-Stopped-started o o' out out' s ending i i' e h = subst (λ (z : State H). Stopped handles z ending o' out' i i') e h
 
   -- all lines are the ended ones and the unfinished one
-  rehearsals-lines_of-heard : (o : H) (out : Output) (t : State H) (bs : List ℕ) → Heard handles (start o out) t bs → lines_of bs ≡ ended_from [] bs ++ unended t.partial_line
-  rehearsals-lines_of-heard o out t bs h = rehearsals-lines_of-is bs ∙ ap (λ b. ended_from [] bs ++ unended b) (sym h.partial_line)
+  rehearsals-lines_of-handled : (o : H) (out : Output) (t : State H) (bs : List ℕ) → Handled handles (start o out) t bs → lines_of bs ≡ ended_from [] bs ++ unended t.partial_line
+  rehearsals-lines_of-handled o out t bs h = lines_of-is bs ∙ ap (λ b. ended_from [] bs ++ unended b) (sym h.partial_line)
 
-  pub rehearsals-WholeInput-finished : (o : H) (out : Output) (i i' : Input) (t v : State H) (h : Listened handles (start o out) t i.remaining i'.remaining) → IsAtEnd i'.remaining
+  pub rehearsals-WholeInput-finished : (o : H) (out : Output) (i i' : Input) (t v : State H) (h : InputHandled handles (start o out) t i.remaining i'.remaining) → IsAtEnd i'.remaining
       → i'.reads ≤ length h.bytes + 1 → length t.partial_line ≤ line_limit → Finished handles t v (counted t.out.flushes 1) → v.out.pending ≡ false
       → i'.failed ≡ false → out.failed ≡ false → WholeInput handles o v.handler i i' out v.out v.status
   rehearsals-WholeInput-finished o out i i' t v h end each short f pending reads writes =
-      let lines = rehearsals-lines_of-heard o out t h.bytes h.heard in
-      let answers = h.heard.answers in
+      let lines = rehearsals-lines_of-handled o out t h.bytes h.handled in
+      let answers = h.handled.answers in
       record {
         bytes = h.bytes;
         answers = answers ++ f.answers;
         read = h.read;
         reads = each;
         end = end;
-        short = ap (list_all is_short) lines ∙ list_all-append is_short (ended_from [] h.bytes) (unended t.partial_line) ∙ and_from _ _ h.heard.short (heard-short_unended t.partial_line short);
-        run = rw lines (rehearsals-Run-append handles o t.handler v.handler _ _ _ _ h.heard.run f.run);
-        written = rw (rehearsals-texts_of-append answers f.answers) (watched_bytes-Puts-trans out t.out v.out _ _ h.heard.written f.written);
-        flushed = f.flushed ∙ ap (λ n. counted n 1) h.heard.flushes;
+        short = ap (list_all is_short) lines ∙ list_all-append is_short (ended_from [] h.bytes) (unended t.partial_line) ∙ and_from _ _ h.handled.short (short_unended t.partial_line short);
+        run = rw lines (rehearsals-Run-append handles o t.handler v.handler _ _ _ _ h.handled.run f.run);
+        written = rw (texts_of-append answers f.answers) (Puts-trans out t.out v.out _ _ h.handled.written f.written);
+        flushed = f.flushed ∙ ap (λ n. counted n 1) h.handled.flushes;
         none_pending = pending;
         no_read_failed = reads;
-        no_write_failed = f.failed ∙ h.heard.failed ∙ writes;
-        greatest = f.status ∙ ap (λ n. max n (greatest_status f.answers)) h.heard.status ∙ omega (arith, rehearsals-greatest_status-append answers f.answers);
+        no_write_failed = f.failed ∙ h.handled.failed ∙ writes;
+        greatest = f.status ∙ ap (λ n. max n (greatest_status f.answers)) h.handled.status ∙ omega (arith, greatest_status-append answers f.answers);
       }
 
   -- the last line was not finished
-  rehearsals-part_unfinished : (o o' : H) (out out' : Output) (i i' : Input) (t : State H) (ending : Ending) (n : ℕ) (h : Listened handles (start o out) t i.remaining i'.remaining)
+  rehearsals-part_unfinished : (o o' : H) (out out' : Output) (i i' : Input) (t : State H) (ending : Ending) (n : ℕ) (h : InputHandled handles (start o out) t i.remaining i'.remaining)
       → i'.reads ≤ length h.bytes + 1 → IsAtEnd i'.remaining → (f : Unfinished handles t ending o' out') → n ≡ t.sent + f.sent → PartOfInput handles o o' i i' out out' n
   rehearsals-part_unfinished o o' out out' i i' t ending n h each end f e =
-      let lines = rehearsals-lines_of-heard o out t h.bytes h.heard in
-      let answers = h.heard.answers in
-      let texts = rehearsals-texts_of-append answers f.answers in
-      let count : length (texts_of answers) + f.sent ≡ n = omega (arith, h.heard.sent, e) in
+      let lines = rehearsals-lines_of-handled o out t h.bytes h.handled in
+      let answers = h.handled.answers in
+      let texts = texts_of-append answers f.answers in
+      let count : length (texts_of answers) + f.sent ≡ n = omega (arith, h.handled.sent, e) in
       record {
-        heard = h.bytes;
+        handled = h.bytes;
         ahead = [];
         lines = lines_of h.bytes;
         answers = answers ++ f.answers;
@@ -88,62 +88,62 @@ module _ {H : Type 0} (handles : H → Request → Answer → H → Type 0) wher
         reads = rw append-nil each;
         near = omega arith;
         cut = inr (end, refl, refl);
-        short = ap (list_all is_short) lines ∙ list_all-append is_short (ended_from [] h.bytes) (unended t.partial_line) ∙ and_from _ _ h.heard.short f.short;
-        run = rw lines (rehearsals-Run-append handles o t.handler o' _ _ _ _ h.heard.run f.run);
-        written = rw (texts, ← count, take-append-add (texts_of answers) (texts_of f.answers) f.sent) (watched_bytes-Puts-trans out t.out out' _ _ h.heard.written f.written);
-        whole = omega (arith, rehearsals-texts_front-append answers f.answers, f.whole, count);
+        short = ap (list_all is_short) lines ∙ list_all-append is_short (ended_from [] h.bytes) (unended t.partial_line) ∙ and_from _ _ h.handled.short f.short;
+        run = rw lines (rehearsals-Run-append handles o t.handler o' _ _ _ _ h.handled.run f.run);
+        written = rw (texts, ← count, take-append-add (texts_of answers) (texts_of f.answers) f.sent) (Puts-trans out t.out out' _ _ h.handled.written f.written);
+        whole = omega (arith, texts_of-init-append-le answers f.answers, f.whole, count);
         within = omega (arith, ap length texts, length-append (texts_of answers) (texts_of f.answers), f.all, count);
         flushed = elim f.flushed [
-          | inl none ↦ inl (none ∙ h.heard.flushes)
+          | inl none ↦ inl (none ∙ h.handled.flushes)
           | inr one ↦ inr (
             end,
             refl,
             refl,
             omega (arith, ap length texts, length-append (texts_of answers) (texts_of f.answers), f.all, count, one.0),
-            one.1 ∙ ap (λ n. counted n 1) h.heard.flushes,
+            one.1 ∙ ap (λ n. counted n 1) h.handled.flushes,
           )
         ];
       }
 
   -- out of memory for the text of the last response
-  rehearsals-wants_unfinished : (o o' : H) (out out' : Output) (i i' : Input) (t : State H) (n m : ℕ) (h : Listened handles (start o out) t i.remaining i'.remaining)
+  NeedsMemory-unfinished : (o o' : H) (out out' : Output) (i i' : Input) (t : State H) (n m : ℕ) (h : InputHandled handles (start o out) t i.remaining i'.remaining)
       (each : i'.reads ≤ length h.bytes + 1) (end : IsAtEnd i'.remaining) (f : Unfinished handles t (NoMemory m) o' out') (e : n ≡ t.sent + f.sent)
-      → let part = rehearsals-part_unfinished o o' out out' i i' t (NoMemory m) n h each end f e in WantsMemory part.heard part.lines part.answers n
+      → let part = rehearsals-part_unfinished o o' out out' i i' t (NoMemory m) n h each end f e in NeedsMemory part.handled part.lines part.answers n
   unfolding rehearsals-part_unfinished
-  rehearsals-wants_unfinished o o' out out' i i' t n m h each end f e =
-      let answers = h.heard.answers in
-      let count : n ≡ length (texts_of answers) + f.sent = omega (arith, h.heard.sent, e) in
+  NeedsMemory-unfinished o o' out out' i i' t n m h each end f e =
+      let answers = h.handled.answers in
+      let count : n ≡ length (texts_of answers) + f.sent = omega (arith, h.handled.sent, e) in
       let total = length-append (texts_of answers) (texts_of f.answers) in
       elim f.suits.1 [
         | inl k ↦ inl (
-          omega (arith, count, f.whole, k.0, rehearsals-texts_front-more answers f.answers (omega (arith, k.1, f.all))),
-          omega (arith, count, k.1, f.all, total, ap length (rehearsals-texts_of-append answers f.answers)),
-          rehearsals-last_is_made-append answers f.answers (omega (arith, k.1, f.all)) ∙ k.2,
+          omega (arith, count, f.whole, k.0, texts_of-init-append answers f.answers (omega (arith, k.1, f.all))),
+          omega (arith, count, k.1, f.all, total, ap length (texts_of-append answers f.answers)),
+          last_is_made-append answers f.answers (omega (arith, k.1, f.all)) ∙ k.2,
         )
         | inr k ↦ absurd (omega (arith, k.1))
       ]
 
   pub rehearsals-Rehearses-unfinished : (o o' : H) (out out' : Output) (i i' : Input) (t : State H) (ending : Ending)
-      (h : Listened handles (start o out) t i.remaining i'.remaining) → i'.reads ≤ length h.bytes + 1 → IsAtEnd i'.remaining → Unfinished handles t ending o' out' → OnlyWhereFailed ending t.out.failed out'.failed
+      (h : InputHandled handles (start o out) t i.remaining i'.remaining) → i'.reads ≤ length h.bytes + 1 → IsAtEnd i'.remaining → Unfinished handles t ending o' out' → OnlyWhereFailed ending t.out.failed out'.failed
       → i'.failed ≡ false → out.failed ≡ false → Rehearses handles ending 3 o o' i i' out out'
   rehearsals-Rehearses-unfinished o o' out out' i i' t Ended h each end f w r s = absurd f.suits
   rehearsals-Rehearses-unfinished o o' out out' i i' t ReadFault h each end f w r s = let long = f.suits.1 in absurd (omega (arith, long))
   rehearsals-Rehearses-unfinished o o' out out' i i' t (WriteFault n) h each end f w r s = (refl, r, w, rehearsals-part_unfinished o o' out out' i i' t (WriteFault n) n h each end f f.suits)
   rehearsals-Rehearses-unfinished o o' out out' i i' t (NoMemory n) h each end f w r s =
-      (refl, r, w ∙ h.heard.failed ∙ s, rehearsals-part_unfinished o o' out out' i i' t (NoMemory n) n h each end f f.suits.0, rehearsals-wants_unfinished o o' out out' i i' t n n h each end f f.suits.0)
+      (refl, r, w ∙ h.handled.failed ∙ s, rehearsals-part_unfinished o o' out out' i i' t (NoMemory n) n h each end f f.suits.0, NeedsMemory-unfinished o o' out out' i i' t n n h each end f f.suits.0)
 
   rehearsals-part_halted : (o o' : H) (out out' : Output) (i i' : Input) (ending : Ending) (n : ℕ) (bytes : List ℕ) → Consumes i.remaining i'.remaining bytes
-      → i'.reads ≤ length bytes + 1 → (f : Halted handles (start o out) ending o' out' bytes) → length f.rest < piece_limit → n ≡ 0 + f.sent
+      → i'.reads ≤ length bytes + 1 → (f : Halted handles (start o out) ending o' out' bytes) → length f.rest < chunk_limit → n ≡ 0 + f.sent
       → PartOfInput handles o o' i i' out out' n
   rehearsals-part_halted o o' out out' i i' ending n bytes r each f near e = record {
-    heard = f.heard;
+    handled = f.handled;
     ahead = f.rest;
-    lines = ended_from [] f.heard;
+    lines = ended_from [] f.handled;
     answers = f.answers;
     read = subst (Consumes i.remaining i'.remaining) f.cut r;
     reads = subst (λ (bs : List ℕ). i'.reads ≤ length bs + 1) f.cut each;
     near = near;
-    cut = inl (sym (heard-ended_lines-is f.heard));
+    cut = inl (sym (ended_lines-is f.handled));
     short = f.short;
     run = f.run;
     written = let same : n ≡ f.sent = omega (arith, e) in rw same f.written;
@@ -153,50 +153,50 @@ module _ {H : Type 0} (handles : H → Request → Answer → H → Type 0) wher
   }
 
   -- out of memory within a chunk
-  rehearsals-wants_halted : (o o' : H) (out out' : Output) (i i' : Input) (n m : ℕ) (bytes : List ℕ) (r : Consumes i.remaining i'.remaining bytes)
-      (each : i'.reads ≤ length bytes + 1) (f : Halted handles (start o out) (NoMemory m) o' out' bytes) (near : length f.rest < piece_limit) (e : n ≡ 0 + f.sent)
-      → let part = rehearsals-part_halted o o' out out' i i' (NoMemory m) n bytes r each f near e in WantsMemory part.heard part.lines part.answers n
+  NeedsMemory-halted : (o o' : H) (out out' : Output) (i i' : Input) (n m : ℕ) (bytes : List ℕ) (r : Consumes i.remaining i'.remaining bytes)
+      (each : i'.reads ≤ length bytes + 1) (f : Halted handles (start o out) (NoMemory m) o' out' bytes) (near : length f.rest < chunk_limit) (e : n ≡ 0 + f.sent)
+      → let part = rehearsals-part_halted o o' out out' i i' (NoMemory m) n bytes r each f near e in NeedsMemory part.handled part.lines part.answers n
   unfolding rehearsals-part_halted
-  rehearsals-wants_halted o o' out out' i i' n m bytes r each f near e =
-      let begun : length (last_part f.heard) ≡ length (partial_from [] f.heard) = ap length (heard-last_part-is f.heard) in
+  NeedsMemory-halted o o' out out' i i' n m bytes r each f near e =
+      let begun : length (last_part f.handled) ≡ length (partial_from [] f.handled) = ap length (last_part-is f.handled) in
       elim f.suits.1 [
         | inl k ↦ inl (omega (arith, e, f.whole, k.0), omega (arith, e, k.1, f.all), k.2)
-        | inr k ↦ inr (omega (arith, e, k.0, f.all), sym (heard-ended_lines-is f.heard), omega (arith, begun, k.1), omega (arith, begun, k.2))
+        | inr k ↦ inr (omega (arith, e, k.0, f.all), sym (ended_lines-is f.handled), omega (arith, begun, k.1), omega (arith, begun, k.2))
       ]
 
   rehearsals-whole_halted : (o o' : H) (out out' : Output) (i i' : Input) (bytes : List ℕ) → Consumes i.remaining i'.remaining bytes → i'.reads ≤ length bytes + 1
-      → (f : Halted handles (start o out) ReadFault o' out' bytes) → length f.rest < piece_limit → i'.failed ≡ false → WholeLines handles o o' i i' out out'
+      → (f : Halted handles (start o out) ReadFault o' out' bytes) → length f.rest < chunk_limit → i'.failed ≡ false → WholeLines handles o o' i i' out out'
   rehearsals-whole_halted o o' out out' i i' bytes r each f near w =
       let all : take f.sent (texts_of f.answers) ≡ texts_of f.answers = take_all f.sent (texts_of f.answers) (omega (arith, f.all, f.suits.0)) in
       record {
-        heard = f.heard;
-        unheard = f.rest;
+        handled = f.handled;
+        unhandled = f.rest;
         answers = f.answers;
         read = subst (Consumes i.remaining i'.remaining) f.cut r;
         reads = subst (λ (bs : List ℕ). i'.reads ≤ length bs + 1) f.cut each;
         near = near;
-        short = rw (heard-ended_lines-is f.heard) f.short;
-        run = rw (heard-ended_lines-is f.heard) f.run;
+        short = rw (ended_lines-is f.handled) f.short;
+        run = rw (ended_lines-is f.handled) f.run;
         written = rw all at f.written;
         unflushed = f.unflushed;
-        cause = inl (rw (heard-last_part-is f.heard) f.suits.1, w);
+        cause = inl (rw (last_part-is f.handled) f.suits.1, w);
       }
 
   rehearsals-whole_cut : (o o' : H) (out out' : Output) (i i' : Input) (bytes : List ℕ) → Consumes i.remaining i'.remaining bytes → i'.reads ≤ length bytes + 1
       → (f : Cut handles (start o out) o' out' bytes i') → WholeLines handles o o' i i' out out'
   rehearsals-whole_cut o o' out out' i i' bytes r each f = record {
-    heard = bytes;
-    unheard = [];
-    answers = f.heard.answers;
+    handled = bytes;
+    unhandled = [];
+    answers = f.handled.answers;
     read = subst (Consumes i.remaining i'.remaining) (sym (append-nil bytes)) r;
     reads = rw append-nil each;
     near = omega arith;
-    short = rw (heard-ended_lines-is bytes) f.heard.short;
-    run = rw (heard-ended_lines-is bytes, f.handler_is) f.heard.run;
-    written = rw f.out_is f.heard.written;
-    unflushed = ap (λ (o : Output). o.flushes) f.out_is ∙ f.heard.flushes;
+    short = rw (ended_lines-is bytes) f.handled.short;
+    run = rw (ended_lines-is bytes, f.handler_is) f.handled.run;
+    written = rw f.out_is f.handled.written;
+    unflushed = ap (λ (o : Output). o.flushes) f.out_is ∙ f.handled.flushes;
     cause =
-        let begun : length (last_part bytes) ≡ length f.after.partial_line = ap length (heard-last_part-is bytes ∙ sym f.heard.partial_line) in
+        let begun : length (last_part bytes) ≡ length f.after.partial_line = ap length (last_part-is bytes ∙ sym f.handled.partial_line) in
         inr (refl, omega (arith, begun, f.begun), f.cause);
   }
 
@@ -214,7 +214,7 @@ module _ {H : Type 0} (handles : H → Request → Answer → H → Type 0) wher
           f.2 ∙ r,
           w ∙ s,
           rehearsals-part_halted o o' out out' i i' (NoMemory n) n h.bytes h.read h.reads f.0 f.1 f.0.suits.0,
-          rehearsals-wants_halted o o' out out' i i' n n h.bytes h.read h.reads f.0 f.1 f.0.suits.0,
+          NeedsMemory-halted o o' out out' i i' n n h.bytes h.read h.reads f.0 f.1 f.0.suits.0,
         )
         | inr f ↦ absurd (let e = f.0 in cc)
       ]

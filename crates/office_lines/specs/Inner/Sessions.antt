@@ -2,16 +2,16 @@
 use Rattle.std.specs.Prelude.{◌≡◌, ℕ, ◌+◌, ◌-◌, ◌<◌, ◌≤◌, ◌⊎◌, Bool, true, not, max, List, [], ◌∷◌, ◌++◌, length, take, Option, if◌then◌else◌}
 use Rattle.std.specs.List.{list_all}
 use Rattle.std.specs.Io.KnownBytes.{Consumes}
-use Rattle.office_texts.specs.declared.said.Said.{Said}
+use Rattle.office_texts.specs.declared.response.Response.{Response}
 use Rattle.office_lines.specs.declared.ending.Ending.{Ending}
 use Rattle.office_lines.specs.declared.ending.Ending.TheVariants.{Ended, ReadFault, WriteFault, NoMemory}
 use Rattle.office_lines.specs.declared.session.Session.{Session}
 use Rattle.office_store.specs.declared.requests.Answer.{Answer}
 use Rattle.office_store.specs.declared.requests.Request.{Request}
-use Rattle.office_lines.specs.Lines.{is_short, is_line_end, line_limit, piece_limit, read_limit, front, unended}
+use Rattle.office_lines.specs.Lines.{is_short, is_line_end, line_limit, chunk_limit, read_limit, init, unended}
 use Rattle.room_types.specs.Streams.{Input, Output, Puts}
 use Rattle.room_types.specs.Watched.{counted}
-use Rattle.office_texts.specs.Texts.{is_constant, text_of, answer_text_status}
+use Rattle.office_texts.specs.Texts.{is_constant, text_of, exit_status}
 use Rattle.office_lines.specs.Runs.{Run, Step, texts_of, last_is_made, greatest_status}
 
 -- the lines that the bytes end, continuing an unfinished line
@@ -53,8 +53,8 @@ Suits (NoMemory n) sent of_last unsent made begun =
     (n ≡ sent) × (((of_last ≡ 0) × (0 < unsent) × (made ≡ true)) ⊎ ((unsent ≡ 0) × (0 < begun) × (begun ≤ line_limit)))
 
 -- the number of written bytes that belong to the last text
-abbrev pub of_last_text : ℕ → List Said → ℕ
-of_last_text sent answers = sent - length (texts_of (front answers))
+abbrev pub of_last_text : ℕ → List Response → ℕ
+of_last_text sent answers = sent - length (texts_of (init answers))
 
 -- After a write fault the writer has failed; any other ending leaves its failure flag unchanged.
 abbrev pub OnlyWhereFailed : Ending → Bool → Bool → Type 0
@@ -66,8 +66,8 @@ OnlyWhereFailed (NoMemory n) failed failed' = failed' ≡ failed
 module _ {H : Type 0} (handles : H → Request → Answer → H → Type 0) where
   -- The lines that the bytes end got responses, and the texts were written. Nothing was flushed, and the writer's failure
   -- flag did not change.
-  pub record Heard (before after : State H) (bytes : List ℕ) : Type 0 where
-    pub answers : List Said
+  pub record Handled (before after : State H) (bytes : List ℕ) : Type 0 where
+    pub answers : List Response
     pub partial_line : after.partial_line ≡ partial_from before.partial_line bytes
     pub short : list_all is_short (ended_from before.partial_line bytes) ≡ true
     pub run : Run handles before.handler (ended_from before.partial_line bytes) answers after.handler
@@ -80,47 +80,47 @@ module _ {H : Type 0} (handles : H → Request → Answer → H → Type 0) wher
   -- The rehearsal stopped within the bytes, after the first one or later. The lines ended up to there got responses, and a
   -- prefix of their texts was written: all but the last text completely. Nothing was flushed.
   pub record Halted (before : State H) (ending : Ending) (handler : H) (out : Output) (bytes : List ℕ) : Type 0 where
-    pub heard : List ℕ
+    pub handled : List ℕ
     pub rest : List ℕ
-    pub answers : List Said
+    pub answers : List Response
     pub sent : ℕ
     pub unsent : ℕ
-    pub cut : bytes ≡ heard ++ rest
-    pub some : 0 < length heard
-    pub short : list_all is_short (ended_from before.partial_line heard) ≡ true
-    pub run : Run handles before.handler (ended_from before.partial_line heard) answers handler
+    pub cut : bytes ≡ handled ++ rest
+    pub some : 0 < length handled
+    pub short : list_all is_short (ended_from before.partial_line handled) ≡ true
+    pub run : Run handles before.handler (ended_from before.partial_line handled) answers handler
     pub written : Puts before.out out (take sent (texts_of answers))
     pub unflushed : out.flushes ≡ before.out.flushes
     pub all : sent + unsent ≡ length (texts_of answers)
-    pub whole : length (texts_of (front answers)) ≤ sent
-    pub suits : Suits ending (before.sent + sent) (of_last_text sent answers) unsent (last_is_made answers) (length (partial_from before.partial_line heard))
+    pub whole : length (texts_of (init answers)) ≤ sent
+    pub suits : Suits ending (before.sent + sent) (of_last_text sent answers) unsent (last_is_made answers) (length (partial_from before.partial_line handled))
 
   -- The unfinished line got a response, whose whole text was written.
   pub record Answered (before after : State H) : Type 0 where
-    pub said : Said
-    pub step : Step handles before.handler before.partial_line said after.handler
+    pub response : Response
+    pub step : Step handles before.handler before.partial_line response after.handler
     pub partial_line : after.partial_line ≡ []
-    pub written : Puts before.out after.out (text_of said)
+    pub written : Puts before.out after.out (text_of response)
     pub flushes : after.out.flushes ≡ before.out.flushes
     pub failed : after.out.failed ≡ before.out.failed
-    pub sent : after.sent ≡ before.sent + length (text_of said)
-    pub status : after.status ≡ max before.status (answer_text_status said)
+    pub sent : after.sent ≡ before.sent + length (text_of response)
+    pub status : after.status ≡ max before.status (exit_status response)
 
   -- The unfinished line got a response, of whose text a prefix was written. Nothing was flushed.
   pub record Broken (before : State H) (ending : Ending) (handler : H) (out : Output) : Type 0 where
-    pub said : Said
+    pub response : Response
     pub sent : ℕ
     pub unsent : ℕ
-    pub step : Step handles before.handler before.partial_line said handler
-    pub written : Puts before.out out (take sent (text_of said))
+    pub step : Step handles before.handler before.partial_line response handler
+    pub written : Puts before.out out (take sent (text_of response))
     pub unflushed : out.flushes ≡ before.out.flushes
-    pub all : sent + unsent ≡ length (text_of said)
-    pub suits : Suits ending (before.sent + sent) sent unsent (not (is_constant said)) 0
+    pub all : sent + unsent ≡ length (text_of response)
+    pub suits : Suits ending (before.sent + sent) sent unsent (not (is_constant response)) 0
 
   -- The last line, if it is not empty, got a response, whose text was written. The output was flushed this many times in
   -- all.
   pub record Finished (before after : State H) (flushes : ℕ) : Type 0 where
-    pub answers : List Said
+    pub answers : List Response
     pub run : Run handles before.handler (unended before.partial_line) answers after.handler
     pub partial_line : after.partial_line ≡ []
     pub written : Puts before.out after.out (texts_of answers)
@@ -132,7 +132,7 @@ module _ {H : Type 0} (handles : H → Request → Answer → H → Type 0) wher
   -- The last line, if it is not empty, got a response, of whose text a prefix was written. Nothing was flushed, except once
   -- if the whole text was written.
   pub record Unfinished (before : State H) (ending : Ending) (handler : H) (out : Output) : Type 0 where
-    pub answers : List Said
+    pub answers : List Response
     pub sent : ℕ
     pub unsent : ℕ
     pub short : list_all is_short (unended before.partial_line) ≡ true
@@ -140,20 +140,20 @@ module _ {H : Type 0} (handles : H → Request → Answer → H → Type 0) wher
     pub written : Puts before.out out (take sent (texts_of answers))
     pub flushed : (out.flushes ≡ before.out.flushes) ⊎ ((unsent ≡ 0) × (out.flushes ≡ counted before.out.flushes 1))
     pub all : sent + unsent ≡ length (texts_of answers)
-    pub whole : length (texts_of (front answers)) ≤ sent
+    pub whole : length (texts_of (init answers)) ≤ sent
     pub suits : Suits ending (before.sent + sent) (of_last_text sent answers) unsent (last_is_made answers) 0
 
   -- All bytes read were handled.
-  pub record Listened (before after : State H) (unread unread' : Option (List ℕ)) : Type 0 where
+  pub record InputHandled (before after : State H) (unread unread' : Option (List ℕ)) : Type 0 where
     pub bytes : List ℕ
     pub read : Consumes unread unread' bytes
-    pub heard : Heard before after bytes
+    pub handled : Handled before after bytes
 
   -- All bytes read were handled, and the unfinished line is within the limit. Then a read failed, or the number of reads
   -- reached `read_limit`, and so did the number of bytes.
   pub record Cut (before : State H) (handler : H) (out : Output) (bytes : List ℕ) (input : Input) : Type 0 where
     pub after : State H
-    pub heard : Heard before after bytes
+    pub handled : Handled before after bytes
     pub handler_is : handler ≡ after.handler
     pub out_is : out ≡ after.out
     pub begun : length after.partial_line ≤ line_limit
@@ -166,5 +166,5 @@ module _ {H : Type 0} (handles : H → Request → Answer → H → Type 0) wher
     pub read : Consumes input.remaining input'.remaining bytes
     pub reads : input'.reads ≤ length bytes + 1
     pub why :
-        ((halted : Halted before ending handler out bytes) × (length halted.rest < piece_limit) × (input'.failed ≡ input.failed))
+        ((halted : Halted before ending handler out bytes) × (length halted.rest < chunk_limit) × (input'.failed ≡ input.failed))
         ⊎ ((ending ≡ ReadFault) × Cut before handler out bytes input')

@@ -16,42 +16,42 @@ abbrev pub texts : List (Bor Text) → List Text
 texts = map (λ (word : Bor Text). word.now)
 
 -- a text that is not empty, split at its spaces
-pub csv-between_spaces : (text : Text) → (length text == 0) ≡ false → slice_split is_space text ≡ codes_in text
-csv-between_spaces [] some = cc some
-csv-between_spaces (byte ∷ rest) some = refl
+pub between_spaces : (text : Text) → (length text == 0) ≡ false → slice_split is_space text ≡ codes_in text
+between_spaces [] some = cc some
+between_spaces (byte ∷ rest) some = refl
 
 -- the words before word i are read as these codes, and all of them are room codes
 pub record AreCodes (words : List (Bor Text)) (i : ℕ) (codes : List Text) : Type 0 where
   pub read : codes ++ texts (drop i words) ≡ texts words
   pub good : list_all is_room_code (texts (drop i words)) ≡ list_all is_room_code (texts words)
 
-pub csv-all_codes : (words : List (Bor Text)) (i : ℕ) (codes : List Text) → length words ≤ i → AreCodes words i codes
+pub all_codes : (words : List (Bor Text)) (i : ℕ) (codes : List Text) → length words ≤ i → AreCodes words i codes
     → list_all is_room_code (texts words) ≡ true
-csv-all_codes words i codes all are = sym are.good ∙ ap (λ (ws : List (Bor Text)). list_all is_room_code (texts ws)) (drop_all i words all)
+all_codes words i codes all are = sym are.good ∙ ap (λ (ws : List (Bor Text)). list_all is_room_code (texts ws)) (drop_all i words all)
 
-pub csv-no_code : (words : List (Bor Text)) (i : ℕ) (d : Bor Text) (codes : List Text) → i < length words → AreCodes words i codes
+pub no_code : (words : List (Bor Text)) (i : ℕ) (d : Bor Text) (codes : List Text) → i < length words → AreCodes words i codes
     → is_room_code (get_or words i d).now ≡ false → list_all is_room_code (texts words) ≡ false
-csv-no_code words i d codes low are bad =
+no_code words i d codes low are bad =
     sym are.good ∙ ap (λ (ws : List (Bor Text)). list_all is_room_code (texts ws)) (drop-cons words i d low)
     ∙ ap (λ (b : Bool). b && list_all is_room_code (texts (drop (suc i) words))) bad
 
 -- fields that are text all pass `is_utf8`
-pub csv-all_utf8 : (fields : Record) → AllText fields → list_all is_utf8 fields ≡ true
+pub all_utf8 : (fields : Record) → AllText fields → list_all is_utf8 fields ≡ true
 unfolding AllText
-csv-all_utf8 [] text = refl
-csv-all_utf8 (f ∷ fs) text = rw (is_utf8-from_IsUtf8 f text.0, csv-all_utf8 fs text.1) refl
+all_utf8 [] text = refl
+all_utf8 (f ∷ fs) text = rw (is_utf8-from_IsUtf8 f text.0, all_utf8 fs text.1) refl
 
-pub csv-all_text : (fields : Record) → list_all is_utf8 fields ≡ true → AllText fields
+pub all_text : (fields : Record) → list_all is_utf8 fields ≡ true → AllText fields
 unfolding AllText
-csv-all_text [] all = tt
-csv-all_text (f ∷ fs) all =
-    let parts = and_parts (is_utf8 f) _ all in (IsUtf8-from_is_utf8 f parts.0, csv-all_text fs parts.1)
+all_text [] all = tt
+all_text (f ∷ fs) all =
+    let parts = and_parts (is_utf8 f) _ all in (IsUtf8-from_is_utf8 f parts.0, all_text fs parts.1)
 
-csv-same_count : (m n : ℕ) → m ≡ n → (m == n) ≡ true
-csv-same_count m n e = search (rules, tests)
+same_count : (m n : ℕ) → m ≡ n → (m == n) ≡ true
+same_count m n e = search (rules, tests)
 
-pub csv-no_text : {X : Type 0} (form : ListForm X) (fields : Record) → length fields ≡ length form.header → ¬ (AllText fields) → cause_of form fields ≡ Some NotText
-csv-no_text form fields same bad = rw (csv-same_count (length fields) (length form.header) same, false_from_ne_true (list_all is_utf8 fields) (λ e. bad (csv-all_text fields e))) refl
+pub no_text : {X : Type 0} (form : ListForm X) (fields : Record) → length fields ≡ length form.header → ¬ (AllText fields) → cause_of form fields ≡ Some NotText
+no_text form fields same bad = rw (same_count (length fields) (length form.header) same, false_from_ne_true (list_all is_utf8 fields) (λ e. bad (all_text fields e))) refl
 
-pub csv-cause_of_text : {X : Type 0} (form : ListForm X) (fields : Record) → length fields ≡ length form.header → AllText fields → cause_of form fields ≡ field_cause form fields
-csv-cause_of_text form fields same text = rw (csv-same_count (length fields) (length form.header) same, csv-all_utf8 fields text) refl
+pub cause_of_text : {X : Type 0} (form : ListForm X) (fields : Record) → length fields ≡ length form.header → AllText fields → cause_of form fields ≡ field_cause form fields
+cause_of_text form fields same text = rw (same_count (length fields) (length form.header) same, all_utf8 fields text) refl

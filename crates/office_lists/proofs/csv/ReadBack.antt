@@ -9,7 +9,7 @@ use Rattle.office_lists.specs.Exports.{AreReadBack, IsReadBack, export, export_b
 use Rattle.office_lists.specs.Records.{Record, records_of}
 use Rattle.office_lists.specs.declared.exports.ExportKind.{ExportKind}
 use Rattle.office_lists.specs.declared.exports.ExportKind.TheVariants.{Rooms, People, Moves, Grades}
-use Rattle.office_lists.proofs.csv.Reaching.{csv-all_records}
+use Rattle.office_lists.proofs.csv.Reaching.{all_records}
 
 -- a reader reaches the exported records one after the other
 csv-reached : (records : List Record)
@@ -20,43 +20,43 @@ csv-reached (first ∷ rest) =
     ((read_back first, st.StartRecord, export_bytes rest), read-write first (export_bytes rest), refl, csv-reached rest)
 
 -- a text that does not begin with 0xEF has no byte order mark
-csv-no_mark : (first : ℕ) (rest : List ℕ) → (first == 0xEF) ≡ false → strip_bom (first ∷ rest) ≡ first ∷ rest
+no_mark : (first : ℕ) (rest : List ℕ) → (first == 0xEF) ≡ false → strip_bom (first ∷ rest) ≡ first ∷ rest
 unfolding strip_bom
-csv-no_mark first [] other = refl
-csv-no_mark first (second ∷ []) other = refl
-csv-no_mark first (second ∷ third ∷ rest) other = rw other refl
+no_mark first [] other = refl
+no_mark first (second ∷ []) other = refl
+no_mark first (second ∷ third ∷ rest) other = rw other refl
 
-csv-no_mark_in_export : {Row : Type 0} (kind : ExportKind) (fields : Row → Record) (rows : List Row)
+no_mark_in_export : {Row : Type 0} (kind : ExportKind) (fields : Row → Record) (rows : List Row)
     → strip_bom (export_bytes (export kind fields rows)) ≡ export_bytes (export kind fields rows)
 unfolding record_bytes fields_text is_blank escaped
-csv-no_mark_in_export Rooms fields rows = csv-no_mark 114 _ refl
-csv-no_mark_in_export People fields rows = csv-no_mark 112 _ refl
-csv-no_mark_in_export Moves fields rows = csv-no_mark 114 _ refl
-csv-no_mark_in_export Grades fields rows = csv-no_mark 112 _ refl
+no_mark_in_export Rooms fields rows = no_mark 114 _ refl
+no_mark_in_export People fields rows = no_mark 112 _ refl
+no_mark_in_export Moves fields rows = no_mark 114 _ refl
+no_mark_in_export Grades fields rows = no_mark 112 _ refl
 
-csv-same_header : (kind : ExportKind) → read_back (header_of kind) ≡ header_of kind
-csv-same_header Rooms = refl
-csv-same_header People = refl
-csv-same_header Moves = refl
-csv-same_header Grades = refl
+same_header : (kind : ExportKind) → read_back (header_of kind) ≡ header_of kind
+same_header Rooms = refl
+same_header People = refl
+same_header Moves = refl
+same_header Grades = refl
 
-csv-same_rows : {Row : Type 0} (fields : Row → Record) (rows : List Row) → ((row : Row) → read_back (fields row) ≡ fields row)
+same_rows : {Row : Type 0} (fields : Row → Record) (rows : List Row) → ((row : Row) → read_back (fields row) ≡ fields row)
     → map read_back (map fields rows) ≡ map fields rows
-csv-same_rows fields [] same = refl
-csv-same_rows fields (row ∷ rows) same = rw (same row, csv-same_rows fields rows same) refl
+same_rows fields [] same = refl
+same_rows fields (row ∷ rows) same = rw (same row, same_rows fields rows same) refl
 
-csv-is_read_back : {Row : Type 0} (kind : ExportKind) (fields : Row → Record) (rows : List Row)
+is_read_back : {Row : Type 0} (kind : ExportKind) (fields : Row → Record) (rows : List Row)
     → ((row : Row) → read_back (fields row) ≡ fields row) → IsReadBack (export kind fields rows)
 unfolding records_of next_record
-csv-is_read_back kind fields rows same =
+is_read_back kind fields rows same =
     let records = export kind fields rows in
-    rw (csv-no_mark_in_export kind fields rows) (sym (csv-all_records (export_bytes records) (map read_back records)
-    (st.StartRecord, [], csv-reached records, refl)) ∙ rw (csv-same_header kind, csv-same_rows fields rows same) refl)
+    rw (no_mark_in_export kind fields rows) (sym (all_records (export_bytes records) (map read_back records)
+    (st.StartRecord, [], csv-reached records, refl)) ∙ rw (same_header kind, same_rows fields rows same) refl)
 
-pub csv-are_read_back : AreReadBack
-csv-are_read_back = record {
-  rooms = λ rows. csv-is_read_back Rooms room_fields rows (λ row. refl);
-  people = λ rows. csv-is_read_back People person_fields rows (λ row. refl);
-  moves = λ rows. csv-is_read_back Moves move_fields rows (λ row. refl);
-  grades = λ rows. csv-is_read_back Grades grade_fields rows (λ row. refl);
+pub are_read_back : AreReadBack
+are_read_back = record {
+  rooms = λ rows. is_read_back Rooms room_fields rows (λ row. refl);
+  people = λ rows. is_read_back People person_fields rows (λ row. refl);
+  moves = λ rows. is_read_back Moves move_fields rows (λ row. refl);
+  grades = λ rows. is_read_back Grades grade_fields rows (λ row. refl);
 }

@@ -7,12 +7,12 @@ use Rattle.std.proofs.lemmas.List.{get_or-set_same, get_or-set_other, length-set
 use Rattle.std.proofs.Math.ListN.{get_or-eq_default}
 use Rattle.room_types.specs.declared.moves.Wave.{Wave}
 use Rattle.room_types.specs.declared.moves.Wave.TheVariants.{Swap, Nth}
-use Rattle.office_lists.specs.Waves.{next, own_number, followed, HasNumber, IsWave, wave_of}
-use Rattle.office_lists.specs.Inner.Followers.{AreApart, AreFollowers, IsNumbered, NumbersChain}
+use Rattle.office_lists.specs.Waves.{next, end_number_at, followed, HasNumber, IsWave, wave_of}
+use Rattle.office_lists.specs.Inner.Successors.{AreInjective, AreSuccessors, IsNumbered, NumbersChain}
 use Rattle.office_lists.proofs.move_days.Following.{move_days-followed-beyond, move_days-number-end, move_days-number-none, move_days-number-later, move_days-number-back, move_days-one_wave, move_days-some_wave}
 
-pub move_days-next-within : (ls : List (Option ℕ)) (i j : ℕ) → next ls i ≡ Some j → i < length ls
-move_days-next-within ls i j e =
+pub next-within : (ls : List (Option ℕ)) (i j : ℕ) → next ls i ≡ Some j → i < length ls
+next-within ls i j e =
     elim (cases_lt i (length ls)) [
       | inl less ↦ less
       | inr past ↦ cc (sym (get_or-eq_default ls None past) ∙ e)
@@ -20,37 +20,37 @@ move_days-next-within ls i j e =
 
 -- the first `count` entries of the chain that ends at `end` are numbered, counted from that end
 pub record IsNumberedTo (fs : List (Option ℕ)) (end first count : ℕ) (old new : List Wave) : Type 0 where
-  pub as_many : length new ≡ length old
+  pub same_length : length new ≡ length old
   pub reached : (c i : ℕ) → c < count → followed fs c end ≡ Some i → IsNumbered new i
   pub right : (i number : ℕ) → get_or new i Swap ≡ Nth number → (get_or old i Swap ≡ Nth number) ⊎ ((c : ℕ) × (number ≡ c + first) × (followed fs c end ≡ Some i))
   pub kept : (i number : ℕ) → get_or old i Swap ≡ Nth number → IsNumbered new i
 
-pub move_days-none_numbered : (fs : List (Option ℕ)) (end first : ℕ) (waves : List Wave) → IsNumberedTo fs end first 0 waves waves
-move_days-none_numbered fs end first waves = record {
-  as_many = refl;
+pub none_numbered : (fs : List (Option ℕ)) (end first : ℕ) (waves : List Wave) → IsNumberedTo fs end first 0 waves waves
+none_numbered fs end first waves = record {
+  same_length = refl;
   reached = λ c i low e. absurd (omega arith);
   right = λ i number e. inl e;
   kept = λ i number e. (number, e);
 }
 
-move_days-same_number : (m n : ℕ) → Nth m ≡ Nth n → m ≡ n
-move_days-same_number m n e = cc
+same_number : (m n : ℕ) → Nth m ≡ Nth n → m ≡ n
+same_number m n e = cc
 
 -- the waves at each index after one is written
-move_days-after_write : (ws : List Wave) (here i number : ℕ) → here < length ws
+after_write : (ws : List Wave) (here i number : ℕ) → here < length ws
     → ((i ≡ here) × (get_or (set ws here (Nth number)) i Swap ≡ Nth number)) ⊎ ((i ≢ here) × (get_or (set ws here (Nth number)) i Swap ≡ get_or ws i Swap))
-move_days-after_write ws here i number in' =
+after_write ws here i number in' =
     elim (eqb i here) as (λ b. eqb i here ≡ b → ((i ≡ here) × (get_or (set ws here (Nth number)) i Swap ≡ Nth number)) ⊎ ((i ≢ here) × (get_or (set ws here (Nth number)) i Swap ≡ get_or ws i Swap))) [
       | true ↦ λ e. let same = eqb-true i here e in inl (same, subst (λ k. get_or (set ws here (Nth number)) k Swap ≡ Nth number) (sym same) (get_or-set_same ws here (Nth number) Swap in'))
       | false ↦ λ e. let other = eqb-false i here e in inr (other, get_or-set_other ws here i (Nth number) Swap other)
     ] refl
 
-pub move_days-one_numbered : (fs : List (Option ℕ)) (end first count here : ℕ) (old new : List Wave) → IsNumberedTo fs end first count old new
+pub one_numbered : (fs : List (Option ℕ)) (end first count here : ℕ) (old new : List Wave) → IsNumberedTo fs end first count old new
     → followed fs count end ≡ Some here → here < length new → IsNumberedTo fs end first (count + 1) old (set new here (Nth (count + first)))
-move_days-one_numbered fs end first count here old new so at in' = record {
-  as_many = length-set new here (Nth (count + first)) ∙ so.as_many;
+one_numbered fs end first count here old new so at in' = record {
+  same_length = length-set new here (Nth (count + first)) ∙ so.same_length;
   reached = λ c i low e.
-      elim (move_days-after_write new here i (count + first) in') [
+      elim (after_write new here i (count + first) in') [
         | inl now ↦ (count + first, now.1)
         | inr before ↦
             elim (cases_lt c count) [
@@ -61,20 +61,20 @@ move_days-one_numbered fs end first count here old new so at in' = record {
             ]
       ];
   right = λ i number e.
-      elim (move_days-after_write new here i (count + first) in') [
-        | inl now ↦ let same : count + first ≡ number = move_days-same_number (count + first) number (sym now.1 ∙ e) in inr (count, sym same, at ∙ ap (λ k. Some k) (sym now.0))
+      elim (after_write new here i (count + first) in') [
+        | inl now ↦ let same : count + first ≡ number = same_number (count + first) number (sym now.1 ∙ e) in inr (count, sym same, at ∙ ap (λ k. Some k) (sym now.0))
         | inr before ↦ so.right i number (sym before.1 ∙ e)
       ];
   kept = λ i number e.
-      elim (move_days-after_write new here i (count + first) in') [
+      elim (after_write new here i (count + first) in') [
         | inl now ↦ (count + first, now.1)
         | inr before ↦ let was = so.kept i number e in (was.0, before.1 ∙ was.1)
       ];
 }
 
 -- a chain numbered up to its other end is numbered as a whole
-pub move_days-all_numbered : (fs : List (Option ℕ)) (end first count : ℕ) (old new : List Wave) → IsNumberedTo fs end first count old new → followed fs count end ≡ None → NumbersChain fs end first old new
-move_days-all_numbered fs end first count old new so at = record {
+pub all_numbered : (fs : List (Option ℕ)) (end first count : ℕ) (old new : List Wave) → IsNumberedTo fs end first count old new → followed fs count end ≡ None → NumbersChain fs end first old new
+all_numbered fs end first count old new so at = record {
   reached = λ c i e.
       elim (cases_lt c count) [
         | inl less ↦ so.reached c i less e
@@ -86,29 +86,29 @@ move_days-all_numbered fs end first count old new so at = record {
 
 -- the chains that end at entries below `count` are numbered
 pub record AreNumberedTo (ends : List ℕ) (ls fs : List (Option ℕ)) (count : ℕ) (waves : List Wave) : Type 0 where
-  pub as_many : length waves ≡ length ls
+  pub same_length : length waves ≡ length ls
   pub right : (i number : ℕ) → get_or waves i Swap ≡ Nth number → HasNumber ends ls number i
   pub done : (end c i : ℕ) → end < count → next ls end ≡ None → followed fs c end ≡ Some i → IsNumbered waves i
 
-pub move_days-fewer_done : (ends : List ℕ) (ls fs : List (Option ℕ)) (few count : ℕ) (waves : List Wave) → few ≤ count → AreNumberedTo ends ls fs count waves → AreNumberedTo ends ls fs few waves
-move_days-fewer_done ends ls fs few count waves low so = record {
-  as_many = so.as_many;
+pub fewer_done : (ends : List ℕ) (ls fs : List (Option ℕ)) (few count : ℕ) (waves : List Wave) → few ≤ count → AreNumberedTo ends ls fs count waves → AreNumberedTo ends ls fs few waves
+fewer_done ends ls fs few count waves low so = record {
+  same_length = so.same_length;
   right = so.right;
   done = λ end c i less. so.done end c i (omega arith);
 }
 
-module _ (ends : List ℕ) (ls fs : List (Option ℕ)) (linked : AreFollowers ls fs) where
+module _ (ends : List ℕ) (ls fs : List (Option ℕ)) (linked : AreSuccessors ls fs) where
   -- an entry that is c steps from the end of its chain has the number of the end plus c
-  pub move_days-number-along : (c end i : ℕ) → next ls end ≡ None → followed fs c end ≡ Some i → HasNumber ends ls (c + own_number ends end) i
+  pub move_days-number-along : (c end i : ℕ) → next ls end ≡ None → followed fs c end ≡ Some i → HasNumber ends ls (c + end_number_at ends end) i
   move_days-number-along zero end i none e =
-      let is : own_number ends end ≡ 0 + own_number ends end = omega arith in
-      subst (HasNumber ends ls (0 + own_number ends end)) (same_Some end i e) (move_days-number-end ends ls (0 + own_number ends end) end none (sym is))
+      let is : end_number_at ends end ≡ 0 + end_number_at ends end = omega arith in
+      subst (HasNumber ends ls (0 + end_number_at ends end)) (same_Some end i e) (move_days-number-end ends ls (0 + end_number_at ends end) end none (sym is))
   move_days-number-along (suc c) end i none e =
-      let is : suc (c + own_number ends end) ≡ suc c + own_number ends end = omega arith in
+      let is : suc (c + end_number_at ends end) ≡ suc c + end_number_at ends end = omega arith in
       subst (λ n. HasNumber ends ls n i) is
-      (elim (followed fs c end) as (λ o. followed fs c end ≡ o → option_and_then (next fs) o ≡ Some i → HasNumber ends ls (suc (c + own_number ends end)) i) [
+      (elim (followed fs c end) as (λ o. followed fs c end ≡ o → option_and_then (next fs) o ≡ Some i → HasNumber ends ls (suc (c + end_number_at ends end)) i) [
         | None ↦ λ f g. cc
-        | Some j ↦ λ f g. move_days-number-later ends ls (c + own_number ends end) i j (linked.after i j g) (move_days-number-along c end j none f)
+        | Some j ↦ λ f g. move_days-number-later ends ls (c + end_number_at ends end) i j (linked.after i j g) (move_days-number-along c end j none f)
       ] refl e)
 
   pub move_days-within-along : (c end i : ℕ) → end < length ls → followed fs c end ≡ Some i → i < length ls
@@ -116,11 +116,11 @@ module _ (ends : List ℕ) (ls fs : List (Option ℕ)) (linked : AreFollowers ls
   move_days-within-along (suc c) end i in' e =
       elim (followed fs c end) as (λ o. followed fs c end ≡ o → option_and_then (next fs) o ≡ Some i → i < length ls) [
         | None ↦ λ f g. cc
-        | Some j ↦ λ f g. move_days-next-within ls i j (linked.after i j g)
+        | Some j ↦ λ f g. next-within ls i j (linked.after i j g)
       ] refl e
 
   -- an entry with a number is on a chain that ends
-  pub move_days-end_of : (n i : ℕ) → i < length ls → AreApart ls → HasNumber ends ls n i → (end : ℕ) × (c : ℕ) × (end < length ls) × (next ls end ≡ None) × (followed fs c end ≡ Some i)
+  pub move_days-end_of : (n i : ℕ) → i < length ls → AreInjective ls → HasNumber ends ls n i → (end : ℕ) × (c : ℕ) × (end < length ls) × (next ls end ≡ None) × (followed fs c end ≡ Some i)
   move_days-end_of zero i in' apart h =
       elim (next ls i) as (λ o. next ls i ≡ o → (end : ℕ) × (c : ℕ) × (end < length ls) × (next ls end ≡ None) × (followed fs c end ≡ Some i)) [
         | None ↦ λ e. (i, 0, in', e, refl)
@@ -135,9 +135,9 @@ module _ (ends : List ℕ) (ls fs : List (Option ℕ)) (linked : AreFollowers ls
       ] refl
 
   -- the next entry ends a chain, which is numbered now
-  pub move_days-end_done : (count : ℕ) (old new : List Wave) → AreNumberedTo ends ls fs count old → next ls count ≡ None → length new ≡ length old → NumbersChain fs count (own_number ends count) old new → AreNumberedTo ends ls fs (count + 1) new
+  pub move_days-end_done : (count : ℕ) (old new : List Wave) → AreNumberedTo ends ls fs count old → next ls count ≡ None → length new ≡ length old → NumbersChain fs count (end_number_at ends count) old new → AreNumberedTo ends ls fs (count + 1) new
   move_days-end_done count old new so none same chain = record {
-    as_many = same ∙ so.as_many;
+    same_length = same ∙ so.same_length;
     right = λ i number e.
         elim (chain.right i number e) [
           | inl was ↦ so.right i number was
@@ -153,7 +153,7 @@ module _ (ends : List ℕ) (ls fs : List (Option ℕ)) (linked : AreFollowers ls
   -- the next entry does not end a chain
   pub move_days-other_done : (count : ℕ) (waves : List Wave) → AreNumberedTo ends ls fs count waves → (j : ℕ) → next ls count ≡ Some j → AreNumberedTo ends ls fs (count + 1) waves
   move_days-other_done count waves so j some = record {
-    as_many = so.as_many;
+    same_length = so.same_length;
     right = so.right;
     done = λ end c i low last at.
         elim (cases_lt end count) [
@@ -162,7 +162,7 @@ module _ (ends : List ℕ) (ls fs : List (Option ℕ)) (linked : AreFollowers ls
         ];
   }
 
-  module _ (apart : AreApart ls) (low : (i : ℕ) → own_number ends i ≤ 1) (waves : List Wave) (so : AreNumberedTo ends ls fs (length ls) waves) where
+  module _ (apart : AreInjective ls) (low : (i : ℕ) → end_number_at ends i ≤ 1) (waves : List Wave) (so : AreNumberedTo ends ls fs (length ls) waves) where
     pub move_days-wave_at : (i : ℕ) → i < length ls → get_or waves i Swap ≡ wave_of ends ls i
     move_days-wave_at i in' =
         elim (get_or waves i Swap) as (λ w. get_or waves i Swap ≡ w → w ≡ wave_of ends ls i) [

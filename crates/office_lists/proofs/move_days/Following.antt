@@ -11,27 +11,27 @@ use Rattle.std.proofs.lemmas.Map.Keys.{IsDistinct-from_apart}
 use Rattle.std.proofs.lemmas.Map.Steps.{length-le_from_distinct_below}
 use Rattle.room_types.specs.declared.moves.Wave.{Wave}
 use Rattle.room_types.specs.declared.moves.Wave.TheVariants.{Swap, Nth}
-use Rattle.office_lists.specs.Waves.{next, own_number, followed, Returns, HasNumber, IsWave, chain_number, wave_of}
-use Rattle.office_lists.specs.Inner.Followers.{AreApart}
+use Rattle.office_lists.specs.Waves.{next, end_number_at, followed, Returns, HasNumber, IsWave, chain_number, wave_of}
+use Rattle.office_lists.specs.Inner.Successors.{AreInjective}
 
-move_days-any_below : (q n : ℕ) (xs : List ℕ) → AllByRecursion (λ x. x < n) xs → list_any (eqb q) xs ≡ true → q < n
-move_days-any_below q n [] h e = absurd (false≢true e)
-move_days-any_below q n (x ∷ xs) h e =
+any_below : (q n : ℕ) (xs : List ℕ) → AllByRecursion (λ x. x < n) xs → list_any (eqb q) xs ≡ true → q < n
+any_below q n [] h e = absurd (false≢true e)
+any_below q n (x ∷ xs) h e =
     elim (eqb q x) as (λ b. eqb q x ≡ b → (b || list_any (eqb q) xs) ≡ true → q < n) [
       | true ↦ λ is f. subst (λ y. y < n) (sym (eqb-true q x is)) h.0
-      | false ↦ λ is f. move_days-any_below q n xs h.1 f
+      | false ↦ λ is f. any_below q n xs h.1 f
     ] refl e
 
 -- m different numbers below n: m is at most n
-move_days-few_apart : (f : ℕ → ℕ) (m n : ℕ) → ((k : ℕ) → k < m → f k < n) → ((a b : ℕ) → a < b → b < m → f a ≡ f b → ⊥) → m ≤ n
-move_days-few_apart f m n into apart =
+pigeonhole : (f : ℕ → ℕ) (m n : ℕ) → ((k : ℕ) → k < m → f k < n) → ((a b : ℕ) → a < b → b < m → f a ≡ f b → ⊥) → m ≤ n
+pigeonhole f m n into apart =
     let xs = map f (range_with_len 0 m) in
     let many : length xs ≡ m = length-map-range_with_len f 0 m in
     let at : (k d : ℕ) → k < m → get_or xs k d ≡ f k = λ k d small. get_or-map-range_with_len f 0 m k k d small (omega arith) in
     let distinct : IsDistinct eqb xs = IsDistinct-from_apart eqb xs (λ i j d before within.
     ne_eqb (get_or xs i d) (get_or xs j d) (λ same. apart i j before (omega arith) (sym (at i d (omega arith)) ∙ same ∙ at j d (omega arith)))) in
     let below : AllByRecursion (λ x. x < n) xs = recursion_from_All (λ x. x < n) xs (λ k d within. subst (λ x. x < n) (sym (at k d (omega arith))) (into k (omega arith))) in
-    let few : length xs ≤ n = length-le_from_distinct_below xs n distinct (λ q among. move_days-any_below q n xs below among) in
+    let few : length xs ≤ n = length-le_from_distinct_below xs n distinct (λ q among. any_below q n xs below among) in
     omega arith
 
 module _ (ls : List (Option ℕ)) where
@@ -55,23 +55,23 @@ module _ (ls : List (Option ℕ)) where
 
 module _ (ends : List ℕ) (ls : List (Option ℕ)) where
   -- an entry at the end of its chain has its end number, and no other
-  pub move_days-number-end : (n i : ℕ) → next ls i ≡ None → n ≡ own_number ends i → HasNumber ends ls n i
-  move_days-number-end zero i e is = subst (λ o. MatchOption o (0 ≡ own_number ends i) (λ j. ⊥)) (sym e) is
-  move_days-number-end (suc n) i e is = subst (λ o. MatchOption o (suc n ≡ own_number ends i) (HasNumber ends ls n)) (sym e) is
+  pub move_days-number-end : (n i : ℕ) → next ls i ≡ None → n ≡ end_number_at ends i → HasNumber ends ls n i
+  move_days-number-end zero i e is = subst (λ o. MatchOption o (0 ≡ end_number_at ends i) (λ j. ⊥)) (sym e) is
+  move_days-number-end (suc n) i e is = subst (λ o. MatchOption o (suc n ≡ end_number_at ends i) (HasNumber ends ls n)) (sym e) is
 
-  move_days-number-only : (n i : ℕ) → next ls i ≡ None → HasNumber ends ls n i → n ≡ own_number ends i
-  move_days-number-only zero i e h = subst (λ o. MatchOption o (0 ≡ own_number ends i) (λ j. ⊥)) e h
-  move_days-number-only (suc n) i e h = subst (λ o. MatchOption o (suc n ≡ own_number ends i) (HasNumber ends ls n)) e h
+  move_days-number-only : (n i : ℕ) → next ls i ≡ None → HasNumber ends ls n i → n ≡ end_number_at ends i
+  move_days-number-only zero i e h = subst (λ o. MatchOption o (0 ≡ end_number_at ends i) (λ j. ⊥)) e h
+  move_days-number-only (suc n) i e h = subst (λ o. MatchOption o (suc n ≡ end_number_at ends i) (HasNumber ends ls n)) e h
 
   pub move_days-number-later : (n i j : ℕ) → next ls i ≡ Some j → HasNumber ends ls n j → HasNumber ends ls (suc n) i
-  move_days-number-later n i j e h = subst (λ o. MatchOption o (suc n ≡ own_number ends i) (HasNumber ends ls n)) (sym e) h
+  move_days-number-later n i j e h = subst (λ o. MatchOption o (suc n ≡ end_number_at ends i) (HasNumber ends ls n)) (sym e) h
 
   pub move_days-number-back : (n i j : ℕ) → next ls i ≡ Some j → HasNumber ends ls (suc n) i → HasNumber ends ls n j
-  move_days-number-back n i j e h = subst (λ o. MatchOption o (suc n ≡ own_number ends i) (HasNumber ends ls n)) e h
+  move_days-number-back n i j e h = subst (λ o. MatchOption o (suc n ≡ end_number_at ends i) (HasNumber ends ls n)) e h
 
   -- an entry with a leaver does not have the number 0
   pub move_days-number-none : (i j : ℕ) → next ls i ≡ Some j → HasNumber ends ls 0 i → ⊥
-  move_days-number-none i j e h = subst (λ o. MatchOption o (0 ≡ own_number ends i) (λ j. ⊥)) e h
+  move_days-number-none i j e h = subst (λ o. MatchOption o (0 ≡ end_number_at ends i) (λ j. ⊥)) e h
 
   move_days-at_end : (m n i : ℕ) → next ls i ≡ None → HasNumber ends ls m i → HasNumber ends ls n i → m ≡ n
   move_days-at_end m n i e h g = move_days-number-only m i e h ∙ sym (move_days-number-only n i e g)
@@ -117,15 +117,15 @@ module _ (ends : List ℕ) (ls : List (Option ℕ)) where
   move_days-number-from_length : (k n i : ℕ) → chain_number ends ls k i ≡ Some n → HasNumber ends ls n i
   move_days-number-from_length zero n i e = cc
   move_days-number-from_length (suc k) n i e =
-      elim (next ls i) as (λ o. next ls i ≡ o → option_map_or (λ j. option_map (λ number. suc number) (chain_number ends ls k j)) o (Some (own_number ends i)) ≡ Some n → HasNumber ends ls n i) [
-        | None ↦ λ none f. move_days-number-end n i none (sym (same_Some (own_number ends i) n f))
+      elim (next ls i) as (λ o. next ls i ≡ o → option_map_or (λ j. option_map (λ number. suc number) (chain_number ends ls k j)) o (Some (end_number_at ends i)) ≡ Some n → HasNumber ends ls n i) [
+        | None ↦ λ none f. move_days-number-end n i none (sym (same_Some (end_number_at ends i) n f))
         | Some j ↦ λ some f. elim (chain_number ends ls k j) as (λ o. chain_number ends ls k j ≡ o → option_map (λ number. suc number) o ≡ Some n → HasNumber ends ls n i) [
           | None ↦ λ g h. cc
           | Some m ↦ λ g h. subst (λ number. HasNumber ends ls number i) (same_Some (suc m) n h) (move_days-number-later m i j some (move_days-number-from_length k m j g))
         ] refl f
       ] refl e
 
-  module _ (apart : AreApart ls) (low : (i : ℕ) → own_number ends i ≤ 1) where
+  module _ (apart : AreInjective ls) (low : (i : ℕ) → end_number_at ends i ≤ 1) where
     -- the numbers fall by one with each leaver
     move_days-number-after : (c n i : ℕ) → i < length ls → c < n → HasNumber ends ls n i → (x : ℕ) × (m : ℕ) × (followed ls c i ≡ Some x) × (x < length ls) × HasNumber ends ls m x × (m + c ≡ n)
     move_days-number-after zero n i in' below h = (i, n, refl, in', h, omega arith)
@@ -141,7 +141,7 @@ module _ (ends : List ℕ) (ls : List (Option ℕ)) where
     -- a number is at most the number of entries
     pub move_days-number-le : (n i : ℕ) → i < length ls → HasNumber ends ls n i → n ≤ length ls
     move_days-number-le n i in' h =
-        move_days-few_apart (λ c. unwrap_or (followed ls c i) 0) n (length ls)
+        pigeonhole (λ c. unwrap_or (followed ls c i) 0) n (length ls)
         (λ k low. let at = move_days-number-after k n i in' low h in subst (λ x. x < length ls) (sym (ap (λ o. unwrap_or o 0) at.2)) at.3)
         (λ a b before low same.
         let first = move_days-number-after a n i in' (omega arith) h in
@@ -151,16 +151,16 @@ module _ (ends : List ℕ) (ls : List (Option ℕ)) where
         absurd (omega (arith, first.5, second.5)))
 
     -- if two different numbers of steps lead to the same entry, following the leavers returns to the start
-    move_days-gone_round : (a b i x : ℕ) → a < b → followed ls a i ≡ Some x → followed ls b i ≡ Some x → (c : ℕ) × (c < b) × (followed ls (suc c) i ≡ Some i)
-    move_days-gone_round a zero i x low p q = absurd (omega arith)
-    move_days-gone_round zero (suc b) i x low p q = (b, omega arith, q ∙ sym p)
-    move_days-gone_round (suc a) (suc b) i x low p q =
+    move_days-cycle_from_meeting : (a b i x : ℕ) → a < b → followed ls a i ≡ Some x → followed ls b i ≡ Some x → (c : ℕ) × (c < b) × (followed ls (suc c) i ≡ Some i)
+    move_days-cycle_from_meeting a zero i x low p q = absurd (omega arith)
+    move_days-cycle_from_meeting zero (suc b) i x low p q = (b, omega arith, q ∙ sym p)
+    move_days-cycle_from_meeting (suc a) (suc b) i x low p q =
         elim (followed ls a i) as (λ o. followed ls a i ≡ o → option_and_then (next ls) o ≡ Some x → (c : ℕ) × (c < suc b) × (followed ls (suc c) i ≡ Some i)) [
           | None ↦ λ e f. cc
           | Some y ↦ λ e f. elim (followed ls b i) as (λ o. followed ls b i ≡ o → option_and_then (next ls) o ≡ Some x → (c : ℕ) × (c < suc b) × (followed ls (suc c) i ≡ Some i)) [
             | None ↦ λ g h. cc
             | Some z ↦ λ g h.
-                let before = move_days-gone_round a b i y (omega arith) e (g ∙ ap (λ k. Some k) (apart.one z y x h f)) in
+                let before = move_days-cycle_from_meeting a b i y (omega arith) e (g ∙ ap (λ k. Some k) (apart.one z y x h f)) in
                 (before.0, omega (arith, before.1), before.2)
           ] refl q
         ] refl p
@@ -170,7 +170,7 @@ module _ (ends : List ℕ) (ls : List (Option ℕ)) where
     move_days-goes_on zero k i in' low e = (i, refl, in')
     move_days-goes_on (suc c) zero i in' low e = absurd (omega arith)
     move_days-goes_on (suc c) (suc k) i in' low e =
-        elim (next ls i) as (λ o. next ls i ≡ o → option_map_or (λ j. option_map (λ number. suc number) (chain_number ends ls k j)) o (Some (own_number ends i)) ≡ None → (x : ℕ) × (followed ls (suc c) i ≡ Some x) × (x < length ls)) [
+        elim (next ls i) as (λ o. next ls i ≡ o → option_map_or (λ j. option_map (λ number. suc number) (chain_number ends ls k j)) o (Some (end_number_at ends i)) ≡ None → (x : ℕ) × (followed ls (suc c) i ≡ Some x) × (x < length ls)) [
           | None ↦ λ none f. cc
           | Some j ↦ λ some f.
               let endless : chain_number ends ls k j ≡ None =
@@ -207,13 +207,13 @@ module _ (ends : List ℕ) (ls : List (Option ℕ)) where
         elim (move_days-return_cases (suc (length ls)) i) [
           | inl comes ↦ comes
           | inr never ↦
-              let few : suc (length ls) ≤ length ls = move_days-few_apart (λ c. unwrap_or (followed ls c i) 0) (suc (length ls)) (length ls)
+              let few : suc (length ls) ≤ length ls = pigeonhole (λ c. unwrap_or (followed ls c i) 0) (suc (length ls)) (length ls)
               (λ k low. let at = move_days-goes_on k (length ls) i in' (omega arith) endless in subst (λ x. x < length ls) (sym (ap (λ o. unwrap_or o 0) at.1)) at.2)
               (λ a b before low same.
               let first = move_days-goes_on a (length ls) i in' (omega arith) endless in
               let second = move_days-goes_on b (length ls) i in' (omega arith) endless in
               let one : second.0 ≡ first.0 = sym (ap (λ o. unwrap_or o 0) second.1) ∙ sym same ∙ ap (λ o. unwrap_or o 0) first.1 in
-              let round = move_days-gone_round a b i first.0 before first.1 (second.1 ∙ ap (λ k. Some k) one) in
+              let round = move_days-cycle_from_meeting a b i first.0 before first.1 (second.1 ∙ ap (λ k. Some k) one) in
               never round.0 (omega (arith, round.1)) round.2) in
               absurd (omega arith)
         ]

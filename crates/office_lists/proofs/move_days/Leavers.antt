@@ -10,27 +10,27 @@ use Rattle.std.proofs.lemmas.List.Sums.{fails_before_first, prefix_len-le-length
 use Rattle.std.proofs.lemmas.List.Quantifiers.{position-Some}
 use Rattle.std.proofs.lemmas.Slice.Eq.{bytes_eq-Decides}
 use Rattle.room_types.specs.Texts.{Text, text_eq}
-use Rattle.office_lists.specs.Waves.{Mover, NewRoomsDiffer, chain_number, leaver, leavers, end_numbers, own_number, next, wave_of, waves_of, IsWave, AreWaves, HaveOneWaveEach}
+use Rattle.office_lists.specs.Waves.{Relocation, NewRoomsDiffer, chain_number, leaver, leavers, end_numbers, end_number_at, next, wave_of, waves_of, IsWave, AreWaves, HaveOneWaveEach}
 use Rattle.room_types.specs.declared.moves.Wave.{Wave}
 use Rattle.room_types.specs.declared.moves.Wave.TheVariants.{Swap, Nth}
-use Rattle.room_types.proofs.options.Options.{options-option_or-none}
+use Rattle.room_types.proofs.options.Options.{option_or-none}
 use Rattle.std.proofs.lemmas.List.FromFn.{fill_by_all, length-map-range_with_len}
-use Rattle.office_lists.specs.Inner.Followers.{AreApart, AreFollowers}
+use Rattle.office_lists.specs.Inner.Successors.{AreInjective, AreSuccessors}
 use Rattle.office_lists.proofs.move_days.Following.{move_days-one_wave, move_days-some_wave}
-use Rattle.office_lists.proofs.move_days.Chains.{move_days-next-within, AreNumberedTo, move_days-wave_at}
+use Rattle.office_lists.proofs.move_days.Chains.{next-within, AreNumberedTo, move_days-wave_at}
 
-move_days-position_at : {X : Type 0} (p : X → Bool) (xs : List X) (k n : ℕ) → position_or_len p xs ≡ k → length xs ≡ n → position p xs ≡ cond (ltb k n) (Some k) None
-move_days-position_at p xs k n at many = λ i. cond (ltb (at i) (many i)) (Some (at i)) None
+position_at : {X : Type 0} (p : X → Bool) (xs : List X) (k n : ℕ) → position_or_len p xs ≡ k → length xs ≡ n → position p xs ≡ cond (ltb k n) (Some k) None
+position_at p xs k n at many = λ i. cond (ltb (at i) (many i)) (Some (at i)) None
 
-pub move_days-position-push : {X : Type 0} (p : X → Bool) (xs : List X) (y : X) → position p (xs ++ y ∷ []) ≡ option_or (position p xs) (cond (p y) (Some (length xs)) None)
-move_days-position-push p xs y =
+pub position-push : {X : Type 0} (p : X → Bool) (xs : List X) (y : X) → position p (xs ++ y ∷ []) ≡ option_or (position p xs) (cond (p y) (Some (length xs)) None)
+position-push p xs y =
     let n = position_or_len p xs in
     let many = length xs in
     let longer : length (xs ++ y ∷ []) ≡ many + 1 = length_push xs y in
     elim (cases_lt n many) [
       | inl less ↦
           let far : position_or_len p (xs ++ y ∷ []) ≡ n = position_or_len_push p xs y ∙ ap (λ b. cond b (many + cond (p y) 0 1) n) (ne_eqb n many (λ e. omega arith)) in
-          let new : position p (xs ++ y ∷ []) ≡ Some n = move_days-position_at p (xs ++ y ∷ []) n (many + 1) far longer ∙ ap (λ b. cond b (Some n) None) (lt-ltb n (many + 1) (omega arith)) in
+          let new : position p (xs ++ y ∷ []) ≡ Some n = position_at p (xs ++ y ∷ []) n (many + 1) far longer ∙ ap (λ b. cond b (Some n) None) (lt-ltb n (many + 1) (omega arith)) in
           let old : position p xs ≡ Some n = ap (λ b. cond b (Some n) None) (lt-ltb n many less) in
           new ∙ ap (λ o. option_or o (cond (p y) (Some many) None)) (sym old)
       | inr more ↦
@@ -38,7 +38,7 @@ move_days-position-push p xs y =
           let old : position p xs ≡ None = ap (λ b. cond b (Some n) None) (le-ltb n many more) in
           let far : position_or_len p (xs ++ y ∷ []) ≡ many + cond (p y) 0 1 = position_or_len_push p xs y ∙ ap (λ b. cond b (many + cond (p y) 0 1) n) (eq-eqb n many all) in
           let new : position p (xs ++ y ∷ []) ≡ cond (p y) (Some many) None =
-          move_days-position_at p (xs ++ y ∷ []) (many + cond (p y) 0 1) (many + 1) far longer
+          position_at p (xs ++ y ∷ []) (many + cond (p y) 0 1) (many + 1) far longer
           ∙ elim (p y) as (λ b. cond (ltb (many + cond b 0 1) (many + 1)) (Some (many + cond b 0 1)) None ≡ cond b (Some many) None) [
             | true ↦
                 let same : many + 0 ≡ many = omega arith in
@@ -49,55 +49,55 @@ move_days-position-push p xs y =
     ]
 
 -- whether this is the old room of the entry
-abbrev pub has_left : Text → Mover → Bool
+abbrev pub has_left : Text → Relocation → Bool
 has_left room entry = option_map_or (λ old. text_eq old room) entry.1 false
 
-move_days-leaver-more : (entries : List Mover) (i : ℕ) (entry : Mover) (room : Text) → i < length entries → entry ≡ get_or entries i entry
+leaver-more : (entries : List Relocation) (i : ℕ) (entry : Relocation) (room : Text) → i < length entries → entry ≡ get_or entries i entry
     → leaver (take (i + 1) entries) room ≡ option_or (leaver (take i entries) room) (cond (has_left room entry) (Some i) None)
-move_days-leaver-more entries i entry room in' is =
+leaver-more entries i entry room in' is =
     let many : length (take i entries) ≡ i = length-take-le i entries (omega arith) in
     ap (λ es. leaver es room) (take_more entries i entry in' ∙ ap (λ e. take i entries ++ e ∷ []) (sym is))
-    ∙ move_days-position-push (has_left room) (take i entries) entry
+    ∙ position-push (has_left room) (take i entries) entry
     ∙ ap (λ n. option_or (leaver (take i entries) room) (cond (has_left room entry) (Some n) None)) many
 
-move_days-first_there : (x y : Option ℕ) → is_some x ≡ true → option_or x y ≡ x
-move_days-first_there None y e = cc
-move_days-first_there (Some x) y e = refl
+first_there : (x y : Option ℕ) → is_some x ≡ true → option_or x y ≡ x
+first_there None y e = cc
+first_there (Some x) y e = refl
 
-move_days-first_missing : (x y : Option ℕ) → is_some x ≡ false → option_or x y ≡ y
-move_days-first_missing None y e = refl
-move_days-first_missing (Some x) y e = cc
+first_missing : (x y : Option ℕ) → is_some x ≡ false → option_or x y ≡ y
+first_missing None y e = refl
+first_missing (Some x) y e = cc
 
-module _ (entries : List Mover) (i : ℕ) (entry : Mover) (in' : i < length entries) (is : entry ≡ get_or entries i entry) (room : Text) where
+module _ (entries : List Relocation) (i : ℕ) (entry : Relocation) (in' : i < length entries) (is : entry ≡ get_or entries i entry) (room : Text) where
   -- an entry without an old room is nobody's leaver
   pub move_days-without_old_room : entry.1 ≡ None → leaver (take (i + 1) entries) room ≡ leaver (take i entries) room
   move_days-without_old_room none =
-      move_days-leaver-more entries i entry room in' is
+      leaver-more entries i entry room in' is
       ∙ ap (λ old. option_or (leaver (take i entries) room) (cond (option_map_or (λ old. text_eq old room) old false) (Some i) None)) none
-      ∙ options-option_or-none (leaver (take i entries) room)
+      ∙ option_or-none (leaver (take i entries) room)
 
   module _ (old : Text) (has : entry.1 ≡ Some old) where
     more : leaver (take (i + 1) entries) room ≡ option_or (leaver (take i entries) room) (cond (text_eq old room) (Some i) None)
-    more = move_days-leaver-more entries i entry room in' is ∙ ap (λ o. option_or (leaver (take i entries) room) (cond (option_map_or (λ old. text_eq old room) o false) (Some i) None)) has
+    more = leaver-more entries i entry room in' is ∙ ap (λ o. option_or (leaver (take i entries) room) (cond (option_map_or (λ old. text_eq old room) o false) (Some i) None)) has
 
     -- if the room already has a leaver, a later entry with the same old room changes nothing
     pub move_days-known_old_room : is_some (leaver (take i entries) old) ≡ true → leaver (take (i + 1) entries) room ≡ leaver (take i entries) room
     move_days-known_old_room known =
         more ∙ elim (text_eq old room) as (λ b. text_eq old room ≡ b → option_or (leaver (take i entries) room) (cond b (Some i) None) ≡ leaver (take i entries) room) [
-          | true ↦ λ e. move_days-first_there (leaver (take i entries) room) (Some i) (subst (λ r. is_some (leaver (take i entries) r) ≡ true) ((bytes_eq-Decides old room).0 e) known)
-          | false ↦ λ e. options-option_or-none (leaver (take i entries) room)
+          | true ↦ λ e. first_there (leaver (take i entries) room) (Some i) (subst (λ r. is_some (leaver (take i entries) r) ≡ true) ((bytes_eq-Decides old room).0 e) known)
+          | false ↦ λ e. option_or-none (leaver (take i entries) room)
         ] refl
 
     -- otherwise the entry is the leaver of its old room
     pub move_days-new_old_room : is_some (leaver (take i entries) old) ≡ false → leaver (take (i + 1) entries) room ≡ cond (text_eq old room) (Some i) (leaver (take i entries) room)
     move_days-new_old_room new =
         more ∙ elim (text_eq old room) as (λ b. text_eq old room ≡ b → option_or (leaver (take i entries) room) (cond b (Some i) None) ≡ cond b (Some i) (leaver (take i entries) room)) [
-          | true ↦ λ e. move_days-first_missing (leaver (take i entries) room) (Some i) (subst (λ r. is_some (leaver (take i entries) r) ≡ false) ((bytes_eq-Decides old room).0 e) new)
-          | false ↦ λ e. options-option_or-none (leaver (take i entries) room)
+          | true ↦ λ e. first_missing (leaver (take i entries) room) (Some i) (subst (λ r. is_some (leaver (take i entries) r) ≡ false) ((bytes_eq-Decides old room).0 e) new)
+          | false ↦ λ e. option_or-none (leaver (take i entries) room)
         ] refl
 
 -- what holds for entry i with leaver k
-record HasLeaver (entries : List Mover) (i k : ℕ) : Type 0 where
+record HasLeaver (entries : List Relocation) (i k : ℕ) : Type 0 where
   within : i < length entries
   room : Text
   to : (get_or entries i ([], None, None)).2 ≡ Some room
@@ -105,21 +105,21 @@ record HasLeaver (entries : List Mover) (i k : ℕ) : Type 0 where
   left : has_left room (get_or entries k ([], None, None)) ≡ true
 
 -- if an entry has left a room, that room is its old room; and the converse
-pub move_days-left_room : (room : Text) (entry : Mover) → has_left room entry ≡ true → entry.1 ≡ Some room
-move_days-left_room room entry h =
+pub left_room : (room : Text) (entry : Relocation) → has_left room entry ≡ true → entry.1 ≡ Some room
+left_room room entry h =
     elim entry.1 as (λ o. option_map_or (λ old. text_eq old room) o false ≡ true → o ≡ Some room) [
       | None ↦ λ e. absurd (false≢true e)
       | Some old ↦ λ e. ap (λ r. Some r) ((bytes_eq-Decides old room).0 e)
     ] h
 
-pub move_days-has_left_room : (room : Text) (entry : Mover) → entry.1 ≡ Some room → has_left room entry ≡ true
-move_days-has_left_room room entry h =
+pub has_left_room : (room : Text) (entry : Relocation) → entry.1 ≡ Some room → has_left room entry ≡ true
+has_left_room room entry h =
     ap (λ o. option_map_or (λ old. text_eq old room) o false) h ∙ (bytes_eq-Decides room room).1 refl
 
 -- if some element passes the test, `position` finds the first one
-pub move_days-position_found : {X : Type 0} (p : X → Bool) (xs : List X) (j : ℕ) (d : X) → j < length xs → p (get_or xs j d) ≡ true
+pub position_found : {X : Type 0} (p : X → Bool) (xs : List X) (j : ℕ) (d : X) → j < length xs → p (get_or xs j d) ≡ true
     → (position_or_len p xs < length xs) × (position p xs ≡ Some (position_or_len p xs))
-move_days-position_found p xs j d within h =
+position_found p xs j d within h =
     elim (cases_lt j (position_or_len p xs)) as
     (λ _. (position_or_len p xs < length xs) × (position p xs ≡ Some (position_or_len p xs))) [
       | inl before ↦ absurd (false≢true (sym (fails_before_first p xs j d before) ∙ h))
@@ -129,34 +129,34 @@ move_days-position_found p xs j d within h =
     ]
 
 -- an entry leaves one room at most
-move_days-same_room : (one other : Text) (entry : Mover) → has_left one entry ≡ true → has_left other entry ≡ true → one ≡ other
-move_days-same_room one other entry p q =
+same_room : (one other : Text) (entry : Relocation) → has_left one entry ≡ true → has_left other entry ≡ true → one ≡ other
+same_room one other entry p q =
     elim entry.1 as (λ o. option_map_or (λ old. text_eq old one) o false ≡ true → option_map_or (λ old. text_eq old other) o false ≡ true → one ≡ other) [
       | None ↦ λ e f. absurd (false≢true e)
       | Some old ↦ λ e f. sym ((bytes_eq-Decides old one).0 e) ∙ (bytes_eq-Decides old other).0 f
     ] p q
 
 -- the number at the end of a chain is 0 or 1
-pub move_days-end_at_most_one : (to : Option Text) → option_map_or (λ room. 1) to 0 ≤ 1
-move_days-end_at_most_one None = omega arith
-move_days-end_at_most_one (Some room) = omega arith
+pub end_at_most_one : (to : Option Text) → option_map_or (λ room. 1) to 0 ≤ 1
+end_at_most_one None = omega arith
+end_at_most_one (Some room) = omega arith
 
-pub move_days-first_at_most_one : (entries : List Mover) (i : ℕ) → own_number (end_numbers entries) i ≤ 1
-move_days-first_at_most_one [] i = omega arith
-move_days-first_at_most_one (entry ∷ entries) zero = move_days-end_at_most_one entry.2
-move_days-first_at_most_one (entry ∷ entries) (suc i) = move_days-first_at_most_one entries i
+pub first_at_most_one : (entries : List Relocation) (i : ℕ) → end_number_at (end_numbers entries) i ≤ 1
+first_at_most_one [] i = omega arith
+first_at_most_one (entry ∷ entries) zero = end_at_most_one entry.2
+first_at_most_one (entry ∷ entries) (suc i) = first_at_most_one entries i
 
 -- the end number of entry i is that of the entry itself
-pub move_days-own_number : (entries : List Mover) (i : ℕ) (d : Mover) → i < length entries → own_number (end_numbers entries) i ≡ option_map_or (λ room. 1) (get_or entries i d).2 0
-move_days-own_number [] i d low = absurd (omega (arith, low))
-move_days-own_number (entry ∷ entries) zero d low = refl
-move_days-own_number (entry ∷ entries) (suc i) d low = move_days-own_number entries i d (omega (arith, low))
+pub move_days-end_number_at : (entries : List Relocation) (i : ℕ) (d : Relocation) → i < length entries → end_number_at (end_numbers entries) i ≡ option_map_or (λ room. 1) (get_or entries i d).2 0
+move_days-end_number_at [] i d low = absurd (omega (arith, low))
+move_days-end_number_at (entry ∷ entries) zero d low = refl
+move_days-end_number_at (entry ∷ entries) (suc i) d low = move_days-end_number_at entries i d (omega (arith, low))
 
-module _ (entries : List Mover) where
+module _ (entries : List Relocation) where
   move_days-has_leaver : (i k : ℕ) → next (leavers entries) i ≡ Some k → HasLeaver entries i k
   move_days-has_leaver i k e =
       let many : length (leavers entries) ≡ length entries = length-map entries (λ entry. option_and_then (leaver entries) entry.2) in
-      let in' : i < length entries = omega (arith, move_days-next-within (leavers entries) i k e) in
+      let in' : i < length entries = omega (arith, next-within (leavers entries) i k e) in
       let at : next (leavers entries) i ≡ option_and_then (leaver entries) (get_or entries i ([], None, None)).2 = get_or-map (λ entry. option_and_then (leaver entries) entry.2) entries i ([], None, None) None in' in
       elim (get_or entries i ([], None, None)).2 as (λ o. (get_or entries i ([], None, None)).2 ≡ o → option_and_then (leaver entries) o ≡ Some k → HasLeaver entries i k) [
         | None ↦ λ f g. cc
@@ -165,13 +165,13 @@ module _ (entries : List Mover) where
             record { within = in'; room = room; to = f; below = found.0; left = found.1 }
       ] refl (sym at ∙ e)
 
-  pub move_days-leavers-apart : NewRoomsDiffer entries → AreApart (leavers entries)
-  move_days-leavers-apart differ = record {
+  pub move_days-leavers-injective : NewRoomsDiffer entries → AreInjective (leavers entries)
+  move_days-leavers-injective differ = record {
     within = λ i j e. omega (arith, (move_days-has_leaver i j e).below, length-map entries (λ entry. option_and_then (leaver entries) entry.2));
     one = λ i j k e f.
         let a = move_days-has_leaver i k e in
         let b = move_days-has_leaver j k f in
-        let same : a.room ≡ b.room = move_days-same_room a.room b.room (get_or entries k ([], None, None)) a.left b.left in
+        let same : a.room ≡ b.room = same_room a.room b.room (get_or entries k ([], None, None)) a.left b.left in
         elim (cases_lt i j) [
           | inl less ↦ absurd (differ i j ([], None, None) less b.within a.room a.to (b.to ∙ ap (λ r. Some r) (sym same)))
           | inr more ↦ elim (cases_lt j i) [
@@ -181,15 +181,15 @@ module _ (entries : List Mover) where
         ];
   }
 
-  pub move_days-as_many_waves : length (waves_of entries) ≡ length entries
-  move_days-as_many_waves = length-map-range_with_len (wave_of (end_numbers entries) (leavers entries)) 0 (length entries)
+  pub move_days-length-waves_of : length (waves_of entries) ≡ length entries
+  move_days-length-waves_of = length-map-range_with_len (wave_of (end_numbers entries) (leavers entries)) 0 (length entries)
 
   pub move_days-length-leavers : length (leavers entries) ≡ length entries
   move_days-length-leavers = length-map entries (λ entry. option_and_then (leaver entries) entry.2)
 
   module _ (differ : NewRoomsDiffer entries) where
     move_days-has_wave : (i : ℕ) → i < length entries → IsWave (end_numbers entries) (leavers entries) i (wave_of (end_numbers entries) (leavers entries) i)
-    move_days-has_wave i in' = move_days-some_wave (end_numbers entries) (leavers entries) (move_days-leavers-apart differ) (move_days-first_at_most_one entries) i (omega (arith, move_days-length-leavers))
+    move_days-has_wave i in' = move_days-some_wave (end_numbers entries) (leavers entries) (move_days-leavers-injective differ) (first_at_most_one entries) i (omega (arith, move_days-length-leavers))
 
     pub move_days-one_wave_each : HaveOneWaveEach entries
     move_days-one_wave_each = record {
@@ -197,38 +197,38 @@ module _ (entries : List Mover) where
       one = λ i wave in' is. move_days-one_wave (end_numbers entries) (leavers entries) i wave (wave_of (end_numbers entries) (leavers entries) i) is (move_days-has_wave i in');
     }
 
-    module _ (fs : List (Option ℕ)) (waves : List Wave) (linked : AreFollowers (leavers entries) fs) (so : AreNumberedTo (end_numbers entries) (leavers entries) fs (length (leavers entries)) waves) where
+    module _ (fs : List (Option ℕ)) (waves : List Wave) (linked : AreSuccessors (leavers entries) fs) (so : AreNumberedTo (end_numbers entries) (leavers entries) fs (length (leavers entries)) waves) where
       -- once the chains of all ends are numbered, each entry has its wave
       each_wave : (i : ℕ) → i < length entries → get_or waves i Swap ≡ wave_of (end_numbers entries) (leavers entries) i
-      each_wave i in' = move_days-wave_at (end_numbers entries) (leavers entries) fs linked (move_days-leavers-apart differ) (move_days-first_at_most_one entries) waves so i (omega (arith, move_days-length-leavers))
+      each_wave i in' = move_days-wave_at (end_numbers entries) (leavers entries) fs linked (move_days-leavers-injective differ) (first_at_most_one entries) waves so i (omega (arith, move_days-length-leavers))
 
       pub are_waves : AreWaves entries waves
       are_waves = record {
-        as_many = so.as_many ∙ move_days-length-leavers;
+        same_length = so.same_length ∙ move_days-length-leavers;
         each = λ i in'. subst (IsWave (end_numbers entries) (leavers entries) i) (sym (each_wave i in')) (move_days-has_wave i in');
       }
 
       pub are_computed : waves ≡ waves_of entries
-      are_computed = fill_by_all (wave_of (end_numbers entries) (leavers entries)) waves (length entries) Swap (so.as_many ∙ move_days-length-leavers) each_wave
+      are_computed = fill_by_all (wave_of (end_numbers entries) (leavers entries)) waves (length entries) Swap (so.same_length ∙ move_days-length-leavers) each_wave
 
 -- ---- entries without a new room
 
-move_days-next : (entries : List Mover) (i : ℕ) (d : Mover) → i < length entries
+move_days-next : (entries : List Relocation) (i : ℕ) (d : Relocation) → i < length entries
     → next (leavers entries) i ≡ option_and_then (leaver entries) (get_or entries i d).2
-move_days-next entries i d low = get_or-map (λ (entry : Mover). option_and_then (leaver entries) entry.2) entries i d None low
+move_days-next entries i d low = get_or-map (λ (entry : Relocation). option_and_then (leaver entries) entry.2) entries i d None low
 
-move_days-first_wave : (ends : List ℕ) (ls : List (Option ℕ)) (i limit : ℕ) → 0 < limit → next ls i ≡ None → own_number ends i ≡ 0
+first_wave : (ends : List ℕ) (ls : List (Option ℕ)) (i limit : ℕ) → 0 < limit → next ls i ≡ None → end_number_at ends i ≡ 0
     → option_map_or (λ number. Nth number) (chain_number ends ls limit i) Swap ≡ Nth 0
-move_days-first_wave ends ls i zero some none first = absurd (omega (arith, some))
-move_days-first_wave ends ls i (suc limit) some none first =
-    let at : Option ℕ → Option ℕ = λ o. option_map_or (λ leaver. option_map (λ number. suc number) (chain_number ends ls limit leaver)) o (Some (own_number ends i)) in
+first_wave ends ls i zero some none first = absurd (omega (arith, some))
+first_wave ends ls i (suc limit) some none first =
+    let at : Option ℕ → Option ℕ = λ o. option_map_or (λ leaver. option_map (λ number. suc number) (chain_number ends ls limit leaver)) o (Some (end_number_at ends i)) in
     ap (λ o. option_map_or (λ number. Nth number) (at o) Swap) none ∙ ap (λ number. Nth number) first
 
 -- an entry without a new room has wave 0
-pub move_days-leaver_wave : (entries : List Mover) (i : ℕ) (d : Mover) → i < length entries → (get_or entries i d).2 ≡ None
+pub departing_wave : (entries : List Relocation) (i : ℕ) (d : Relocation) → i < length entries → (get_or entries i d).2 ≡ None
     → wave_of (end_numbers entries) (leavers entries) i ≡ Nth 0
-move_days-leaver_wave entries i d low nowhere =
+departing_wave entries i d low nowhere =
     let many = move_days-length-leavers entries in
-    move_days-first_wave (end_numbers entries) (leavers entries) i (length (leavers entries)) (omega (arith, low, many))
+    first_wave (end_numbers entries) (leavers entries) i (length (leavers entries)) (omega (arith, low, many))
     (move_days-next entries i d low ∙ ap (option_and_then (leaver entries)) nowhere)
-    (move_days-own_number entries i d low ∙ ap (λ to. option_map_or (λ room. 1) to 0) nowhere)
+    (move_days-end_number_at entries i d low ∙ ap (λ to. option_map_or (λ room. 1) to 0) nowhere)

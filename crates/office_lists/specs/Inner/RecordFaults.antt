@@ -11,9 +11,9 @@ use Rattle.office_lists.specs.declared.fault.RecordFault.{RecordFault}
 use Rattle.office_lists.specs.declared.fault.RecordFault.TheVariants as one
 
 -- the error of a list whose record `at` has this fault
-abbrev pub fault_at : ℕ → RecordFault → ListFault
-fault_at at (one.Bad cause) = list.Bad at cause
-fault_at at one.OutOfMemory = list.OutOfMemory
+abbrev pub at_record : ℕ → RecordFault → ListFault
+at_record at (one.Bad cause) = list.Bad at cause
+at_record at one.OutOfMemory = list.OutOfMemory
 
 -- the fault of a record whose field `number` has this fault
 abbrev pub field_fault : ℕ → TypeFault → RecordFault

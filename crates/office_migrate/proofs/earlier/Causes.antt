@@ -11,106 +11,106 @@ use Rattle.office_tables.specs.declared.layouts.Layout.{Layout}
 use Rattle.office_tables.specs.declared.layouts.Layout.TheVariants.{Own, Documented, DocumentedSecond}
 use Rattle.office_tables.specs.declared.layouts.Layout.TheVariants.{DocumentedFirst, EarlierFirst}
 use Rattle.office_load.specs.Finding.{HoldsVersion}
-use Rattle.office_load.proofs.found_offices.Versions.{found_offices-one_version, found_offices-own_layout}
+use Rattle.office_load.proofs.found_offices.Versions.{one_version, own_layout}
 use Rattle.office_load.proofs.found_offices.Versions.{found_offices-own_version}
-use Rattle.office_load.specs.Front.{IsFront, has_front}
+use Rattle.office_load.specs.FirstTables.{BeginsOffice, begins_office}
 use Rattle.office_load.specs.Layout.{layout_in}
 use Rattle.office_migrate.specs.Causes.{AreEarlierRows, AreNoEarlierRows, BeginsAt, HasCause, HasKnownNames, HoldsEarlier}
-use Rattle.office_migrate.specs.Causes.{HoldsNoEarlier, IsAllowed, IsLaid, IsOfName, IsOfNumber, IsReadAsNone, MayReturn, StandsFirst}
+use Rattle.office_migrate.specs.Causes.{HoldsNoEarlier, IsAllowed, IsLaid, IsNameFault, IsVersionFault, IsReadAsNone, MayReturn, HoldsEarlierFirst}
 use Rattle.office_migrate.specs.First.{first_layout}
-use Rattle.office_migrate.specs.Names.{is_lacking_name_used, takes_name}
-use Rattle.office_migrate.specs.Versions.{IsEarlier, IsNoEarlier}
+use Rattle.office_migrate.specs.Names.{uses_missing_name, takes_name}
+use Rattle.office_migrate.specs.Versions.{IsEarlier, IsNotEarlier}
 use Rattle.office_migrate.specs.declared.migrating.MigrateFault.{MigrateFault}
 use Rattle.office_migrate.specs.declared.migrating.MigrateFault.TheVariants.{Unavailable, OtherVersion, NotAnOffice, AlreadyThere}
-use Rattle.office_migrate.proofs.earlier.First.{earlier-first_found, earlier-first_if_holds, earlier-first_is_laid, earlier-holds_if_first}
-use Rattle.office_migrate.proofs.earlier.Front.{earlier-front_named}
+use Rattle.office_migrate.proofs.earlier.First.{first_found, first_if_holds, first_is_laid, holds_if_first}
+use Rattle.office_migrate.proofs.earlier.FirstTables.{earlier-names_round}
 
 -- In a layout of an earlier version, the names of the tables that it lacks are free.
-pub earlier-own_names_free : (layout : Layout) → IsEarlier (version_of layout)
-    → is_lacking_name_used (version_of layout) (schema_of layout) ≡ false
+pub own_names_free : (layout : Layout) → IsEarlier (version_of layout)
+    → uses_missing_name (version_of layout) (schema_of layout) ≡ false
 unfolding same_name
-earlier-own_names_free Own (inl e) = absurd (omega (arith, e))
-earlier-own_names_free Own (inr e) = absurd (omega (arith, e))
-earlier-own_names_free Documented (inl e) = absurd (omega (arith, e))
-earlier-own_names_free Documented (inr e) = absurd (omega (arith, e))
-earlier-own_names_free DocumentedSecond e = refl
-earlier-own_names_free DocumentedFirst e = refl
-earlier-own_names_free EarlierFirst e = refl
+own_names_free Own (inl e) = absurd (omega (arith, e))
+own_names_free Own (inr e) = absurd (omega (arith, e))
+own_names_free Documented (inl e) = absurd (omega (arith, e))
+own_names_free Documented (inr e) = absurd (omega (arith, e))
+own_names_free DocumentedSecond e = refl
+own_names_free DocumentedFirst e = refl
+own_names_free EarlierFirst e = refl
 
 pub earlier-pos : (v w : ℕ) → pos v ≡ pos w → v ≡ w
 earlier-pos v w e = cc
 
 -- A name that version 2 lacks is one that version 1 lacks.
-earlier-lacking_first : (grade going : Bool) → IsTrue (takes_name grade going 2) → IsTrue (takes_name grade going 1)
-earlier-lacking_first true going h = refl
-earlier-lacking_first false going h = h
+lacking_first : (grade going : Bool) → IsTrue (takes_name grade going 2) → IsTrue (takes_name grade going 1)
+lacking_first true going h = refl
+lacking_first false going h = h
 
 -- An earlier version is an earlier one as a number, too.
-pub earlier-not_no : (version : ℕ) → IsEarlier version → IsNoEarlier (pos version) → ⊥
-earlier-not_no version (inl e) none = none.0 (ap (λ n. pos n) e)
-earlier-not_no version (inr e) none = none.1 (ap (λ n. pos n) e)
+pub not_no : (version : ℕ) → IsEarlier version → IsNotEarlier (pos version) → ⊥
+not_no version (inl e) none = none.0 (ap (λ n. pos n) e)
+not_no version (inr e) none = none.1 (ap (λ n. pos n) e)
 
 -- An office of an earlier version is not refused for another version.
-pub earlier-only_unavailable : (version : ℕ) (fault : MigrateFault) → IsEarlier version → IsOfNumber fault
+pub only_unavailable : (version : ℕ) (fault : MigrateFault) → IsEarlier version → IsVersionFault fault
     → (fault ≡ Unavailable) ⊎ (fault ≡ OtherVersion (pos version)) → fault ≡ Unavailable
-earlier-only_unavailable version fault is number (inl e) = e
-earlier-only_unavailable version fault is number (inr e) = absurd (earlier-not_no version is (subst IsOfNumber e number))
+only_unavailable version fault is number (inl e) = e
+only_unavailable version fault is number (inr e) = absurd (not_no version is (subst IsVersionFault e number))
 
 -- It is not refused for a name either.
-pub earlier-takes_none : (layout : Layout) (schema : Schema) (grade going : Bool) (version : ℕ)
+pub takes_none : (layout : Layout) (schema : Schema) (grade going : Bool) (version : ℕ)
     → IsEarlier (version_of layout) → schema ≡ schema_of layout
     → grade ≡ is_used schema (codes "grade") → going ≡ is_used schema (codes "going") → version_of layout ≡ version
     → takes_name grade going version ≡ false
-earlier-takes_none layout schema grade going version is has a b same =
+takes_none layout schema grade going version is has a b same =
     subst (λ n. takes_name grade going n ≡ false) same
-    (rw (a, b) (subst (λ (s : Schema). is_lacking_name_used (version_of layout) s ≡ false) (sym has)
-    (earlier-own_names_free layout is)))
+    (rw (a, b) (subst (λ (s : Schema). uses_missing_name (version_of layout) s ≡ false) (sym has)
+    (own_names_free layout is)))
 
 -- It is refused for a name if one that its version lacks is in use.
-pub earlier-takes_used : (schema : Schema) (grade going : Bool) (version own : ℕ) → grade ≡ is_used schema (codes "grade")
-    → going ≡ is_used schema (codes "going") → own ≡ version → is_lacking_name_used own schema ≡ true
+pub takes_used : (schema : Schema) (grade going : Bool) (version own : ℕ) → grade ≡ is_used schema (codes "grade")
+    → going ≡ is_used schema (codes "going") → own ≡ version → uses_missing_name own schema ≡ true
     → takes_name grade going version ≡ true
-earlier-takes_used schema grade going version own a b same used =
+takes_used schema grade going version own a b same used =
     subst (λ n. takes_name grade going n ≡ true) same (rw (a, b) used)
 
 -- Whatever follows the tables, the row of table `round` is of their version.
-pub earlier-first_says : (layout : Layout) (db : Database) (office : Office) → StandsFirst layout db office
+pub first_states_version : (layout : Layout) (db : Database) (office : Office) → HoldsEarlierFirst layout db office
     → HoldsVersion db (pos (version_of layout))
-earlier-first_says layout db office h =
+first_states_version layout db office h =
     found_offices-own_version layout (record { schema = schema_of layout; trees = db.trees }) office
     (record { schema = refl; rows = h.rows })
 
-module _ (db : Database) (front : IsFront db.schema) where
+module _ (db : Database) (first_tables : BeginsOffice db.schema) where
   -- where there is not exactly one row in table `round`
   pub earlier-none_without_version : ((version : ℤ) → HoldsVersion db version → ⊥) → HoldsNoEarlier db
   earlier-none_without_version none_held = record {
-    front = front;
+    first_tables = first_tables;
     version = λ version other h. none_held version h;
     known = λ version earlier h. absurd (none_held (pos version) h);
-    none = λ layout office h. none_held (pos (version_of layout)) (earlier-first_says layout db office h);
+    none = λ layout office h. none_held (pos (version_of layout)) (first_states_version layout db office h);
   }
 
   module _ (version : ℕ) (is_earlier : IsEarlier version) (holds : HoldsVersion db (pos version)) where
     -- the row holds no other version
     earlier-held_one : (other : ℕ) → HoldsVersion db (pos other) → version ≡ other
-    earlier-held_one other h = earlier-pos version other (found_offices-one_version db (pos version) (pos other) holds h)
+    earlier-held_one other h = earlier-pos version other (one_version db (pos version) (pos other) holds h)
 
-    earlier-same_version : (layout : Layout) (office : Office) → StandsFirst layout db office → version_of layout ≡ version
+    earlier-same_version : (layout : Layout) (office : Office) → HoldsEarlierFirst layout db office → version_of layout ≡ version
     earlier-same_version layout office h = earlier-pos (version_of layout) version
-        (found_offices-one_version db (pos (version_of layout)) (pos version) (earlier-first_says layout db office h) holds)
+        (one_version db (pos (version_of layout)) (pos version) (first_states_version layout db office h) holds)
 
     -- where the first tables are not the rows of an office of the version in the row of table `round`
     pub earlier-none_first : BeginsAt version db.schema ⊎ IsLaid version db.schema → AreNoEarlierRows version db → HoldsNoEarlier db
     earlier-none_first known none = record {
-      front = front;
+      first_tables = first_tables;
       known = λ other earlier h. subst (λ v. BeginsAt v db.schema ⊎ IsLaid v db.schema) (earlier-held_one other h) known;
-      version = λ other none_earlier h. earlier-not_no version is_earlier
-          (subst IsNoEarlier (found_offices-one_version db other (pos version) h holds) none_earlier);
+      version = λ other none_earlier h. not_no version is_earlier
+          (subst IsNotEarlier (one_version db other (pos version) h holds) none_earlier);
       none = λ layout office h. none layout (earlier-same_version layout office h) office h;
     }
 
     -- the cause for which such tables are refused if the name of a table that they lack is taken
-    pub earlier-name_cause : (fault : MigrateFault) → IsOfName fault → IsTrue (is_lacking_name_used version db.schema)
+    pub earlier-name_cause : (fault : MigrateFault) → IsNameFault fault → IsTrue (uses_missing_name version db.schema)
         → (fault ≡ NotAnOffice → BeginsAt version db.schema) → (fault ≡ NotAnOffice → AreNoEarlierRows version db)
         → (fault ≡ AlreadyThere → AreEarlierRows version db) → HasCause db fault
     earlier-name_cause Unavailable is taken known none rows = tt
@@ -119,7 +119,7 @@ module _ (db : Database) (front : IsFront db.schema) where
     earlier-name_cause AlreadyThere is taken known none rows = record {
       version = version;
       earlier = is_earlier;
-      says = (front, holds);
+      states = (first_tables, holds);
       taken = taken;
       rows = rows refl;
     }
@@ -127,13 +127,13 @@ module _ (db : Database) (front : IsFront db.schema) where
     -- why they are refused as no office's, where the names show a layout, whatever follows the first three tables
     pub earlier-read_as_none : HasKnownNames version db.schema → IsReadAsNone db
     earlier-read_as_none known = record {
-      version = λ other none_earlier h. earlier-not_no version is_earlier
-          (subst IsNoEarlier (found_offices-one_version db other (pos version) h holds) none_earlier);
+      version = λ other none_earlier h. not_no version is_earlier
+          (subst IsNotEarlier (one_version db other (pos version) h holds) none_earlier);
       known = λ other earlier h. subst (λ v. HasKnownNames v db.schema) (earlier-held_one other h) known;
     }
 
     -- and so where a name is taken
-    pub earlier-name_returned : (fault : MigrateFault) → IsOfName fault → IsTrue (is_lacking_name_used version db.schema)
+    pub earlier-name_returned : (fault : MigrateFault) → IsNameFault fault → IsTrue (uses_missing_name version db.schema)
         → (fault ≡ NotAnOffice → IsSome (first_layout version db.schema))
         → (fault ≡ AlreadyThere → AreEarlierRows version db) → MayReturn db fault
     earlier-name_returned Unavailable is taken named rows = tt
@@ -142,56 +142,56 @@ module _ (db : Database) (front : IsFront db.schema) where
     earlier-name_returned AlreadyThere is taken named rows = record {
       version = version;
       earlier = is_earlier;
-      says = (front, holds);
+      states = (first_tables, holds);
       taken = taken;
       rows = rows refl;
     }
 
     module _ (layout : Layout) (has : db.schema ≡ schema_of layout)
-        (free : is_lacking_name_used version db.schema ≡ false) where
+        (free : uses_missing_name version db.schema ≡ false) where
       -- where the tables of the layout hold no office
       pub earlier-none_in_layout : ((office : Office) → HoldsEarlier layout db office → ⊥) → HoldsNoEarlier db
       earlier-none_in_layout none = earlier-none_first (inr ((layout, has), free)) (λ other same office h.
-          let here = subst (λ v. is_lacking_name_used v (schema_of layout) ≡ false) (sym same)
-          (subst (λ (s : Schema). is_lacking_name_used version s ≡ false) has free) in
+          let here = subst (λ v. uses_missing_name v (schema_of layout) ≡ false) (sym same)
+          (subst (λ (s : Schema). uses_missing_name version s ≡ false) has free) in
           let tables = subst (λ (s : Schema). take (table_count other) s.tables ≡ (schema_of other).tables) has h.tables in
-          let is = earlier-first_is_laid layout other h.earlier here tables in
-          none office (earlier-holds_if_first layout db office has (subst (λ l. StandsFirst l db office) is h)))
+          let is = first_is_laid layout other h.earlier here tables in
+          none office (holds_if_first layout db office has (subst (λ l. HoldsEarlierFirst l db office) is h)))
 
       -- where the tables are of another version than the row of table `round` holds
       pub earlier-none_of_other : (version_of layout ≡ version → ⊥) → HoldsNoEarlier db
       earlier-none_of_other differs = earlier-none_in_layout (λ office h.
-          differs (earlier-same_version layout office (earlier-first_if_holds layout db office h)))
+          differs (earlier-same_version layout office (first_if_holds layout db office h)))
 
 -- the names of the tables of a layout show it
-earlier-known_names : (version : ℕ) (schema : Schema) → IsEarlier version → BeginsAt version schema ⊎ IsLaid version schema
+known_names : (version : ℕ) (schema : Schema) → IsEarlier version → BeginsAt version schema ⊎ IsLaid version schema
     → HasKnownNames version schema
-earlier-known_names version schema is (inl begins) =
-    let found = earlier-first_found begins.0 schema (subst IsEarlier (sym begins.1) is) begins.2 in
+known_names version schema is (inl begins) =
+    let found = first_found begins.0 schema (subst IsEarlier (sym begins.1) is) begins.2 in
     inl (ap is_some (subst (λ v. first_layout v schema ≡ Some begins.0) begins.1 found))
-earlier-known_names version schema is (inr laid) = inr (ap is_some (ap layout_in laid.0.1 ∙ found_offices-own_layout laid.0.0), laid.1)
+known_names version schema is (inr laid) = inr (ap is_some (ap layout_in laid.0.1 ∙ own_layout laid.0.0), laid.1)
 
 -- what may be said where each table is declared as an office's may be said whatever follows the first three
-pub earlier-may_return : (db : Database) (fault : MigrateFault) → IsFront db.schema → HasCause db fault → MayReturn db fault
-earlier-may_return db Unavailable front cause = tt
-earlier-may_return db (OtherVersion version) front cause = (cause.0.1, cause.1)
-earlier-may_return db NotAnOffice front (inl unnamed) = absurd (true≢false (sym (earlier-front_named db.schema front) ∙ unnamed))
-earlier-may_return db NotAnOffice front (inr h) = record {
+pub may_return : (db : Database) (fault : MigrateFault) → BeginsOffice db.schema → HasCause db fault → MayReturn db fault
+may_return db Unavailable first_tables cause = tt
+may_return db (OtherVersion version) first_tables cause = (cause.0.1, cause.1)
+may_return db NotAnOffice first_tables (inl unnamed) = absurd (true≢false (sym (earlier-names_round db.schema first_tables) ∙ unnamed))
+may_return db NotAnOffice first_tables (inr h) = record {
   version = h.version;
-  known = λ version is holds. earlier-known_names version db.schema is (h.known version is holds);
+  known = λ version is holds. known_names version db.schema is (h.known version is holds);
 }
-earlier-may_return db AlreadyThere front cause = cause
+may_return db AlreadyThere first_tables cause = cause
 
 -- whatever the disk does
-pub earlier-name_allowed : (schema : Schema) (version : ℕ) (fault : MigrateFault) → IsOfName fault → IsEarlier version
-    → IsTrue (has_front schema) → IsTrue (is_lacking_name_used version schema) → IsAllowed schema fault
-earlier-name_allowed schema version Unavailable is earlier front taken = tt
-earlier-name_allowed schema version (OtherVersion other) is earlier front taken = absurd is
-earlier-name_allowed schema version NotAnOffice is earlier front taken = inr front
-earlier-name_allowed schema version AlreadyThere is (inl e) front taken =
-    (front, subst (λ v. IsTrue (is_lacking_name_used v schema)) e taken)
-earlier-name_allowed schema version AlreadyThere is (inr e) front taken = (
-  front,
-  earlier-lacking_first (is_used schema (codes "grade")) (is_used schema (codes "going"))
-      (subst (λ v. IsTrue (is_lacking_name_used v schema)) e taken),
+pub name_allowed : (schema : Schema) (version : ℕ) (fault : MigrateFault) → IsNameFault fault → IsEarlier version
+    → IsTrue (begins_office schema) → IsTrue (uses_missing_name version schema) → IsAllowed schema fault
+name_allowed schema version Unavailable is earlier first_tables taken = tt
+name_allowed schema version (OtherVersion other) is earlier first_tables taken = absurd is
+name_allowed schema version NotAnOffice is earlier first_tables taken = inr first_tables
+name_allowed schema version AlreadyThere is (inl e) first_tables taken =
+    (first_tables, subst (λ v. IsTrue (uses_missing_name v schema)) e taken)
+name_allowed schema version AlreadyThere is (inr e) first_tables taken = (
+  first_tables,
+  lacking_first (is_used schema (codes "grade")) (is_used schema (codes "going"))
+      (subst (λ v. IsTrue (uses_missing_name v schema)) e taken),
 )

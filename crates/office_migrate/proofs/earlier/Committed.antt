@@ -5,15 +5,15 @@ use Rattle.sqlite.specs.State.{State, HasCleanDisk}
 use Rattle.office_rows.specs.Tables.{own_version}
 use Rattle.office_rows.specs.declared.records.OfficeRecords.{OfficeRecords}
 use Rattle.office_tables.specs.Edits.{with_version}
-use Rattle.office_tables.specs.Refilling.{Renews}
+use Rattle.office_tables.specs.Refilling.{Migrates}
 use Rattle.office_tables.specs.Tables.{HasTables, HasTablesIn}
 use Rattle.office_tables.specs.declared.layouts.Layout.{Layout}
 
-pub earlier-committed : (layout : Layout) (records : OfficeRecords) (old begun mid new : State)
-    → Renews layout records begun mid → begun.now ≡ old.now → (HasCleanDisk new → HasCleanDisk mid)
+pub committed : (layout : Layout) (records : OfficeRecords) (old begun mid new : State)
+    → Migrates layout records begun mid → begun.now ≡ old.now → (HasCleanDisk new → HasCleanDisk mid)
     → (HasCleanDisk new → new.now ≡ mid.now)
-    → old.in_transaction ≡ false → new.in_transaction ≡ false → Renews layout records old new
-earlier-committed layout records old begun mid new made same clean_mid shown outside ended = record {
+    → old.in_transaction ≡ false → new.in_transaction ≡ false → Migrates layout records old new
+committed layout records old begun mid new made same clean_mid shown outside ended = record {
   shown = λ tables clean has are. subst (λ (d : Database). HasTables d (with_version own_version tables))
       (sym (shown clean)) (made.shown tables (clean_mid clean)
       (subst (λ (d : Database). HasTablesIn layout d tables) (sym same) has) are);

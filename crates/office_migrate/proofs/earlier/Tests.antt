@@ -11,56 +11,56 @@ use Rattle.room_types.specs.Texts.{Text, TextMap, text_cmp}
 use Rattle.room_types.specs.declared.kinds.ListKind.{ListKind}
 use Rattle.room_types.specs.declared.kinds.ListKind.TheVariants.{Rooms, People, Choices, Grades}
 use Rattle.room_types.proofs.maps.Entries.{maps-all_keys, maps-keys_all}
-use Rattle.room_types.proofs.maps.TextMaps.{maps-exact_texts}
+use Rattle.room_types.proofs.maps.TextMaps.{exact_texts}
 use Rattle.office_state.specs.Office.Moves.{RoundMap, moves_of}
-use Rattle.office_state.specs.declared.office.kept_list.KeptList.{KeptList}
+use Rattle.office_state.specs.declared.office.stored_import.StoredImport.{StoredImport}
 use Rattle.office_state.specs.declared.office.moves.Moved.{Moved}
 use Rattle.office_state.specs.declared.office.moves.RoundMoves.{RoundMoves}
 use Rattle.office_state.proofs.offices.Moves.{kept_moves}
-use Rattle.office_migrate.specs.Versions.{do_all_arrive, is_no_grades}
+use Rattle.office_migrate.specs.Versions.{do_all_arrive, is_not_grades}
 
 abbrev is_other : ListKind → Bool
 is_other kind = elim kind [ Rooms ↦ true | People ↦ true | Choices ↦ true | Grades ↦ false ]
 
-earlier-other_kind : (kind : ListKind) → is_other kind ≡ true → kind ≢ Grades
-earlier-other_kind Rooms e is = cc
-earlier-other_kind People e is = cc
-earlier-other_kind Choices e is = cc
-earlier-other_kind Grades e is = cc
+other_kind : (kind : ListKind) → is_other kind ≡ true → kind ≢ Grades
+other_kind Rooms e is = cc
+other_kind People e is = cc
+other_kind Choices e is = cc
+other_kind Grades e is = cc
 
-earlier-kind_other : (kind : ListKind) → kind ≢ Grades → is_other kind ≡ true
-earlier-kind_other Rooms h = refl
-earlier-kind_other People h = refl
-earlier-kind_other Choices h = refl
-earlier-kind_other Grades h = absurd (h refl)
+kind_other : (kind : ListKind) → kind ≢ Grades → is_other kind ≡ true
+kind_other Rooms h = refl
+kind_other People h = refl
+kind_other Choices h = refl
+kind_other Grades h = absurd (h refl)
 
 -- No imported list is one of grades.
-pub earlier-kinds-decide : (lists : TextMap KeptList)
-    → Decides (list_all (λ (e : Text × KeptList). is_no_grades e.1) (map.entries lists))
-    ((label : Text) (kept : KeptList) → map.get lists label ≡ Some kept → kept.kind ≢ Grades)
-earlier-kinds-decide lists = (
-  λ e label kept f. earlier-other_kind kept.kind
-      (maps-all_keys nat_list_cmp_total maps-exact_texts (λ k v. is_no_grades v) lists e label kept f),
-  λ h. maps-keys_all nat_list_cmp_total maps-exact_texts (λ k v. is_no_grades v) lists
-      (λ label kept f. earlier-kind_other kept.kind (h label kept f)),
+pub kinds-decide : (lists : TextMap StoredImport)
+    → Decides (list_all (λ (e : Text × StoredImport). is_not_grades e.1) (map.entries lists))
+    ((label : Text) (kept : StoredImport) → map.get lists label ≡ Some kept → kept.kind ≢ Grades)
+kinds-decide lists = (
+  λ e label kept f. other_kind kept.kind
+      (maps-all_keys nat_list_cmp_total exact_texts (λ k v. is_not_grades v) lists e label kept f),
+  λ h. maps-keys_all nat_list_cmp_total exact_texts (λ k v. is_not_grades v) lists
+      (λ label kept f. kind_other kept.kind (h label kept f)),
 )
 
-earlier-nowhere : (p : Text) (moved : Moved) → map.get (map.empty {R = text_cmp}) p ≡ Some moved → ⊥
-earlier-nowhere p moved e = let none = get-empty {X = Moved} text_cmp p in cc
+nowhere : (p : Text) (moved : Moved) → map.get (map.empty {R = text_cmp}) p ≡ Some moved → ⊥
+nowhere p moved e = let none = get-empty {X = Moved} text_cmp p in cc
 
 -- Each move goes into a room.
-pub earlier-arrived-decide : (moves : RoundMap RoundMoves)
+pub arrived-decide : (moves : RoundMap RoundMoves)
     → Decides (list_all (λ (e : ℕ × RoundMoves). do_all_arrive e.1) (map.entries moves))
     ((round : ℕ) (p : Text) (moved : Moved) → map.get (moves_of moves round) p ≡ Some moved → IsSome moved.to)
-earlier-arrived-decide moves = (
+arrived-decide moves = (
   λ e round p moved. elim (map.get moves round) as (λ o. map.get moves round ≡ o → map.get (kept_moves o) p ≡ Some moved
       → IsSome moved.to) [
-        | None ↦ λ none f. absurd (earlier-nowhere p moved f)
+        | None ↦ λ none f. absurd (nowhere p moved f)
         | Some kept ↦ λ some f.
             let all = maps-all_keys nat_cmp_total nat_cmp-IsAntisymmetric (λ k v. do_all_arrive v) moves e round kept some in
-            maps-all_keys nat_list_cmp_total maps-exact_texts (λ k v. is_some v.to) kept.by_person all p moved f
+            maps-all_keys nat_list_cmp_total exact_texts (λ k v. is_some v.to) kept.by_person all p moved f
       ] refl,
   λ h. maps-keys_all nat_cmp_total nat_cmp-IsAntisymmetric (λ k v. do_all_arrive v) moves (λ round kept f.
-      maps-keys_all nat_list_cmp_total maps-exact_texts (λ k v. is_some v.to) kept.by_person
+      maps-keys_all nat_list_cmp_total exact_texts (λ k v. is_some v.to) kept.by_person
       (λ p moved m. h round p moved (ap (λ o. map.get (kept_moves o) p) f ∙ m))),
 )

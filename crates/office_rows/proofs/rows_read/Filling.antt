@@ -12,10 +12,10 @@ use Rattle.std.proofs.lemmas.List.Sorted.{IsPermutation-refl, IsPermutation-sym,
 use Rattle.std.proofs.lemmas.Map.Keys.{IsDistinct-head, IsDistinct-tail}
 use Rattle.std.proofs.lemmas.Option.{same_Some}
 use Rattle.room_types.specs.Texts.{Text, TextMap, text_cmp}
-use Rattle.room_types.proofs.maps.TextMaps.{maps-exact_texts, maps-get-put_other}
+use Rattle.room_types.proofs.maps.TextMaps.{exact_texts, maps-get-put_other}
 use Rattle.room_types.proofs.maps.Trees.{maps-entries-empty}
-use Rattle.room_types.proofs.maps.Entries.{maps-each_always, maps-insert-new, maps-moved_keys, maps-one_map}
-use Rattle.room_types.proofs.options.Options.{options-none_if_not_some}
+use Rattle.room_types.proofs.maps.Entries.{each_always, maps-insert-new, maps-permuted_keys, maps-one_map}
+use Rattle.room_types.proofs.options.Options.{none_if_not_some}
 use Rattle.office_rows.specs.Inner.Filled.{filled}
 use Rattle.office_rows.specs.Reads.{Reads, IsAny}
 
@@ -28,7 +28,7 @@ module _ {X : Type 0} where
         | true ↦ λ t h. absurd (cc)
         | false ↦ λ t h.
             IsPermutation-trans _ _ _ (IsPermutation-middle (maps.entries m) f es)
-            (IsPermutation-trans _ _ _ (IsPermutation-append_left es _ _ (maps-insert-new nat_list_cmp_total maps-exact_texts m f.0 f.1 (options-none_if_not_some (maps.get m f.0) t))) (rows_read-filled-has es (maps.insert m f.0 f.1) final h))
+            (IsPermutation-trans _ _ _ (IsPermutation-append_left es _ _ (maps-insert-new nat_list_cmp_total exact_texts m f.0 f.1 (none_if_not_some (maps.get m f.0) t))) (rows_read-filled-has es (maps.insert m f.0 f.1) final h))
       ] refl e
 
   abbrev AreNew : TextMap X → List (Text × X) → Type 0
@@ -48,19 +48,19 @@ module _ {X : Type 0} where
       (ap (λ b. cond b None (filled (maps.insert m f.0 f.1) es)) (sym h.0) ∙ n)
 
   rows_read-all_new : (es : List (Text × X)) → AreNew maps.empty es
-  rows_read-all_new = maps-each_always (λ (e : Text × X). maps.contains_key maps.empty e.0 ≡ false) (λ e. ap is_some (get-empty {X = X} text_cmp e.0))
+  rows_read-all_new = each_always (λ (e : Text × X). maps.contains_key maps.empty e.0 ≡ false) (λ e. ap is_some (get-empty {X = X} text_cmp e.0))
 
   rows_read-filled-rows : (rows es : List (Text × X)) → IsPermutation rows es → (found : Option (TextMap X)) → filled maps.empty es ≡ found → Reads IsAny maps.entries rows found
   rows_read-filled-rows rows es moved None e = record {
-    told = tt;
-    only = λ m sound same. absurd (rows_read-filled-all es maps.empty (maps-moved_keys nat_list_cmp_total maps-exact_texts m es (IsPermutation-trans _ _ _ same moved)) (rows_read-all_new es) e);
+    returned = tt;
+    only = λ m sound same. absurd (rows_read-filled-all es maps.empty (maps-permuted_keys nat_list_cmp_total exact_texts m es (IsPermutation-trans _ _ _ same moved)) (rows_read-all_new es) e);
   }
   rows_read-filled-rows rows es moved (Some final) e =
       let has : IsPermutation es (maps.entries final) = subst (λ l. IsPermutation (l ++ es) (maps.entries final)) (maps-entries-empty nat_list_cmp_total) (rows_read-filled-has es maps.empty final e) in
-      let told : IsPermutation (maps.entries final) rows = IsPermutation-sym _ _ (IsPermutation-trans _ _ _ moved has) in
+      let returned : IsPermutation (maps.entries final) rows = IsPermutation-sym _ _ (IsPermutation-trans _ _ _ moved has) in
       record {
-        told = (tt, told);
-        only = λ m sound same. ap (λ l. Some l) (maps-one_map nat_list_cmp_total maps-exact_texts final m (IsPermutation-trans _ _ _ told (IsPermutation-sym _ _ same)));
+        returned = (tt, returned);
+        only = λ m sound same. ap (λ l. Some l) (maps-one_map nat_list_cmp_total exact_texts final m (IsPermutation-trans _ _ _ returned (IsPermutation-sym _ _ same)));
       }
 
   pub rows_read-filled-reads : (rows : List (Text × X)) → Reads IsAny maps.entries rows (filled maps.empty (reverse rows))

@@ -18,17 +18,17 @@ use Rattle.sqlite_trees.specs.Tree.{IsAscending}
 use Rattle.sqlite_trees.proofs.ListLemmas.{IsPermutation-flat_map}
 use Rattle.sqlite_keyed.proofs.ListLemmas.{all_weaker, all-append, all-flat_map, ascending-append, all_map, all_unmap}
 use Rattle.room_types.specs.Texts.{Text, TextMap, text_cmp}
-use Rattle.room_types.proofs.maps.TextMaps.{maps-exact_texts, maps-get-put_same, maps-get-put_other, maps-less_from_test}
+use Rattle.room_types.proofs.maps.TextMaps.{exact_texts, maps-get-put_same, maps-get-put_other, less_from_test}
 use Rattle.room_types.specs.declared.moves.Move.{Move}
 use Rattle.room_types.proofs.maps.Trees.{maps-entries-empty}
 use Rattle.office_state.specs.Office.Moves.{RoundMap, moves_of, with_move}
 use Rattle.office_state.specs.declared.office.moves.Moved.{Moved}
 use Rattle.office_state.specs.declared.office.moves.RoundMoves.{RoundMoves}
 use Rattle.office_state.proofs.offices.Moves.{kept_moves}
-use Rattle.room_types.proofs.maps.Entries.{maps-at_keys, maps-at_entries, maps-below_less, maps-insert-new, maps-moved_all, maps-none_below, maps-same_finds}
-use Rattle.room_types.proofs.maps.TextMaps.{maps-first_holds, maps-second_holds}
-use Rattle.room_types.proofs.options.Options.{options-none_if_not_some}
-use Rattle.office_rows.specs.Rows.{move_row, round_rows, move_rows, AreKeptMoves}
+use Rattle.room_types.proofs.maps.Entries.{maps-at_keys, maps-at_entries, maps-below_less, maps-insert-new, permuted_all, maps-none_below, maps-same_finds}
+use Rattle.room_types.proofs.maps.TextMaps.{first_holds, second_holds}
+use Rattle.room_types.proofs.options.Options.{none_if_not_some}
+use Rattle.office_rows.specs.Rows.{move_row, round_rows, move_rows, AreValidMoves}
 use Rattle.office_rows.specs.Inner.Recorded.{recorded_moves}
 use Rattle.office_rows.specs.Reads.{Reads}
 
@@ -39,16 +39,16 @@ abbrev rest_of : Move → Moved
 rest_of row = record { from = row.from; to = row.to; wave = row.wave }
 
 abbrev with_row : TextMap Moved → Move → RoundMoves
-with_row kept row = record { by_person = maps.insert kept row.person (rest_of row) }
+with_row recorded row = record { by_person = maps.insert recorded row.person (rest_of row) }
 
 -- A round that is recorded already gets one more row.
-rows_read-put-known : (k : ℕ) (v old : RoundMoves) (row : Move) (es : List (ℕ × RoundMoves)) → T (is_sorted nat_cmp es) → find nat_cmp k es ≡ Some old
+put-known : (k : ℕ) (v old : RoundMoves) (row : Move) (es : List (ℕ × RoundMoves)) → T (is_sorted nat_cmp es) → find nat_cmp k es ≡ Some old
     → IsPermutation (row ∷ round_rows (k, old)) (round_rows (k, v)) → IsPermutation (row ∷ flat_map round_rows es) (flat_map round_rows (put nat_cmp k v es))
-rows_read-put-known k v old row [] s f h = absurd (cc)
-rows_read-put-known k v old row (e ∷ es) s f h =
+put-known k v old row [] s f h = absurd (cc)
+put-known k v old row (e ∷ es) s f h =
     elim (nat_cmp k e.0) as (λ c. nat_cmp k e.0 ≡ c → cond (is_eq c) (Some e.1) (find nat_cmp k es) ≡ Some old
     → IsPermutation (row ∷ (round_rows e ++ flat_map round_rows es)) (flat_map round_rows (by_order c ((k, v) ∷ e ∷ es) ((e.0, v) ∷ es) (e ∷ put nat_cmp k v es)))) [
-      | Less ↦ λ c m. let none = maps-none_below nat_cmp k es (maps-below_less nat_cmp_total k e.0 es c (maps-first_holds _ _ s)) in absurd (cc)
+      | Less ↦ λ c m. let none = maps-none_below nat_cmp k es (maps-below_less nat_cmp_total k e.0 es c (first_holds _ _ s)) in absurd (cc)
       | Equal ↦ λ c m.
           let same : k ≡ e.0 = nat_cmp-IsAntisymmetric k e.0 c in
           let value : old ≡ e.1 = cc in
@@ -57,12 +57,12 @@ rows_read-put-known k v old row (e ∷ es) s f h =
           IsPermutation-append_left (flat_map round_rows es) _ _ here
       | Greater ↦ λ c m.
           IsPermutation-trans _ _ _ (IsPermutation-sym _ _ (IsPermutation-middle (round_rows e) row (flat_map round_rows es)))
-          (IsPermutation-append_right (round_rows e) _ _ (rows_read-put-known k v old row es (maps-second_holds _ _ s) m h))
+          (IsPermutation-append_right (round_rows e) _ _ (put-known k v old row es (second_holds _ _ s) m h))
     ] refl f
 
 module _ (moves : Moves) (row : Move) (new : maps.contains_key (moves_of moves row.round) row.person ≡ false) where
-  rows_read-one_more : (kept : TextMap Moved) → maps.get kept row.person ≡ None → IsPermutation (row ∷ map (move_row row.round) (maps.entries kept)) (round_rows (row.round, with_row kept row))
-  rows_read-one_more kept none = IsPermutation-map (move_row row.round) _ _ (maps-insert-new nat_list_cmp_total maps-exact_texts kept row.person (rest_of row) none)
+  rows_read-one_more : (recorded : TextMap Moved) → maps.get recorded row.person ≡ None → IsPermutation (row ∷ map (move_row row.round) (maps.entries recorded)) (round_rows (row.round, with_row recorded row))
+  rows_read-one_more recorded none = IsPermutation-map (move_row row.round) _ _ (maps-insert-new nat_list_cmp_total exact_texts recorded row.person (rest_of row) none)
 
   pub rows_read-rows_more : IsPermutation (row ∷ move_rows moves) (move_rows (with_move moves row))
   rows_read-rows_more = elim (maps.get moves row.round) as (λ o. maps.get moves row.round ≡ o → maps.contains_key (kept_moves o) row.person ≡ false
@@ -70,41 +70,41 @@ module _ (moves : Moves) (row : Move) (new : maps.contains_key (moves_of moves r
         | None ↦ λ none fresh.
             let v : RoundMoves = with_row maps.empty row in
             let head : IsPermutation (row ∷ []) (round_rows (row.round, v)) =
-            subst (λ es. IsPermutation (row ∷ map (move_row row.round) es) (round_rows (row.round, v))) (maps-entries-empty {X = Moved} nat_list_cmp_total) (rows_read-one_more maps.empty (options-none_if_not_some (maps.get (maps.empty {R = text_cmp}) row.person) fresh)) in
+            subst (λ es. IsPermutation (row ∷ map (move_row row.round) es) (round_rows (row.round, v))) (maps-entries-empty {X = Moved} nat_list_cmp_total) (rows_read-one_more maps.empty (none_if_not_some (maps.get (maps.empty {R = text_cmp}) row.person) fresh)) in
             IsPermutation-trans _ _ _ (IsPermutation-append_left (move_rows moves) _ _ head)
             (IsPermutation-flat_map round_rows _ _ (maps-insert-new nat_cmp_total nat_cmp-IsAntisymmetric moves row.round v none))
-        | Some kept ↦ λ some fresh.
-            let v : RoundMoves = with_row kept.by_person row in
+        | Some recorded ↦ λ some fresh.
+            let v : RoundMoves = with_row recorded.by_person row in
             subst (λ es. IsPermutation (row ∷ move_rows moves) (flat_map round_rows es)) (sym (entries-insert nat_cmp_total moves row.round v))
-            (rows_read-put-known row.round v kept row (maps.entries moves) (entries_sorted moves) (sym (get-entries moves row.round) ∙ some) (rows_read-one_more kept.by_person (options-none_if_not_some (maps.get kept.by_person row.person) fresh)))
+            (put-known row.round v recorded row (maps.entries moves) (entries_sorted moves) (sym (get-entries moves row.round) ∙ some) (rows_read-one_more recorded.by_person (none_if_not_some (maps.get recorded.by_person row.person) fresh)))
       ] refl new
 
-  pub rows_read-recorded_more : AreKeptMoves moves → AreKeptMoves (with_move moves row)
+  pub rows_read-recorded_more : AreValidMoves moves → AreValidMoves (with_move moves row)
   rows_read-recorded_more before = record {
-    none_empty = λ round kept f none.
+    none_empty = λ round recorded f none.
         let v : RoundMoves = with_row (moves_of moves row.round) row in
-        elim (eq_by_cmp nat_cmp round row.round) as (λ b. cond b (Some v) (maps.get moves round) ≡ Some kept → ⊥) [
+        elim (eq_by_cmp nat_cmp round row.round) as (λ b. cond b (Some v) (maps.get moves round) ≡ Some recorded → ⊥) [
           | true ↦ λ g.
-              let is : v ≡ kept = ap (λ (o : Option RoundMoves). unwrap_or o v) g in
+              let is : v ≡ recorded = ap (λ (o : Option RoundMoves). unwrap_or o v) g in
               let there = maps-get-put_same (moves_of moves row.round) row.person (rest_of row) in
               let nothing : maps.get (maps.insert (moves_of moves row.round) row.person (rest_of row)) row.person ≡ None =
               ap (λ (k : RoundMoves). maps.get k.by_person row.person) is ∙ ap (λ m. maps.get m row.person) none ∙ get-empty text_cmp row.person in
               cc
-          | false ↦ λ g. before.none_empty round kept g none
+          | false ↦ λ g. before.none_empty round recorded g none
         ] (sym (get-insert nat_cmp_total moves row.round v round) ∙ f);
   }
 
-rows_read-recorded_moves-has : (rows : List Move) (m final : Moves) → AreKeptMoves m → recorded_moves m rows ≡ Some final → AreKeptMoves final × IsPermutation (move_rows m ++ rows) (move_rows final)
-rows_read-recorded_moves-has [] m final sound e =
+recorded_moves-has : (rows : List Move) (m final : Moves) → AreValidMoves m → recorded_moves m rows ≡ Some final → AreValidMoves final × IsPermutation (move_rows m ++ rows) (move_rows final)
+recorded_moves-has [] m final sound e =
     let same = same_Some m final e in (
-      subst (λ q. AreKeptMoves q) same sound,
+      subst (λ q. AreValidMoves q) same sound,
       subst (λ q. IsPermutation (move_rows m ++ []) (move_rows q)) same (subst (λ l. IsPermutation l (move_rows m)) (sym (append-nil (move_rows m))) (IsPermutation-refl (move_rows m))),
     )
-rows_read-recorded_moves-has (row ∷ rows) m final sound e =
-    elim (maps.contains_key (moves_of m row.round) row.person) as (λ b. maps.contains_key (moves_of m row.round) row.person ≡ b → cond b None (recorded_moves (with_move m row) rows) ≡ Some final → AreKeptMoves final × IsPermutation (move_rows m ++ row ∷ rows) (move_rows final)) [
+recorded_moves-has (row ∷ rows) m final sound e =
+    elim (maps.contains_key (moves_of m row.round) row.person) as (λ b. maps.contains_key (moves_of m row.round) row.person ≡ b → cond b None (recorded_moves (with_move m row) rows) ≡ Some final → AreValidMoves final × IsPermutation (move_rows m ++ row ∷ rows) (move_rows final)) [
       | true ↦ λ t h. absurd (cc)
       | false ↦ λ t h.
-          let rest = rows_read-recorded_moves-has rows (with_move m row) final (rows_read-recorded_more m row t sound) h in (
+          let rest = recorded_moves-has rows (with_move m row) final (rows_read-recorded_more m row t sound) h in (
             rest.0,
             IsPermutation-trans _ _ _ (IsPermutation-middle (move_rows m) row rows) (IsPermutation-trans _ _ _ (IsPermutation-append_left rows _ _ (rows_read-rows_more m row t)) rest.1),
           )
@@ -112,55 +112,55 @@ rows_read-recorded_moves-has (row ∷ rows) m final sound e =
 
 -- ---- nobody moves twice in a round
 
-abbrev same_mover : Move → Move → Bool
-same_mover a b = eq_by_cmp nat_cmp a.round b.round && eq_by_cmp text_cmp a.person b.person
+abbrev is_same_move : Move → Move → Bool
+is_same_move a b = eq_by_cmp nat_cmp a.round b.round && eq_by_cmp text_cmp a.person b.person
 
-rows_read-turned : (a b : Move) → same_mover a b ≡ same_mover b a
-rows_read-turned a b = λ i. (eq_by_cmp_equiv nat_cmp_total).symm a.round b.round i && (eq_by_cmp_equiv nat_list_cmp_total).symm a.person b.person i
+turned : (a b : Move) → is_same_move a b ≡ is_same_move b a
+turned a b = λ i. (eq_by_cmp_equiv nat_cmp_total).symm a.round b.round i && (eq_by_cmp_equiv nat_list_cmp_total).symm a.person b.person i
 
 abbrev Apart : Move → Move → Type 0
-Apart a b = same_mover a b ≡ false
+Apart a b = is_same_move a b ≡ false
 
-rows_read-distinct_from : (rows : List Move) → IsAscending Apart rows → IsDistinct same_mover rows
+distinct_from : (rows : List Move) → IsAscending Apart rows → IsDistinct is_same_move rows
 unfolding IsDistinct
-rows_read-distinct_from [] up = tt
-rows_read-distinct_from (r ∷ rows) up = (up.0, rows_read-distinct_from rows up.1)
+distinct_from [] up = tt
+distinct_from (r ∷ rows) up = (up.0, distinct_from rows up.1)
 
-rows_read-round_apart : (k : ℕ) (e : Text × Moved) (es : List (Text × Moved)) → T (below_all text_cmp e.0 es) → AllByRecursion (Apart (move_row k e)) (map (move_row k) es)
-rows_read-round_apart k e [] b = tt
-rows_read-round_apart k e (f ∷ es) b = (and_right (eq_by_cmp nat_cmp k k) (eq_by_cmp text_cmp e.0 f.0) (ap is_eq (maps-less_from_test _ (maps-first_holds _ _ b))), rows_read-round_apart k e es (maps-second_holds _ _ b))
+round_apart : (k : ℕ) (e : Text × Moved) (es : List (Text × Moved)) → T (below_all text_cmp e.0 es) → AllByRecursion (Apart (move_row k e)) (map (move_row k) es)
+round_apart k e [] b = tt
+round_apart k e (f ∷ es) b = (and_right (eq_by_cmp nat_cmp k k) (eq_by_cmp text_cmp e.0 f.0) (ap is_eq (less_from_test _ (first_holds _ _ b))), round_apart k e es (second_holds _ _ b))
 
-rows_read-round_up : (k : ℕ) (es : List (Text × Moved)) → T (is_sorted text_cmp es) → IsAscending Apart (map (move_row k) es)
-rows_read-round_up k [] s = tt
-rows_read-round_up k (e ∷ es) s = (rows_read-round_apart k e es (maps-first_holds _ _ s), rows_read-round_up k es (maps-second_holds _ _ s))
+round_up : (k : ℕ) (es : List (Text × Moved)) → T (is_sorted text_cmp es) → IsAscending Apart (map (move_row k) es)
+round_up k [] s = tt
+round_up k (e ∷ es) s = (round_apart k e es (first_holds _ _ s), round_up k es (second_holds _ _ s))
 
-rows_read-of_round : (k : ℕ) (es : List (Text × Moved)) → AllByRecursion (λ r. r.round ≡ k) (map (move_row k) es)
-rows_read-of_round k [] = tt
-rows_read-of_round k (e ∷ es) = (refl, rows_read-of_round k es)
+of_round : (k : ℕ) (es : List (Text × Moved)) → AllByRecursion (λ r. r.round ≡ k) (map (move_row k) es)
+of_round k [] = tt
+of_round k (e ∷ es) = (refl, of_round k es)
 
-rows_read-later_rounds : (k : ℕ) (es : List (ℕ × RoundMoves)) → T (below_all nat_cmp k es) → AllByRecursion (λ r. nat_cmp k r.round ≡ Less) (flat_map round_rows es)
-rows_read-later_rounds k [] b = tt
-rows_read-later_rounds k (e ∷ es) b =
+later_rounds : (k : ℕ) (es : List (ℕ × RoundMoves)) → T (below_all nat_cmp k es) → AllByRecursion (λ r. nat_cmp k r.round ≡ Less) (flat_map round_rows es)
+later_rounds k [] b = tt
+later_rounds k (e ∷ es) b =
     all-append (λ (r : Move). nat_cmp k r.round ≡ Less) (round_rows e) (flat_map round_rows es)
-    (all_weaker (λ (r : Move). r.round ≡ e.0) (λ (r : Move). nat_cmp k r.round ≡ Less) (λ r same. ap (nat_cmp k) same ∙ maps-less_from_test _ (maps-first_holds _ _ b)) (round_rows e) (rows_read-of_round e.0 (maps.entries e.1.by_person)))
-    (rows_read-later_rounds k es (maps-second_holds _ _ b))
+    (all_weaker (λ (r : Move). r.round ≡ e.0) (λ (r : Move). nat_cmp k r.round ≡ Less) (λ r same. ap (nat_cmp k) same ∙ less_from_test _ (first_holds _ _ b)) (round_rows e) (of_round e.0 (maps.entries e.1.by_person)))
+    (later_rounds k es (second_holds _ _ b))
 
-rows_read-all_up : (es : List (ℕ × RoundMoves)) → T (is_sorted nat_cmp es) → IsAscending Apart (flat_map round_rows es)
-rows_read-all_up [] s = tt
-rows_read-all_up (e ∷ es) s =
-    ascending-append Apart (round_rows e) (flat_map round_rows es) (rows_read-round_up e.0 (maps.entries e.1.by_person) (entries_sorted e.1.by_person)) (rows_read-all_up es (maps-second_holds _ _ s))
+all_up : (es : List (ℕ × RoundMoves)) → T (is_sorted nat_cmp es) → IsAscending Apart (flat_map round_rows es)
+all_up [] s = tt
+all_up (e ∷ es) s =
+    ascending-append Apart (round_rows e) (flat_map round_rows es) (round_up e.0 (maps.entries e.1.by_person) (entries_sorted e.1.by_person)) (all_up es (second_holds _ _ s))
     (all_weaker (λ (r : Move). r.round ≡ e.0) (λ r. AllByRecursion (Apart r) (flat_map round_rows es))
-    (λ r same. all_weaker (λ (t : Move). nat_cmp e.0 t.round ≡ Less) (Apart r) (λ t h. ap (λ o. is_eq o && eq_by_cmp text_cmp r.person t.person) (ap (λ k. nat_cmp k t.round) same ∙ h)) (flat_map round_rows es) (rows_read-later_rounds e.0 es (maps-first_holds _ _ s)))
-    (round_rows e) (rows_read-of_round e.0 (maps.entries e.1.by_person)))
+    (λ r same. all_weaker (λ (t : Move). nat_cmp e.0 t.round ≡ Less) (Apart r) (λ t h. ap (λ o. is_eq o && eq_by_cmp text_cmp r.person t.person) (ap (λ k. nat_cmp k t.round) same ∙ h)) (flat_map round_rows es) (later_rounds e.0 es (first_holds _ _ s)))
+    (round_rows e) (of_round e.0 (maps.entries e.1.by_person)))
 
-rows_read-movers_differ : (m : Moves) (rows : List Move) → IsPermutation (move_rows m) rows → IsDistinct same_mover rows
-rows_read-movers_differ m rows same = IsDistinct-IsPermutation same_mover rows_read-turned (move_rows m) rows same (rows_read-distinct_from (move_rows m) (rows_read-all_up (maps.entries m) (entries_sorted m)))
+moves_distinct : (m : Moves) (rows : List Move) → IsPermutation (move_rows m) rows → IsDistinct is_same_move rows
+moves_distinct m rows same = IsDistinct-IsPermutation is_same_move turned (move_rows m) rows same (distinct_from (move_rows m) (all_up (maps.entries m) (entries_sorted m)))
 
 abbrev IsNew : Moves → Move → Type 0
 IsNew m r = maps.contains_key (moves_of m r.round) r.person ≡ false
 
-rows_read-new_after : (m : Moves) (row r : Move) → Apart row r → IsNew m r → IsNew (with_move m row) r
-rows_read-new_after m row r apart h =
+new_after : (m : Moves) (row r : Move) → Apart row r → IsNew m r → IsNew (with_move m row) r
+new_after m row r apart h =
     let v : RoundMoves = with_row (moves_of m row.round) row in
     ap (λ o. maps.contains_key (kept_moves o) r.person) (get-insert nat_cmp_total m row.round v r.round)
     ∙ elim (nat_cmp r.round row.round) as (λ c. nat_cmp r.round row.round ≡ c → maps.contains_key (kept_moves (cond (is_eq c) (Some v) (maps.get m r.round))) r.person ≡ false) [
@@ -176,12 +176,12 @@ rows_read-new_after m row r apart h =
 
 rows_read-still_new : (m : Moves) (row : Move) (rows : List Move) → AllByRecursion (Apart row) rows → AllByRecursion (IsNew m) rows → AllByRecursion (IsNew (with_move m row)) rows
 rows_read-still_new m row [] apart h = tt
-rows_read-still_new m row (r ∷ rows) apart h = (rows_read-new_after m row r apart.0 h.0, rows_read-still_new m row rows apart.1 h.1)
+rows_read-still_new m row (r ∷ rows) apart h = (new_after m row r apart.0 h.0, rows_read-still_new m row rows apart.1 h.1)
 
-rows_read-recorded_moves-all : (rows : List Move) (m : Moves) → IsDistinct same_mover rows → AllByRecursion (IsNew m) rows → recorded_moves m rows ≡ None → ⊥
-rows_read-recorded_moves-all [] m d h n = cc
-rows_read-recorded_moves-all (row ∷ rows) m d h n =
-    rows_read-recorded_moves-all rows (with_move m row) (IsDistinct-tail same_mover row rows d) (rows_read-still_new m row rows (IsDistinct-head same_mover row rows d) h.1)
+recorded_moves-all : (rows : List Move) (m : Moves) → IsDistinct is_same_move rows → AllByRecursion (IsNew m) rows → recorded_moves m rows ≡ None → ⊥
+recorded_moves-all [] m d h n = cc
+recorded_moves-all (row ∷ rows) m d h n =
+    recorded_moves-all rows (with_move m row) (IsDistinct-tail is_same_move row rows d) (rows_read-still_new m row rows (IsDistinct-head is_same_move row rows d) h.1)
     (ap (λ b. cond b None (recorded_moves (with_move m row) rows)) (sym h.0) ∙ n)
 
 rows_read-all_new : (rows : List Move) → AllByRecursion (IsNew maps.empty) rows
@@ -194,38 +194,38 @@ rows_read-all_new (r ∷ rows) =
 abbrev IsIn : Moves → Move → Type 0
 IsIn m r = maps.get (moves_of m r.round) r.person ≡ Some (rest_of r)
 
-rows_read-all_in : (m : Moves) → AllByRecursion (IsIn m) (move_rows m)
-rows_read-all_in m =
+all_in : (m : Moves) → AllByRecursion (IsIn m) (move_rows m)
+all_in m =
     all-flat_map (IsIn m) round_rows (maps.entries m)
-    (maps-at_entries nat_cmp_total nat_cmp-IsAntisymmetric (λ round kept. AllByRecursion (IsIn m) (round_rows (round, kept))) m (λ round kept f.
-    all_map (IsIn m) (move_row round) (maps.entries kept.by_person)
-    (maps-at_entries nat_list_cmp_total maps-exact_texts (λ p moved. IsIn m (move_row round (p, moved))) kept.by_person (λ p moved g. ap (λ o. maps.get (kept_moves o) p) f ∙ g))))
+    (maps-at_entries nat_cmp_total nat_cmp-IsAntisymmetric (λ round recorded. AllByRecursion (IsIn m) (round_rows (round, recorded))) m (λ round recorded f.
+    all_map (IsIn m) (move_row round) (maps.entries recorded.by_person)
+    (maps-at_entries nat_list_cmp_total exact_texts (λ p moved. IsIn m (move_row round (p, moved))) recorded.by_person (λ p moved g. ap (λ o. maps.get (kept_moves o) p) f ∙ g))))
 
-rows_read-split_all : {A : Type 0} (P : A → Type 0) (xs ys : List A) → AllByRecursion P (xs ++ ys) → AllByRecursion P xs × AllByRecursion P ys
-rows_read-split_all P [] ys h = (tt, h)
-rows_read-split_all P (x ∷ xs) ys h = let rest = rows_read-split_all P xs ys h.1 in ((h.0, rest.0), rest.1)
+split_all : {A : Type 0} (P : A → Type 0) (xs ys : List A) → AllByRecursion P (xs ++ ys) → AllByRecursion P xs × AllByRecursion P ys
+split_all P [] ys h = (tt, h)
+split_all P (x ∷ xs) ys h = let rest = split_all P xs ys h.1 in ((h.0, rest.0), rest.1)
 
-rows_read-all_apart : {A B : Type 0} (P : B → Type 0) (f : A → List B) (xs : List A) → AllByRecursion P (flat_map f xs) → AllByRecursion (λ x. AllByRecursion P (f x)) xs
-rows_read-all_apart P f [] h = tt
-rows_read-all_apart P f (x ∷ xs) h = let parts = rows_read-split_all P (f x) (flat_map f xs) h in (parts.0, rows_read-all_apart P f xs parts.1)
+all_apart : {A B : Type 0} (P : B → Type 0) (f : A → List B) (xs : List A) → AllByRecursion P (flat_map f xs) → AllByRecursion (λ x. AllByRecursion P (f x)) xs
+all_apart P f [] h = tt
+all_apart P f (x ∷ xs) h = let parts = split_all P (f x) (flat_map f xs) h in (parts.0, all_apart P f xs parts.1)
 
 -- What holds for each row holds for each move.
-rows_read-at_moves : (P : Move → Type 0) (m : Moves) → AllByRecursion P (move_rows m) → (round : ℕ) (p : Text) (moved : Moved) → maps.get (moves_of m round) p ≡ Some moved → P (move_row round (p, moved))
-rows_read-at_moves P m h round p moved f =
+at_moves : (P : Move → Type 0) (m : Moves) → AllByRecursion P (move_rows m) → (round : ℕ) (p : Text) (moved : Moved) → maps.get (moves_of m round) p ≡ Some moved → P (move_row round (p, moved))
+at_moves P m h round p moved f =
     elim (maps.get m round) as (λ o. maps.get m round ≡ o → maps.get (kept_moves o) p ≡ Some moved → P (move_row round (p, moved))) [
       | None ↦ λ none g. let nothing = get-empty {X = Moved} text_cmp p in absurd (cc)
-      | Some kept ↦ λ some g.
-          maps-at_keys nat_list_cmp_total maps-exact_texts (λ q v. P (move_row round (q, v))) kept.by_person
-          (all_unmap P (move_row round) (maps.entries kept.by_person)
-          (maps-at_keys nat_cmp_total nat_cmp-IsAntisymmetric (λ r k. AllByRecursion P (round_rows (r, k))) m (rows_read-all_apart P round_rows (maps.entries m) h) round kept some)) p moved g
+      | Some recorded ↦ λ some g.
+          maps-at_keys nat_list_cmp_total exact_texts (λ q v. P (move_row round (q, v))) recorded.by_person
+          (all_unmap P (move_row round) (maps.entries recorded.by_person)
+          (maps-at_keys nat_cmp_total nat_cmp-IsAntisymmetric (λ r k. AllByRecursion P (round_rows (r, k))) m (all_apart P round_rows (maps.entries m) h) round recorded some)) p moved g
     ] refl f
 
-pub rows_read-one_moves : (m n : Moves) → AreKeptMoves m → AreKeptMoves n → IsPermutation (move_rows m) (move_rows n) → m ≡ n
-rows_read-one_moves m n sound_m sound_n same =
+pub one_moves : (m n : Moves) → AreValidMoves m → AreValidMoves n → IsPermutation (move_rows m) (move_rows n) → m ≡ n
+one_moves m n sound_m sound_n same =
     let alike : (round : ℕ) → moves_of m round ≡ moves_of n round = λ round.
-    maps-same_finds nat_list_cmp_total maps-exact_texts (moves_of m round) (moves_of n round)
-    (rows_read-at_moves (IsIn m) n (maps-moved_all (IsIn m) (move_rows m) (move_rows n) same (rows_read-all_in m)) round)
-    (rows_read-at_moves (IsIn n) m (maps-moved_all (IsIn n) (move_rows n) (move_rows m) (IsPermutation-sym _ _ same) (rows_read-all_in n)) round) in
+    maps-same_finds nat_list_cmp_total exact_texts (moves_of m round) (moves_of n round)
+    (at_moves (IsIn m) n (permuted_all (IsIn m) (move_rows m) (move_rows n) same (all_in m)) round)
+    (at_moves (IsIn n) m (permuted_all (IsIn n) (move_rows n) (move_rows m) (IsPermutation-sym _ _ same) (all_in n)) round) in
     same_map nat_cmp_total nat_cmp-IsAntisymmetric m n (λ round.
     rounds (maps.get m round) (maps.get n round) (λ k f. sound_m.none_empty round k f) (λ k f. sound_n.none_empty round k f) (alike round))
   where
@@ -235,25 +235,25 @@ rows_read-one_moves m n sound_m sound_n same =
     rounds (Some k) None f g e = absurd (f k refl e)
     rounds (Some k) (Some l) f g e = λ i. Some (record { by_person = e i })
 
-rows_read-nothing_recorded : AreKeptMoves maps.empty
-rows_read-nothing_recorded = record { none_empty = λ round kept f. let none = get-empty {X = RoundMoves} nat_cmp round in absurd (cc) }
+nothing_recorded : AreValidMoves maps.empty
+nothing_recorded = record { none_empty = λ round recorded f. let none = get-empty {X = RoundMoves} nat_cmp round in absurd (cc) }
 
 rows_read-no_rows : move_rows maps.empty ≡ []
 rows_read-no_rows = ap (flat_map round_rows) (maps-entries-empty nat_cmp_total)
 
-rows_read-recorded_moves-rows : (rows moved : List Move) → IsPermutation rows moved → (found : Option Moves) → recorded_moves maps.empty moved ≡ found → Reads AreKeptMoves move_rows rows found
-rows_read-recorded_moves-rows rows moved same None e = record {
-  told = tt;
-  only = λ m sound has. absurd (rows_read-recorded_moves-all moved maps.empty (rows_read-movers_differ m moved (IsPermutation-trans _ _ _ has same)) (rows_read-all_new moved) e);
+recorded_moves-rows : (rows moved : List Move) → IsPermutation rows moved → (found : Option Moves) → recorded_moves maps.empty moved ≡ found → Reads AreValidMoves move_rows rows found
+recorded_moves-rows rows moved same None e = record {
+  returned = tt;
+  only = λ m sound has. absurd (recorded_moves-all moved maps.empty (moves_distinct m moved (IsPermutation-trans _ _ _ has same)) (rows_read-all_new moved) e);
 }
-rows_read-recorded_moves-rows rows moved same (Some final) e =
-    let has = rows_read-recorded_moves-has moved maps.empty final rows_read-nothing_recorded e in
-    let told : IsPermutation (move_rows final) rows =
+recorded_moves-rows rows moved same (Some final) e =
+    let has = recorded_moves-has moved maps.empty final nothing_recorded e in
+    let returned : IsPermutation (move_rows final) rows =
     IsPermutation-sym _ _ (IsPermutation-trans _ _ _ same (subst (λ l. IsPermutation (l ++ moved) (move_rows final)) rows_read-no_rows has.1)) in
     record {
-      told = (has.0, told);
-      only = λ m sound these. ap (λ q. Some q) (rows_read-one_moves final m has.0 sound (IsPermutation-trans _ _ _ told (IsPermutation-sym _ _ these)));
+      returned = (has.0, returned);
+      only = λ m sound these. ap (λ q. Some q) (one_moves final m has.0 sound (IsPermutation-trans _ _ _ returned (IsPermutation-sym _ _ these)));
     }
 
-pub rows_read-recorded_moves-reads : (rows : List Move) → Reads AreKeptMoves move_rows rows (recorded_moves maps.empty (reverse rows))
-rows_read-recorded_moves-reads rows = rows_read-recorded_moves-rows rows (reverse rows) (IsPermutation-reverse rows) (recorded_moves maps.empty (reverse rows)) refl
+pub recorded_moves-reads : (rows : List Move) → Reads AreValidMoves move_rows rows (recorded_moves maps.empty (reverse rows))
+recorded_moves-reads rows = recorded_moves-rows rows (reverse rows) (IsPermutation-reverse rows) (recorded_moves maps.empty (reverse rows)) refl

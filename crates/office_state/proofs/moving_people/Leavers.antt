@@ -7,18 +7,18 @@ use Rattle.std.specs.FinMap.{get-empty}
 use Rattle.std.proofs.lemmas.Bool.{and_parts, not-true}
 use Rattle.std.proofs.lemmas.List.Elements.{All-map, filter_passes}
 use Rattle.room_types.specs.Texts.{Text, text_cmp}
-use Rattle.office_lists.specs.Waves.{Mover}
+use Rattle.office_lists.specs.Waves.{Relocation}
 use Rattle.office_state.specs.Office.Invariants.{IsLawful}
 use Rattle.office_state.specs.Office.Phases.{has_results}
 use Rattle.office_state.specs.Office.{has_withdrawn, home_of, is_going, is_same_text, knows_person}
 use Rattle.office_state.specs.Office.{people_not_withdrawn, recorded_result}
 use Rattle.office_state.specs.Round.{is_participant, result_of}
-use Rattle.office_state.specs.Round.Settlement.{is_settled, moves_out, OnlyLeaversMoveOut}
+use Rattle.office_state.specs.Round.Settlement.{is_settled, changes_home, OnlyLeaversMoveOut}
 use Rattle.office_state.specs.declared.office.Assigned.{Assigned}
 use Rattle.office_state.specs.declared.office.Office.{Office}
 use Rattle.office_state.proofs.round_problems.Problem.{round_problems-lawful-IsMarket}
-use Rattle.office_state.proofs.round_problems.Rooms.{round_problems-tenant_gets}
-use Rattle.office_state.proofs.round_outcomes.Results.{round_outcomes-get-round_results}
+use Rattle.office_state.proofs.round_problems.Rooms.{tenant_gets}
+use Rattle.office_state.proofs.round_outcomes.Results.{get-round_results}
 use Rattle.office_state.proofs.moving_people.Settled.{moving_people-moving, moving_people-recorded_is}
 
 moving_people-out : (known left goes : Bool) → goes ≡ true → (known && not (left || goes)) ≡ false
@@ -27,14 +27,14 @@ moving_people-out true false goes e = ap not e
 moving_people-out false left goes e = refl
 
 -- a person who leaves has no result
-pub moving_people-leaver_unplaced : (office : Office) (p : Text) → IsLawful office
+pub leaver_unplaced : (office : Office) (p : Text) → IsLawful office
     → is_going office p ≡ true → recorded_result office p ≡ None
-moving_people-leaver_unplaced office p l goes =
+leaver_unplaced office p l goes =
     elim (has_results office.phase) as
     (λ b. has_results office.phase ≡ b → recorded_result office p ≡ None) [
       | true ↦ λ there.
           ap (option_and_then (λ (given : Assigned). given.room))
-          (ap (λ kept. map.get kept p) (l.results.given there) ∙ round_outcomes-get-round_results office p
+          (ap (λ kept. map.get kept p) (l.results.given there) ∙ get-round_results office p
           ∙ ap (λ b. cond b (Some (record { room = result_of office p })) None)
           (moving_people-out (knows_person office p) (has_withdrawn office p) (is_going office p) goes))
       | false ↦ λ before.
@@ -44,20 +44,20 @@ moving_people-leaver_unplaced office p l goes =
 
 module _ (office : Office) (l : IsLawful office) (there : has_results office.phase ≡ true) where
   -- a participant who moves gets a room
-  moving_people-goes : (p : Text) → is_participant office p ≡ true → moves_out office p ≡ true
+  moving_people-goes : (p : Text) → is_participant office p ≡ true → changes_home office p ≡ true
       → recorded_result office p ≡ None → ⊥
   moving_people-goes p part out nothing =
       elim (home_of office p) as
       (λ o. home_of office p ≡ o → not (is_same_text o None) ≡ true → ⊥) [
         | None ↦ λ _ stays. cc
         | Some room ↦ λ lives _.
-            round_problems-tenant_gets office (round_problems-lawful-IsMarket office l) p room l.register
+            tenant_gets office (round_problems-lawful-IsMarket office l) p room l.register
             part lives
             (sym (moving_people-recorded_is office l.register (round_problems-lawful-IsMarket office l)
             (l.results.given there) p part) ∙ nothing)
       ] refl (ap (λ o. not (is_same_text (home_of office p) o)) (sym nothing) ∙ out)
 
-  moving_people-leaves : (p : Text) → is_settled office p ≡ true → moves_out office p ≡ true
+  moving_people-leaves : (p : Text) → is_settled office p ≡ true → changes_home office p ≡ true
       → recorded_result office p ≡ None → is_going office p ≡ true
   moving_people-leaves p settled out nothing =
       elim (is_going office p) as (λ b. is_going office p ≡ b → b ≡ true) [
@@ -72,9 +72,9 @@ module _ (office : Office) (l : IsLawful office) (there : has_results office.pha
   -- a person who moves and gets no room leaves the college
   pub moving_people-only_leavers : OnlyLeaversMoveOut office
   moving_people-only_leavers =
-      All-map (λ (m : Mover). m.2 ≡ None → is_going office m.0 ≡ true)
+      All-map (λ (m : Relocation). m.2 ≡ None → is_going office m.0 ≡ true)
       (λ p. (p, home_of office p, recorded_result office p))
-      (filter (moves_out office) (people_not_withdrawn office))
+      (filter (changes_home office) (people_not_withdrawn office))
       (λ k d b nothing. moving_people-leaves _
       (moving_people-moving office l.register (round_problems-lawful-IsMarket office l) (l.results.given there) k d b)
-      (filter_passes (moves_out office) (people_not_withdrawn office) k d b) nothing)
+      (filter_passes (changes_home office) (people_not_withdrawn office) k d b) nothing)

@@ -25,11 +25,11 @@ AreFresh kept (move ∷ moves) =
     × AreFresh (with_move kept move) moves
 
 -- the moves of a round after one more
-pub moving_people-moves_of-with_move : (kept : RoundMap RoundMoves) (move : Move)
+pub moves_of-with_move : (kept : RoundMap RoundMoves) (move : Move)
     → moves_of (with_move kept move) move.round
     ≡ map.insert (moves_of kept move.round) move.person
     (record { from = move.from; to = move.to; wave = move.wave })
-moving_people-moves_of-with_move kept move =
+moves_of-with_move kept move =
     let value : RoundMoves =
     record {
       by_person = map.insert (moves_of kept move.round) move.person

@@ -9,56 +9,56 @@ use Rattle.std.specs.FinMap.{get-empty, len-empty}
 use Rattle.room_types.specs.Texts.{Text, TextMap, text_cmp}
 use Rattle.room_types.specs.declared.phase.Phase.{Phase}
 use Rattle.room_types.specs.declared.phase.Phase.TheVariants.{Idle}
-use Rattle.room_types.proofs.options.Options.{options-none_some}
-use Rattle.office_state.specs.Office.Invariants.{IsLawful, AreGrades, AreLeavers, AreLists}
+use Rattle.room_types.proofs.options.Options.{none_some}
+use Rattle.office_state.specs.Office.Invariants.{IsLawful, AreValidGrades, AreValidLeavers, AreValidLists}
 use Rattle.office_state.specs.Office.{empty_office, had_by}
 use Rattle.office_state.specs.declared.office.moves.RoundMoves.{RoundMoves}
 use Rattle.office_state.specs.declared.office.person.Person.{Person}
 
-offices-nothing_had : (which : Person → Option Text) (p : Text)
+nothing_had : (which : Person → Option Text) (p : Text)
     → had_by which (map.empty {R = text_cmp}) p ≡ None
-offices-nothing_had which p = ap (option_and_then which) (get-empty text_cmp p)
+nothing_had which p = ap (option_and_then which) (get-empty text_cmp p)
 
-pub offices-none_known : {A : Type 0} (o : Option A) → o ≡ None → is_some o ≡ true → ⊥
-offices-none_known o n s = let none : is_some o ≡ false = ap is_some n in cc
+pub none_known : {A : Type 0} (o : Option A) → o ≡ None → is_some o ≡ true → ⊥
+none_known o n s = let none : is_some o ≡ false = ap is_some n in cc
 
 -- no lists and withdrawals
-pub offices-no_lists : (rooms : TextMap _) (people : TextMap Person)
-    → AreLists rooms people map.empty map.empty
-offices-no_lists rooms people = record {
-  choosers = λ p h. absurd (offices-none_known _ (get-empty text_cmp p) h);
-  listed = λ p codes e. absurd (options-none_some _ codes (get-empty text_cmp p) e);
-  none_empty = λ p e. options-none_some _ [] (get-empty text_cmp p) e;
-  chosen = λ p codes e. absurd (options-none_some _ codes (get-empty text_cmp p) e);
-  withdrawers = λ p h. absurd (offices-none_known _ (get-empty text_cmp p) h);
+pub no_lists : (rooms : TextMap _) (people : TextMap Person)
+    → AreValidLists rooms people map.empty map.empty
+no_lists rooms people = record {
+  choosers = λ p h. absurd (none_known _ (get-empty text_cmp p) h);
+  listed = λ p codes e. absurd (none_some _ codes (get-empty text_cmp p) e);
+  none_empty = λ p e. none_some _ [] (get-empty text_cmp p) e;
+  chosen = λ p codes e. absurd (none_some _ codes (get-empty text_cmp p) e);
+  withdrawers = λ p h. absurd (none_known _ (get-empty text_cmp p) h);
 }
 
 -- no grades
-pub offices-no_grades : (people : TextMap Person) → AreGrades people map.empty
-offices-no_grades people = record {
-  graded = λ p h. absurd (offices-none_known _ (get-empty text_cmp p) h);
-  none_zero = λ p e. options-none_some _ 0 (get-empty text_cmp p) e;
+pub no_grades : (people : TextMap Person) → AreValidGrades people map.empty
+no_grades people = record {
+  graded = λ p h. absurd (none_known _ (get-empty text_cmp p) h);
+  none_zero = λ p e. none_some _ 0 (get-empty text_cmp p) e;
 }
 
 -- nobody leaves the college
-pub offices-no_leavers : (phase : Phase) (people : TextMap Person) (withdrawn : TextMap (Unit {0}))
-    → AreLeavers phase people withdrawn map.empty
-offices-no_leavers phase people withdrawn = record {
-  leavers = λ p h. absurd (offices-none_known _ (get-empty text_cmp p) h);
-  apart = λ p h. absurd (offices-none_known _ (get-empty text_cmp p) h);
+pub no_leavers : (phase : Phase) (people : TextMap Person) (withdrawn : TextMap (Unit {0}))
+    → AreValidLeavers phase people withdrawn map.empty
+no_leavers phase people withdrawn = record {
+  leavers = λ p h. absurd (none_known _ (get-empty text_cmp p) h);
+  apart = λ p h. absurd (none_known _ (get-empty text_cmp p) h);
   idle_going = λ _. refl;
 }
 
-pub offices-empty_lawful : IsLawful empty_office
-offices-empty_lawful = record {
+pub empty_lawful : IsLawful empty_office
+empty_lawful = record {
   register = record {
-    keys = λ p q key hp hq. absurd (options-none_some _ key (offices-nothing_had (λ v. Some v.key) p) hp);
-    homes = λ p q room hp hq. absurd (options-none_some _ room (offices-nothing_had (λ v. v.home) p) hp);
-    homes_open = λ p room h. absurd (options-none_some _ room (offices-nothing_had (λ v. v.home) p) h);
+    keys = λ p q key hp hq. absurd (none_some _ key (nothing_had (λ v. Some v.key) p) hp);
+    homes = λ p q room hp hq. absurd (none_some _ room (nothing_had (λ v. v.home) p) hp);
+    homes_open = λ p room h. absurd (none_some _ room (nothing_had (λ v. v.home) p) h);
     few_rooms = subst (λ n. n ≤ 2000) (sym (len-empty text_cmp _)) (omega arith);
     few_people = subst (λ n. n ≤ 2000) (sym (len-empty text_cmp _)) (omega arith);
   };
-  lists = offices-no_lists map.empty map.empty;
+  lists = no_lists map.empty map.empty;
   round = record {
     few_rounds = omega arith;
     numbered = λ e. absurd (cc);
@@ -67,18 +67,18 @@ offices-empty_lawful = record {
   };
   kept = record {
     few = subst (λ n. n ≤ 200) (sym (len-empty text_cmp _)) (omega arith);
-    short = λ label kept e. absurd (options-none_some _ kept (get-empty text_cmp label) e);
-    counted = λ label kept e. absurd (options-none_some _ kept (get-empty text_cmp label) e);
+    short = λ label kept e. absurd (none_some _ kept (get-empty text_cmp label) e);
+    counted = λ label kept e. absurd (none_some _ kept (get-empty text_cmp label) e);
   };
-  grades = offices-no_grades map.empty;
-  leavers = offices-no_leavers Idle map.empty map.empty;
+  grades = no_grades map.empty;
+  leavers = no_leavers Idle map.empty map.empty;
   words = record { none = λ _. refl; each = λ e. absurd (cc) };
   results = record { none = λ _. refl; given = λ e. absurd (cc) };
   moves = record {
-    over = λ round h. absurd (offices-none_known _ (get-empty nat_cmp round) h);
-    none_empty = λ round kept e. absurd (options-none_some _ kept (get-empty nat_cmp round) e);
+    over = λ round h. absurd (none_known _ (get-empty nat_cmp round) h);
+    none_empty = λ round kept e. absurd (none_some _ kept (get-empty nat_cmp round) e);
     arrived = λ round p moved e. absurd
-        (options-none_some _ moved (ap (λ (o : Option RoundMoves). map.get
+        (none_some _ moved (ap (λ (o : Option RoundMoves). map.get
         (unwrap_or (option_map (λ (kept : RoundMoves). kept.by_person) o) map.empty) p)
         (get-empty nat_cmp round) ∙ get-empty text_cmp p) e);
   };

@@ -5,36 +5,36 @@ use Rattle.std.specs.Option.{is_some}
 use Rattle.std.specs.Ordering.{eq_by_cmp}
 use Rattle.std.specs.FinMap as map
 use Rattle.room_types.specs.Texts.{Text, TextMap, text_cmp}
-use Rattle.room_types.proofs.maps.TextMaps.{maps-text_cases, maps-contains_key-put, maps-get-put_same, maps-get-put_other}
+use Rattle.room_types.proofs.maps.TextMaps.{text_cases, maps-contains_key-put, maps-get-put_same, maps-get-put_other}
 use Rattle.room_types.proofs.maps.TextMaps.{maps-get-gone_same, maps-get-gone_other}
-use Rattle.room_types.proofs.options.Options.{options-none_some}
+use Rattle.room_types.proofs.options.Options.{none_some}
 use Rattle.office_state.specs.Change.{with_grade}
-use Rattle.office_state.specs.Office.Invariants.{AreGrades}
+use Rattle.office_state.specs.Office.Invariants.{AreValidGrades}
 use Rattle.office_state.specs.declared.office.person.Person.{Person}
-use Rattle.office_state.proofs.offices.Empty.{offices-none_known}
+use Rattle.office_state.proofs.offices.Empty.{none_known}
 
 -- other people's grades stay when one is put
-offices-grade_other : (grades : TextMap ℕ) (person : Text) (grade : ℕ) (p : Text)
+grade_other : (grades : TextMap ℕ) (person : Text) (grade : ℕ) (p : Text)
     → eq_by_cmp text_cmp p person ≡ false
     → map.get (with_grade grades person grade) p ≡ map.get grades p
-offices-grade_other grades person zero p other = maps-get-gone_other grades person p other
-offices-grade_other grades person (suc grade) p other =
+grade_other grades person zero p other = maps-get-gone_other grades person p other
+grade_other grades person (suc grade) p other =
     maps-get-put_other grades person (suc grade) p other
 
 -- a grade that was put is not 0
-offices-grade_same : (grades : TextMap ℕ) (person : Text) (grade : ℕ)
+grade_same : (grades : TextMap ℕ) (person : Text) (grade : ℕ)
     → map.get (with_grade grades person grade) person ≡ Some 0 → ⊥
-offices-grade_same grades person zero e =
-    options-none_some _ 0 (maps-get-gone_same grades person) e
-offices-grade_same grades person (suc grade) e =
+grade_same grades person zero e =
+    none_some _ 0 (maps-get-gone_same grades person) e
+grade_same grades person (suc grade) e =
     let same : suc grade ≡ 0 =
     ap (λ (o : Option ℕ). unwrap_or o (suc grade)) (sym (maps-get-put_same grades person (suc grade)) ∙ e) in
     cc
 
-module _ (people : TextMap Person) (grades : TextMap ℕ) (l : AreGrades people grades) where
+module _ (people : TextMap Person) (grades : TextMap ℕ) (l : AreValidGrades people grades) where
   -- a person is put
   pub offices-graded_person : (person : Text) (v : Person)
-      → AreGrades (map.insert people person v) grades
+      → AreValidGrades (map.insert people person v) grades
   offices-graded_person person v = record {
     graded = λ p h. maps-contains_key-put people person v p (l.graded p h);
     none_zero = l.none_zero;
@@ -42,32 +42,32 @@ module _ (people : TextMap Person) (grades : TextMap ℕ) (l : AreGrades people 
 
   -- a known person's grade is put
   pub offices-grade_put : (person : Text) (grade : ℕ) → map.contains_key people person ≡ true
-      → AreGrades people (with_grade grades person grade)
+      → AreValidGrades people (with_grade grades person grade)
   offices-grade_put person grade known = record {
-    graded = λ p h. elim (maps-text_cases p person) as (λ _. map.contains_key people p ≡ true) [
+    graded = λ p h. elim (text_cases p person) as (λ _. map.contains_key people p ≡ true) [
       | inl same ↦ ap (λ q. map.contains_key people q) same ∙ known
-      | inr other ↦ l.graded p (sym (ap is_some (offices-grade_other grades person grade p other)) ∙ h)
+      | inr other ↦ l.graded p (sym (ap is_some (grade_other grades person grade p other)) ∙ h)
     ];
-    none_zero = λ p e. elim (maps-text_cases p person) as (λ _. ⊥) [
-      | inl same ↦ offices-grade_same grades person grade
+    none_zero = λ p e. elim (text_cases p person) as (λ _. ⊥) [
+      | inl same ↦ grade_same grades person grade
           (ap (λ q. map.get (with_grade grades person grade) q) (sym same) ∙ e)
-      | inr other ↦ l.none_zero p (sym (offices-grade_other grades person grade p other) ∙ e)
+      | inr other ↦ l.none_zero p (sym (grade_other grades person grade p other) ∙ e)
     ];
   }
 
   -- a person is dropped, and the grade with the person
   pub offices-grade_dropped : (person : Text)
-      → AreGrades (map.remove people person) (map.remove grades person)
+      → AreValidGrades (map.remove people person) (map.remove grades person)
   offices-grade_dropped person = record {
-    graded = λ p h. elim (maps-text_cases p person) as
+    graded = λ p h. elim (text_cases p person) as
         (λ _. map.contains_key (map.remove people person) p ≡ true) [
-          | inl same ↦ absurd (offices-none_known (map.get (map.remove grades person) p)
+          | inl same ↦ absurd (none_known (map.get (map.remove grades person) p)
               (ap (λ q. map.get (map.remove grades person) q) same ∙ maps-get-gone_same grades person) h)
           | inr other ↦ ap is_some (maps-get-gone_other people person p other)
               ∙ l.graded p (sym (ap is_some (maps-get-gone_other grades person p other)) ∙ h)
         ];
-    none_zero = λ p e. elim (maps-text_cases p person) as (λ _. ⊥) [
-      | inl same ↦ options-none_some (map.get (map.remove grades person) p) 0
+    none_zero = λ p e. elim (text_cases p person) as (λ _. ⊥) [
+      | inl same ↦ none_some (map.get (map.remove grades person) p) 0
           (ap (λ q. map.get (map.remove grades person) q) same ∙ maps-get-gone_same grades person) e
       | inr other ↦ l.none_zero p (sym (maps-get-gone_other grades person p other) ∙ e)
     ];

@@ -3,7 +3,7 @@ use Rattle.std.proofs.Common.{◌≡◌, false, Option, Some, None, refl, ap, �
 use Rattle.std.specs.Option.{option_and_then}
 use Rattle.std.specs.FinMap as map
 use Rattle.room_types.specs.Texts.{Text}
-use Rattle.room_types.proofs.maps.TextMaps.{maps-text_cases, maps-differ}
+use Rattle.room_types.proofs.maps.TextMaps.{text_cases, maps-differ}
 use Rattle.office_state.specs.Change.{with_home}
 use Rattle.office_state.specs.Office.Invariants.{IsLawful, HomesDiffer}
 use Rattle.office_state.specs.Office.{had_by, home_of}
@@ -12,10 +12,10 @@ use Rattle.office_state.specs.declared.office.Office.{Office}
 use Rattle.office_state.specs.declared.office.person.Person.{Person}
 use Rattle.office_state.proofs.offices.People.{offices-had_by-put_same, offices-had_by-put_other}
 use Rattle.office_state.proofs.offices.Register.{offices-person_moved}
-use Rattle.office_state.proofs.round_phases.Untouched.{round_phases-undrawn, round_phases-words_undrawn, round_phases-results_undrawn}
-use Rattle.office_state.proofs.round_phases.Untouched.{round_phases-moves_stay}
+use Rattle.office_state.proofs.round_phases.Untouched.{undrawn, words_undrawn, results_undrawn}
+use Rattle.office_state.proofs.round_phases.Untouched.{moves_stay}
 use Rattle.office_state.proofs.offices.Grades.{offices-graded_person}
-use Rattle.office_state.proofs.offices.KeptLists.{offices-person_known}
+use Rattle.office_state.proofs.offices.ChoiceLists.{offices-person_known}
 use Rattle.office_state.proofs.offices.Leavers.{offices-leaver_person}
 
 -- the office after one person's move, by what is stored about the person
@@ -28,30 +28,30 @@ moved office person home known =
     ]
 
 -- a person's move leaves the rooms as they are
-pub offices-rooms_stay : (office : Office) (person : Text) (home : Option Text)
+pub rooms_stay : (office : Office) (person : Text) (home : Option Text)
     → (with_home office person home).rooms ≡ office.rooms
-offices-rooms_stay office person home =
+rooms_stay office person home =
     elim (map.get office.people person) as
     (λ o. (moved office person home o).rooms ≡ office.rooms) [ None ↦ refl | Some kept ↦ refl ]
 
-pub offices-phase_stays : (office : Office) (person : Text) (home : Option Text)
+pub phase_stays : (office : Office) (person : Text) (home : Option Text)
     → (with_home office person home).phase ≡ office.phase
-offices-phase_stays office person home =
+phase_stays office person home =
     elim (map.get office.people person) as
     (λ o. (moved office person home o).phase ≡ office.phase) [ None ↦ refl | Some kept ↦ refl ]
 
 -- before the draw, a known person may move to a home that nobody else has, and that is not shut
-pub offices-moved-lawful : (office : Office) (person : Text) (home : Option Text) → IsLawful office
+pub moved-lawful : (office : Office) (person : Text) (home : Option Text) → IsLawful office
     → has_words office.phase ≡ false
     → ((q room : Text) → home ≡ Some room → home_of office q ≡ Some room → q ≡ person)
     → ((room : Text) → home ≡ Some room → map.get office.rooms room ≡ Some false)
     → IsLawful (with_home office person home)
-offices-moved-lawful office person home l before own unshut =
+moved-lawful office person home l before own unshut =
     elim (map.get office.people person) as
     (λ o. map.get office.people person ≡ o → IsLawful (moved office person home o)) [
       | None ↦ λ _. l
       | Some kept ↦ λ known.
-          let u = round_phases-undrawn office l before in
+          let u = undrawn office l before in
           let new : Office = moved office person home (Some kept) in
           record {
             kept = l.kept;
@@ -64,18 +64,18 @@ offices-moved-lawful office person home l before own unshut =
                 (record kept { home = home });
             leavers = offices-leaver_person office.phase office.people office.withdrawn office.going
                 l.leavers person (record kept { home = home });
-            words = round_phases-words_undrawn office.phase new.people office.withdrawn office.going
+            words = words_undrawn office.phase new.people office.withdrawn office.going
                 office.words u.has_no_words u.no_words;
-            results = round_phases-results_undrawn new u.has_no_results u.no_results;
-            moves = round_phases-moves_stay office new refl (λ round h. h) l.moves;
+            results = results_undrawn new u.has_no_results u.no_results;
+            moves = moves_stay office new refl (λ round h. h) l.moves;
           }
     ] refl
 
 -- a person who left a room was the only one there
-pub offices-left_empty : (office : Office) (person room : Text) → HomesDiffer office
+pub left_empty : (office : Office) (person room : Text) → HomesDiffer office
     → home_of office person ≡ Some room → (q : Text)
     → home_of (with_home office person None) q ≡ Some room → ⊥
-offices-left_empty office person room differs lives q e =
+left_empty office person room differs lives q e =
     elim (map.get office.people person) as
     (λ o. map.get office.people person ≡ o → home_of (moved office person None o) q ≡ Some room
     → ⊥) [
@@ -83,7 +83,7 @@ offices-left_empty office person room differs lives q e =
           let homeless : home_of office person ≡ None =
           ap (option_and_then (λ p. p.home)) unknown in
           cc
-      | Some kept ↦ λ _. λ there. elim (maps-text_cases q person) as (λ _. ⊥) [
+      | Some kept ↦ λ _. λ there. elim (text_cases q person) as (λ _. ⊥) [
         | inl same ↦
             let homeless : had_by (λ p. p.home)
             (map.insert office.people person (record kept { home = None })) q ≡ None =

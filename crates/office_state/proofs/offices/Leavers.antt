@@ -4,16 +4,16 @@ use Rattle.std.specs.Option.{is_some}
 use Rattle.std.specs.FinMap as map
 use Rattle.room_types.specs.Texts.{Text, TextMap}
 use Rattle.room_types.specs.declared.phase.Phase.{Phase}
-use Rattle.room_types.proofs.maps.TextMaps.{maps-text_cases, maps-contains_key-put, maps-get-put_other, maps-get-gone_other}
-use Rattle.office_state.specs.Office.Invariants.{AreLeavers}
+use Rattle.room_types.proofs.maps.TextMaps.{text_cases, maps-contains_key-put, maps-get-put_other, maps-get-gone_other}
+use Rattle.office_state.specs.Office.Invariants.{AreValidLeavers}
 use Rattle.office_state.specs.Office.Phases.{is_idle}
 use Rattle.office_state.specs.declared.office.person.Person.{Person}
 
 module _ (phase : Phase) (people : TextMap Person) (withdrawn going : TextMap (Unit {0}))
-    (l : AreLeavers phase people withdrawn going) where
+    (l : AreValidLeavers phase people withdrawn going) where
   -- a person is put
   pub offices-leaver_person : (person : Text) (v : Person)
-      → AreLeavers phase (map.insert people person v) withdrawn going
+      → AreValidLeavers phase (map.insert people person v) withdrawn going
   offices-leaver_person person v = record {
     leavers = λ p h. maps-contains_key-put people person v p (l.leavers p h);
     apart = l.apart;
@@ -22,9 +22,9 @@ module _ (phase : Phase) (people : TextMap Person) (withdrawn going : TextMap (U
 
   -- a person who does not leave is dropped
   pub offices-leaver_dropped : (person : Text) → map.contains_key going person ≡ false
-      → AreLeavers phase (map.remove people person) withdrawn going
+      → AreValidLeavers phase (map.remove people person) withdrawn going
   offices-leaver_dropped person stays = record {
-    leavers = λ p h. elim (maps-text_cases p person) as
+    leavers = λ p h. elim (text_cases p person) as
         (λ _. map.contains_key (map.remove people person) p ≡ true) [
           | inl same ↦
               let here : map.contains_key going person ≡ true =
@@ -38,10 +38,10 @@ module _ (phase : Phase) (people : TextMap Person) (withdrawn going : TextMap (U
 
   -- a person who does not leave withdraws
   pub offices-leaver_withdrawn : (person : Text) → map.contains_key going person ≡ false
-      → AreLeavers phase people (map.insert withdrawn person tt) going
+      → AreValidLeavers phase people (map.insert withdrawn person tt) going
   offices-leaver_withdrawn person stays = record {
     leavers = l.leavers;
-    apart = λ p h. elim (maps-text_cases p person) as
+    apart = λ p h. elim (text_cases p person) as
         (λ _. map.contains_key (map.insert withdrawn person tt) p ≡ false) [
           | inl same ↦
               let here : map.contains_key going person ≡ true =
@@ -55,13 +55,13 @@ module _ (phase : Phase) (people : TextMap Person) (withdrawn going : TextMap (U
   -- a known person who has not withdrawn leaves, while a round is under way
   pub offices-leaver_put : (person : Text) → is_idle phase ≡ false
       → map.contains_key people person ≡ true → map.contains_key withdrawn person ≡ false
-      → AreLeavers phase people withdrawn (map.insert going person tt)
+      → AreValidLeavers phase people withdrawn (map.insert going person tt)
   offices-leaver_put person busy known stays = record {
-    leavers = λ p h. elim (maps-text_cases p person) as (λ _. map.contains_key people p ≡ true) [
+    leavers = λ p h. elim (text_cases p person) as (λ _. map.contains_key people p ≡ true) [
       | inl same ↦ ap (λ q. map.contains_key people q) same ∙ known
       | inr other ↦ l.leavers p (sym (ap is_some (maps-get-put_other going person tt p other)) ∙ h)
     ];
-    apart = λ p h. elim (maps-text_cases p person) as (λ _. map.contains_key withdrawn p ≡ false) [
+    apart = λ p h. elim (text_cases p person) as (λ _. map.contains_key withdrawn p ≡ false) [
       | inl same ↦ ap (λ q. map.contains_key withdrawn q) same ∙ stays
       | inr other ↦ l.apart p (sym (ap is_some (maps-get-put_other going person tt p other)) ∙ h)
     ];
@@ -70,7 +70,7 @@ module _ (phase : Phase) (people : TextMap Person) (withdrawn going : TextMap (U
 
   -- the next phase of a round that is under way
   pub offices-leaver_phase : (next : Phase) → is_idle next ≡ false
-      → AreLeavers next people withdrawn going
+      → AreValidLeavers next people withdrawn going
   offices-leaver_phase next busy = record {
     leavers = l.leavers;
     apart = l.apart;

@@ -22,15 +22,15 @@ use Rattle.room_types.proofs.maps.Trees.{maps-entries-empty, maps-get-tree, maps
 abbrev pub kept_moves : Option RoundMoves → TextMap Moved
 kept_moves kept = unwrap_or (option_map (λ (k : RoundMoves). k.by_person) kept) map.empty
 
-pub offices-no_moves : (moves : RoundMap RoundMoves) (round : ℕ) → map.get moves round ≡ None
+pub no_moves : (moves : RoundMap RoundMoves) (round : ℕ) → map.get moves round ≡ None
     → map.entries (moves_of moves round) ≡ []
-offices-no_moves moves round none =
+no_moves moves round none =
     ap (λ o. map.entries (kept_moves o)) none ∙ maps-entries-empty nat_list_cmp_total
 
 -- inserting the value that is there already changes nothing
-offices-put_again : {X : Type 0} (m : RoundMap X) (k : ℕ) (v : X) → map.get m k ≡ Some v
+put_again : {X : Type 0} (m : RoundMap X) (k : ℕ) (v : X) → map.get m k ≡ Some v
     → map.insert m k v ≡ m
-offices-put_again m k v there = same_map nat_cmp_total nat_cmp-IsAntisymmetric (map.insert m k v) m (λ q.
+put_again m k v there = same_map nat_cmp_total nat_cmp-IsAntisymmetric (map.insert m k v) m (λ q.
     get-insert nat_cmp_total m k v q
     ∙ elim (nat_cmp q k) as (λ o. nat_cmp q k ≡ o
     → cond (is_eq o) (Some v) (map.get m q) ≡ map.get m q) [
@@ -72,15 +72,15 @@ module _ (m n : BTreeMap ℕ RoundMoves) (round : ℕ) (old : RoundMoves)
       → from_entries {R = nat_cmp} n.entries ≡ from_entries m.entries
   offices-move-unwritten same =
       offices-written ∙ ap (λ moves. map.insert (from_entries m.entries) round
-      (record { by_person = moves })) same ∙ offices-put_again (from_entries m.entries) round old offices-there
+      (record { by_person = moves })) same ∙ put_again (from_entries m.entries) round old offices-there
 
 -- the first move of a round
-pub offices-move-begun : (moves : RoundMap RoundMoves) (move : Move) → map.get moves move.round ≡ None
+pub move-begun : (moves : RoundMap RoundMoves) (move : Move) → map.get moves move.round ≡ None
     → map.insert moves move.round (record {
       by_person = map.insert map.empty move.person
           (record { from = move.from; to = move.to; wave = move.wave });
     }) ≡ with_move moves move
-offices-move-begun moves move none =
+move-begun moves move none =
     ap (λ kept. map.insert moves move.round
     (record {
       by_person = map.insert (kept_moves kept) move.person
@@ -88,9 +88,9 @@ offices-move-begun moves move none =
     })) (sym none)
 
 -- nobody has a move of a round that has none
-pub offices-no_moves_known : (moves : RoundMap RoundMoves) (round : ℕ) (p : Text)
+pub no_moves_known : (moves : RoundMap RoundMoves) (round : ℕ) (p : Text)
     → (map.contains_key moves round ≡ true → ⊥) → map.contains_key (moves_of moves round) p ≡ false
-offices-no_moves_known moves round p none =
+no_moves_known moves round p none =
     elim (map.get moves round) as (λ o. map.get moves round ≡ o
     → is_some (map.get (kept_moves o) p) ≡ false) [
       | None ↦ λ _. ap is_some (get-empty text_cmp p)

@@ -8,9 +8,9 @@ use Rattle.std.proofs.lemmas.Bool.{leb-false}
 use Rattle.std.specs.FinMap as map
 use Rattle.std.specs.FinMap.{len-remove}
 use Rattle.room_types.specs.Texts.{Text, TextMap}
-use Rattle.room_types.proofs.maps.TextMaps.{maps-text_cases, maps-get-put_either, maps-get-put_other, maps-len-put_known}
+use Rattle.room_types.proofs.maps.TextMaps.{text_cases, maps-get-put_either, maps-get-put_other, maps-len-put_known}
 use Rattle.room_types.proofs.maps.TextMaps.{maps-len-put_fresh}
-use Rattle.office_state.specs.Office.Invariants.{IsRegister}
+use Rattle.office_state.specs.Office.Invariants.{IsValidRegister}
 use Rattle.office_state.specs.Office.Limits.{room_limit, people_limit}
 use Rattle.office_state.specs.Office.{had_by}
 use Rattle.office_state.specs.declared.office.person.Person.{Person}
@@ -18,16 +18,16 @@ use Rattle.office_state.proofs.offices.People.{offices-had_by-put_same, offices-
 use Rattle.office_state.proofs.offices.People.{offices-Unshared-put, offices-Unshared-gone}
 
 -- one more stays within the limit
-pub offices-len-put_within : {X : Type 0} (m : TextMap X) (k : Text) (v : X) (n : ℕ)
+pub len-put_within : {X : Type 0} (m : TextMap X) (k : Text) (v : X) (n : ℕ)
     → map.contains_key m k ≡ false → nat_le n (map.len m) ≡ false → map.len (map.insert m k v) ≤ n
-offices-len-put_within m k v n new h =
+len-put_within m k v n new h =
     let e : map.len (map.insert m k v) ≡ map.len m + 1 = maps-len-put_fresh m k v new in
     omega (arith, leb-false n (map.len m) h)
 
-module _ (rooms : TextMap Bool) (people : TextMap Person) (l : IsRegister rooms people) where
+module _ (rooms : TextMap Bool) (people : TextMap Person) (l : IsValidRegister rooms people) where
   -- a room that is not shut is put
   pub offices-room_put : (room : Text) → map.len (map.insert rooms room false) ≤ room_limit
-      → IsRegister (map.insert rooms room false) people
+      → IsValidRegister (map.insert rooms room false) people
   offices-room_put room few = record {
     keys = l.keys;
     homes = l.homes;
@@ -39,11 +39,11 @@ module _ (rooms : TextMap Bool) (people : TextMap Person) (l : IsRegister rooms 
   -- a known room that nobody lives in may be shut
   pub offices-room_shut : (room : Text) → map.contains_key rooms room ≡ true
       → ((q : Text) → had_by (λ p. p.home) people q ≡ Some room → ⊥)
-      → IsRegister (map.insert rooms room true) people
+      → IsValidRegister (map.insert rooms room true) people
   offices-room_shut room known empty = record {
     keys = l.keys;
     homes = l.homes;
-    homes_open = λ p r h. elim (maps-text_cases r room) as
+    homes_open = λ p r h. elim (text_cases r room) as
         (λ _. map.get (map.insert rooms room true) r ≡ Some false) [
           | inl same ↦ absurd (empty p (h ∙ ap (λ x. Some x) same))
           | inr other ↦ maps-get-put_other rooms room true r other ∙ l.homes_open p r h
@@ -59,12 +59,12 @@ module _ (rooms : TextMap Bool) (people : TextMap Person) (l : IsRegister rooms 
       → q ≡ person)
       → ((room : Text) → v.home ≡ Some room → map.get rooms room ≡ Some false)
       → map.len (map.insert people person v) ≤ people_limit
-      → IsRegister rooms (map.insert people person v)
+      → IsValidRegister rooms (map.insert people person v)
   offices-person_put person v own_key own_home unshut few = record {
     keys = offices-Unshared-put (λ p. Some p.key) people person v l.keys
         (λ q key e h. own_key q (h ∙ sym e));
     homes = offices-Unshared-put (λ p. p.home) people person v l.homes own_home;
-    homes_open = λ p room h. elim (maps-text_cases p person) as (λ _. map.get rooms room ≡ Some false) [
+    homes_open = λ p room h. elim (text_cases p person) as (λ _. map.get rooms room ≡ Some false) [
       | inl same ↦ unshut room (sym (offices-had_by-put_same (λ p. p.home) people person v p same) ∙ h)
       | inr other ↦
           l.homes_open p room (sym (offices-had_by-put_other (λ p. p.home) people person v p other) ∙ h)
@@ -79,7 +79,7 @@ module _ (rooms : TextMap Bool) (people : TextMap Person) (l : IsRegister rooms 
       → ((q room : Text) → home ≡ Some room → had_by (λ p. p.home) people q ≡ Some room
       → q ≡ person)
       → ((room : Text) → home ≡ Some room → map.get rooms room ≡ Some false)
-      → IsRegister rooms (map.insert people person (record kept { home = home }))
+      → IsValidRegister rooms (map.insert people person (record kept { home = home }))
   offices-person_moved person kept home known own unshut =
       offices-person_put person (record kept { home = home })
       (λ q e. l.keys q person kept.key e (ap (option_and_then (λ p. Some p.key)) known))
@@ -88,7 +88,7 @@ module _ (rooms : TextMap Bool) (people : TextMap Person) (l : IsRegister rooms 
       (sym (maps-len-put_known people person _ (ap is_some known))) l.few_people)
 
   -- a person is removed
-  pub offices-person_gone : (person : Text) → IsRegister rooms (map.remove people person)
+  pub offices-person_gone : (person : Text) → IsValidRegister rooms (map.remove people person)
   offices-person_gone person =
       let fewer : map.len (map.remove people person) ≤ map.len people =
       elim (map.contains_key people person) as

@@ -5,27 +5,27 @@ use Rattle.std.specs.Cmp.Lexicographic.{nat_list_eq_equiv, texts_ties}
 use Rattle.std.specs.FinMap as map
 use Rattle.std.specs.FinMap.{get-empty}
 use Rattle.room_types.specs.Texts.{Text, TextMap, text_cmp, text_eq}
-use Rattle.room_types.proofs.maps.TextMaps.{maps-text_cases, maps-get-put_same, maps-get-put_other}
-use Rattle.room_types.proofs.options.Options.{options-none_if_not_some}
+use Rattle.room_types.proofs.maps.TextMaps.{text_cases, maps-get-put_same, maps-get-put_other}
+use Rattle.room_types.proofs.options.Options.{none_if_not_some}
 
-pub offices-tenants-none : (room : Text) (o : Option Text)
+pub tenants-none : (room : Text) (o : Option Text)
     → option_or (map.get (map.empty {X = Text} {R = text_cmp}) room) o ≡ o
-offices-tenants-none room o = ap (λ p. option_or p o) (get-empty text_cmp room)
+tenants-none room o = ap (λ p. option_or p o) (get-empty text_cmp room)
 
 -- a home without a tenant gets one
-pub offices-tenants-put : (m : TextMap Text) (home id room : Text) (o : Option Text)
+pub tenants-put : (m : TextMap Text) (home id room : Text) (o : Option Text)
     → map.contains_key m home ≡ false
     → option_or (map.get (map.insert m home id) room) o
     ≡ option_or (map.get m room) (cond (text_eq home room) (Some id) o)
-offices-tenants-put m home id room o none =
-    elim (maps-text_cases room home) as
+tenants-put m home id room o none =
+    elim (text_cases room home) as
     (λ _. option_or (map.get (map.insert m home id) room) o
     ≡ option_or (map.get m room) (cond (text_eq home room) (Some id) o)) [
       | inl same ↦
           let new : map.get (map.insert m home id) room ≡ Some id =
           ap (λ r. map.get (map.insert m home id) r) same ∙ maps-get-put_same m home id in
           let old : map.get m room ≡ None = ap (λ r. map.get m r) same
-          ∙ options-none_if_not_some (map.get m home) none in
+          ∙ none_if_not_some (map.get m home) none in
           let here : text_eq home room ≡ true = ap (λ r. text_eq home r) same
           ∙ nat_list_eq_equiv.refl home in
           ap (λ p. option_or p o) new

@@ -7,15 +7,15 @@ use Rattle.std.specs.Cmp.Lexicographic.{nat_list_eq_equiv}
 use Rattle.std.specs.Option.{option_and_then}
 use Rattle.room_types.specs.Texts.{Text, text_eq}
 
-pub offices-then_some : {X Y : Type 0} (f : X → Option Y) (o : Option X) (y : Y)
+pub then_some : {X Y : Type 0} (f : X → Option Y) (o : Option X) (y : Y)
     → option_and_then f o ≡ Some y → (x : X) × (o ≡ Some x) × (f x ≡ Some y)
-offices-then_some f None y e = cc
-offices-then_some f (Some x) y e = (x, refl, e)
+then_some f None y e = cc
+then_some f (Some x) y e = (x, refl, e)
 
-pub offices-tied : (o : Ordering) → is_eq o ≡ true → o ≡ Equal
-offices-tied Less e = cc
-offices-tied Equal e = refl
-offices-tied Greater e = cc
+pub tied : (o : Ordering) → is_eq o ≡ true → o ≡ Equal
+tied Less e = cc
+tied Equal e = refl
+tied Greater e = cc
 
-pub offices-text_eq-same : (a : Text) → text_eq a a ≡ true
-offices-text_eq-same a = nat_list_eq_equiv.refl a
+pub text_eq-same : (a : Text) → text_eq a a ≡ true
+text_eq-same a = nat_list_eq_equiv.refl a

@@ -4,22 +4,22 @@ use Rattle.std.proofs.Common.{lt-ltb, sym, ap, ◌∙◌, subst}
 use Rattle.std.specs.Option.{is_some, option_and_then}
 use Rattle.std.proofs.lemmas.Bool.{and_parts, and_from}
 use Rattle.room_types.specs.Texts.{Text}
-use Rattle.room_types.proofs.options.Options.{options-some_of}
+use Rattle.room_types.proofs.options.Options.{some_of}
 use Rattle.trade_line.specs.Market.{IsMarket, home}
 use Rattle.trade_line.specs.Rank.{rank}
 use Rattle.trade_line.specs.TopTradingCycles.{gets}
 use Rattle.trade_line.specs.TradeApart.{TradesApart}
 use Rattle.trade_line.proofs.welfare.Welfare.{welfare-gets_apart}
-use Rattle.office_state.specs.Office.Invariants.{IsRegister}
+use Rattle.office_state.specs.Office.Invariants.{IsValidRegister}
 use Rattle.office_state.specs.Office.{home_of}
 use Rattle.office_state.specs.Round.{is_participant, round_people, round_rooms, round_market}
 use Rattle.office_state.specs.Round.{round_home, round_room, round_rank, result_of, number_in}
 use Rattle.office_state.specs.Round.Laws.{TradesOwnRooms, HasNoBetterTradeFor}
 use Rattle.office_state.specs.declared.office.Office.{Office}
-use Rattle.office_state.proofs.round_problems.Names.{round_problems-number_in-below, round_problems-number_in-name}
-use Rattle.office_state.proofs.round_problems.People.{round_problems-number_of_participant}
+use Rattle.office_state.proofs.round_problems.Names.{number_in-below, number_in-name}
+use Rattle.office_state.proofs.round_problems.People.{number_of_participant}
 use Rattle.office_state.proofs.round_problems.Problem.{round_problems-market_people, round_problems-market_home}
-use Rattle.office_state.proofs.round_problems.Rooms.{round_problems-home_numbered}
+use Rattle.office_state.proofs.round_problems.Rooms.{home_numbered}
 use Rattle.office_state.proofs.round_outcomes.Ranks.{person_at, round_outcomes-below, round_outcomes-number_at, round_outcomes-named_again, round_outcomes-rank-named, round_outcomes-rank-result, round_outcomes-result-numbered}
 
 -- the number of a participant
@@ -29,19 +29,19 @@ record IsAt (office : Office) (person : Text) : Type 0 where
   named : person_at office number ≡ person
   within : number < (round_market office).people
 
-round_outcomes-at : (office : Office) (person : Text) → is_participant office person ≡ true → IsAt office person
-round_outcomes-at office person part =
+at : (office : Office) (person : Text) → is_participant office person ≡ true → IsAt office person
+at office person part =
     let n : (n : ℕ) × (number_in (round_people office) person ≡ Some n) =
-    round_problems-number_of_participant office person part in
+    number_of_participant office person part in
     record {
       number = n.0;
       numbered = n.1;
-      named = round_problems-number_in-name (round_people office) person n.0 [] n.1;
+      named = number_in-name (round_people office) person n.0 [] n.1;
       within = subst (λ k. n.0 < k) (sym (round_problems-market_people office))
-          (round_problems-number_in-below (round_people office) person n.0 n.1);
+          (number_in-below (round_people office) person n.0 n.1);
     }
 
-module _ (office : Office) (l : IsRegister office.rooms office.people)
+module _ (office : Office) (l : IsValidRegister office.rooms office.people)
     (ok : IsMarket (round_market office)) (group : Text → Bool) (gives : Text → Option Text)
     (trade : TradesOwnRooms office group gives) where
   -- the group and its trade, by numbers
@@ -72,7 +72,7 @@ module _ (office : Office) (l : IsRegister office.rooms office.people)
   round_outcomes-known person h room e =
       let other : (other : Text) × (group other ≡ true) × (gives person ≡ home_of office other) =
       trade.own person h in
-      round_problems-home_numbered office other.0 room l (trade.participants other.0 other.1) (sym other.2 ∙ e)
+      home_numbered office other.0 room l (trade.participants other.0 other.1) (sym other.2 ∙ e)
 
   round_outcomes-house : (n : ℕ) → n < (round_market office).people
       → home (round_market office) n ≡ round_home office (person_at office n)
@@ -86,8 +86,8 @@ module _ (office : Office) (l : IsRegister office.rooms office.people)
         let room : (room : Text) × (home_of office (person_at office n) ≡ Some room) =
         trade.tenants (person_at office n) b.1 in
         let r : (r : ℕ) × (number_in (round_rooms office) room.0 ≡ Some r) =
-        options-some_of (number_in (round_rooms office) room.0)
-        (round_problems-home_numbered office (person_at office n) room.0 l
+        some_of (number_in (round_rooms office) room.0)
+        (home_numbered office (person_at office n) room.0 l
         (trade.participants (person_at office n) b.1) room.1) in
         (r.0, round_outcomes-house n b.0 ∙ ap (option_and_then (number_in (round_rooms office))) room.1 ∙ r.1);
     own = λ n h.
@@ -96,7 +96,7 @@ module _ (office : Office) (l : IsRegister office.rooms office.people)
         × (gives (person_at office n) ≡ home_of office other) =
         trade.own (person_at office n) b.1 in
         let place : IsAt office other.0 =
-        round_outcomes-at office other.0 (trade.participants other.0 other.1) in (
+        at office other.0 (trade.participants other.0 other.1) in (
           place.number,
           round_outcomes-member other.0 other.1 place,
           ap
@@ -121,7 +121,7 @@ module _ (office : Office) (l : IsRegister office.rooms office.people)
       (result_of office person))
       → (person : Text) → group person ≡ true → gives person ≡ result_of office person
   round_outcomes-none_apart better person h =
-      let place : IsAt office person = round_outcomes-at office person (trade.participants person h) in
+      let place : IsAt office person = at office person (trade.participants person h) in
       sym (round_outcomes-named_again office (gives person) (round_outcomes-known person h))
       ∙ ap (λ p. round_room office (option_and_then (number_in (round_rooms office)) (gives p)))
       (sym place.named)
@@ -143,7 +143,7 @@ module _ (office : Office) (l : IsRegister office.rooms office.people)
           (round_outcomes-rank-result office ok (person_at office n) n numbered)
           (better (person_at office n) b.1))
 
-pub round_outcomes-apart : (office : Office) → IsRegister office.rooms office.people
+pub round_outcomes-apart : (office : Office) → IsValidRegister office.rooms office.people
     → IsMarket (round_market office) → HasNoBetterTradeFor office (result_of office)
 round_outcomes-apart office l ok group gives trade better person h =
     round_outcomes-none_apart office l ok group gives trade better person h

@@ -10,13 +10,13 @@ use Rattle.std.proofs.lemmas.List.{ext_get_or}
 use Rattle.room_types.specs.Choices.{IsChoices}
 use Rattle.room_types.specs.Repeats.{first_repeated}
 use Rattle.room_types.specs.Texts.{Text, TextMap, text_eq}
-use Rattle.room_types.proofs.maps.TextMaps.{maps-text_cases, maps-get-put_same, maps-get-put_other}
+use Rattle.room_types.proofs.maps.TextMaps.{text_cases, maps-get-put_same, maps-get-put_other}
 use Rattle.trade_line.specs.Market.{Market, IsMarket, list_of}
 use Rattle.trade_line.specs.OtherList.{with_lists, IsListFor}
 use Rattle.trade_line.specs.Rank.{rank}
 use Rattle.trade_line.specs.TopTradingCycles.{gets}
 use Rattle.trade_line.proofs.welfare.Groups.{welfare-group_strategyproof}
-use Rattle.trade_line.proofs.welfare.Manipulation.{welfare-list_proof}
+use Rattle.trade_line.proofs.welfare.Manipulation.{list_proof}
 use Rattle.trade_line.proofs.welfare.OtherLists.{welfare-with_list_market}
 use Rattle.trade_line.proofs.welfare.Welfare.{welfare-gets_assignment}
 use Rattle.office_state.specs.Office.Invariants.{IsLawful}
@@ -25,15 +25,15 @@ use Rattle.office_state.specs.Office.Phases.{has_results}
 use Rattle.office_state.specs.Round.{is_participant, round_people, round_rooms, round_market}
 use Rattle.office_state.specs.Round.{round_list, round_room, round_rank, result_of, result_by}
 use Rattle.office_state.specs.Round.{number_in, before_own}
-use Rattle.office_state.specs.Round.Lists.{with_choices, AreChoices, IsOwnListBest, OthersKeepList}
-use Rattle.office_state.specs.Round.Lists.{NoneLosesBy, NoGroupGains, NobodyIsBossy}
+use Rattle.office_state.specs.Round.Lists.{with_choices, AreChoices, IsStrategyproofFor, OthersKeepList}
+use Rattle.office_state.specs.Round.Lists.{NoneLosesBy, IsGroupStrategyproofFor, IsNonbossyFor}
 use Rattle.office_state.specs.declared.office.Office.{Office}
-use Rattle.office_state.proofs.round_problems.Names.{round_problems-number_in-below, round_problems-number_in-name, round_problems-same-text_eq}
-use Rattle.office_state.proofs.round_problems.People.{round_problems-number_of_participant}
+use Rattle.office_state.proofs.round_problems.Names.{number_in-below, number_in-name, same-text_eq}
+use Rattle.office_state.proofs.round_problems.People.{number_of_participant}
 use Rattle.office_state.proofs.round_problems.Problem.{round_problems-market_people, round_problems-market_list, round_problems-market-IsMarket}
-use Rattle.office_state.proofs.round_problems.Problem.{round_problems-lawful-IsMarket, round_problems-codes_differ, round_problems-fits}
-use Rattle.office_state.proofs.round_outcomes.WellTraded.{round_outcomes-recorded}
-use Rattle.office_state.proofs.offices.Truths.{offices-text_eq-same}
+use Rattle.office_state.proofs.round_problems.Problem.{round_problems-lawful-IsMarket, codes_differ, round_problems-fits}
+use Rattle.office_state.proofs.round_outcomes.WellTraded.{recorded}
+use Rattle.office_state.proofs.offices.Truths.{text_eq-same}
 use Rattle.office_state.proofs.round_outcomes.Ranks.{person_at, round_outcomes-below, round_outcomes-number_at, round_outcomes-rank-result, round_outcomes-result-numbered, round_outcomes-takes_part, round_outcomes-rank-given, round_outcomes-result_by-numbered, round_outcomes-no_gain-named}
 
 -- ---- other lists of any participants
@@ -98,7 +98,7 @@ module _ (office : Office) (l : IsLawful office) (lists : TextMap (List Text))
     round_outcomes-other_rank =
         let within : n < (round_market office).people =
         subst (λ k. n < k) (sym (round_problems-market_people office))
-        (round_problems-number_in-below (round_people office) person n numbered) in
+        (number_in-below (round_people office) person n numbered) in
         ap (round_rank office person) round_outcomes-other_result
         ∙ round_outcomes-rank-given office (round_problems-lawful-IsMarket office l) person n numbered
         (gets (with_lists (round_market office) new_lists) n)
@@ -112,10 +112,10 @@ module _ (office : Office) (l : IsLawful office) (lists : TextMap (List Text))
       → result_of (with_choices office lists) person ≡ result_of office person
   round_outcomes-all_same group keep none person part =
       let place : (n : ℕ) × (number_in (round_people office) person ≡ Some n) =
-      round_problems-number_of_participant office person part in
+      number_of_participant office person part in
       let within : place.0 < (round_market office).people =
       subst (λ k. place.0 < k) (sym (round_problems-market_people office))
-      (round_problems-number_in-below (round_people office) person place.0 place.1) in
+      (number_in-below (round_people office) person place.0 place.1) in
       round_outcomes-other_result person place.0 place.1
       ∙ ap (round_room office) (welfare-group_strategyproof (round_market office) (round_problems-lawful-IsMarket office l)
       (λ n. group (person_at office n)) new_lists round_outcomes-new_market keeps loses place.0 within)
@@ -148,7 +148,7 @@ module _ (office : Office) (l : IsLawful office) (person : Text) (codes : List T
 
   round_outcomes-put_good : AreChoices put
   round_outcomes-put_good q others e =
-      elim (maps-text_cases q person) as (λ _. IsChoices others) [
+      elim (text_cases q person) as (λ _. IsChoices others) [
         | inl same ↦
             let these : codes ≡ others =
             ap (λ (o : Option (List Text)). unwrap_or o codes)
@@ -166,7 +166,7 @@ module _ (office : Office) (l : IsLawful office) (person : Text) (codes : List T
   round_outcomes-other_choices : (q : Text) → (q ≡ person → ⊥)
       → choices_of (with_choices office put) q ≡ choices_of office q
   round_outcomes-other_choices q apart =
-      elim (maps-text_cases q person) as (λ _. choices_of (with_choices office put) q
+      elim (text_cases q person) as (λ _. choices_of (with_choices office put) q
       ≡ choices_of office q) [
         | inl same ↦ absurd (apart same)
         | inr other ↦ ap (λ (o : Option (List Text)). unwrap_or o [])
@@ -182,7 +182,7 @@ module _ (office : Office) (l : IsLawful office) (person : Text) (codes : List T
   module _ (n : ℕ) (numbered : number_in (round_people office) person ≡ Some n) where
     within : n < m.people
     within = subst (λ k. n < k) (sym (round_problems-market_people office))
-        (round_problems-number_in-below (round_people office) person n numbered)
+        (number_in-below (round_people office) person n numbered)
 
     round_outcomes-new_same : new_lists office l put round_outcomes-put_good
         ≡ slice_set m.lists n (round_list office person codes)
@@ -199,7 +199,7 @@ module _ (office : Office) (l : IsLawful office) (person : Text) (codes : List T
             elim (cases_eq i n) [
               | inl e ↦
                   let named : person_at office i ≡ person = ap (person_at office) e
-                  ∙ round_problems-number_in-name (round_people office) person n [] numbered in
+                  ∙ number_in-name (round_people office) person n [] numbered in
                   round_outcomes-list_at office l put round_outcomes-put_good i h
                   ∙ ap (λ p. round_list office p (choices_of (with_choices office put) p)) named
                   ∙ ap (round_list office person) round_outcomes-own_choices
@@ -221,7 +221,7 @@ module _ (office : Office) (l : IsLawful office) (person : Text) (codes : List T
   pub round_outcomes-by_list : result_by office person codes ≡ result_of (with_choices office put) person
   round_outcomes-by_list =
       let place : (n : ℕ) × (number_in (round_people office) person ≡ Some n) =
-      round_problems-number_of_participant office person part in
+      number_of_participant office person part in
       round_outcomes-result_by-numbered office round_outcomes-ok person place.0 place.1 codes
       ∙ ap (λ xs. round_room office (gets (with_lists m xs) place.0))
       (sym (round_outcomes-new_same place.0 place.1))
@@ -231,11 +231,11 @@ module _ (office : Office) (l : IsLawful office) (person : Text) (codes : List T
       (result_by office person codes)
   round_outcomes-own_best =
       let place : (n : ℕ) × (number_in (round_people office) person ≡ Some n) =
-      round_problems-number_of_participant office person part in
+      number_of_participant office person part in
       let may : IsListFor m place.0 (round_list office person codes) =
-      round_problems-fits office person place.0 codes place.1 (round_problems-codes_differ codes fine.1) in
+      round_problems-fits office person place.0 codes place.1 (codes_differ codes fine.1) in
       round_outcomes-no_gain-named office round_outcomes-ok person place.0 place.1 codes may
-      (welfare-list_proof m round_outcomes-ok place.0 (round_list office person codes) may.0.0
+      (list_proof m round_outcomes-ok place.0 (round_list office person codes) may.0.0
       (welfare-with_list_market m round_outcomes-ok place.0 (round_list office person codes) may))
       (result_by office person codes) (round_outcomes-result_by-numbered office round_outcomes-ok person place.0 place.1 codes)
 
@@ -246,9 +246,9 @@ module _ (office : Office) (l : IsLawful office) (person : Text) (codes : List T
       round_outcomes-all_same office l put round_outcomes-put_good (λ q. text_eq q person)
       (λ q takes out. round_outcomes-other_choices q
       (λ e. let z : text_eq q person ≡ true = ap (λ p. text_eq p person) e
-      ∙ offices-text_eq-same person in cc))
+      ∙ text_eq-same person in cc))
       (λ q takes y.
-      let e : q ≡ person = round_problems-same-text_eq q person y in
+      let e : q ≡ person = same-text_eq q person y in
       let gets_same : result_of (with_choices office put) q ≡ result_of office q =
       ap (result_of (with_choices office put)) e ∙ sym round_outcomes-by_list ∙ same
       ∙ ap (result_of office) (sym e) in
@@ -258,22 +258,22 @@ module _ (office : Office) (l : IsLawful office) (person : Text) (codes : List T
 -- ---- the recorded results
 
 module _ (office : Office) (l : IsLawful office) (there : has_results office.phase ≡ true) where
-  pub round_outcomes-own_list_best : IsOwnListBest office (recorded_result office)
+  pub round_outcomes-own_list_best : IsStrategyproofFor office (recorded_result office)
   round_outcomes-own_list_best person codes part fine =
       subst (λ room. round_rank office person room ≤ round_rank office person
-      (result_by office person codes)) (sym (round_outcomes-recorded office l there person part))
+      (result_by office person codes)) (sym (recorded office l there person part))
       (round_outcomes-own_best office l person codes part fine)
 
-  pub round_outcomes-none_gain : NoGroupGains office (recorded_result office)
+  pub round_outcomes-none_gain : IsGroupStrategyproofFor office (recorded_result office)
   round_outcomes-none_gain group lists good keep none person part =
       round_outcomes-all_same office l lists good group keep
       (λ q takes y. subst (λ room. round_rank office q
       (result_of (with_choices office lists) q) ≤ round_rank office q room)
-      (round_outcomes-recorded office l there q takes) (none q takes y)) person part
-      ∙ sym (round_outcomes-recorded office l there person part)
+      (recorded office l there q takes) (none q takes y)) person part
+      ∙ sym (recorded office l there person part)
 
-  pub round_outcomes-none_bossy : NobodyIsBossy office (recorded_result office)
+  pub round_outcomes-none_bossy : IsNonbossyFor office (recorded_result office)
   round_outcomes-none_bossy person codes part fine same other takes =
       round_outcomes-unbossy office l person codes part fine
-      (same ∙ round_outcomes-recorded office l there person part) other takes
-      ∙ sym (round_outcomes-recorded office l there other takes)
+      (same ∙ recorded office l there person part) other takes
+      ∙ sym (recorded office l there other takes)

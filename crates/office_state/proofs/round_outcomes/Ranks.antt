@@ -19,38 +19,38 @@ use Rattle.office_state.specs.Round.{round_home, round_room, round_list, result_
 use Rattle.office_state.specs.Round.{round_rank, rank_by_number, number_in}
 use Rattle.office_state.specs.Round.Laws.{IsRationalFor, IsRoundAssignment, IsEfficientFor}
 use Rattle.office_state.specs.declared.office.Office.{Office}
-use Rattle.office_state.proofs.round_problems.Names.{round_problems-number_in-below, round_problems-number_in-name, round_problems-number_in-at}
-use Rattle.office_state.proofs.round_problems.Names.{round_problems-slice_get-number}
-use Rattle.office_state.proofs.round_problems.People.{round_problems-participant_number, round_problems-number_of_participant}
-use Rattle.office_state.proofs.round_problems.People.{round_problems-rooms_differ, round_problems-people_differ}
+use Rattle.office_state.proofs.round_problems.Names.{number_in-below, number_in-name, number_in-at}
+use Rattle.office_state.proofs.round_problems.Names.{slice_get-number}
+use Rattle.office_state.proofs.round_problems.People.{participant_number, number_of_participant}
+use Rattle.office_state.proofs.round_problems.People.{rooms_differ, people_differ}
 use Rattle.office_state.proofs.round_problems.Problem.{round_problems-market_people, round_problems-market_rooms, round_problems-market_home}
-use Rattle.office_state.proofs.offices.Truths.{offices-then_some}
+use Rattle.office_state.proofs.offices.Truths.{then_some}
 
 -- a room of the round, from its number to its name and back
-round_outcomes-number-round_room : (office : Office) (o : Option ℕ)
+number-round_room : (office : Office) (o : Option ℕ)
     → ((r : ℕ) → o ≡ Some r → r < length (round_rooms office))
     → option_and_then (number_in (round_rooms office)) (round_room office o) ≡ o
-round_outcomes-number-round_room office None known = refl
-round_outcomes-number-round_room office (Some r) known =
+number-round_room office None known = refl
+number-round_room office (Some r) known =
     ap (option_and_then (number_in (round_rooms office)))
     (slice_get-get_or (round_rooms office) r [] (known r refl))
-    ∙ round_problems-number_in-at (round_rooms office) r [] (round_problems-rooms_differ office) (known r refl)
+    ∙ number_in-at (round_rooms office) r [] (rooms_differ office) (known r refl)
 
 -- the room of a number is a room of the round
-round_outcomes-round_room-known : (office : Office) (o : Option ℕ)
+round_room-known : (office : Office) (o : Option ℕ)
     → ((r : ℕ) → o ≡ Some r → r < length (round_rooms office))
     → (room : Text) → round_room office o ≡ Some room
     → is_some (number_in (round_rooms office) room) ≡ true
-round_outcomes-round_room-known office None known room e = absurd (cc)
-round_outcomes-round_room-known office (Some r) known room e =
+round_room-known office None known room e = absurd (cc)
+round_room-known office (Some r) known room e =
     ap is_some (ap (option_and_then (number_in (round_rooms office))) (sym e)
-    ∙ round_outcomes-number-round_room office (Some r) known)
+    ∙ number-round_room office (Some r) known)
 
 module _ (office : Office) (ok : IsMarket (round_market office)) (person : Text) (n : ℕ)
     (numbered : number_in (round_people office) person ≡ Some n) where
   pub round_outcomes-within : n < (round_market office).people
   round_outcomes-within = subst (λ k. n < k) (sym (round_problems-market_people office))
-      (round_problems-number_in-below (round_people office) person n numbered)
+      (number_in-below (round_people office) person n numbered)
 
   round_outcomes-rank-numbered : (room : Option Text)
       → round_rank office person room ≡ rank_by_number office n room
@@ -83,8 +83,8 @@ module _ (office : Office) (ok : IsMarket (round_market office)) (person : Text)
   round_outcomes-rank-given o known =
       let round_outcomes-below : (r : ℕ) → o ≡ Some r → r < length (round_rooms office) =
       λ r e. subst (λ k. r < k) (round_problems-market_rooms office) (known r e) in
-      round_outcomes-rank-named (round_room office o) (round_outcomes-round_room-known office o round_outcomes-below)
-      ∙ ap (rank (round_market office) n) (round_outcomes-number-round_room office o round_outcomes-below)
+      round_outcomes-rank-named (round_room office o) (round_room-known office o round_outcomes-below)
+      ∙ ap (rank (round_market office) n) (number-round_room office o round_outcomes-below)
 
   pub round_outcomes-result-numbered : result_of office person ≡ round_room office (gets (round_market office) n)
   unfolding result_of
@@ -133,7 +133,7 @@ module _ (office : Office) (ok : IsMarket (round_market office)) (person : Text)
   round_outcomes-rational-named =
       let lives : home (round_market office) n ≡ round_home office person =
       round_problems-market_home office n (subst (λ k. n < k) (round_problems-market_people office) round_outcomes-within)
-      ∙ ap (round_home office) (round_problems-number_in-name (round_people office) person n [] numbered) in
+      ∙ ap (round_home office) (number_in-name (round_people office) person n [] numbered) in
       subst (λ k. k ≤ round_rank office person (home_of office person)) (sym round_outcomes-rank-result)
       (le_trans (welfare-gets_rational (round_market office) ok n round_outcomes-within)
       (subst (λ k. rank (round_market office) n (home (round_market office) n) ≤ k)
@@ -167,7 +167,7 @@ module _ (office : Office) (ok : IsMarket (round_market office)) (person : Text)
 pub round_outcomes-rational : (office : Office) → IsMarket (round_market office)
     → IsRationalFor office (result_of office)
 round_outcomes-rational office ok person part =
-    let place = round_problems-number_of_participant office person part in
+    let place = number_of_participant office person part in
     round_outcomes-rational-named office ok person place.0 place.1
 
 -- ---- no better assignment
@@ -181,11 +181,11 @@ module _ (office : Office) where
 
   pub round_outcomes-number_at : (n : ℕ) → n < (round_market office).people
       → number_in (round_people office) (person_at n) ≡ Some n
-  round_outcomes-number_at n h = round_problems-number_in-at (round_people office) n [] (round_problems-people_differ office) (round_outcomes-below n h)
+  round_outcomes-number_at n h = number_in-at (round_people office) n [] (people_differ office) (round_outcomes-below n h)
 
   pub round_outcomes-takes_part : (n : ℕ) → n < (round_market office).people
       → is_participant office (person_at n) ≡ true
-  round_outcomes-takes_part n h = sym (round_problems-participant_number office (person_at n)) ∙ ap is_some (round_outcomes-number_at n h)
+  round_outcomes-takes_part n h = sym (participant_number office (person_at n)) ∙ ap is_some (round_outcomes-number_at n h)
 
   -- a room of the round, or nothing, from its name to its number and back
   pub round_outcomes-named_again : (o : Option Text)
@@ -198,7 +198,7 @@ module _ (office : Office) where
       round_outcomes-by_number : (o : Option ℕ) → number_in (round_rooms office) name ≡ o → is_some o ≡ true
           → round_room office o ≡ Some name
       round_outcomes-by_number None e h = absurd (cc)
-      round_outcomes-by_number (Some r) e h = round_problems-slice_get-number (round_rooms office) name r e
+      round_outcomes-by_number (Some r) e h = slice_get-number (round_rooms office) name r e
 
 module _ (office : Office) (ok : IsMarket (round_market office)) (gives : Text → Option Text)
     (fits : IsRoundAssignment office gives) where
@@ -210,14 +210,14 @@ module _ (office : Office) (ok : IsMarket (round_market office)) (gives : Text �
   unfolding round_outcomes-by_number
   round_outcomes-by_number-IsAssignment = record {
     known = λ n r h e.
-        let room = offices-then_some (number_in (round_rooms office)) (gives (person_at office n)) r e in
+        let room = then_some (number_in (round_rooms office)) (gives (person_at office n)) r e in
         subst (λ k. r < k) (sym (round_problems-market_rooms office))
-        (round_problems-number_in-below (round_rooms office) room.0 r room.2);
+        (number_in-below (round_rooms office) room.0 r room.2);
     differ = λ n k r hn hk en ek.
-        let room = offices-then_some (number_in (round_rooms office)) (gives (person_at office n)) r en in
-        let other = offices-then_some (number_in (round_rooms office)) (gives (person_at office k)) r ek in
-        let same : other.0 ≡ room.0 = sym (round_problems-number_in-name (round_rooms office) other.0 r [] other.2)
-        ∙ round_problems-number_in-name (round_rooms office) room.0 r [] room.2 in
+        let room = then_some (number_in (round_rooms office)) (gives (person_at office n)) r en in
+        let other = then_some (number_in (round_rooms office)) (gives (person_at office k)) r ek in
+        let same : other.0 ≡ room.0 = sym (number_in-name (round_rooms office) other.0 r [] other.2)
+        ∙ number_in-name (round_rooms office) room.0 r [] room.2 in
         let one : person_at office n ≡ person_at office k =
         fits.differ (person_at office n) (person_at office k) room.0 (round_outcomes-takes_part office n hn)
         (round_outcomes-takes_part office k hk) room.1 (other.1 ∙ ap (λ t. Some t) same) in
@@ -249,12 +249,12 @@ module _ (office : Office) (ok : IsMarket (round_market office)) (gives : Text �
       → gives person ≡ result_of office person
   unfolding round_outcomes-by_number
   round_outcomes-none_better better person part =
-      let place = round_problems-number_of_participant office person part in
+      let place = number_of_participant office person part in
       let here : get_or (round_people office) place.0 [] ≡ person =
-      round_problems-number_in-name (round_people office) person place.0 [] place.1 in
+      number_in-name (round_people office) person place.0 [] place.1 in
       let h : place.0 < (round_market office).people =
       subst (λ k. place.0 < k) (sym (round_problems-market_people office))
-      (round_problems-number_in-below (round_people office) person place.0 place.1) in
+      (number_in-below (round_people office) person place.0 place.1) in
       sym (round_outcomes-named_again office (gives person) (λ room e. fits.known person room part e))
       ∙ ap (λ p. round_room office (option_and_then (number_in (round_rooms office)) (gives p)))
       (sym here)

@@ -12,7 +12,7 @@ use Rattle.std.specs.FinMap as maps
 use Rattle.std.specs.FinMap.{find, get-from_entries, same_map}
 use Rattle.room_types.proofs.maps.Trees.{maps-entries-sorted}
 use Rattle.room_types.specs.Texts.{Text, TextMap, text_cmp}
-use Rattle.room_types.proofs.maps.TextMaps.{maps-exact_texts, maps-text_cases, maps-differ}
+use Rattle.room_types.proofs.maps.TextMaps.{exact_texts, text_cases, maps-differ}
 use Rattle.trade_line.specs.Assignment.{given_in}
 use Rattle.trade_line.specs.Market.{IsMarket}
 use Rattle.trade_line.specs.TopTradingCycles.{gets, ttc}
@@ -24,17 +24,17 @@ use Rattle.office_state.specs.Round.{round_results, number_in}
 use Rattle.office_state.specs.Round.Laws.{HaveSameEntries, HaveSameRound}
 use Rattle.office_state.specs.declared.office.Assigned.{Assigned}
 use Rattle.office_state.specs.declared.office.Office.{Office}
-use Rattle.office_state.proofs.round_problems.Names.{round_problems-number_in-below}
-use Rattle.office_state.proofs.round_problems.People.{round_problems-participants_ascend, round_problems-participants_hold}
-use Rattle.office_state.proofs.round_problems.People.{round_problems-participant_number}
+use Rattle.office_state.proofs.round_problems.Names.{number_in-below}
+use Rattle.office_state.proofs.round_problems.People.{participants_ascend, participants_hold}
+use Rattle.office_state.proofs.round_problems.People.{participant_number}
 use Rattle.office_state.proofs.round_problems.Problem.{round_problems-market_people}
 
-round_outcomes-find_named : {A : Type 0} (f : Text → A) (names : List Text) (q : Text)
+find_named : {A : Type 0} (f : Text → A) (names : List Text) (q : Text)
     → find text_cmp q (map (λ name. (name, f name)) names)
     ≡ cond (list_any (eq_by_cmp text_cmp q) names) (Some (f q)) None
-round_outcomes-find_named f [] q = refl
-round_outcomes-find_named f (name ∷ names) q =
-    elim (maps-text_cases q name) as (λ _. cond (eq_by_cmp text_cmp q name) (Some (f name))
+find_named f [] q = refl
+find_named f (name ∷ names) q =
+    elim (text_cases q name) as (λ _. cond (eq_by_cmp text_cmp q name) (Some (f name))
     (find text_cmp q (map (λ n. (n, f n)) names))
     ≡ cond (eq_by_cmp text_cmp q name || list_any (eq_by_cmp text_cmp q) names)
     (Some (f q)) None) [
@@ -47,50 +47,50 @@ round_outcomes-find_named f (name ∷ names) q =
           ] refl
       | inr other ↦
           ap (λ b. cond b (Some (f name)) (find text_cmp q (map (λ n. (n, f n)) names))) other
-          ∙ round_outcomes-find_named f names q
+          ∙ find_named f names q
           ∙ sym (ap (λ b. cond (b || list_any (eq_by_cmp text_cmp q) names) (Some (f q)) None)
           other)
     ]
 
 -- what the table of results has for a person
-pub round_outcomes-get-round_results : (office : Office) (person : Text)
+pub get-round_results : (office : Office) (person : Text)
     → maps.get (round_results office) person
     ≡ cond (is_participant office person) (Some (record { room = result_of office person })) None
 unfolding round_results
-round_outcomes-get-round_results office person =
+get-round_results office person =
     get-from_entries nat_list_cmp_total
     (map (λ p. (p, record { room = result_of office p })) (participants office)) person
-    ∙ round_outcomes-find_named (λ p. record { room = result_of office p }) (participants office) person
+    ∙ find_named (λ p. record { room = result_of office p }) (participants office) person
     ∙ ap (λ b. cond b (Some (record { room = result_of office person })) None)
-    (round_problems-participants_hold office person)
+    (participants_hold office person)
 
-pub round_outcomes-contains_key-round_results : (office : Office) (person : Text)
+pub contains_key-round_results : (office : Office) (person : Text)
     → maps.contains_key (round_results office) person ≡ is_participant office person
-round_outcomes-contains_key-round_results office person =
-    ap is_some (round_outcomes-get-round_results office person)
+contains_key-round_results office person =
+    ap is_some (get-round_results office person)
     ∙ (let given : Assigned = record { room = result_of office person } in
     elim (is_participant office person) as
     (λ b. is_some (cond b (Some given) None) ≡ b) [ true ↦ refl | false ↦ refl ])
 
-round_outcomes-keys_named : {A : Type 0} (f : Text → A) (names : List Text)
+keys_named : {A : Type 0} (f : Text → A) (names : List Text)
     → keys_of (map (λ name. (name, f name)) names) ≡ names
-round_outcomes-keys_named f [] = refl
-round_outcomes-keys_named f (name ∷ names) = ap (λ (rest : List Text). name ∷ rest) (round_outcomes-keys_named f names)
+keys_named f [] = refl
+keys_named f (name ∷ names) = ap (λ (rest : List Text). name ∷ rest) (keys_named f names)
 
 -- the results are in order of identifier
-pub round_outcomes-entries-round_results : (office : Office)
+pub entries-round_results : (office : Office)
     → maps.entries (round_results office)
     ≡ map (λ person. (person, record { room = result_of office person })) (participants office)
 unfolding round_results
-round_outcomes-entries-round_results office =
+entries-round_results office =
     maps-entries-sorted nat_list_cmp_total
     (map (λ person. (person, record { room = result_of office person })) (participants office))
     (subst (λ names. IsStrictlySortedBy text_cmp names)
-    (sym (round_outcomes-keys_named (λ person. record { room = result_of office person })
-    (participants office))) (round_problems-participants_ascend office))
+    (sym (keys_named (λ person. record { room = result_of office person })
+    (participants office))) (participants_ascend office))
 
 -- what the run gives, by name
-pub round_outcomes-results-same : (office : Office) (results : TextMap Assigned) (people rooms : List Text)
+pub results-same : (office : Office) (results : TextMap Assigned) (people rooms : List Text)
     (given : List (Option ℕ)) → IsMarket (round_market office)
     → people ≡ round_people office → rooms ≡ round_rooms office → given ≡ ttc (round_market office)
     → ((person : Text) → maps.get results person
@@ -99,8 +99,8 @@ pub round_outcomes-results-same : (office : Office) (results : TextMap Assigned)
     (number_in people person))
     → results ≡ round_results office
 unfolding result_of
-round_outcomes-results-same office results people rooms given ok is_people is_rooms is_given told =
-    same_map nat_list_cmp_total maps-exact_texts results (round_results office) (λ person.
+results-same office results people rooms given ok is_people is_rooms is_given returned =
+    same_map nat_list_cmp_total exact_texts results (round_results office) (λ person.
     let by_number : ℕ → Assigned =
     λ number. record { room = round_room office (gets (round_market office) number) } in
     let as_given : ℕ → Assigned =
@@ -108,7 +108,7 @@ round_outcomes-results-same office results people rooms given ok is_people is_ro
       room = round_room office
           (given_in (ttc (round_market office)) number);
     } in
-    told person
+    returned person
     ∙ (λ i. option_map (λ number. record
     { room = option_and_then (slice_get (is_rooms i)) (given_in (is_given i) number) })
     (number_in (is_people i) person))
@@ -124,15 +124,15 @@ round_outcomes-results-same office results people rooms given ok is_people is_ro
           ap (λ o. Some (record { room = round_room office o }))
           (welfare-given_gets (round_market office) ok number
           (subst (λ n. number < n) (sym (round_problems-market_people office))
-          (round_problems-number_in-below (round_people office) person number e)))
+          (number_in-below (round_people office) person number e)))
           ∙ ap (λ b. cond b (Some (by_number number)) None) part
-    ] refl (round_problems-participant_number office person)
-    ∙ sym (round_outcomes-get-round_results office person))
+    ] refl (participant_number office person)
+    ∙ sym (get-round_results office person))
 
 -- ---- what does not change the round
 
 -- one office, with the entries that determine the round taken from the other
-round_outcomes-blend : (one other : Office) → HaveSameEntries one other
+blend : (one other : Office) → HaveSameEntries one other
     → one ≡ record one {
       rooms = other.rooms;
       people = other.people;
@@ -142,7 +142,7 @@ round_outcomes-blend : (one other : Office) → HaveSameEntries one other
       grades = other.grades;
       going = other.going;
     }
-round_outcomes-blend one other same =
+blend one other same =
     λ i. record one {
       rooms = same.rooms i;
       people = same.people i;
@@ -156,8 +156,8 @@ round_outcomes-blend one other same =
 pub round_outcomes-same_round : (one other : Office) → HaveSameEntries one other → HaveSameRound one other
 unfolding round_people round_rooms round_market result_of round_results
 round_outcomes-same_round one other same = record {
-  people = ap round_people (round_outcomes-blend one other same);
-  rooms = ap round_rooms (round_outcomes-blend one other same);
-  market = ap round_market (round_outcomes-blend one other same);
-  results = ap round_results (round_outcomes-blend one other same);
+  people = ap round_people (blend one other same);
+  rooms = ap round_rooms (blend one other same);
+  market = ap round_market (blend one other same);
+  results = ap round_results (blend one other same);
 }

@@ -7,9 +7,9 @@ use Rattle.office_state.specs.declared.office.Assigned.{Assigned}
 use Rattle.office_state.specs.declared.office.Office.{Office}
 use Rattle.office_state.proofs.round_outcomes.Results.{round_outcomes-same_round}
 
-pub round_outcomes-round_results-along : (office : Office) (results : TextMap Assigned) (phase : Phase)
+pub round_results-along : (office : Office) (results : TextMap Assigned) (phase : Phase)
     → round_results (record office { results = results; phase = phase }) ≡ round_results office
-round_outcomes-round_results-along office results phase =
+round_results-along office results phase =
     (round_outcomes-same_round (record office { results = results; phase = phase }) office
     (record {
       rooms = refl;

@@ -26,9 +26,9 @@ round_outcomes-traded office l = record {
 }
 
 -- so is everything that gives each participant the same
-round_outcomes-traded_too : (office : Office) (f g : Text → Option Text) → IsWellTraded office f
+traded_too : (office : Office) (f g : Text → Option Text) → IsWellTraded office f
     → ((p : Text) → is_participant office p ≡ true → g p ≡ f p) → IsWellTraded office g
-round_outcomes-traded_too office f g w same = record {
+traded_too office f g w same = record {
   assignment = record {
     known = λ p room part e. w.assignment.known p room part (sym (same p part) ∙ e);
     differ = λ p q room part_p part_q ep eq. w.assignment.differ p q room part_p part_q
@@ -48,13 +48,13 @@ round_outcomes-traded_too office f g w same = record {
       ∙ sym (same p (trade.participants p h));
 }
 
-pub round_outcomes-recorded : (office : Office) → IsLawful office → has_results office.phase ≡ true → (p : Text)
+pub recorded : (office : Office) → IsLawful office → has_results office.phase ≡ true → (p : Text)
     → is_participant office p ≡ true → recorded_result office p ≡ result_of office p
-round_outcomes-recorded office l there p part =
+recorded office l there p part =
     moving_people-recorded_is office l.register (round_problems-lawful-IsMarket office l) (l.results.given there) p part
 
-pub round_outcomes-recorded_traded : (office : Office) → IsLawful office → has_results office.phase ≡ true
+pub recorded_traded : (office : Office) → IsLawful office → has_results office.phase ≡ true
     → IsWellTraded office (recorded_result office)
-round_outcomes-recorded_traded office l there =
-    round_outcomes-traded_too office (result_of office) (recorded_result office) (round_outcomes-traded office l)
-    (round_outcomes-recorded office l there)
+recorded_traded office l there =
+    traded_too office (result_of office) (recorded_result office) (round_outcomes-traded office l)
+    (recorded office l there)

@@ -16,29 +16,29 @@ over_by idle number round =
     nat_le 1 round && nat_le round number && not (not idle && eqb round number)
 
 -- as long as a round is under way, the same rounds are over
-pub round_phases-over-under_way : (office : Office) (phase : Phase) → is_idle office.phase ≡ false
+pub over-under_way : (office : Office) (phase : Phase) → is_idle office.phase ≡ false
     → is_idle phase ≡ false → (round : ℕ) → is_over office round ≡ true
     → is_over (record office { phase = phase }) round ≡ true
-round_phases-over-under_way office phase busy still round o =
+over-under_way office phase busy still round o =
     ap (λ b. over_by b office.number round) (still ∙ sym busy) ∙ o
 
-round_phases-idle_over : (b c d : Bool) → (b && not (not d && c)) ≡ true → (b && not (false && c)) ≡ true
-round_phases-idle_over true c d h = refl
-round_phases-idle_over false c d h = cc
+idle_over : (b c d : Bool) → (b && not (not d && c)) ≡ true → (b && not (false && c)) ≡ true
+idle_over true c d h = refl
+idle_over false c d h = cc
 
 -- between rounds, all are over
-pub round_phases-over-idle : (office : Office) (round : ℕ) → is_over office round ≡ true
+pub over-idle : (office : Office) (round : ℕ) → is_over office round ≡ true
     → is_over (record office { phase = Idle }) round ≡ true
-round_phases-over-idle office round o =
-    round_phases-idle_over (nat_le 1 round && nat_le round office.number) (eqb round office.number)
+over-idle office round o =
+    idle_over (nat_le 1 round && nat_le round office.number) (eqb round office.number)
     (is_idle office.phase) o
 
-round_phases-all_three : (a b c : Bool) → a ≡ true → b ≡ true → c ≡ true → (a && b && c) ≡ true
-round_phases-all_three a b c p q r = ap (λ x. x && b && c) p ∙ ap (λ x. true && x && c) q ∙ r
+all_three : (a b c : Bool) → a ≡ true → b ≡ true → c ≡ true → (a && b && c) ≡ true
+all_three a b c p q r = ap (λ x. x && b && c) p ∙ ap (λ x. true && x && c) q ∙ r
 
-round_phases-begun : (round number : ℕ) → over_by true number round ≡ true
+begun : (round number : ℕ) → over_by true number round ≡ true
     → over_by false (number + 1) round ≡ true
-round_phases-begun round number h =
+begun round number h =
     let first = and_parts (nat_le 1 round && nat_le round number) true h in
     let parts = and_parts (nat_le 1 round) (nat_le round number) first.0 in
     let below : round ≤ number = leb-true round number parts.1 in
@@ -48,31 +48,31 @@ round_phases-begun round number h =
       | inl same ↦ absurd (later same.1)
       | inr differs ↦ differs.0
     ] in
-    round_phases-all_three (nat_le 1 round) (nat_le round (number + 1))
+    all_three (nat_le 1 round) (nat_le round (number + 1))
     (not (true && eqb round (number + 1))) parts.0
     (le-leb round (number + 1) (omega (arith, below))) (ap (λ b. not (true && b)) other)
 
 -- the new round is not yet over
-pub round_phases-over-begun : (office : Office) → is_idle office.phase ≡ true → (round : ℕ)
+pub over-begun : (office : Office) → is_idle office.phase ≡ true → (round : ℕ)
     → is_over office round ≡ true → is_over
     (record office { number = office.number + 1; phase = Opened }) round ≡ true
-round_phases-over-begun office idle round o =
+over-begun office idle round o =
     let was : over_by true office.number round ≡ true =
     ap (λ b. over_by b office.number round) (sym idle) ∙ o in
-    round_phases-begun round office.number was
+    begun round office.number was
 
-round_phases-not_both : (b c : Bool) → b ≡ false → c ≡ true → (not b && c) ≡ true
-round_phases-not_both b c e f = (λ i. not (e i) && f i)
+not_both : (b c : Bool) → b ≡ false → c ≡ true → (not b && c) ≡ true
+not_both b c e f = (λ i. not (e i) && f i)
 
-round_phases-none_of : (a b : Bool) → b ≡ true → (a && not b) ≡ false
-round_phases-none_of true b e = ap not e
-round_phases-none_of false b e = refl
+none_of : (a b : Bool) → b ≡ true → (a && not b) ≡ false
+none_of true b e = ap not e
+none_of false b e = refl
 
 -- the round under way is not over
-pub round_phases-under_way-not_over : (office : Office) → is_idle office.phase ≡ false
+pub under_way-not_over : (office : Office) → is_idle office.phase ≡ false
     → is_over office office.number ≡ false
-round_phases-under_way-not_over office busy =
-    round_phases-none_of (nat_le 1 office.number && nat_le office.number office.number)
+under_way-not_over office busy =
+    none_of (nat_le 1 office.number && nat_le office.number office.number)
     (not (is_idle office.phase) && eqb office.number office.number)
-    (round_phases-not_both (is_idle office.phase) (eqb office.number office.number) busy
+    (not_both (is_idle office.phase) (eqb office.number office.number) busy
     (eq-eqb office.number office.number refl))

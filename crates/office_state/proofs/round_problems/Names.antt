@@ -18,34 +18,34 @@ use Rattle.std.proofs.lemmas.List.{take_more, length-take-le, get_or-take}
 use Rattle.std.proofs.lemmas.List.Quantifiers.{position-Some}
 use Rattle.std.proofs.lemmas.List.Sums.{position_or_len_is}
 use Rattle.std.proofs.lemmas.Option.{slice_get-get_or}
-use Rattle.office_lists.proofs.move_days.Leavers.{move_days-position-push}
+use Rattle.office_lists.proofs.move_days.Leavers.{position-push}
 use Rattle.room_types.specs.Texts.{Text, TextMap, text_cmp, text_eq}
-use Rattle.room_types.proofs.maps.TextMaps.{maps-text_cases, maps-differ}
-use Rattle.room_types.proofs.options.Options.{options-none_if_not_some}
+use Rattle.room_types.proofs.maps.TextMaps.{text_cases, maps-differ}
+use Rattle.room_types.proofs.options.Options.{none_if_not_some}
 use Rattle.office_state.specs.Round.{number_in}
-use Rattle.office_state.proofs.offices.Truths.{offices-text_eq-same}
+use Rattle.office_state.proofs.offices.Truths.{text_eq-same}
 
-pub round_problems-same-text_eq : (a b : Text) → text_eq a b ≡ true → a ≡ b
-round_problems-same-text_eq a b e = same_text a b (sym e)
+pub same-text_eq : (a b : Text) → text_eq a b ≡ true → a ≡ b
+same-text_eq a b e = same_text a b (sym e)
 
 -- the two tests on texts agree
-pub round_problems-text_eq-tied : (a b : Text) → text_eq a b ≡ eq_by_cmp text_cmp b a
-round_problems-text_eq-tied a b =
-    elim (maps-text_cases b a) as (λ _. text_eq a b ≡ eq_by_cmp text_cmp b a) [
-      | inl same ↦ ap (λ t. text_eq a t) same ∙ offices-text_eq-same a
+pub text_eq-tied : (a b : Text) → text_eq a b ≡ eq_by_cmp text_cmp b a
+text_eq-tied a b =
+    elim (text_cases b a) as (λ _. text_eq a b ≡ eq_by_cmp text_cmp b a) [
+      | inl same ↦ ap (λ t. text_eq a t) same ∙ text_eq-same a
           ∙ sym (ap is_eq (tied_itself nat_list_cmp_total a))
           ∙ sym (ap (λ t. eq_by_cmp text_cmp t a) same)
       | inr other ↦ elim (text_eq a b) as (λ t. text_eq a b ≡ t → t ≡ eq_by_cmp text_cmp b a) [
-        | true ↦ λ e. absurd (maps-differ b a (sym (round_problems-same-text_eq a b e)) other)
+        | true ↦ λ e. absurd (maps-differ b a (sym (same-text_eq a b e)) other)
         | false ↦ λ e. sym other
       ] refl
     ]
 
-round_problems-one_on : (n m : ℕ) → nat_lt (1 + n) (suc m) ≡ nat_lt n m
-round_problems-one_on n m = grind (arith, nat_tests)
+one_on : (n m : ℕ) → nat_lt (1 + n) (suc m) ≡ nat_lt n m
+one_on n m = grind (arith, nat_tests)
 
-round_problems-none_before : (m : ℕ) → nat_lt 0 (suc m) ≡ true
-round_problems-none_before m = grind (arith, nat_tests)
+none_before : (m : ℕ) → nat_lt 0 (suc m) ≡ true
+none_before m = grind (arith, nat_tests)
 
 module _ {X : Type 0} (p : X → Bool) where
   pub round_problems-position-cons : (x : X) (xs : List X)
@@ -56,24 +56,24 @@ module _ {X : Type 0} (p : X → Bool) where
       elim (p x) as (λ b. cond (nat_lt (cond (not b) (1 + n) 0) (suc m))
       (Some (cond (not b) (1 + n) 0)) None
       ≡ cond b (Some 0) (option_map (λ k. 1 + k) (cond (nat_lt n m) (Some n) None))) [
-        | true ↦ ap (λ b. cond b (Some 0) None) (round_problems-none_before m)
-        | false ↦ ap (λ b. cond b (Some (1 + n)) None) (round_problems-one_on n m)
+        | true ↦ ap (λ b. cond b (Some 0) None) (none_before m)
+        | false ↦ ap (λ b. cond b (Some (1 + n)) None) (one_on n m)
             ∙ elim (nat_lt n m) as (λ b. cond b (Some (1 + n)) None
             ≡ option_map (λ k. 1 + k) (cond b (Some n) None)) [ true ↦ refl | false ↦ refl ]
       ]
 
 -- a new name after the others has the next number
-pub round_problems-number_in-push_fresh : (names : List Text) (name q : Text) → number_in names name ≡ None
+pub number_in-push_fresh : (names : List Text) (name q : Text) → number_in names name ≡ None
     → number_in (names ++ name ∷ []) q
     ≡ cond (eq_by_cmp text_cmp q name) (Some (length names)) (number_in names q)
-round_problems-number_in-push_fresh names name q fresh =
-    move_days-position-push (λ other. text_eq other q) names name
-    ∙ elim (maps-text_cases q name) as (λ _. option_or (number_in names q)
+number_in-push_fresh names name q fresh =
+    position-push (λ other. text_eq other q) names name
+    ∙ elim (text_cases q name) as (λ _. option_or (number_in names q)
     (cond (text_eq name q) (Some (length names)) None)
     ≡ cond (eq_by_cmp text_cmp q name) (Some (length names)) (number_in names q)) [
       | inl same ↦ ap (λ o. option_or o (cond (text_eq name q) (Some (length names)) None))
           (ap (number_in names) same ∙ fresh)
-          ∙ ap (λ b. cond b (Some (length names)) None) (round_problems-text_eq-tied name q)
+          ∙ ap (λ b. cond b (Some (length names)) None) (text_eq-tied name q)
           ∙ elim (eq_by_cmp text_cmp q name) as
           (λ b. eq_by_cmp text_cmp q name ≡ b
           → cond b (Some (length names)) None
@@ -82,114 +82,114 @@ round_problems-number_in-push_fresh names name q fresh =
             | false ↦ λ e. absurd (maps-differ q name same e)
           ] refl
       | inr other ↦ ap (λ b. option_or (number_in names q) (cond b (Some (length names)) None))
-          (round_problems-text_eq-tied name q ∙ other)
+          (text_eq-tied name q ∙ other)
           ∙ elim (number_in names q) as (λ o. option_or o None ≡ o) [ None ↦ refl | Some k ↦ refl ]
           ∙ sym (ap (λ b. cond b (Some (length names)) (number_in names q)) other)
     ]
 
 -- a repeated name changes no number
-pub round_problems-number_in-push_known : (names : List Text) (name q : Text) (k : ℕ)
+pub number_in-push_known : (names : List Text) (name q : Text) (k : ℕ)
     → number_in names name ≡ Some k → number_in (names ++ name ∷ []) q ≡ number_in names q
-round_problems-number_in-push_known names name q k known =
-    move_days-position-push (λ other. text_eq other q) names name
+number_in-push_known names name q k known =
+    position-push (λ other. text_eq other q) names name
     ∙ elim (text_eq name q) as (λ b. text_eq name q ≡ b
     → option_or (number_in names q) (cond b (Some (length names)) None) ≡ number_in names q) [
       | true ↦ λ e.
           let found : number_in names q ≡ Some k =
-          ap (number_in names) (sym (round_problems-same-text_eq name q e)) ∙ known in
+          ap (number_in names) (sym (same-text_eq name q e)) ∙ known in
           ap (λ o. option_or o (Some (length names))) found ∙ sym found
       | false ↦ λ e. elim (number_in names q) as
           (λ o. option_or o None ≡ o) [ None ↦ refl | Some k ↦ refl ]
     ] refl
 
-round_problems-one_more : (names : List Text) (i : ℕ) (name : Text) → i < length names → name ≡ get_or names i name
+one_more : (names : List Text) (i : ℕ) (name : Text) → i < length names → name ≡ get_or names i name
     → take (i + 1) names ≡ take i names ++ name ∷ []
-round_problems-one_more names i name within at =
+one_more names i name within at =
     take_more names i name within ∙ ap (λ (n : Text). take i names ++ n ∷ []) (sym at)
 
 -- the number leads back to the name
-pub round_problems-number_in-below : (names : List Text) (q : Text) (n : ℕ) → number_in names q ≡ Some n
+pub number_in-below : (names : List Text) (q : Text) (n : ℕ) → number_in names q ≡ Some n
     → n < length names
-round_problems-number_in-below names q n h = (position-Some (λ other. text_eq other q) names n [] h).0
+number_in-below names q n h = (position-Some (λ other. text_eq other q) names n [] h).0
 
-pub round_problems-number_in-name : (names : List Text) (q : Text) (n : ℕ) (d : Text) → number_in names q ≡ Some n
+pub number_in-name : (names : List Text) (q : Text) (n : ℕ) (d : Text) → number_in names q ≡ Some n
     → get_or names n d ≡ q
-round_problems-number_in-name names q n d h =
-    round_problems-same-text_eq (get_or names n d) q (position-Some (λ other. text_eq other q) names n d h).1
+number_in-name names q n d h =
+    same-text_eq (get_or names n d) q (position-Some (λ other. text_eq other q) names n d h).1
 
 -- the name at a place has that number, if all names differ
-pub round_problems-number_in-at : (names : List Text) (n : ℕ) (d : Text) → AllPairs ◌≢◌ names → n < length names
+pub number_in-at : (names : List Text) (n : ℕ) (d : Text) → AllPairs ◌≢◌ names → n < length names
     → number_in names (get_or names n d) ≡ Some n
-round_problems-number_in-at names n d differ_all within =
+number_in-at names n d differ_all within =
     let q = get_or names n d in
     let p = λ (other : Text). text_eq other q in
     let others : (k : ℕ) → k < n → p (get_or names k d) ≡ false = λ k before.
     elim (text_eq (get_or names k d) q) as (λ b. text_eq (get_or names k d) q ≡ b → b ≡ false) [
-      | true ↦ λ e. absurd (differ_all k n d before within (round_problems-same-text_eq (get_or names k d) q e))
+      | true ↦ λ e. absurd (differ_all k n d before within (same-text_eq (get_or names k d) q e))
       | false ↦ λ e. refl
     ] refl in
     let at : position_or_len p names ≡ n =
-    position_or_len_is p names n d (omega arith) others (λ _. offices-text_eq-same q) in
+    position_or_len_is p names n d (omega arith) others (λ _. text_eq-same q) in
     ap (λ k. cond (nat_lt k (length names)) (Some k) None) at
     ∙ ap (λ b. cond b (Some n) None) (lt-ltb n (length names) within)
 
-pub round_problems-slice_get-number : (names : List Text) (q : Text) (n : ℕ) → number_in names q ≡ Some n
+pub slice_get-number : (names : List Text) (q : Text) (n : ℕ) → number_in names q ≡ Some n
     → slice_get names n ≡ Some q
-round_problems-slice_get-number names q n h = slice_get-get_or names n [] (round_problems-number_in-below names q n h)
-    ∙ ap (λ t. Some t) (round_problems-number_in-name names q n [] h)
+slice_get-number names q n h = slice_get-get_or names n [] (number_in-below names q n h)
+    ∙ ap (λ t. Some t) (number_in-name names q n [] h)
 
 -- one more name in a table of numbers: its first place counts
-pub round_problems-numbers-fresh : (m : TextMap ℕ) (names : List Text) (i : ℕ) (name : Text) → i < length names
+pub numbers-fresh : (m : TextMap ℕ) (names : List Text) (i : ℕ) (name : Text) → i < length names
     → name ≡ get_or names i name
     → ((q : Text) → map.get m q ≡ number_in (take i names) q) → map.contains_key m name ≡ false
     → (q : Text) → map.get (map.insert m name i) q ≡ number_in (take (i + 1) names) q
-round_problems-numbers-fresh m names i name within at told fresh q =
+numbers-fresh m names i name within at returned fresh q =
     let so_far = take i names in
     let none : number_in so_far name ≡ None =
-    sym (told name) ∙ options-none_if_not_some (map.get m name) fresh in
+    sym (returned name) ∙ none_if_not_some (map.get m name) fresh in
     get-insert nat_list_cmp_total m name i q
-    ∙ ap (λ o. cond (eq_by_cmp text_cmp q name) (Some i) o) (told q)
+    ∙ ap (λ o. cond (eq_by_cmp text_cmp q name) (Some i) o) (returned q)
     ∙ ap (λ n. cond (eq_by_cmp text_cmp q name) (Some n) (number_in so_far q))
     (sym (length-take-le i names (omega arith)))
-    ∙ sym (round_problems-number_in-push_fresh so_far name q none)
-    ∙ ap (λ ns. number_in ns q) (sym (round_problems-one_more names i name within at))
+    ∙ sym (number_in-push_fresh so_far name q none)
+    ∙ ap (λ ns. number_in ns q) (sym (one_more names i name within at))
 
-pub round_problems-numbers-known : (m : TextMap ℕ) (names : List Text) (i : ℕ) (name : Text) → i < length names
+pub numbers-known : (m : TextMap ℕ) (names : List Text) (i : ℕ) (name : Text) → i < length names
     → name ≡ get_or names i name
     → ((q : Text) → map.get m q ≡ number_in (take i names) q) → map.contains_key m name ≡ true
     → (q : Text) → map.get m q ≡ number_in (take (i + 1) names) q
-round_problems-numbers-known m names i name within at told known q =
+numbers-known m names i name within at returned known q =
     elim (map.get m name) as (λ o. map.get m name ≡ o → map.contains_key m name ≡ true
     → map.get m q ≡ number_in (take (i + 1) names) q) [
       | None ↦ λ e f. cc
-      | Some k ↦ λ e f. told q ∙ sym
-          (round_problems-number_in-push_known (take i names) name q k (sym (told name) ∙ e))
-          ∙ ap (λ ns. number_in ns q) (sym (round_problems-one_more names i name within at))
+      | Some k ↦ λ e f. returned q ∙ sym
+          (number_in-push_known (take i names) name q k (sym (returned name) ∙ e))
+          ∙ ap (λ ns. number_in ns q) (sym (one_more names i name within at))
     ] refl known
 
 -- a name does not occur before its place, if all names differ
-round_problems-number_in-later : (names : List Text) (i : ℕ) (name : Text) → AllPairs ◌≢◌ names → i < length names
+number_in-later : (names : List Text) (i : ℕ) (name : Text) → AllPairs ◌≢◌ names → i < length names
     → name ≡ get_or names i name → number_in (take i names) name ≡ None
-round_problems-number_in-later names i name apart within at =
+number_in-later names i name apart within at =
     elim (number_in (take i names) name) as (λ o. number_in (take i names) name ≡ o → o ≡ None) [
       | None ↦ λ e. refl
       | Some k ↦ λ e.
           let few = length-take-le i names (omega arith) in
-          let short : k < i = omega (arith, few, round_problems-number_in-below (take i names) name k e) in
+          let short : k < i = omega (arith, few, number_in-below (take i names) name k e) in
           absurd (apart k i name short within
-          (sym (get_or-take i names k name short) ∙ round_problems-number_in-name (take i names) name k name e
+          (sym (get_or-take i names k name short) ∙ number_in-name (take i names) name k name e
           ∙ at))
     ] refl
 
 -- one more name in a table of what numbers give
-pub round_problems-given-more : {A : Type 0} (g : ℕ → A) (m : TextMap A) (names : List Text) (i : ℕ) (name : Text)
+pub given-more : {A : Type 0} (g : ℕ → A) (m : TextMap A) (names : List Text) (i : ℕ) (name : Text)
     (v : A) → AllPairs ◌≢◌ names → i < length names → name ≡ get_or names i name → v ≡ g i
     → ((q : Text) → map.get m q ≡ option_map g (number_in (take i names) q))
     → (q : Text) → map.get (map.insert m name v) q ≡ option_map g (number_in (take (i + 1) names) q)
-round_problems-given-more g m names i name v apart within at is told q =
+given-more g m names i name v apart within at is returned q =
     let so_far = take i names in
     get-insert nat_list_cmp_total m name v q
-    ∙ ap (λ o. cond (eq_by_cmp text_cmp q name) (Some v) o) (told q)
+    ∙ ap (λ o. cond (eq_by_cmp text_cmp q name) (Some v) o) (returned q)
     ∙ ap (λ x. cond (eq_by_cmp text_cmp q name) (Some x) (option_map g (number_in so_far q)))
     (is ∙ ap g (sym (length-take-le i names (omega arith))))
     ∙ elim (eq_by_cmp text_cmp q name) as
@@ -199,24 +199,24 @@ round_problems-given-more g m names i name v apart within at is told q =
           refl
       | false ↦ refl
     ]
-    ∙ ap (option_map g) (sym (round_problems-number_in-push_fresh so_far name q
-    (round_problems-number_in-later names i name apart within at)))
-    ∙ ap (λ ns. option_map g (number_in ns q)) (sym (round_problems-one_more names i name within at))
+    ∙ ap (option_map g) (sym (number_in-push_fresh so_far name q
+    (number_in-later names i name apart within at)))
+    ∙ ap (λ ns. option_map g (number_in ns q)) (sym (one_more names i name within at))
 
 -- ---- the part of a list before the own room
 
-pub round_problems-before_first-Some : {X : Type 0} (p : X → Bool) (xs : List X) (i : ℕ) → position p xs ≡ Some i
+pub before_first-Some : {X : Type 0} (p : X → Bool) (xs : List X) (i : ℕ) → position p xs ≡ Some i
     → before_first p xs ≡ take i xs
-round_problems-before_first-Some p xs i e =
+before_first-Some p xs i e =
     elim (nat_lt (position_or_len p xs) (length xs)) as
     (λ b. cond b (Some (position_or_len p xs)) None ≡ Some i → before_first p xs ≡ take i xs) [
       | true ↦ λ h. let same : position_or_len p xs ≡ i = cc in ap (λ n. take n xs) same
       | false ↦ λ h. cc
     ] e
 
-pub round_problems-before_first-None : {X : Type 0} (p : X → Bool) (xs : List X) → position p xs ≡ None
+pub before_first-None : {X : Type 0} (p : X → Bool) (xs : List X) → position p xs ≡ None
     → before_first p xs ≡ xs
-round_problems-before_first-None p xs e =
+before_first-None p xs e =
     elim (nat_lt (position_or_len p xs) (length xs)) as
     (λ b. nat_lt (position_or_len p xs) (length xs) ≡ b
     → cond b (Some (position_or_len p xs)) None ≡ None → before_first p xs ≡ xs) [
@@ -227,12 +227,12 @@ round_problems-before_first-None p xs e =
 -- ---- rooms that are kept back
 
 -- one more room that is kept back
-pub round_problems-kept_back-more : (m : TextMap (Unit {0})) (home room : Text) (rest : Bool)
+pub kept_back-more : (m : TextMap (Unit {0})) (home room : Text) (rest : Bool)
     → (map.contains_key (map.insert m home tt) room || rest)
     ≡ (map.contains_key m room || (text_eq home room || rest))
-round_problems-kept_back-more m home room rest =
+kept_back-more m home room rest =
     ap (λ o. is_some o || rest) (get-insert nat_list_cmp_total m home tt room)
-    ∙ ap (λ b. is_some (cond b (Some tt) (map.get m room)) || rest) (sym (round_problems-text_eq-tied home room))
+    ∙ ap (λ b. is_some (cond b (Some tt) (map.get m room)) || rest) (sym (text_eq-tied home room))
     ∙ elim (text_eq home room) as (λ b. (is_some (cond b (Some tt) (map.get m room)) || rest)
     ≡ (is_some (map.get m room) || (b || rest))) [
       | true ↦ elim (map.get m room) as
@@ -247,14 +247,14 @@ module _ (f : Text → Option ℕ) (codes : List Text) (i : ℕ) (code : Text) (
   pub round_problems-numbered-some : (n : ℕ) → f code ≡ Some n
       → filter_map f (take (i + 1) codes) ≡ filter_map f (take i codes) ++ n ∷ []
   round_problems-numbered-some n has =
-      ap (filter_map f) (round_problems-one_more codes i code within at)
+      ap (filter_map f) (one_more codes i code within at)
       ∙ filter_map-append f (take i codes) (code ∷ [])
       ∙ ap (λ o. filter_map f (take i codes) ++ cons_option o []) has
 
   pub round_problems-numbered-none : f code ≡ None
       → filter_map f (take (i + 1) codes) ≡ filter_map f (take i codes)
   round_problems-numbered-none has =
-      ap (filter_map f) (round_problems-one_more codes i code within at)
+      ap (filter_map f) (one_more codes i code within at)
       ∙ filter_map-append f (take i codes) (code ∷ [])
       ∙ ap (λ o. filter_map f (take i codes) ++ cons_option o []) has
       ∙ append-nil (filter_map f (take i codes))

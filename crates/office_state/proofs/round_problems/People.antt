@@ -18,17 +18,17 @@ use Rattle.std.proofs.lemmas.List.Sorted.{list_any-IsPermutation}
 use Rattle.std.proofs.lemmas.Map.Keys.{Less-from_sorted, IsDistinct-IsPermutation}
 use Rattle.std.proofs.lemmas.Map.Made.{AllPairs-from_IsDistinct, IsDistinct-from_AllPairs}
 use Rattle.room_types.specs.Texts.{Text, text_cmp, text_eq}
-use Rattle.room_types.proofs.maps.TextMaps.{maps-exact_texts, maps-first_holds, maps-second_holds, maps-less_from_test}
-use Rattle.room_types.proofs.options.Options.{options-some_of}
-use Rattle.draw_order.specs.Draw.{Lot, IsDrawnOrder, drawn_order, ungraded}
-use Rattle.draw_order.proofs.draws.Orders.{draws-goes_by_word_alone, draws-one_drawn_order}
+use Rattle.room_types.proofs.maps.TextMaps.{exact_texts, first_holds, second_holds, less_from_test}
+use Rattle.room_types.proofs.options.Options.{some_of}
+use Rattle.draw_order.specs.Draw.{Ticket, IsDrawnOrder, drawn_order, ungraded}
+use Rattle.draw_order.proofs.draws.Orders.{goes_by_word_alone, draws-one_drawn_order}
 use Rattle.office_state.specs.Round.Settlement.{is_settled}
 use Rattle.office_state.specs.Office.{knows_person, grade_of, has_withdrawn, participants, people_not_withdrawn, sits_out}
-use Rattle.office_state.specs.Round.{is_participant, word_of, lots_of, round_people, round_rooms}
+use Rattle.office_state.specs.Round.{is_participant, word_of, tickets_of, round_people, round_rooms}
 use Rattle.office_state.specs.Round.{is_kept_back, number_in}
-use Rattle.office_state.specs.Round.Laws.{people_by_word, plain_lots_of}
+use Rattle.office_state.specs.Round.Laws.{people_by_word, plain_tickets_of}
 use Rattle.office_state.specs.declared.office.Office.{Office}
-use Rattle.office_state.proofs.round_problems.Names.{round_problems-text_eq-tied, round_problems-position-cons}
+use Rattle.office_state.proofs.round_problems.Names.{text_eq-tied, round_problems-position-cons}
 
 module _ {X : Type 0} (test : Text × X → Bool) where
   round_problems-below_kept : (x : Text) (es : List (Text × X)) → T (below_all text_cmp x es)
@@ -38,11 +38,11 @@ module _ {X : Type 0} (test : Text × X → Bool) where
       elim (test e) as (λ b. AllByRecursion (λ y. text_cmp x y ≡ Less)
       (map (λ e. e.0) (cond b (e ∷ filter test es) (filter test es)))) [
         | true ↦ (
-          maps-less_from_test (text_cmp x e.0) (maps-first_holds _ _ below),
+          less_from_test (text_cmp x e.0) (first_holds _ _ below),
           round_problems-below_kept x es
-              (maps-second_holds _ _ below),
+              (second_holds _ _ below),
         )
-        | false ↦ round_problems-below_kept x es (maps-second_holds _ _ below)
+        | false ↦ round_problems-below_kept x es (second_holds _ _ below)
       ]
 
   -- the keys of entries ascend, and so do those of some of them
@@ -54,160 +54,160 @@ module _ {X : Type 0} (test : Text × X → Bool) where
       elim (test e) as (λ b. IsStrictlySortedBy text_cmp
       (map (λ e. e.0) (cond b (e ∷ filter test es) (filter test es)))) [
         | true ↦ (
-          round_problems-below_kept e.0 es (maps-first_holds _ _ sorted),
+          round_problems-below_kept e.0 es (first_holds _ _ sorted),
           round_problems-keys_ascend es
-              (maps-second_holds _ _ sorted),
+              (second_holds _ _ sorted),
         )
-        | false ↦ round_problems-keys_ascend es (maps-second_holds _ _ sorted)
+        | false ↦ round_problems-keys_ascend es (second_holds _ _ sorted)
       ]
 
-pub round_problems-participants_ascend : (office : Office) → IsStrictlySortedBy text_cmp (participants office)
-round_problems-participants_ascend office =
+pub participants_ascend : (office : Office) → IsStrictlySortedBy text_cmp (participants office)
+participants_ascend office =
     round_problems-keys_ascend (λ e. not (sits_out office e.0)) (maps.entries office.people)
     (entries_sorted office.people)
 
 -- those who have not withdrawn ascend
-round_problems-not_withdrawn_ascend : (office : Office) → IsStrictlySortedBy text_cmp (people_not_withdrawn office)
-round_problems-not_withdrawn_ascend office =
+not_withdrawn_ascend : (office : Office) → IsStrictlySortedBy text_cmp (people_not_withdrawn office)
+not_withdrawn_ascend office =
     round_problems-keys_ascend (λ e. not (has_withdrawn office e.0)) (maps.entries office.people)
     (entries_sorted office.people)
 
-round_problems-rooms_ascend : (office : Office) → IsStrictlySortedBy text_cmp (round_rooms office)
+rooms_ascend : (office : Office) → IsStrictlySortedBy text_cmp (round_rooms office)
 unfolding round_rooms
-round_problems-rooms_ascend office =
+rooms_ascend office =
     round_problems-keys_ascend (λ e. not e.1 && not (is_kept_back office e.0)) (maps.entries office.rooms)
     (entries_sorted office.rooms)
 
-round_problems-less_differs : (a b : Text) → text_cmp a b ≡ Less → a ≢ b
-round_problems-less_differs a b less same =
+less_differs : (a b : Text) → text_cmp a b ≡ Less → a ≢ b
+less_differs a b less same =
     cc (sym less ∙ ap (λ t. text_cmp t b) same ∙ tied_itself nat_list_cmp_total b)
 
 -- texts that ascend differ
-round_problems-ascending_differ : (names : List Text) → IsStrictlySortedBy text_cmp names → AllPairs ◌≢◌ names
-round_problems-ascending_differ names up =
-    λ i j d before within. round_problems-less_differs (get_or names i d) (get_or names j d)
+ascending_differ : (names : List Text) → IsStrictlySortedBy text_cmp names → AllPairs ◌≢◌ names
+ascending_differ names up =
+    λ i j d before within. less_differs (get_or names i d) (get_or names j d)
     (Less-from_sorted text_cmp names i j d up before within)
 
-pub round_problems-participants_differ : (office : Office) → AllPairs ◌≢◌ (participants office)
-round_problems-participants_differ office = round_problems-ascending_differ (participants office) (round_problems-participants_ascend office)
+pub participants_differ : (office : Office) → AllPairs ◌≢◌ (participants office)
+participants_differ office = ascending_differ (participants office) (participants_ascend office)
 
-pub round_problems-not_withdrawn_differ : (office : Office) → AllPairs ◌≢◌ (people_not_withdrawn office)
-round_problems-not_withdrawn_differ office = round_problems-ascending_differ (people_not_withdrawn office) (round_problems-not_withdrawn_ascend office)
+pub not_withdrawn_differ : (office : Office) → AllPairs ◌≢◌ (people_not_withdrawn office)
+not_withdrawn_differ office = ascending_differ (people_not_withdrawn office) (not_withdrawn_ascend office)
 
-pub round_problems-rooms_differ : (office : Office) → AllPairs ◌≢◌ (round_rooms office)
-round_problems-rooms_differ office = round_problems-ascending_differ (round_rooms office) (round_problems-rooms_ascend office)
+pub rooms_differ : (office : Office) → AllPairs ◌≢◌ (round_rooms office)
+rooms_differ office = ascending_differ (round_rooms office) (rooms_ascend office)
 
 round_problems-identifiers : (grade word : Text → ℕ) (people : List Text)
-    → map (λ (lot : Lot). lot.0) (map (λ p. (p, grade p, word p)) people) ≡ people
+    → map (λ (ticket : Ticket). ticket.0) (map (λ p. (p, grade p, word p)) people) ≡ people
 round_problems-identifiers grade word [] = refl
 round_problems-identifiers grade word (p ∷ people) = ap (λ (others : List Text). p ∷ others) (round_problems-identifiers grade word people)
 
 -- the drawn order has the participants, in another order
-pub round_problems-people_are_participants : (office : Office)
+pub people_are_participants : (office : Office)
     → IsPermutation (participants office) (round_people office)
 unfolding round_people
-round_problems-people_are_participants office =
-    let drawn : IsDrawnOrder (lots_of office) (round_people office) =
-    (draws-one_drawn_order (lots_of office)).some in
-    let moved : IsPermutation (map (λ (lot : Lot). lot.0) (lots_of office))
-    (map (λ (lot : Lot). lot.0) drawn.ascending) =
-    IsPermutation-map (λ (lot : Lot). lot.0)
-    (lots_of office) drawn.ascending drawn.arranged.same_items in
+people_are_participants office =
+    let drawn : IsDrawnOrder (tickets_of office) (round_people office) =
+    (draws-one_drawn_order (tickets_of office)).some in
+    let moved : IsPermutation (map (λ (ticket : Ticket). ticket.0) (tickets_of office))
+    (map (λ (ticket : Ticket). ticket.0) drawn.ascending) =
+    IsPermutation-map (λ (ticket : Ticket). ticket.0)
+    (tickets_of office) drawn.ascending drawn.arranged.same_items in
     subst (λ names. IsPermutation names (round_people office))
     (round_problems-identifiers (grade_of office) (word_of office) (participants office))
-    (subst (λ names. IsPermutation (map (λ (lot : Lot). lot.0) (lots_of office)) names)
+    (subst (λ names. IsPermutation (map (λ (ticket : Ticket). ticket.0) (tickets_of office)) names)
     (sym drawn.identifiers) moved)
 
 -- the drawn order has as many people as there are tickets
-pub round_problems_as_many_as_lots : (office : Office) → length (round_people office) ≡ length (lots_of office)
-round_problems_as_many_as_lots office =
-    length_permutation (participants office) (round_people office) (round_problems-people_are_participants office)
+pub as_many_as_tickets : (office : Office) → length (round_people office) ≡ length (tickets_of office)
+as_many_as_tickets office =
+    length_permutation (participants office) (round_people office) (people_are_participants office)
     ∙ sym (length-map (participants office) (λ person. (person, grade_of office person, word_of office person)))
 
-pub round_problems-people_differ : (office : Office) → AllPairs ◌≢◌ (round_people office)
-round_problems-people_differ office =
+pub people_differ : (office : Office) → AllPairs ◌≢◌ (round_people office)
+people_differ office =
     AllPairs-from_IsDistinct {eq = text_eq} bytes_decides (round_people office)
     (IsDistinct-IsPermutation text_eq (nat_list_eq_equiv.symm) (participants office)
-    (round_people office) (round_problems-people_are_participants office)
+    (round_people office) (people_are_participants office)
     (IsDistinct-from_AllPairs {eq = text_eq} bytes_decides (participants office)
-    (round_problems-participants_differ office)))
+    (participants_differ office)))
 
-round_problems-both_known : {X : Type 0} (a : Bool) (o : Option X) → is_some (cond a o None) ≡ (is_some o && a)
-round_problems-both_known true None = refl
-round_problems-both_known true (Some x) = refl
-round_problems-both_known false None = refl
-round_problems-both_known false (Some x) = refl
+both_known : {X : Type 0} (a : Bool) (o : Option X) → is_some (cond a o None) ≡ (is_some o && a)
+both_known true None = refl
+both_known true (Some x) = refl
+both_known false None = refl
+both_known false (Some x) = refl
 
 -- the people among those known who pass a test
-round_problems-passing_hold : (office : Office) (stays : Text → Bool) (person : Text)
+passing_hold : (office : Office) (stays : Text → Bool) (person : Text)
     → list_any (eq_by_cmp text_cmp person) (map (λ e. e.0) (filter (λ e. stays e.0) (maps.entries office.people)))
     ≡ (knows_person office person && stays person)
-round_problems-passing_hold office stays person =
+passing_hold office stays person =
     sym (is_some-find text_cmp person (where_key text_cmp stays (maps.entries office.people)))
     ∙ ap is_some (find-where_key text_cmp stays person
-    (λ x tied. ap stays (sym (maps-exact_texts person x tied))) (maps.entries office.people))
-    ∙ round_problems-both_known (stays person) (find text_cmp person (maps.entries office.people))
+    (λ x tied. ap stays (sym (exact_texts person x tied))) (maps.entries office.people))
+    ∙ both_known (stays person) (find text_cmp person (maps.entries office.people))
     ∙ ap (λ o. is_some o && stays person) (sym (get-entries office.people person))
 
-pub round_problems-participants_hold : (office : Office) (person : Text)
+pub participants_hold : (office : Office) (person : Text)
     → list_any (eq_by_cmp text_cmp person) (participants office) ≡ is_participant office person
-round_problems-participants_hold office person =
-    round_problems-passing_hold office (λ p. not (sits_out office p)) person
+participants_hold office person =
+    passing_hold office (λ p. not (sits_out office p)) person
 
-pub round_problems-not_withdrawn_hold : (office : Office) (person : Text)
+pub not_withdrawn_hold : (office : Office) (person : Text)
     → list_any (eq_by_cmp text_cmp person) (people_not_withdrawn office) ≡ is_settled office person
-round_problems-not_withdrawn_hold office person =
-    round_problems-passing_hold office (λ p. not (has_withdrawn office p)) person
+not_withdrawn_hold office person =
+    passing_hold office (λ p. not (has_withdrawn office p)) person
 
-pub round_problems-people_hold : (office : Office) (person : Text)
+pub people_hold : (office : Office) (person : Text)
     → list_any (eq_by_cmp text_cmp person) (round_people office) ≡ is_participant office person
-round_problems-people_hold office person =
+people_hold office person =
     sym (list_any-IsPermutation (eq_by_cmp text_cmp person) (participants office)
-    (round_people office) (round_problems-people_are_participants office)) ∙ round_problems-participants_hold office person
+    (round_people office) (people_are_participants office)) ∙ participants_hold office person
 
 -- a name has a number if and only if it is one of the names
-pub round_problems-is_some-number_in : (names : List Text) (q : Text)
+pub is_some-number_in : (names : List Text) (q : Text)
     → is_some (number_in names q) ≡ list_any (eq_by_cmp text_cmp q) names
-round_problems-is_some-number_in [] q = refl
-round_problems-is_some-number_in (name ∷ names) q =
+is_some-number_in [] q = refl
+is_some-number_in (name ∷ names) q =
     ap is_some (round_problems-position-cons (λ other. text_eq other q) name names)
     ∙ ap (λ b. is_some (cond b (Some 0) (option_map (λ n. 1 + n) (number_in names q))))
-    (round_problems-text_eq-tied name q)
+    (text_eq-tied name q)
     ∙ elim (eq_by_cmp text_cmp q name) as
     (λ b. is_some (cond b (Some 0) (option_map (λ n. 1 + n) (number_in names q)))
     ≡ (b || list_any (eq_by_cmp text_cmp q) names)) [
       | true ↦ refl
       | false ↦ elim (number_in names q) as
           (λ o. is_some (option_map (λ n. 1 + n) o) ≡ is_some o) [ None ↦ refl | Some n ↦ refl ]
-          ∙ round_problems-is_some-number_in names q
+          ∙ is_some-number_in names q
     ]
 
 -- a person takes part if and only if the person has a number
-pub round_problems-participant_number : (office : Office) (person : Text)
+pub participant_number : (office : Office) (person : Text)
     → is_some (number_in (round_people office) person) ≡ is_participant office person
-round_problems-participant_number office person =
-    round_problems-is_some-number_in (round_people office) person ∙ round_problems-people_hold office person
+participant_number office person =
+    is_some-number_in (round_people office) person ∙ people_hold office person
 
-pub round_problems-number_of_participant : (office : Office) (person : Text) → is_participant office person ≡ true
+pub number_of_participant : (office : Office) (person : Text) → is_participant office person ≡ true
     → (n : ℕ) × (number_in (round_people office) person ≡ Some n)
-round_problems-number_of_participant office person part =
-    options-some_of (number_in (round_people office) person) (round_problems-participant_number office person ∙ part)
+number_of_participant office person part =
+    some_of (number_in (round_people office) person) (participant_number office person ∙ part)
 
 -- ---- people without grades
 
-round_problems-no_grade : (office : Office) → office.grades ≡ maps.empty → (person : Text) → grade_of office person ≡ 0
-round_problems-no_grade office none person =
+no_grade : (office : Office) → office.grades ≡ maps.empty → (person : Text) → grade_of office person ≡ 0
+no_grade office none person =
     ap (λ grades. unwrap_or (maps.get grades person) 0) none ∙ ap (λ o. unwrap_or o 0) (get-empty text_cmp person)
 
-round_problems-ungraded_lots : (grade word : Text → ℕ) → ((p : Text) → grade p ≡ 0) → (people : List Text)
+ungraded_tickets : (grade word : Text → ℕ) → ((p : Text) → grade p ≡ 0) → (people : List Text)
     → map (λ p. (p, grade p, word p)) people ≡ map ungraded (map (λ p. (p, word p)) people)
-round_problems-ungraded_lots grade word none [] = refl
-round_problems-ungraded_lots grade word none (p ∷ people) =
-    λ i. (p, none p i, word p) ∷ round_problems-ungraded_lots grade word none people i
+ungraded_tickets grade word none [] = refl
+ungraded_tickets grade word none (p ∷ people) =
+    λ i. (p, none p i, word p) ∷ ungraded_tickets grade word none people i
 
 -- the participants of a round without grades are in order of word and identifier alone
 pub round_problems-people_by_word : (office : Office) → office.grades ≡ maps.empty → round_people office ≡ people_by_word office
 unfolding round_people
 round_problems-people_by_word office none =
-    ap drawn_order (round_problems-ungraded_lots (grade_of office) (word_of office) (round_problems-no_grade office none) (participants office))
-    ∙ draws-goes_by_word_alone (plain_lots_of office)
+    ap drawn_order (ungraded_tickets (grade_of office) (word_of office) (no_grade office none) (participants office))
+    ∙ goes_by_word_alone (plain_tickets_of office)

@@ -23,9 +23,9 @@ use Rattle.office_state.specs.Office.{is_text, home_of, choices_of}
 use Rattle.office_state.specs.Round.{round_people, round_rooms, round_market, round_home, round_list}
 use Rattle.office_state.specs.Round.{number_in, before_own}
 use Rattle.office_state.specs.declared.office.Office.{Office}
-use Rattle.office_state.proofs.round_problems.Names.{round_problems-number_in-below, round_problems-number_in-name, round_problems-number_in-at}
-use Rattle.office_state.proofs.round_problems.People.{round_problems-people_differ}
-use Rattle.office_state.proofs.offices.Truths.{offices-text_eq-same, offices-then_some}
+use Rattle.office_state.proofs.round_problems.Names.{number_in-below, number_in-name, number_in-at}
+use Rattle.office_state.proofs.round_problems.People.{people_differ}
+use Rattle.office_state.proofs.offices.Truths.{text_eq-same, then_some}
 
 -- ---- parts of lists
 
@@ -36,9 +36,9 @@ module _ {X : Type 0} (R : X → X → Type 0) where
   round_problems-rest_apart : (x : X) (xs : List X) → AllPairs R (x ∷ xs) → AllPairs R xs
   round_problems-rest_apart x xs apart = λ i j d before within. apart (suc i) (suc j) d (omega arith) (omega arith)
 
-round_problems-before_first-cons : {X : Type 0} (p : X → Bool) (x : X) (xs : List X)
+before_first-cons : {X : Type 0} (p : X → Bool) (x : X) (xs : List X)
     → before_first p (x ∷ xs) ≡ cond (p x) [] (x ∷ before_first p xs)
-round_problems-before_first-cons p x xs = by (p x)
+before_first-cons p x xs = by (p x)
   where
     by : (b : Bool) → take (cond (not b) (1 + position_or_len p xs) 0) (x ∷ xs)
         ≡ cond b [] (x ∷ before_first p xs)
@@ -46,35 +46,35 @@ round_problems-before_first-cons p x xs = by (p x)
     by false = let e : 1 + position_or_len p xs ≡ suc (position_or_len p xs) =
         omega arith in ap (λ n. take n (x ∷ xs)) e
 
-round_problems-AllPairs-before_first : {X : Type 0} (R : X → X → Type 0) (p : X → Bool) (xs : List X)
+AllPairs-before_first : {X : Type 0} (R : X → X → Type 0) (p : X → Bool) (xs : List X)
     → AllPairs R xs → AllPairs R (before_first p xs)
-round_problems-AllPairs-before_first R p [] apart = apart
-round_problems-AllPairs-before_first R p (x ∷ xs) apart =
-    subst (λ ys. AllPairs R ys) (sym (round_problems-before_first-cons p x xs))
+AllPairs-before_first R p [] apart = apart
+AllPairs-before_first R p (x ∷ xs) apart =
+    subst (λ ys. AllPairs R ys) (sym (before_first-cons p x xs))
     (elim (p x) as (λ b. AllPairs R (cond b [] (x ∷ before_first p xs))) [
       | true ↦ λ i j d before within. absurd (omega arith)
       | false ↦ AllPairs-cons R x (before_first p xs)
           (All-take (R x) (position_or_len p xs) xs (round_problems-first_apart R x xs apart))
-          (round_problems-AllPairs-before_first R p xs (round_problems-rest_apart R x xs apart))
+          (AllPairs-before_first R p xs (round_problems-rest_apart R x xs apart))
     ])
 
-round_problems-fails_before_first : {X : Type 0} (p : X → Bool) (xs : List X)
+fails_before_first : {X : Type 0} (p : X → Bool) (xs : List X)
     → All (λ x. p x ≡ false) (before_first p xs)
-round_problems-fails_before_first p [] = All-nil (λ x. p x ≡ false)
-round_problems-fails_before_first p (x ∷ xs) =
-    subst (λ ys. All (λ y. p y ≡ false) ys) (sym (round_problems-before_first-cons p x xs))
+fails_before_first p [] = All-nil (λ x. p x ≡ false)
+fails_before_first p (x ∷ xs) =
+    subst (λ ys. All (λ y. p y ≡ false) ys) (sym (before_first-cons p x xs))
     (elim (p x) as (λ b. p x ≡ b → All (λ y. p y ≡ false) (cond b [] (x ∷ before_first p xs))) [
       | true ↦ λ e. All-nil (λ y. p y ≡ false)
-      | false ↦ λ e. All-cons (λ y. p y ≡ false) x (before_first p xs) e (round_problems-fails_before_first p xs)
+      | false ↦ λ e. All-cons (λ y. p y ≡ false) x (before_first p xs) e (fails_before_first p xs)
     ] refl)
 
 -- what holds of the numbers of all codes with P
-round_problems-All-filter_map : {X Y : Type 0} (f : X → Option Y) (P : X → Type 0) (Q : Y → Type 0)
+All-filter_map : {X Y : Type 0} (f : X → Option Y) (P : X → Type 0) (Q : Y → Type 0)
     → ((x : X) (y : Y) → P x → f x ≡ Some y → Q y) → (xs : List X) → All P xs
     → All Q (filter_map f xs)
-round_problems-All-filter_map f P Q step [] all = All-nil Q
-round_problems-All-filter_map f P Q step (x ∷ xs) all =
-    let rest = round_problems-All-filter_map f P Q step xs (All-tail P x xs all) in
+All-filter_map f P Q step [] all = All-nil Q
+All-filter_map f P Q step (x ∷ xs) all =
+    let rest = All-filter_map f P Q step xs (All-tail P x xs all) in
     elim (f x) as (λ o. f x ≡ o → All Q (cons_option o (filter_map f xs))) [
       | None ↦ λ e. rest
       | Some y ↦ λ e. All-cons Q y (filter_map f xs) (step x y (All-head P x xs all) e) rest
@@ -82,31 +82,31 @@ round_problems-All-filter_map f P Q step (x ∷ xs) all =
 
 -- ---- lists without repeats
 
-round_problems-seen_apart : (x y : Text) (seen : List Text)
+seen_apart : (x y : Text) (seen : List Text)
     → list_any (λ other. text_eq other y) (seen ++ x ∷ []) ≡ false
     → (list_any (λ other. text_eq other y) seen ≡ false) × (x ≢ y)
-round_problems-seen_apart x y [] none = (
+seen_apart x y [] none = (
   refl,
   λ same. cc (sym none ∙ elim (text_eq x y) as
       (λ b. text_eq x y ≡ b → (b || false) ≡ true)
-      [ true ↦ λ e. refl | false ↦ λ e. cc (ap (λ t. text_eq x t) (sym same) ∙ offices-text_eq-same x) ]
+      [ true ↦ λ e. refl | false ↦ λ e. cc (ap (λ t. text_eq x t) (sym same) ∙ text_eq-same x) ]
       refl),
 )
-round_problems-seen_apart x y (z ∷ seen) none =
+seen_apart x y (z ∷ seen) none =
     elim (text_eq z y) as (λ b. (b || list_any (λ other. text_eq other y) (seen ++ x ∷ [])) ≡ false
     → ((b || list_any (λ other. text_eq other y) seen) ≡ false) × (x ≢ y)) [
       | true ↦ λ e. cc
-      | false ↦ λ e. round_problems-seen_apart x y seen e
+      | false ↦ λ e. seen_apart x y seen e
     ] none
 
-round_problems-unrepeated : (seen texts : List Text) → first_repeated seen texts ≡ None
+unrepeated : (seen texts : List Text) → first_repeated seen texts ≡ None
     → AllPairs ◌≢◌ texts × All (λ text. list_any (λ other. text_eq other text) seen ≡ false) texts
-round_problems-unrepeated seen [] none = (
+unrepeated seen [] none = (
   λ i j d before within. absurd (omega arith),
   All-nil
       (λ text. list_any (λ other. text_eq other text) seen ≡ false),
 )
-round_problems-unrepeated seen (text ∷ texts) none =
+unrepeated seen (text ∷ texts) none =
     elim (list_any (λ other. text_eq other text) seen) as
     (λ b. list_any (λ other. text_eq other text) seen ≡ b
     → cond b (Some text) (first_repeated (seen ++ text ∷ []) texts) ≡ None
@@ -114,9 +114,9 @@ round_problems-unrepeated seen (text ∷ texts) none =
     (text ∷ texts)) [
       | true ↦ λ here e. cc
       | false ↦ λ here e.
-          let later = round_problems-unrepeated (seen ++ text ∷ []) texts e in
+          let later = unrepeated (seen ++ text ∷ []) texts e in
           let parts : All (λ t. (list_any (λ other. text_eq other t) seen ≡ false) × (text ≢ t))
-          texts = λ k d within. round_problems-seen_apart text (get_or texts k d) seen (later.1 k d within) in (
+          texts = λ k d within. seen_apart text (get_or texts k d) seen (later.1 k d within) in (
             AllPairs-cons ◌≢◌ text texts (λ k d within. (parts k d within).1) later.0,
             All-cons (λ t. list_any (λ other. text_eq other t) seen ≡ false) text texts here
                 (λ k d within. (parts k d within).0),
@@ -124,8 +124,8 @@ round_problems-unrepeated seen (text ∷ texts) none =
     ] refl none
 
 -- recorded lists have no room twice
-pub round_problems-codes_differ : (codes : List Text) → first_repeated [] codes ≡ None → AllPairs ◌≢◌ codes
-round_problems-codes_differ codes none = (round_problems-unrepeated [] codes none).0
+pub codes_differ : (codes : List Text) → first_repeated [] codes ≡ None → AllPairs ◌≢◌ codes
+codes_differ codes none = (unrepeated [] codes none).0
 
 -- ---- numbers of a list
 
@@ -133,7 +133,7 @@ module _ (names : List Text) where
   -- two names with one number are one
   round_problems-same_number : (a b : Text) (n : ℕ) → number_in names a ≡ Some n → number_in names b ≡ Some n
       → a ≡ b
-  round_problems-same_number a b n ha hb = sym (round_problems-number_in-name names a n [] ha) ∙ round_problems-number_in-name names b n [] hb
+  round_problems-same_number a b n ha hb = sym (number_in-name names a n [] ha) ∙ number_in-name names b n [] hb
 
   round_problems-numbers_differ : (codes : List Text) → AllPairs ◌≢◌ codes
       → AllPairs ◌≢◌ (filter_map (number_in names) codes)
@@ -145,47 +145,47 @@ module _ (names : List Text) where
       → AllPairs ◌≢◌ (cons_option o (filter_map (number_in names) codes))) [
         | None ↦ λ e. rest
         | Some n ↦ λ e. AllPairs-cons ◌≢◌ n (filter_map (number_in names) codes)
-            (round_problems-All-filter_map (number_in names) (λ other. code ≢ other) (λ m. n ≢ m)
+            (All-filter_map (number_in names) (λ other. code ≢ other) (λ m. n ≢ m)
             (λ other m differs has same. differs
             (round_problems-same_number code other m (e ∙ ap (λ k. Some k) same) has)) codes
             (round_problems-first_apart ◌≢◌ code codes apart))
             rest
       ] refl
 
-round_problems-anything : (codes : List Text) → All (λ _. Unit {0}) codes
-round_problems-anything codes = λ k d within. tt
+anything : (codes : List Text) → All (λ _. Unit {0}) codes
+anything codes = λ k d within. tt
 
 module _ (office : Office) (person : Text) (codes : List Text) where
   pub round_problems-list_known : All (λ r. r < length (round_rooms office)) (round_list office person codes)
   round_problems-list_known =
-      round_problems-All-filter_map (number_in (round_rooms office)) (λ _. Unit {0})
+      All-filter_map (number_in (round_rooms office)) (λ _. Unit {0})
       (λ r. r < length (round_rooms office))
-      (λ code r here has. round_problems-number_in-below (round_rooms office) code r has)
+      (λ code r here has. number_in-below (round_rooms office) code r has)
       (before_own (home_of office person) codes)
-      (round_problems-anything (before_own (home_of office person) codes))
+      (anything (before_own (home_of office person) codes))
 
   pub round_problems-list_differs : AllPairs ◌≢◌ codes → AllPairs ◌≢◌ (round_list office person codes)
   round_problems-list_differs apart =
       round_problems-numbers_differ (round_rooms office) (before_own (home_of office person) codes)
-      (round_problems-AllPairs-before_first ◌≢◌ (is_text (home_of office person)) codes apart)
+      (AllPairs-before_first ◌≢◌ (is_text (home_of office person)) codes apart)
 
   pub round_problems-list_lacks : (r : ℕ) → round_home office person ≡ Some r
       → All (λ x. x ≢ r) (round_list office person codes)
   round_problems-list_lacks r lives =
-      let own = offices-then_some (number_in (round_rooms office)) (home_of office person) r lives in
-      round_problems-All-filter_map (number_in (round_rooms office))
+      let own = then_some (number_in (round_rooms office)) (home_of office person) r lives in
+      All-filter_map (number_in (round_rooms office))
       (λ code. is_text (home_of office person) code ≡ false) (λ x. x ≢ r)
       (λ code x other has same.
       let is : own.0 ≡ code =
       round_problems-same_number (round_rooms office) own.0 code r own.2 (has ∙ ap (λ k. Some k) same) in
       cc (sym other ∙ ap (λ o. is_text o code) own.1 ∙ ap (λ t. text_eq own.0 t) (sym is)
-      ∙ offices-text_eq-same own.0))
+      ∙ text_eq-same own.0))
       (before_own (home_of office person) codes)
-      (round_problems-fails_before_first (is_text (home_of office person)) codes)
+      (fails_before_first (is_text (home_of office person)) codes)
 
-round_problems-unrepeated_choices : (office : Office) → IsLawful office → (person : Text)
+unrepeated_choices : (office : Office) → IsLawful office → (person : Text)
     → first_repeated [] (choices_of office person) ≡ None
-round_problems-unrepeated_choices office lawful person =
+unrepeated_choices office lawful person =
     elim (maps.get office.choices person) as
     (λ o. maps.get office.choices person ≡ o → first_repeated [] (unwrap_or o []) ≡ None) [
       | None ↦ λ e. refl
@@ -223,18 +223,18 @@ module _ (office : Office) where
       → round_home office (get_or (round_people office) p []) ≡ Some r
       → round_home office (get_or (round_people office) q []) ≡ Some r → p ≡ q
   round_problems-one_person differ p q r at_p at_q lives_p lives_q =
-      let one = offices-then_some (number_in (round_rooms office))
+      let one = then_some (number_in (round_rooms office))
       (home_of office (get_or (round_people office) p [])) r lives_p in
-      let two = offices-then_some (number_in (round_rooms office))
+      let two = then_some (number_in (round_rooms office))
       (home_of office (get_or (round_people office) q [])) r lives_q in
       let room : two.0 ≡ one.0 = round_problems-same_number (round_rooms office) two.0 one.0 r two.2 one.2 in
       let same : get_or (round_people office) p [] ≡ get_or (round_people office) q [] =
       differ (get_or (round_people office) p []) (get_or (round_people office) q []) one.0 one.1
       (two.1 ∙ ap (λ t. Some t) room) in
       let first : number_in (round_people office) (get_or (round_people office) p []) ≡ Some p =
-      round_problems-number_in-at (round_people office) p [] (round_problems-people_differ office) at_p in
+      number_in-at (round_people office) p [] (people_differ office) at_p in
       let second : number_in (round_people office) (get_or (round_people office) q []) ≡ Some q =
-      round_problems-number_in-at (round_people office) q [] (round_problems-people_differ office) at_q in
+      number_in-at (round_people office) q [] (people_differ office) at_q in
       cc (sym first ∙ ap (number_in (round_people office)) same ∙ second)
 
   round_problems-homes_len : length (round_market office).homes ≡ (round_market office).people
@@ -257,10 +257,10 @@ module _ (office : Office) where
           homes_len = round_problems-homes_len;
           lists_len = round_problems-lists_len;
           homes_known = λ p r h lives.
-              let own = offices-then_some (number_in (round_rooms office)) _ r
+              let own = then_some (number_in (round_rooms office)) _ r
               (sym (round_problems-market_home p (at p h)) ∙ lives) in
               subst (λ n. r < n) (sym round_problems-market_rooms)
-              (round_problems-number_in-below (round_rooms office) own.0 r own.2);
+              (number_in-below (round_rooms office) own.0 r own.2);
           lists_known = λ p h. subst (λ xs. All (λ r. r < (round_market office).rooms) xs)
               (sym (round_problems-market_list p (at p h)))
               (subst (λ n. All (λ r. r < n) (round_list office (get_or (round_people office) p [])
@@ -273,7 +273,7 @@ module _ (office : Office) where
         lists_strict = λ p h. subst (λ xs. AllPairs ◌≢◌ xs) (sym (round_problems-market_list p (at p h)))
             (round_problems-list_differs office (get_or (round_people office) p [])
             (choices_of office (get_or (round_people office) p []))
-            (round_problems-codes_differ (choices_of office (get_or (round_people office) p []))
+            (codes_differ (choices_of office (get_or (round_people office) p []))
             (lists p [] (at p h))));
         own_unlisted =
             λ p r h lives. subst (λ xs. All (λ x. x ≢ r) xs) (sym (round_problems-market_list p (at p h)))
@@ -286,7 +286,7 @@ module _ (office : Office) where
   pub round_problems-lawful-IsMarket : IsLawful office → IsMarket (round_market office)
   round_problems-lawful-IsMarket lawful =
       round_problems-market-IsMarket lawful.register.homes
-      (λ k d within. round_problems-unrepeated_choices office lawful (get_or (round_people office) k d))
+      (λ k d within. unrepeated_choices office lawful (get_or (round_people office) k d))
 
   -- a list without repeats may be handed in by a participant
   pub round_problems-fits : (person : Text) (n : ℕ) (codes : List Text)
@@ -294,9 +294,9 @@ module _ (office : Office) where
       → IsListFor (round_market office) n (round_list office person codes)
   round_problems-fits person n codes has apart =
       let within : n < length (round_people office) =
-      round_problems-number_in-below (round_people office) person n has in
+      number_in-below (round_people office) person n has in
       let name : get_or (round_people office) n [] ≡ person =
-      round_problems-number_in-name (round_people office) person n [] has in (
+      number_in-name (round_people office) person n [] has in (
         (
           subst (λ k. n < k) (sym round_problems-market_people) within,
           subst
@@ -309,7 +309,7 @@ module _ (office : Office) where
       )
 
 -- the market that the code builds is that of the round
-pub round_problems-market-same : (office : Office) (people_count room_count : ℕ)
+pub market-same : (office : Office) (people_count room_count : ℕ)
     (people people_1 people_2 rooms rooms_1 : List Text) (homes : List (Option ℕ))
     (lists : List (List ℕ)) (number : Text → Option ℕ)
     → people ≡ round_people office → people_1 ≡ round_people office → people_2 ≡ round_people office
@@ -322,11 +322,11 @@ pub round_problems-market-same : (office : Office) (people_count room_count : �
     → record { people = people_count; rooms = room_count; homes = homes; lists = lists }
     ≡ round_market office
 unfolding round_market
-round_problems-market-same office people_count room_count people people_1 people_2 rooms rooms_1 homes lists number
-    is_people is_people_1 is_people_2 is_rooms is_rooms_1 many_people many_rooms told is_homes
+market-same office people_count room_count people people_1 people_2 rooms rooms_1 homes lists number
+    is_people is_people_1 is_people_2 is_rooms is_rooms_1 many_people many_rooms returned is_homes
     is_lists =
     let same : number ≡ number_in (round_rooms office) =
-    λ i name. (told name ∙ ap (λ names. number_in names name) is_rooms_1) i in
+    λ i name. (returned name ∙ ap (λ names. number_in names name) is_rooms_1) i in
     let as_people : people_count ≡ length (round_people office) =
     many_people ∙ ap length is_people in
     let as_rooms : room_count ≡ length (round_rooms office) = many_rooms ∙ ap length is_rooms in
@@ -339,31 +339,31 @@ round_problems-market-same office people_count room_count people people_1 people
     λ i. record { people = as_people i; rooms = as_rooms i; homes = as_homes i; lists = as_lists i }
 
 -- the list that the code builds is the one that counts in the round
-pub round_problems-list-same : (office : Office) (person : Text) (codes codes_1 : List Text) (home_1 : Option Text)
+pub list-same : (office : Office) (person : Text) (codes codes_1 : List Text) (home_1 : Option Text)
     (number : Text → Option ℕ)
     → ((room : Text) → number room ≡ number_in (round_rooms office) room)
     → home_1 ≡ home_of office person → codes_1 ≡ codes
     → filter_map number (before_own home_1 codes_1) ≡ round_list office person codes
-round_problems-list-same office person codes codes_1 home_1 number told is_home is_codes =
-    let same : number ≡ number_in (round_rooms office) = λ i room. told room i in
+list-same office person codes codes_1 home_1 number returned is_home is_codes =
+    let same : number ≡ number_in (round_rooms office) = λ i room. returned room i in
     λ i. filter_map (same i) (before_own (is_home i) (is_codes i))
 
 -- ---- faults
 
 -- the only fault of a well-formed market is out of memory
-pub round_problems-sole_fault : (m : Market) → IsMarket m → (fault : TradeFault) → IsFirstFault m fault
+pub sole_fault : (m : Market) → IsMarket m → (fault : TradeFault) → IsFirstFault m fault
     → fault ≡ OutOfMemory
-round_problems-sole_fault m ok BadIndex broken = absurd (broken ok.indexed)
-round_problems-sole_fault m ok HomeShared broken = absurd (broken.1 ok.homes_differ)
-round_problems-sole_fault m ok ListRepeats broken = absurd (broken.2 ok.lists_strict)
-round_problems-sole_fault m ok OwnRoomListed broken = absurd (broken.3 ok.own_unlisted)
-round_problems-sole_fault m ok OutOfMemory broken = refl
+sole_fault m ok BadIndex broken = absurd (broken ok.indexed)
+sole_fault m ok HomeShared broken = absurd (broken.1 ok.homes_differ)
+sole_fault m ok ListRepeats broken = absurd (broken.2 ok.lists_strict)
+sole_fault m ok OwnRoomListed broken = absurd (broken.3 ok.own_unlisted)
+sole_fault m ok OutOfMemory broken = refl
 
 -- and so it is for a list that may be handed in
-pub round_problems-sole_list_fault : (m : Market) (p : ℕ) (l : List ℕ) → IsListFor m p l → (fault : TradeFault)
+pub sole_list_fault : (m : Market) (p : ℕ) (l : List ℕ) → IsListFor m p l → (fault : TradeFault)
     → IsFirstListFault m p l fault → fault ≡ OutOfMemory
-round_problems-sole_list_fault m p l ok BadIndex broken = absurd (broken ok.0)
-round_problems-sole_list_fault m p l ok HomeShared broken = absurd broken
-round_problems-sole_list_fault m p l ok ListRepeats broken = absurd (broken.1 ok.1)
-round_problems-sole_list_fault m p l ok OwnRoomListed broken = absurd (broken.2 ok.2)
-round_problems-sole_list_fault m p l ok OutOfMemory broken = refl
+sole_list_fault m p l ok BadIndex broken = absurd (broken ok.0)
+sole_list_fault m p l ok HomeShared broken = absurd broken
+sole_list_fault m p l ok ListRepeats broken = absurd (broken.1 ok.1)
+sole_list_fault m p l ok OwnRoomListed broken = absurd (broken.2 ok.2)
+sole_list_fault m p l ok OutOfMemory broken = refl

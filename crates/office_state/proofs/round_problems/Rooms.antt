@@ -17,64 +17,64 @@ use Rattle.std.proofs.lemmas.Option.{slice_get-get_or}
 use Rattle.std.proofs.lemmas.List.Folds.{list_any_none}
 use Rattle.std.proofs.lemmas.Bool.{or_parts}
 use Rattle.room_types.specs.Texts.{Text, text_cmp}
-use Rattle.room_types.proofs.maps.TextMaps.{maps-text_cases, maps-first_holds, maps-second_holds}
+use Rattle.room_types.proofs.maps.TextMaps.{text_cases, first_holds, second_holds}
 use Rattle.trade_line.specs.Market.{Market, IsMarket, home, list_of}
 use Rattle.trade_line.specs.Rank.{rank}
 use Rattle.trade_line.specs.TopTradingCycles.{gets}
 use Rattle.trade_line.proofs.welfare.Ranks.{welfare-rank_home}
 use Rattle.trade_line.proofs.welfare.Welfare.{welfare-gets_assignment, welfare-gets_rational}
-use Rattle.office_state.specs.Office.Invariants.{IsRegister}
+use Rattle.office_state.specs.Office.Invariants.{IsValidRegister}
 use Rattle.office_state.specs.Office.{home_of, has_withdrawn, lives_in, is_text}
 use Rattle.office_state.specs.Round.{is_participant, round_people, round_rooms, round_market}
 use Rattle.office_state.specs.Round.{round_home, round_room, result_of, number_in, is_kept_back}
 use Rattle.office_state.specs.declared.office.Office.{Office}
 use Rattle.office_state.specs.declared.office.person.Person.{Person}
-use Rattle.office_state.proofs.round_problems.Names.{round_problems-number_in-below, round_problems-number_in-name, round_problems-number_in-at}
-use Rattle.office_state.proofs.round_problems.People.{round_problems-number_of_participant, round_problems-rooms_differ}
-use Rattle.office_state.proofs.round_problems.People.{round_problems-is_some-number_in}
-use Rattle.office_state.proofs.offices.People.{offices-found_above, offices-held-is_text}
+use Rattle.office_state.proofs.round_problems.Names.{number_in-below, number_in-name, number_in-at}
+use Rattle.office_state.proofs.round_problems.People.{number_of_participant, rooms_differ}
+use Rattle.office_state.proofs.round_problems.People.{is_some-number_in}
+use Rattle.office_state.proofs.offices.People.{found_above, held-is_text}
 use Rattle.office_state.proofs.round_problems.Problem.{round_problems-market_people, round_problems-market_rooms, round_problems-market_home}
-use Rattle.office_state.proofs.offices.Truths.{offices-text_eq-same}
+use Rattle.office_state.proofs.offices.Truths.{text_eq-same}
 use Rattle.office_state.proofs.round_outcomes.Ranks.{round_outcomes-result-numbered, round_outcomes-within}
 
 -- each entry is what its key gives
-pub round_problems-found_each : {X : Type 0} (P : Text → X → Type 0) (es : List (Text × X))
+pub found_each : {X : Type 0} (P : Text → X → Type 0) (es : List (Text × X))
     → T (is_sorted text_cmp es) → ((q : Text) (v : X) → find text_cmp q es ≡ Some v → P q v)
     → All (λ e. P e.0 e.1) es
-round_problems-found_each P [] s all = All-nil (λ e. P e.0 e.1)
-round_problems-found_each P (e ∷ es) s all =
+found_each P [] s all = All-nil (λ e. P e.0 e.1)
+found_each P (e ∷ es) s all =
     All-cons (λ e. P e.0 e.1) e es
     (all e.0 e.1 (ap (λ o. cond (is_eq o) (Some e.1) (find text_cmp e.0 es))
     (tied_itself nat_list_cmp_total e.0)))
-    (round_problems-found_each P es (maps-second_holds _ _ s)
+    (found_each P es (second_holds _ _ s)
     (λ q v h. all q v (ap (λ o. cond (is_eq o) (Some e.1) (find text_cmp q es))
     (nat_list_cmp_total.antisymm q e.0
-    ∙ ap ordering_reverse (offices-found_above e.0 q es v (maps-first_holds _ _ s) h)) ∙ h)))
+    ∙ ap ordering_reverse (found_above e.0 q es v (first_holds _ _ s) h)) ∙ h)))
 
-round_problems-both_not : (a b : Bool) → (not a && not b) ≡ true → (a ≡ false) × (b ≡ false)
-round_problems-both_not true b h = cc
-round_problems-both_not false true h = cc
-round_problems-both_not false false h = (refl, refl)
+both_not : (a b : Bool) → (not a && not b) ≡ true → (a ≡ false) × (b ≡ false)
+both_not true b h = cc
+both_not false true h = cc
+both_not false false h = (refl, refl)
 
 -- a room of the round is not shut, and nobody who has withdrawn lives there
-pub round_problems-rooms_open : (office : Office)
+pub rooms_open : (office : Office)
     → All (λ r. (map.get office.rooms r ≡ Some false) × (is_kept_back office r ≡ false))
     (round_rooms office)
 unfolding round_rooms
-round_problems-rooms_open office =
+rooms_open office =
     let test : Text × Bool → Bool = λ e. not e.1 && not (is_kept_back office e.0) in
     let P : Text → Type 0 =
     λ r. (map.get office.rooms r ≡ Some false) × (is_kept_back office r ≡ false) in
     let found : All (λ (e : Text × Bool). map.get office.rooms e.0 ≡ Some e.1)
     (map.entries office.rooms) =
-    round_problems-found_each (λ q v. map.get office.rooms q ≡ Some v) (map.entries office.rooms)
+    found_each (λ q v. map.get office.rooms q ≡ Some v) (map.entries office.rooms)
     (entries_sorted office.rooms) (λ q v h. get-entries office.rooms q ∙ h) in
     let kept = All-filter test (λ e. map.get office.rooms e.0 ≡ Some e.1)
     (map.entries office.rooms) found in
     let passed = filter_passes test (map.entries office.rooms) in
     All-map P (λ e. e.0) (filter test (map.entries office.rooms)) (λ k d b.
     let e = get_or (filter test (map.entries office.rooms)) k d in
-    let parts = round_problems-both_not e.1 (is_kept_back office e.0) (passed k d b) in
+    let parts = both_not e.1 (is_kept_back office e.0) (passed k d b) in
     (kept k d b ∙ ap (λ shut. Some shut) parts.0, parts.1))
 
 module _ {X : Type 0} (test : Text × X → Bool) where
@@ -91,7 +91,7 @@ module _ {X : Type 0} (test : Text × X → Bool) where
       (map_list (λ e. e.0) (cond (test e) (e ∷ filter test es) (filter test es))) ≡ true) [
         | true ↦ λ ties here.
             let same : q ≡ e.0 =
-            elim (maps-text_cases q e.0) as (λ _. q ≡ e.0) [ inl same ↦ same | inr other ↦ cc ] in
+            elim (text_cases q e.0) as (λ _. q ≡ e.0) [ inl same ↦ same | inr other ↦ cc ] in
             let value : e.1 ≡ v = ap (λ o. unwrap_or o e.1) here in
             let passes : test e ≡ true = (λ i. test (sym same i, value i)) ∙ t in
             ap (λ b. list_any (eq_by_cmp text_cmp q)
@@ -106,11 +106,11 @@ module _ {X : Type 0} (test : Text × X → Bool) where
             ]
       ] refl h
 
-round_problems-kept_false : (left : Text → Bool) (lives : Person → Bool) (es : List (Text × Person)) (q : Text)
+kept_false : (left : Text → Bool) (lives : Person → Bool) (es : List (Text × Person)) (q : Text)
     (v : Person) → list_any (λ e. left e.0 && lives e.1) es ≡ false → find text_cmp q es ≡ Some v
     → (left q && lives v) ≡ false
-round_problems-kept_false left lives [] q v none h = cc
-round_problems-kept_false left lives (e ∷ es) q v none h =
+kept_false left lives [] q v none h = cc
+kept_false left lives (e ∷ es) q v none h =
     let parts =
     or_parts (left e.0 && lives e.1) (list_any (λ x. left x.0 && lives x.1) es) none in
     elim (eq_by_cmp text_cmp q e.0) as
@@ -118,31 +118,31 @@ round_problems-kept_false left lives (e ∷ es) q v none h =
     → (left q && lives v) ≡ false) [
       | true ↦ λ ties here.
           let same : q ≡ e.0 =
-          elim (maps-text_cases q e.0) as (λ _. q ≡ e.0) [ inl same ↦ same | inr other ↦ cc ] in
+          elim (text_cases q e.0) as (λ _. q ≡ e.0) [ inl same ↦ same | inr other ↦ cc ] in
           let value : e.1 ≡ v = ap (λ o. unwrap_or o e.1) here in
           (λ i. left (same i) && lives (sym value i)) ∙ parts.0
-      | false ↦ λ apart there. round_problems-kept_false left lives es q v parts.1 there
+      | false ↦ λ apart there. kept_false left lives es q v parts.1 there
     ] refl h
 
 -- nobody who has withdrawn lives in a room that is not kept back
-pub round_problems-not_kept_back : (office : Office) (room q : Text) (v : Person)
+pub not_kept_back : (office : Office) (room q : Text) (v : Person)
     → is_kept_back office room ≡ false → map.get office.people q ≡ Some v
     → has_withdrawn office q ≡ true → v.home ≡ Some room → ⊥
-round_problems-not_kept_back office room q v free known left lives =
+not_kept_back office room q v free known left lives =
     let at : (has_withdrawn office q && lives_in room v) ≡ false =
-    round_problems-kept_false (has_withdrawn office) (lives_in room) (map.entries office.people) q v free
+    kept_false (has_withdrawn office) (lives_in room) (map.entries office.people) q v free
     (sym (get-entries office.people q) ∙ known) in
     let there : (has_withdrawn office q && lives_in room v) ≡ true =
-    ap (λ b. b && lives_in room v) left ∙ ap (λ o. is_text o room) lives ∙ offices-text_eq-same room in
+    ap (λ b. b && lives_in room v) left ∙ ap (λ o. is_text o room) lives ∙ text_eq-same room in
     cc
 
 -- the home of a participant is not kept back
-round_problems-home_free : (office : Office) (person room : Text) → IsRegister office.rooms office.people
+home_free : (office : Office) (person room : Text) → IsValidRegister office.rooms office.people
     → has_withdrawn office person ≡ false → home_of office person ≡ Some room
     → is_kept_back office room ≡ false
-round_problems-home_free office person room l stays lives =
+home_free office person room l stays lives =
     list_any_none (λ e. has_withdrawn office e.0 && lives_in room e.1) (map.entries office.people)
-    (round_problems-found_each (λ q v. (has_withdrawn office q && lives_in room v) ≡ false)
+    (found_each (λ q v. (has_withdrawn office q && lives_in room v) ≡ false)
     (map.entries office.people) (entries_sorted office.people) (λ q v h.
     elim (has_withdrawn office q) as
     (λ b. has_withdrawn office q ≡ b → (b && lives_in room v) ≡ false) [
@@ -151,7 +151,7 @@ round_problems-home_free office person room l stays lives =
             let known : map.get office.people q ≡ Some v = get-entries office.people q ∙ h in
             let same : q ≡ person =
             l.homes q person room (ap (option_and_then (λ p. p.home)) known
-            ∙ offices-held-is_text v.home room there) lives in
+            ∙ held-is_text v.home room there) lives in
             let left_too : has_withdrawn office person ≡ true = ap (has_withdrawn office) (sym same)
             ∙ left in
             cc
@@ -160,19 +160,19 @@ round_problems-home_free office person room l stays lives =
       | false ↦ λ _. refl
     ] refl))
 
-round_problems-both_true : (a b : Bool) → (a && not b) ≡ true → (a ≡ true) × (b ≡ false)
-round_problems-both_true true true h = cc
-round_problems-both_true true false h = (refl, refl)
-round_problems-both_true false b h = cc
+both_true : (a b : Bool) → (a && not b) ≡ true → (a ≡ true) × (b ≡ false)
+both_true true true h = cc
+both_true true false h = (refl, refl)
+both_true false b h = cc
 
 -- the home of a participant is a room of the round
-pub round_problems-home_numbered : (office : Office) (person room : Text) → IsRegister office.rooms office.people
+pub home_numbered : (office : Office) (person room : Text) → IsValidRegister office.rooms office.people
     → is_participant office person ≡ true → home_of office person ≡ Some room
     → is_some (number_in (round_rooms office) room) ≡ true
 unfolding round_rooms
-round_problems-home_numbered office person room l part lives =
-    let free = round_problems-home_free office person room l (or_parts _ _ (round_problems-both_true _ _ part).1).0 lives in
-    round_problems-is_some-number_in (round_rooms office) room
+home_numbered office person room l part lives =
+    let free = home_free office person room l (or_parts _ _ (both_true _ _ part).1).0 lives in
+    is_some-number_in (round_rooms office) room
     ∙ round_problems-found_passes (λ e. not e.1 && not (is_kept_back office e.0))
     (map.entries office.rooms) room false
     (sym (get-entries office.rooms room) ∙ l.homes_open person room lives)
@@ -200,7 +200,7 @@ module _ (office : Office) (ok : IsMarket (round_market office)) where
   pub round_problems-given : (person room : Text) → is_participant office person ≡ true
       → result_of office person ≡ Some room → IsGiven office person room
   round_problems-given person room part result_is =
-      let numbered = round_problems-number_of_participant office person part in
+      let numbered = number_of_participant office person part in
       elim (gets (round_market office) numbered.0) as
       (λ o. gets (round_market office) numbered.0 ≡ o → round_room office o ≡ Some room
       → IsGiven office person room) [
@@ -223,7 +223,7 @@ module _ (office : Office) (ok : IsMarket (round_market office)) where
   round_problems-given_numbered person room part result_is =
       let g = round_problems-given person room part result_is in
       ap is_some (ap (number_in (round_rooms office)) (sym g.is_room)
-      ∙ round_problems-number_in-at (round_rooms office) g.room_number [] (round_problems-rooms_differ office) g.is_below)
+      ∙ number_in-at (round_rooms office) g.room_number [] (rooms_differ office) g.is_below)
 
   -- the room is open, and nobody who has withdrawn lives there
   pub round_problems-given_open : (person room : Text) → is_participant office person ≡ true
@@ -234,7 +234,7 @@ module _ (office : Office) (ok : IsMarket (round_market office)) where
       let P : Text → Type 0 =
       λ r. (map.get office.rooms r ≡ Some false) × (is_kept_back office r ≡ false) in
       subst P g.is_room (All-get_or P (round_rooms office) g.room_number [] g.is_below
-      (round_problems-rooms_open office))
+      (rooms_open office))
 
   -- nobody else gets it
   pub round_problems-given_once : (p q room : Text) → is_participant office p ≡ true
@@ -245,17 +245,17 @@ module _ (office : Office) (ok : IsMarket (round_market office)) where
       let b = round_problems-given q room part_q is_q in
       let same_room : a.room_number ≡ b.room_number =
       ap (λ o. unwrap_or o 0)
-      (sym (round_problems-number_in-at (round_rooms office) a.room_number [] (round_problems-rooms_differ office) a.is_below)
+      (sym (number_in-at (round_rooms office) a.room_number [] (rooms_differ office) a.is_below)
       ∙ ap (number_in (round_rooms office)) (a.is_room ∙ sym b.is_room)
-      ∙ round_problems-number_in-at (round_rooms office) b.room_number [] (round_problems-rooms_differ office) b.is_below) in
+      ∙ number_in-at (round_rooms office) b.room_number [] (rooms_differ office) b.is_below) in
       let same_person : a.person_number ≡ b.person_number =
       (welfare-gets_assignment (round_market office) ok).differ a.person_number b.person_number
       a.room_number (round_outcomes-within office ok p a.person_number a.is_person)
       (round_outcomes-within office ok q b.person_number b.is_person)
       a.is_got (b.is_got ∙ ap (λ r. Some r) (sym same_room)) in
-      sym (round_problems-number_in-name (round_people office) p a.person_number [] a.is_person)
+      sym (number_in-name (round_people office) p a.person_number [] a.is_person)
       ∙ ap (λ n. get_or (round_people office) n []) same_person
-      ∙ round_problems-number_in-name (round_people office) q b.person_number [] b.is_person
+      ∙ number_in-name (round_people office) q b.person_number [] b.is_person
 
 module _ (m : Market) (ok : IsMarket m) (p h : ℕ) (below : p < m.people)
     (lives : home m p ≡ Some h) where
@@ -272,21 +272,21 @@ module _ (m : Market) (ok : IsMarket m) (p h : ℕ) (below : p < m.people)
       omega (arith, least, got, floor)
 
 -- a tenant who takes part gets some room
-pub round_problems-tenant_gets : (office : Office) → IsMarket (round_market office) → (person room : Text)
-    → IsRegister office.rooms office.people → is_participant office person ≡ true
+pub tenant_gets : (office : Office) → IsMarket (round_market office) → (person room : Text)
+    → IsValidRegister office.rooms office.people → is_participant office person ≡ true
     → home_of office person ≡ Some room
     → result_of office person ≡ None → ⊥
-round_problems-tenant_gets office ok person room l part lives none =
-    let numbered = round_problems-number_of_participant office person part in
+tenant_gets office ok person room l part lives none =
+    let numbered = number_of_participant office person part in
     let n : ℕ = numbered.0 in
     let below : n < (round_market office).people =
     subst (λ k. n < k) (sym (round_problems-market_people office))
-    (round_problems-number_in-below (round_people office) person n numbered.1) in
+    (number_in-below (round_people office) person n numbered.1) in
     let there : is_some (number_in (round_rooms office) room) ≡ true =
-    round_problems-home_numbered office person room l part lives in
+    home_numbered office person room l part lives in
     let house : home (round_market office) n ≡ number_in (round_rooms office) room =
-    round_problems-market_home office n (round_problems-number_in-below (round_people office) person n numbered.1)
-    ∙ ap (round_home office) (round_problems-number_in-name (round_people office) person n [] numbered.1)
+    round_problems-market_home office n (number_in-below (round_people office) person n numbered.1)
+    ∙ ap (round_home office) (number_in-name (round_people office) person n [] numbered.1)
     ∙ ap (option_and_then (number_in (round_rooms office))) lives in
     let nothing : round_room office (gets (round_market office) n) ≡ None =
     sym (round_outcomes-result-numbered office ok person n numbered.1) ∙ none in

@@ -13,7 +13,7 @@ use Rattle.office_lists.specs.Records.{record_limit}
 use Rattle.office_state.specs.Empty.{is_empty}
 use Rattle.office_state.specs.Office.Limits.{byte_limit}
 use Rattle.office_state.specs.Office.{is_same_text}
-use Rattle.office_state.specs.declared.office.kept_list.KeptList.{KeptList}
+use Rattle.office_state.specs.declared.office.stored_import.StoredImport.{StoredImport}
 use Rattle.office_state.specs.declared.office.moves.Moved.{Moved}
 use Rattle.office_state.specs.declared.office.moves.RoundMoves.{RoundMoves}
 use Rattle.office_state.specs.declared.office.Assigned.{Assigned}
@@ -65,14 +65,14 @@ is_wave_0 Swap = false
 is_wave_0 (Nth number) = eqb number 0
 
 -- whether a move goes into a room, or has wave 0
-abbrev pub is_kept_move : Moved → Bool
-is_kept_move moved = is_some moved.to || is_wave_0 moved.wave
+abbrev pub is_recorded_move : Moved → Bool
+is_recorded_move moved = is_some moved.to || is_wave_0 moved.wave
 
 -- whether a round has a move, and each of its moves goes into a room or has wave 0
-abbrev pub is_kept_round : RoundMoves → Bool
-is_kept_round kept =
+abbrev pub is_recorded_round : RoundMoves → Bool
+is_recorded_round kept =
     not (eqb (map.len kept.by_person) 0)
-    && list_all (λ (e : Text × Moved). is_kept_move e.1) (map.entries kept.by_person)
+    && list_all (λ (e : Text × Moved). is_recorded_move e.1) (map.entries kept.by_person)
 
 -- whether this grade of this person may be recorded: the person is known, and the grade is not 0
 abbrev pub is_recorded_grade : TextMap Person → Text → ℕ → Bool
@@ -84,5 +84,5 @@ is_leaver people withdrawn person =
     map.contains_key people person && not (map.contains_key withdrawn person)
 
 -- whether an imported list is within the limits of bytes and records
-abbrev pub is_short : KeptList → Bool
+abbrev pub is_short : StoredImport → Bool
 is_short kept = nat_le (length kept.bytes) byte_limit && nat_le kept.count record_limit

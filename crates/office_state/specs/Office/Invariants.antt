@@ -13,7 +13,7 @@ use Rattle.office_state.specs.Office.Moves.{moves_of}
 use Rattle.office_state.specs.Office.{had_by, is_over}
 use Rattle.office_state.specs.Office.Phases.{is_idle, has_words, has_results}
 use Rattle.office_state.specs.Round.{round_results}
-use Rattle.office_state.specs.declared.office.kept_list.KeptList.{KeptList}
+use Rattle.office_state.specs.declared.office.stored_import.StoredImport.{StoredImport}
 use Rattle.office_state.specs.declared.office.moves.Moved.{Moved}
 use Rattle.office_state.specs.declared.office.moves.RoundMoves.{RoundMoves}
 use Rattle.office_state.specs.declared.office.Office.{Office}
@@ -36,7 +36,7 @@ HomesOpen rooms people = (p room : Text) → had_by (λ p. p.home) people p ≡ 
 
 -- rooms and people: keys differ, homes differ, each home is a known room that is not shut, and the numbers of
 -- both are within the limits
-pub record IsRegister (rooms : TextMap Bool) (people : TextMap Person) : Type 0 where
+pub record IsValidRegister (rooms : TextMap Bool) (people : TextMap Person) : Type 0 where
   pub keys : Unshared (λ p. Some p.key) people
   pub homes : Unshared (λ p. p.home) people
   pub homes_open : HomesOpen rooms people
@@ -45,7 +45,7 @@ pub record IsRegister (rooms : TextMap Bool) (people : TextMap Person) : Type 0 
 
 -- lists and withdrawals: people with a list or a withdrawal are known, and each list is of at most forty
 -- known rooms, none twice, and is not empty
-pub record AreLists (rooms : TextMap Bool) (people : TextMap Person) (choices : TextMap (List Text))
+pub record AreValidLists (rooms : TextMap Bool) (people : TextMap Person) (choices : TextMap (List Text))
     (withdrawn : TextMap (Unit {0})) : Type 0 where
   pub choosers : (p : Text) → map.contains_key choices p ≡ true → map.contains_key people p ≡ true
   pub listed : (p : Text) (codes : List Text) → map.get choices p ≡ Some codes
@@ -57,7 +57,7 @@ pub record AreLists (rooms : TextMap Bool) (people : TextMap Person) (choices : 
 
 -- the round: its number is within the limit, and at least 1 while a round is under way; between rounds there
 -- are no lists and no withdrawals
-pub record IsRound (number : ℕ) (phase : Phase) (choices : TextMap (List Text))
+pub record IsValidRound (number : ℕ) (phase : Phase) (choices : TextMap (List Text))
     (withdrawn : TextMap (Unit {0})) : Type 0 where
   pub few_rounds : number ≤ round_limit
   pub numbered : is_idle phase ≡ false → 1 ≤ number
@@ -65,19 +65,19 @@ pub record IsRound (number : ℕ) (phase : Phase) (choices : TextMap (List Text)
   pub idle_withdrawn : is_idle phase ≡ true → withdrawn ≡ map.empty
 
 -- grades: people with a grade are known, and grade 0 is not recorded
-pub record AreGrades (people : TextMap Person) (grades : TextMap ℕ) : Type 0 where
+pub record AreValidGrades (people : TextMap Person) (grades : TextMap ℕ) : Type 0 where
   pub graded : (p : Text) → map.contains_key grades p ≡ true → map.contains_key people p ≡ true
   pub none_zero : (p : Text) → map.get grades p ≡ Some 0 → ⊥
 
 -- those who leave the college: they are known and have not withdrawn, and there are none between rounds
-pub record AreLeavers (phase : Phase) (people : TextMap Person) (withdrawn : TextMap (Unit {0}))
+pub record AreValidLeavers (phase : Phase) (people : TextMap Person) (withdrawn : TextMap (Unit {0}))
     (going : TextMap (Unit {0})) : Type 0 where
   pub leavers : (p : Text) → map.contains_key going p ≡ true → map.contains_key people p ≡ true
   pub apart : (p : Text) → map.contains_key going p ≡ true → map.contains_key withdrawn p ≡ false
   pub idle_going : is_idle phase ≡ true → going ≡ map.empty
 
 -- words: from the draw on, one for each participant, and before it none
-pub record AreWords (phase : Phase) (people : TextMap Person) (withdrawn : TextMap (Unit {0}))
+pub record AreValidWords (phase : Phase) (people : TextMap Person) (withdrawn : TextMap (Unit {0}))
     (going : TextMap (Unit {0})) (words : TextMap ℕ) : Type 0 where
   pub none : has_words phase ≡ false → words ≡ map.empty
   pub each : has_words phase ≡ true → (p : Text)
@@ -85,13 +85,13 @@ pub record AreWords (phase : Phase) (people : TextMap Person) (withdrawn : TextM
       ≡ (map.contains_key people p && not (map.contains_key withdrawn p || map.contains_key going p))
 
 -- results: none before the run, and from the run on those of top trading cycles for the round's problem
-pub record AreResults (office : Office) : Type 0 where
+pub record AreValidResults (office : Office) : Type 0 where
   pub none : has_results office.phase ≡ false → office.results ≡ map.empty
   pub given : has_results office.phase ≡ true → office.results ≡ round_results office
 
 -- moves: their rounds are over, and a move without a new room has wave 0. A round without moves is not
 -- recorded.
-pub record AreMoves (office : Office) : Type 0 where
+pub record AreValidMoves (office : Office) : Type 0 where
   pub over : (round : ℕ) → map.contains_key office.moves round ≡ true → is_over office round ≡ true
   pub none_empty : (round : ℕ) (kept : RoundMoves) → map.get office.moves round ≡ Some kept
       → kept.by_person ≡ map.empty → ⊥
@@ -100,21 +100,21 @@ pub record AreMoves (office : Office) : Type 0 where
       → moved.to ≡ None → moved.wave ≡ Nth 0
 
 -- imported lists: the number of them, and the bytes and records of each, are within the limits
-pub record AreKept (lists : TextMap KeptList) : Type 0 where
+pub record AreValidImports (lists : TextMap StoredImport) : Type 0 where
   pub few : map.len lists ≤ label_limit
-  pub short : (label : Text) (kept : KeptList) → map.get lists label ≡ Some kept
+  pub short : (label : Text) (kept : StoredImport) → map.get lists label ≡ Some kept
       → length kept.bytes ≤ byte_limit
-  pub counted : (label : Text) (kept : KeptList) → map.get lists label ≡ Some kept
+  pub counted : (label : Text) (kept : StoredImport) → map.get lists label ≡ Some kept
       → kept.count ≤ record_limit
 
 -- all invariants: what holds of an office before and after each command
 pub record IsLawful (office : Office) : Type 0 where
-  pub register : IsRegister office.rooms office.people
-  pub lists : AreLists office.rooms office.people office.choices office.withdrawn
-  pub round : IsRound office.number office.phase office.choices office.withdrawn
-  pub grades : AreGrades office.people office.grades
-  pub leavers : AreLeavers office.phase office.people office.withdrawn office.going
-  pub words : AreWords office.phase office.people office.withdrawn office.going office.words
-  pub results : AreResults office
-  pub moves : AreMoves office
-  pub kept : AreKept office.lists
+  pub register : IsValidRegister office.rooms office.people
+  pub lists : AreValidLists office.rooms office.people office.choices office.withdrawn
+  pub round : IsValidRound office.number office.phase office.choices office.withdrawn
+  pub grades : AreValidGrades office.people office.grades
+  pub leavers : AreValidLeavers office.phase office.people office.withdrawn office.going
+  pub words : AreValidWords office.phase office.people office.withdrawn office.going office.words
+  pub results : AreValidResults office
+  pub moves : AreValidMoves office
+  pub kept : AreValidImports office.lists

@@ -25,9 +25,9 @@ is_drawn Drawn = true
 is_drawn _ = false
 
 -- the rooms are traded, and the results are not published yet
-abbrev pub is_ran : Phase → Bool
-is_ran Ran = true
-is_ran _ = false
+abbrev pub has_run : Phase → Bool
+has_run Ran = true
+has_run _ = false
 
 -- each participant may see the result
 abbrev pub is_published : Phase → Bool

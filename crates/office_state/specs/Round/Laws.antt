@@ -2,7 +2,7 @@
 use Rattle.std.specs.Prelude.{◌≡◌, ◌≤◌, Bool, true, List, length, Option, Some, is_some, map as map_list}
 use Rattle.std.specs.Option.{option_and_then}
 use Rattle.std.specs.FinMap as map
-use Rattle.draw_order.specs.Draw.{PlainLot, plain_order}
+use Rattle.draw_order.specs.Draw.{PlainTicket, plain_order}
 use Rattle.room_types.specs.Texts.{Text, TextMap}
 use Rattle.trade_line.specs.Market.{Market}
 use Rattle.trade_line.specs.TopTradingCycles.{gets}
@@ -80,14 +80,14 @@ pub record HaveSameEntries (one other : Office) : Type 0 where
   pub going : one.going ≡ other.going
 
 -- the participants, by identifier, with their words alone
-abbrev pub plain_lots_of : Office → List PlainLot
-plain_lots_of office =
+abbrev pub plain_tickets_of : Office → List PlainTicket
+plain_tickets_of office =
     map_list (λ person. (person, word_of office person)) (participants office)
 
 -- the participants in the order of their words, and by identifier where words are equal, as if there were no
 -- grades
 abbrev pub people_by_word : Office → List Text
-people_by_word office = plain_order (plain_lots_of office)
+people_by_word office = plain_order (plain_tickets_of office)
 
 -- the round's problem with the people in this order, with their homes and lists as they count in the round
 abbrev pub market_in : Office → List Text → Market

@@ -22,8 +22,8 @@ AreChoices lists =
     (person : Text) (codes : List Text) → map.get lists person ≡ Some codes → IsChoices codes
 
 -- no list gets a participant a room that the recorded list ranks above what they get
-abbrev pub IsOwnListBest : Office → (Text → Option Text) → Type 0
-IsOwnListBest office gets =
+abbrev pub IsStrategyproofFor : Office → (Text → Option Text) → Type 0
+IsStrategyproofFor office gets =
     (person : Text) (codes : List Text) → is_participant office person ≡ true → IsChoices codes
     → round_rank office person (gets person)
     ≤ round_rank office person (result_by office person codes)
@@ -45,16 +45,16 @@ NoneLosesBy office gets group lists =
 
 -- if a group of participants hands in other lists and none in it loses, every participant, in the group or
 -- not, gets the same
-abbrev pub NoGroupGains : Office → (Text → Option Text) → Type 0
-NoGroupGains office gets =
+abbrev pub IsGroupStrategyproofFor : Office → (Text → Option Text) → Type 0
+IsGroupStrategyproofFor office gets =
     (group : Text → Bool) (lists : TextMap (List Text)) → AreChoices lists
     → OthersKeepList office group lists → NoneLosesBy office gets group lists
     → (person : Text) → is_participant office person ≡ true
     → result_of (with_choices office lists) person ≡ gets person
 
 -- if a participant gets the same with another list, then so does every other participant
-abbrev pub NobodyIsBossy : Office → (Text → Option Text) → Type 0
-NobodyIsBossy office gets =
+abbrev pub IsNonbossyFor : Office → (Text → Option Text) → Type 0
+IsNonbossyFor office gets =
     (person : Text) (codes : List Text) → is_participant office person ≡ true → IsChoices codes
     → result_by office person codes ≡ gets person
     → (other : Text) → is_participant office other ≡ true

@@ -7,7 +7,7 @@ use Rattle.std.specs.FinMap as map
 use Rattle.room_types.specs.Texts.{Text, TextMap}
 use Rattle.room_types.specs.declared.moves.Move.{Move}
 use Rattle.room_types.specs.declared.moves.Wave.{Wave}
-use Rattle.office_lists.specs.Waves.{Mover, waves_of}
+use Rattle.office_lists.specs.Waves.{Relocation, waves_of}
 use Rattle.office_state.specs.Office.Moves.{RoundMap, with_move}
 use Rattle.office_state.specs.Office.{is_same_text, home_of, knows_person, has_withdrawn, is_going}
 use Rattle.office_state.specs.Office.{people_not_withdrawn, recorded_result}
@@ -25,32 +25,32 @@ abbrev pub has_room : Office → Text → Bool
 has_room office person = is_some (home_of office person) || is_some (recorded_result office person)
 
 -- whether the settlement changes the home, to the recorded result
-abbrev pub moves_out : Office → Text → Bool
-moves_out office person = not (is_same_text (home_of office person) (recorded_result office person))
+abbrev pub changes_home : Office → Text → Bool
+changes_home office person = not (is_same_text (home_of office person) (recorded_result office person))
 
 -- the people whose home the settlement changes, by identifier, each with the old and the new room; a person
 -- who leaves the college has no new room
-abbrev pub movers : Office → List Mover
-movers office =
+abbrev pub relocations : Office → List Relocation
+relocations office =
     map_list (λ person. (person, home_of office person, recorded_result office person))
-    (filter (moves_out office) (people_not_withdrawn office))
+    (filter (changes_home office) (people_not_withdrawn office))
 
 -- only those who leave the college lose a room without getting another
 abbrev pub OnlyLeaversMoveOut : Office → Type 0
 OnlyLeaversMoveOut office =
-    All (λ (mover : Mover). mover.2 ≡ None → is_going office mover.0 ≡ true) (movers office)
+    All (λ (relocation : Relocation). relocation.2 ≡ None → is_going office relocation.0 ≡ true) (relocations office)
 
 -- the moves that are recorded, each with its wave
-abbrev pub moves_with : ℕ → List Mover → List Wave → List Move
-moves_with round (mover ∷ others) (wave ∷ waves) =
-    record { round = round; person = mover.0; from = mover.1; to = mover.2; wave = wave }
+abbrev pub moves_with : ℕ → List Relocation → List Wave → List Move
+moves_with round (relocation ∷ others) (wave ∷ waves) =
+    record { round = round; person = relocation.0; from = relocation.1; to = relocation.2; wave = wave }
     ∷ moves_with round others waves
 moves_with round [] waves = []
-moves_with round (mover ∷ others) [] = []
+moves_with round (relocation ∷ others) [] = []
 
 -- the moves of the round
 abbrev pub settled_moves : Office → List Move
-settled_moves office = moves_with office.number (movers office) (waves_of (movers office))
+settled_moves office = moves_with office.number (relocations office) (waves_of (relocations office))
 
 -- the map of moves with these moves recorded, one after the other
 abbrev pub with_moves : RoundMap RoundMoves → List Move → RoundMap RoundMoves

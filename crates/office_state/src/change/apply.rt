@@ -1,13 +1,13 @@
 //! Applies changes to an office.
 ghost use Rattle.std.specs.Prelude.{◌≡◌, ◌≢◌, OnOk, OnErr, true, false};
-ghost use Rattle.office_state.specs.Change.{applied, change_takes_memory};
+ghost use Rattle.office_state.specs.Change.{applied, change_allocates};
 ghost use Rattle.office_state.specs.Change.{with_grade, with_home, with_list, without_round};
 ghost use Rattle.office_state.specs.Empty.{is_empty};
 ghost use Rattle.office_state.specs.Office.{knows_person};
 
 use crate::change::Change;
-use crate::office::kept_list::KeptList;
 use crate::office::person::Person;
+use crate::office::stored_import::StoredImport;
 use crate::office::{Assigned, Office};
 use room_types::rows::copy_optional;
 use room_types::{
@@ -23,7 +23,7 @@ use room_types::{
 pub fn apply(office: &mut Office, change: &Change) -> Result<(), OutOfMemory>
     ensures ok { OnOk result (office.new ≡ applied office.old change.now) }
     ensures err { OnErr result (office.new ≡ office.old) }
-    ensures memory { OnErr result (change_takes_memory office.old change.now ≡ true) }
+    ensures memory { OnErr result (change_allocates office.old change.now ≡ true) }
 {
     match change {
         Change::PutRoom { room, shut } => office.rooms.insert(room.copy()?, *shut),
@@ -159,7 +159,7 @@ fn keep_list(
         (office.new ≡ applied office.old (Change.KeepList label.now kind bytes.now count)) }
     ensures err { OnErr result (office.new ≡ office.old) }
 {
-    let kept = KeptList {
+    let kept = StoredImport {
         kind,
         bytes: bytes.copy()?,
         count,

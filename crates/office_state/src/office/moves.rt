@@ -7,7 +7,7 @@ ghost use Rattle.office_state.specs.Office.Moves.{with_move};
 
 use room_types::grammars::PersonIds;
 use room_types::rows::copy_optional;
-use room_types::{Copied, Move, OutOfMemory, PersonId, RoomCode, Table, Wave};
+use room_types::{ExactClone, Move, OutOfMemory, PersonId, RoomCode, Table, Wave};
 use std::alloc::{AllocError, Global};
 use std::collections::BTreeMap;
 use std::collections::btree_map::Iter;
@@ -38,7 +38,7 @@ impl Clone for Moved {
     }
 }
 
-impl Copied for Moved {
+impl ExactClone for Moved {
     ghost same = { λ x y h. h };
 }
 
@@ -62,7 +62,7 @@ impl Clone for RoundMoves {
     }
 }
 
-impl Copied for RoundMoves {
+impl ExactClone for RoundMoves {
     ghost same = { λ x y h. h };
 }
 
@@ -119,7 +119,7 @@ impl<V> Rounds<V> {
     }
 }
 
-impl<V: Copied> Rounds<V> {
+impl<V: ExactClone> Rounds<V> {
     /// Copies the map. The empty map is copied without an allocation.
     pub(crate) fn copy(&self) -> Result<Self, OutOfMemory>
         ensures copy { IfOk result (λ copy. copy ≡ self.now) }

@@ -2,7 +2,7 @@
 ghost use Rattle.std.specs.Prelude.{◌≡◌, IfOk};
 
 use room_types::rows::copy_optional;
-use room_types::{Copied, Key, Name, OutOfMemory, RoomCode};
+use room_types::{ExactClone, Key, Name, OutOfMemory, RoomCode};
 use std::alloc::AllocError;
 
 /// What the office stores about a person, apart from the identifier.
@@ -40,6 +40,6 @@ impl Clone for Person {
     }
 }
 
-impl Copied for Person {
+impl ExactClone for Person {
     ghost same = { λ x y h. h };
 }

@@ -1,7 +1,7 @@
 //! Tests on phases.
 ghost use Rattle.std.specs.Prelude.{◌≡◌};
 ghost use Rattle.office_state.specs.Office.Phases.{is_idle, is_open, is_closed, is_published, is_preparing, may_cancel};
-ghost use Rattle.office_state.specs.Office.Phases.{has_words, is_drawn, is_ran, has_results};
+ghost use Rattle.office_state.specs.Office.Phases.{has_words, is_drawn, has_run, has_results};
 
 use room_types::Phase;
 
@@ -34,8 +34,8 @@ pub fn is_drawn(phase: Phase) -> bool
 }
 
 /// Returns whether the rooms are traded and the results are not published yet.
-pub fn is_ran(phase: Phase) -> bool
-    ensures { result ≡ is_ran phase }
+pub fn has_run(phase: Phase) -> bool
+    ensures { result ≡ has_run phase }
 {
     matches!(phase, Phase::Ran)
 }
@@ -62,7 +62,7 @@ pub fn is_preparing(phase: Phase) -> bool
 }
 
 /// Returns whether there is a round that can be cancelled.
-pub fn round_phase_may_cancel(phase: Phase) -> bool
+pub fn may_cancel(phase: Phase) -> bool
     ensures { result ≡ may_cancel phase }
 {
     matches!(
@@ -72,7 +72,7 @@ pub fn round_phase_may_cancel(phase: Phase) -> bool
 }
 
 /// Returns whether the words are drawn.
-pub fn round_phase_has_words(phase: Phase) -> bool
+pub fn has_words(phase: Phase) -> bool
     ensures { result ≡ has_words phase }
 {
     matches!(phase, Phase::Drawn | Phase::Ran | Phase::Published)

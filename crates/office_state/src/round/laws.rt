@@ -12,19 +12,19 @@ ghost use Rattle.office_state.specs.Round.{is_participant, result_by, result_of,
 ghost use Rattle.office_state.specs.Round.Laws.{GoesByWordAlone, HaveSameEntries, HaveSameRound, IsWellTraded};
 ghost use Rattle.office_state.specs.Round.Settlement.{OnlyLeaversMoveOut};
 ghost use Rattle.office_state.specs.Puts.{with_all};
-ghost use Rattle.office_state.specs.Round.Lists.{IsOwnListBest, NoGroupGains, NobodyIsBossy, with_choices_of};
+ghost use Rattle.office_state.specs.Round.Lists.{IsStrategyproofFor, IsGroupStrategyproofFor, IsNonbossyFor, with_choices_of};
 
 /// In a lawful office the round's problem is well formed, and top trading cycles give an assignment of the round's rooms that
 /// is individually rational, is Pareto efficient and leaves no better trade apart: nobody ranks what they get below their
 /// home, no other assignment makes somebody better off and nobody worse, and no group of tenants can trade its own rooms so
 /// that one of them is better off and none worse.
-pub fn rounds_are_well_traded()
+pub fn well_traded_rounds()
     ensures well_formed { (office : Office) → IsLawful office → IsMarket (round_market office) }
     ensures traded { (office : Office) → IsLawful office → IsWellTraded office (result_of office) }
 {}
 
 /// The same for the recorded results, in each lawful office whose rooms are traded.
-pub fn recorded_results_are_well_traded()
+pub fn well_traded_results()
     ensures { (office : Office) → IsLawful office → has_results office.phase ≡ true
         → IsWellTraded office (recorded_result office) }
 {}
@@ -32,9 +32,9 @@ pub fn recorded_results_are_well_traded()
 /// Strategy-proofness: while all others keep their lists, no other list gets a participant a room that their recorded list
 /// ranks above the recorded result (Roth 1982; Abdulkadiroglu and Sönmez 1999). What another list gives is what the round
 /// would give if that list were recorded.
-pub fn own_list_is_best()
+pub fn strategyproof()
     ensures best { (office : Office) → IsLawful office → has_results office.phase ≡ true
-        → IsOwnListBest office (recorded_result office) }
+        → IsStrategyproofFor office (recorded_result office) }
     ensures by_another { (office : Office) → IsLawful office
         → (person : Text) (codes : List Text)
         → is_participant office person ≡ true → IsChoices codes
@@ -44,21 +44,21 @@ pub fn own_list_is_best()
 /// Group strategy-proofness: if a group of participants hands in other lists together while all others keep theirs, then
 /// somebody in the group gets what their recorded list ranks below the recorded result, or every participant, in the group or
 /// not, gets the same (Bird 1984; Pápai 2000).
-pub fn no_group_gains()
+pub fn group_strategyproof()
     ensures { (office : Office) → IsLawful office → has_results office.phase ≡ true
-        → NoGroupGains office (recorded_result office) }
+        → IsGroupStrategyproofFor office (recorded_result office) }
 {}
 
 /// Nonbossiness: if a participant gets the same with another list, then so does every other participant (Satterthwaite and
 /// Sonnenschein 1981; Pápai 2000).
-pub fn nobody_is_bossy()
+pub fn nonbossy()
     ensures { (office : Office) → IsLawful office → has_results office.phase ≡ true
-        → NobodyIsBossy office (recorded_result office) }
+        → IsNonbossyFor office (recorded_result office) }
 {}
 
 /// A round has a result for each participant, and for nobody else. The results are in order of identifier, and inserting them
 /// one by one into the empty map makes the same map.
-pub fn results_are_for_participants()
+pub fn participant_results()
     ensures each { (office : Office) (person : Text) →
         map.contains_key (round_results office) person ≡ is_participant office person }
     ensures by_identifier { (office : Office) → map.entries (round_results office)
@@ -70,13 +70,13 @@ pub fn results_are_for_participants()
 
 /// A round's people, rooms, problem and results depend only on the rooms, people, lists, withdrawals, words, grades and
 /// leavers of the office, and not on phase, number, recorded results, moves or imports.
-pub fn rounds_stand()
+pub fn same_round()
     ensures { (one other : Office) → HaveSameEntries one other → HaveSameRound one other }
 {}
 
 /// If nobody has a grade, the participants are ordered by their words alone, and by identifier where words are equal: people,
 /// problem and results are as if there were no grades.
-pub fn rounds_without_grades_go_by_word()
+pub fn order_without_grades()
     ensures { GoesByWordAlone }
 {}
 

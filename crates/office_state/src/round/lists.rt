@@ -8,7 +8,7 @@ ghost use Rattle.office_state.specs.Office.{home_of, choices_of};
 ghost use Rattle.office_state.specs.Round.{before_own};
 
 use crate::office::Office;
-use crate::office::look::is_room;
+use crate::office::queries::is_room;
 use room_types::grammars::RoomCodes;
 use room_types::{OutOfMemory, PersonId, RoomCode, Table};
 use std::alloc::Global;
@@ -84,12 +84,12 @@ pub(crate) fn lists(
 {
     let mut lists = Vec::with_capacity(alloc, people.len())?;
     for person in people {
-        lists.push(recorded_list(alloc, office, person, numbers)?)?;
+        lists.push(list_numbers(alloc, office, person, numbers)?)?;
     }
     Ok(lists)
 }
 
-fn recorded_list(
+fn list_numbers(
     alloc: Global,
     office: &Office,
     person: &PersonId,

@@ -5,8 +5,8 @@ ghost use Rattle.office_state.specs.Round.{is_participant, number_in, result_of,
 
 use crate::office::Office;
 use crate::round::lists::numbers_of;
-use crate::round::problem::{round_problem, round_problem_want_of_memory};
-use crate::round::results::round_room_named;
+use crate::round::problem::{out_of_memory, round_problem};
+use crate::round::results::room_named;
 use room_types::{Choices, OutOfMemory, PersonId, RoomCode};
 use std::alloc::Global;
 use trade_line::what_if::run_with_list;
@@ -31,7 +31,7 @@ pub fn result_by(
         ≤ round_rank office.now person.now room) }
 {
     let round = round_problem(alloc, office)?;
-    let Some(number) = number_of(&round.people, person) else {
+    let Some(number) = number_in(&round.people, person) else {
         unreachable!()
     };
     let list = numbers_of(
@@ -41,12 +41,12 @@ pub fn result_by(
         choices.as_slice(),
     )?;
     match run_with_list(alloc, &round.problem, number, list) {
-        Ok(room) => round_room_named(&round.rooms, room),
-        Err(fault) => Err(round_problem_want_of_memory(fault)),
+        Ok(room) => room_named(&round.rooms, room),
+        Err(fault) => Err(out_of_memory(fault)),
     }
 }
 
-fn number_of(people: &[PersonId], person: &PersonId) -> Option<usize>
+fn number_in(people: &[PersonId], person: &PersonId) -> Option<usize>
     ensures { result ≡ number_in people.now person.now }
 {
     people.iter().position(|other| other == person)

@@ -1,6 +1,6 @@
 //! The participants, in the drawn order.
 ghost use Rattle.std.specs.Prelude.{◌≡◌, ◌<◌, IfOk, OnErr, length};
-ghost use Rattle.office_state.specs.Round.{lots_of, round_people, word_of};
+ghost use Rattle.office_state.specs.Round.{tickets_of, round_people, word_of};
 
 use crate::office::Office;
 use draw_order::order;
@@ -13,32 +13,32 @@ use std::alloc::Global;
 /// # Errors
 ///
 /// `OutOfMemory` if an allocation fails.
-#[tactic(auto, using(crate::proofs::round_problems::People::round_problems_as_many_as_lots))]
+#[tactic(auto, using(crate::proofs::round_problems::People::as_many_as_tickets))]
 pub fn round_people(alloc: Global, office: &Office) -> Result<Vec<PersonId>, OutOfMemory>
     ensures people { IfOk result (λ people. people.items ≡ round_people office.now) }
     ensures memory { OnErr result (0 < length (round_people office.now)) }
 {
-    let lots = lots(alloc, office)?;
-    order(alloc, &lots)
+    let tickets = tickets(alloc, office)?;
+    order(alloc, &tickets)
 }
 
 // Returns the participants by identifier, with their grades and words.
-fn lots(alloc: Global, office: &Office) -> Result<Vec<(PersonId, Grade, Word)>, OutOfMemory>
-    ensures lots { IfOk result (λ lots. lots.items ≡ lots_of office.now) }
-    ensures memory { OnErr result (0 < length (lots_of office.now)) }
+fn tickets(alloc: Global, office: &Office) -> Result<Vec<(PersonId, Grade, Word)>, OutOfMemory>
+    ensures tickets { IfOk result (λ tickets. tickets.items ≡ tickets_of office.now) }
+    ensures memory { OnErr result (0 < length (tickets_of office.now)) }
 {
-    let mut lots = Vec::new(alloc);
+    let mut tickets = Vec::new(alloc);
     for (id, _) in office.people.iter() {
         if !office.sits_out(id) {
-            lots.push((id.copy()?, office.grade_of(id), round_word_of(office, id)))?;
+            tickets.push((id.copy()?, office.grade_of(id), word_of(office, id)))?;
         }
     }
-    Ok(lots)
+    Ok(tickets)
 }
 
 /// Returns the word that a person drew, or word 0 if none is recorded. From the draw on, each participant of a lawful office
 /// has one.
-pub fn round_word_of(office: &Office, person: &PersonId) -> Word
+pub fn word_of(office: &Office, person: &PersonId) -> Word
     ensures { result ≡ word_of office.now person.now }
 {
     office.words.get(person).copied().unwrap_or(Word::new(0))

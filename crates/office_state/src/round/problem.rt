@@ -51,12 +51,12 @@ pub(crate) fn round_problem(alloc: Global, office: &Office) -> Result<RoundProbl
             numbers,
             problem,
         }),
-        Err(fault) => Err(round_problem_want_of_memory(fault)),
+        Err(fault) => Err(out_of_memory(fault)),
     }
 }
 
 /// Converts the only fault that a well-formed problem, or a list that may be handed in, can have.
-pub(crate) fn round_problem_want_of_memory(fault: TradeFault) -> OutOfMemory
+pub(crate) fn out_of_memory(fault: TradeFault) -> OutOfMemory
     requires { fault ≡ TradeFault.OutOfMemory }
 {
     match fault {

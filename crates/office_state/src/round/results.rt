@@ -33,12 +33,12 @@ pub fn round_results(
     ensures results { IfOk result (λ results. results ≡ round_results office.now) }
 {
     let round = round_problem(alloc, office)?;
-    let outcome = round_outcome_of(alloc, &round.problem)?;
+    let outcome = outcome_of(alloc, &round.problem)?;
     results_by_person(alloc, &round.people, &round.rooms, &outcome)
 }
 
 // Runs the exchange for the problem.
-fn round_outcome_of(alloc: Global, problem: &Problem) -> Result<Outcome, OutOfMemory>
+fn outcome_of(alloc: Global, problem: &Problem) -> Result<Outcome, OutOfMemory>
     ensures { IfOk result (λ outcome. outcome.rooms ≡ ttc problem.now) }
 {
     let Ok(line) = LinkedLine::whole(alloc, problem.people()) else {
@@ -66,14 +66,14 @@ fn results_by_person(
 {
     let mut results = Table::new(alloc);
     for (number, person) in people.iter().enumerate() {
-        let room = round_room_named(rooms, outcome.room_of(number))?;
+        let room = room_named(rooms, outcome.room_of(number))?;
         results.insert(person.copy()?, Assigned { room })?;
     }
     Ok(results)
 }
 
 /// Returns the room of a number, if there is one.
-pub(crate) fn round_room_named(
+pub(crate) fn room_named(
     rooms: &[RoomCode],
     number: Option<usize>,
 ) -> Result<Option<RoomCode>, OutOfMemory>

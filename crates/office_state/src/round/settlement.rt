@@ -2,11 +2,11 @@
 ghost use Rattle.std.specs.Prelude.{◌≡◌, IfOk, OnErr, true};
 ghost use Rattle.std.specs.List.{list_any};
 ghost use Rattle.office_state.specs.Office.{people_not_withdrawn};
-ghost use Rattle.office_state.specs.Round.Settlement.{has_room, movers};
+ghost use Rattle.office_state.specs.Round.Settlement.{has_room, relocations};
 
 use crate::office::Office;
-use crate::office::look::{copy_found_in_office, is_same_room};
-use office_lists::Mover;
+use crate::office::queries::{copy_found, is_same_room};
+use office_lists::Relocation;
 use room_types::OutOfMemory;
 use std::alloc::Global;
 
@@ -18,20 +18,20 @@ use std::alloc::Global;
 /// # Errors
 ///
 /// `OutOfMemory` if an allocation fails.
-pub fn movers(alloc: Global, office: &Office) -> Result<Vec<Mover>, OutOfMemory>
-    ensures movers { IfOk result (λ found. found.items ≡ movers office.now) }
+pub fn relocations(alloc: Global, office: &Office) -> Result<Vec<Relocation>, OutOfMemory>
+    ensures relocations { IfOk result (λ found. found.items ≡ relocations office.now) }
     ensures memory { OnErr result
         (list_any (has_room office.now) (people_not_withdrawn office.now) ≡ true) }
 {
-    let mut movers = Vec::new(alloc);
+    let mut relocations = Vec::new(alloc);
     for (id, _) in office.people.iter() {
         if !office.has_withdrawn(id) {
-            let from = copy_found_in_office(office.home_of(id))?;
-            let to = copy_found_in_office(office.recorded_result(id))?;
+            let from = copy_found(office.home_of(id))?;
+            let to = copy_found(office.recorded_result(id))?;
             if !is_same_room(&from, &to) {
-                movers.push((id.copy()?, from, to))?;
+                relocations.push((id.copy()?, from, to))?;
             }
         }
     }
-    Ok(movers)
+    Ok(relocations)
 }

@@ -3,15 +3,15 @@ ghost use Rattle.std.specs.Prelude.{◌≡◌};
 ghost use Rattle.std.specs.Bool.{Decides};
 ghost use Rattle.std.specs.List.{list_all};
 ghost use Rattle.std.specs.FinMap as map;
-ghost use Rattle.office_state.specs.Office.Invariants.{AreGrades};
+ghost use Rattle.office_state.specs.Office.Invariants.{AreValidGrades};
 ghost use Rattle.office_state.specs.Inner.Soundness.{is_recorded_grade};
 
 use crate::office::Office;
 use room_types::{Grade, PersonId};
 
 /// Returns whether the invariants on grades hold.
-pub(crate) fn are_grades(office: &Office) -> bool
-    ensures { Decides result (AreGrades office.now.people office.now.grades) }
+pub(crate) fn are_valid_grades(office: &Office) -> bool
+    ensures { Decides result (AreValidGrades office.now.people office.now.grades) }
 {
     are_grades_recorded(office)
 }

@@ -3,7 +3,7 @@ ghost use Rattle.std.specs.Prelude.{◌≡◌};
 ghost use Rattle.std.specs.Bool.{Decides};
 ghost use Rattle.std.specs.List.{list_all};
 ghost use Rattle.std.specs.FinMap as map;
-ghost use Rattle.office_state.specs.Office.Invariants.{AreLeavers};
+ghost use Rattle.office_state.specs.Office.Invariants.{AreValidLeavers};
 ghost use Rattle.office_state.specs.Inner.Soundness.{is_leaver};
 
 use crate::office::Office;
@@ -11,18 +11,18 @@ use crate::office::phases::is_idle;
 use room_types::PersonId;
 
 /// Returns whether the invariants on those who leave the college hold.
-pub(crate) fn are_leavers(office: &Office) -> bool
-    ensures { Decides result (AreLeavers office.now.phase office.now.people office.now.withdrawn
+pub(crate) fn are_valid_leavers(office: &Office) -> bool
+    ensures { Decides result (AreValidLeavers office.now.phase office.now.people office.now.withdrawn
         office.now.going) }
 {
     if is_idle(office.phase) {
         return office.going.len() == 0;
     }
-    may_leavers_go(office)
+    are_leavers_eligible(office)
 }
 
 // Returns whether each person who leaves is known, and has not withdrawn.
-fn may_leavers_go(office: &Office) -> bool
+fn are_leavers_eligible(office: &Office) -> bool
     ensures { result ≡ list_all (λ e. is_leaver office.now.people office.now.withdrawn e.0)
         (map.entries office.now.going) }
 {

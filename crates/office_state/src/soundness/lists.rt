@@ -3,21 +3,21 @@ ghost use Rattle.std.specs.Prelude.{◌≡◌};
 ghost use Rattle.std.specs.Bool.{Decides};
 ghost use Rattle.std.specs.List.{list_all};
 ghost use Rattle.std.specs.FinMap as map;
-ghost use Rattle.office_state.specs.Office.Invariants.{AreLists};
+ghost use Rattle.office_state.specs.Office.Invariants.{AreValidLists};
 ghost use Rattle.office_state.specs.Inner.Soundness.{is_recorded_list};
 
 use crate::office::Office;
 use room_types::{Choices, RoomCode};
 
 /// Returns whether the invariants on lists and withdrawals hold.
-pub(crate) fn are_lists(office: &Office) -> bool
+pub(crate) fn are_valid_lists(office: &Office) -> bool
     ensures { Decides result
-        (AreLists office.now.rooms office.now.people office.now.choices office.now.withdrawn) }
+        (AreValidLists office.now.rooms office.now.people office.now.choices office.now.withdrawn) }
 {
     if !are_choosers_known(office) {
         return false;
     }
-    if !are_lists_kept(office) {
+    if !are_lists_recorded(office) {
         return false;
     }
     are_withdrawers_known(office)
@@ -35,7 +35,7 @@ fn are_choosers_known(office: &Office) -> bool
 }
 
 // Returns whether no list is empty, and each listed room is known.
-fn are_lists_kept(office: &Office) -> bool
+fn are_lists_recorded(office: &Office) -> bool
     ensures { result ≡
         list_all (λ e. is_recorded_list office.now.rooms e.1) (map.entries office.now.choices) }
 {
@@ -52,10 +52,10 @@ fn is_recorded_list(office: &Office, choices: &Choices) -> bool
     if codes.is_empty() {
         return false;
     }
-    are_sound_rooms_known(office, codes)
+    are_rooms_known(office, codes)
 }
 
-fn are_sound_rooms_known(office: &Office, codes: &[RoomCode]) -> bool
+fn are_rooms_known(office: &Office, codes: &[RoomCode]) -> bool
     ensures { result ≡ list_all (λ code. map.contains_key office.now.rooms code) codes.now }
 {
     codes.iter().all(|code| office.rooms.contains_key(code))

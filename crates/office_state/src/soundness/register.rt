@@ -3,9 +3,9 @@ ghost use Rattle.std.specs.Prelude.{◌≡◌, ◌<◌, IfOk, OnErr, Some, lengt
 ghost use Rattle.std.specs.Bool.{Decides};
 ghost use Rattle.std.specs.List.{list_all};
 ghost use Rattle.std.specs.FinMap as map;
-ghost use Rattle.office_state.specs.Office.Invariants.{IsRegister};
+ghost use Rattle.office_state.specs.Office.Invariants.{IsValidRegister};
 ghost use Rattle.office_state.specs.Inner.Soundness.{differ_from, is_home_open};
-ghost use Rattle.office_state.specs.Soundness.{AreNoted};
+ghost use Rattle.office_state.specs.Soundness.{ComparesKeys};
 
 use crate::office::Office;
 use crate::office::limits::{PEOPLE_LIMIT, ROOM_LIMIT};
@@ -15,10 +15,10 @@ use room_types::{OutOfMemory, Table};
 use std::alloc::Global;
 
 /// Returns whether the invariants on rooms and people hold, in n log n steps.
-pub(crate) fn is_register(alloc: Global, office: &Office) -> Result<bool, OutOfMemory>
+pub(crate) fn is_valid_register(alloc: Global, office: &Office) -> Result<bool, OutOfMemory>
     ensures lawful { IfOk result
-        (λ lawful. Decides lawful (IsRegister office.now.rooms office.now.people)) }
-    ensures memory { OnErr result (AreNoted office.now.rooms office.now.people) }
+        (λ lawful. Decides lawful (IsValidRegister office.now.rooms office.now.people)) }
+    ensures memory { OnErr result (ComparesKeys office.now.rooms office.now.people) }
 {
     if office.rooms.len() > ROOM_LIMIT {
         return Ok(false);
@@ -29,10 +29,10 @@ pub(crate) fn is_register(alloc: Global, office: &Office) -> Result<bool, OutOfM
     if !are_homes_open(office) {
         return Ok(false);
     }
-    if !do_keys_differ(alloc, office)? {
+    if !have_distinct_keys(alloc, office)? {
         return Ok(false);
     }
-    do_homes_differ(alloc, office)
+    have_distinct_homes(alloc, office)
 }
 
 // Returns whether each home is a known room that is not shut.
@@ -43,10 +43,10 @@ fn are_homes_open(office: &Office) -> bool
     office
         .people
         .iter()
-        .all(|(_, person)| is_sound_home_open(office, person))
+        .all(|(_, person)| is_home_open(office, person))
 }
 
-fn is_sound_home_open(office: &Office, person: &Person) -> bool
+fn is_home_open(office: &Office, person: &Person) -> bool
     ensures { result ≡ is_home_open office.now.rooms person.now }
 {
     match &person.home {
@@ -59,7 +59,7 @@ fn is_sound_home_open(office: &Office, person: &Person) -> bool
 }
 
 // Returns whether no two people have the same key, in one pass.
-fn do_keys_differ(alloc: Global, office: &Office) -> Result<bool, OutOfMemory>
+fn have_distinct_keys(alloc: Global, office: &Office) -> Result<bool, OutOfMemory>
     ensures differ { IfOk result (λ differ. differ ≡
         differ_from (λ p. Some p.key) map.empty (map.entries office.now.people)) }
     ensures memory { OnErr result (0 < length (map.entries office.now.people)) }
@@ -75,7 +75,7 @@ fn do_keys_differ(alloc: Global, office: &Office) -> Result<bool, OutOfMemory>
 }
 
 // Returns whether no two people have the same home, in one pass.
-fn do_homes_differ(alloc: Global, office: &Office) -> Result<bool, OutOfMemory>
+fn have_distinct_homes(alloc: Global, office: &Office) -> Result<bool, OutOfMemory>
     ensures differ { IfOk result (λ differ. differ ≡
         differ_from (λ p. p.home) map.empty (map.entries office.now.people)) }
     ensures memory { OnErr result (0 < length (map.entries office.now.people)) }

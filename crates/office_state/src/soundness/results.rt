@@ -3,12 +3,12 @@ ghost use Rattle.std.specs.Prelude.{◌≡◌, IfOk, OnErr, true};
 ghost use Rattle.std.specs.Bool.{Decides};
 ghost use Rattle.std.specs.List.{list_all};
 ghost use Rattle.std.specs.FinMap as map;
-ghost use Rattle.office_state.specs.Office.Invariants.{AreResults, HomesDiffer};
+ghost use Rattle.office_state.specs.Office.Invariants.{AreValidResults, HomesDiffer};
 ghost use Rattle.office_state.specs.Office.Phases.{has_results};
 ghost use Rattle.office_state.specs.Inner.Soundness.{is_given};
 
-use crate::office::look::is_same_room;
 use crate::office::phases::has_results;
+use crate::office::queries::is_same_room;
 use crate::office::{Assigned, Office};
 use crate::round::round_results;
 use room_types::grammars::PersonIds;
@@ -16,9 +16,9 @@ use room_types::{OutOfMemory, PersonId, Table};
 use std::alloc::Global;
 
 /// Returns whether the invariants on results hold. If the phase has results, the round is run again.
-pub(crate) fn are_results(alloc: Global, office: &Office) -> Result<bool, OutOfMemory>
+pub(crate) fn are_valid_results(alloc: Global, office: &Office) -> Result<bool, OutOfMemory>
     requires { HomesDiffer office.now }
-    ensures lawful { IfOk result (λ lawful. Decides lawful (AreResults office.now)) }
+    ensures lawful { IfOk result (λ lawful. Decides lawful (AreValidResults office.now)) }
     ensures memory { OnErr result (has_results office.now.phase ≡ true) }
 {
     if !has_results(office.phase) {
@@ -35,20 +35,18 @@ fn are_same(found: &Table<PersonIds, Assigned>, given: &Table<PersonIds, Assigne
     if !are_given(found, given) {
         return false;
     }
-    are_sound_results_found(found, given)
+    are_results_found(found, given)
 }
 
 fn are_given(found: &Table<PersonIds, Assigned>, given: &Table<PersonIds, Assigned>) -> bool
     ensures { result ≡ list_all (λ e. is_given given.now e.0 e.1) (map.entries found.now) }
 {
-    found.iter().all(|(person, assigned)| is_sound_result_given(given, person, assigned))
+    found
+        .iter()
+        .all(|(person, assigned)| is_given(given, person, assigned))
 }
 
-fn is_sound_result_given(
-    given: &Table<PersonIds, Assigned>,
-    person: &PersonId,
-    found: &Assigned,
-) -> bool
+fn is_given(given: &Table<PersonIds, Assigned>, person: &PersonId, found: &Assigned) -> bool
     ensures { result ≡ is_given given.now person.now found.now }
 {
     match given.get(person) {
@@ -57,10 +55,7 @@ fn is_sound_result_given(
     }
 }
 
-fn are_sound_results_found(
-    found: &Table<PersonIds, Assigned>,
-    given: &Table<PersonIds, Assigned>,
-) -> bool
+fn are_results_found(found: &Table<PersonIds, Assigned>, given: &Table<PersonIds, Assigned>) -> bool
     ensures { result ≡ list_all (λ e. map.contains_key found.now e.0) (map.entries given.now) }
 {
     given.iter().all(|(person, _)| found.contains_key(person))

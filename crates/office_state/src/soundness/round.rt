@@ -1,15 +1,15 @@
 //! The invariants on the round: its number, and that nothing is left over between rounds.
 ghost use Rattle.std.specs.Bool.{Decides};
-ghost use Rattle.office_state.specs.Office.Invariants.{IsRound};
+ghost use Rattle.office_state.specs.Office.Invariants.{IsValidRound};
 
 use crate::office::Office;
 use crate::office::limits::ROUND_LIMIT;
 use crate::office::phases::is_idle;
 
 /// Returns whether the invariants on the round hold.
-pub(crate) fn is_round(office: &Office) -> bool
+pub(crate) fn is_valid_round(office: &Office) -> bool
     ensures { Decides result
-        (IsRound office.now.number office.now.phase office.now.choices office.now.withdrawn) }
+        (IsValidRound office.now.number office.now.phase office.now.choices office.now.withdrawn) }
 {
     if office.number > ROUND_LIMIT {
         return false;

@@ -3,30 +3,30 @@ ghost use Rattle.std.specs.Prelude.{◌≡◌, ◌||◌};
 ghost use Rattle.std.specs.Bool.{Decides};
 ghost use Rattle.std.specs.List.{list_all};
 ghost use Rattle.std.specs.FinMap as map;
-ghost use Rattle.office_state.specs.Office.Invariants.{AreWords};
+ghost use Rattle.office_state.specs.Office.Invariants.{AreValidWords};
 ghost use Rattle.office_state.specs.Office.{sits_out};
 ghost use Rattle.office_state.specs.Round.{is_participant};
 
 use crate::office::Office;
-use crate::office::phases::round_phase_has_words;
+use crate::office::phases::has_words;
 
 /// Returns whether the invariants on words hold.
-pub(crate) fn are_words(office: &Office) -> bool
+pub(crate) fn are_valid_words(office: &Office) -> bool
     ensures { Decides result
-        (AreWords office.now.phase office.now.people office.now.withdrawn office.now.going
+        (AreValidWords office.now.phase office.now.people office.now.withdrawn office.now.going
         office.now.words) }
 {
-    if !round_phase_has_words(office.phase) {
+    if !has_words(office.phase) {
         return office.words.len() == 0;
     }
-    if !are_words_of_participants(office) {
+    if !only_participants_drew(office) {
         return false;
     }
-    have_participants_words(office)
+    all_participants_drew(office)
 }
 
 // Returns whether each word is that of a participant.
-fn are_words_of_participants(office: &Office) -> bool
+fn only_participants_drew(office: &Office) -> bool
     ensures { result ≡
         list_all (λ e. is_participant office.now e.0) (map.entries office.now.words) }
 {
@@ -37,7 +37,7 @@ fn are_words_of_participants(office: &Office) -> bool
 }
 
 // Returns whether each participant has a word.
-fn have_participants_words(office: &Office) -> bool
+fn all_participants_drew(office: &Office) -> bool
     ensures { result ≡
         list_all (λ e. sits_out office.now e.0 || map.contains_key office.now.words e.0)
         (map.entries office.now.people) }

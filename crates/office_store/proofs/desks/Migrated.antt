@@ -9,9 +9,9 @@ use Rattle.office_state.specs.Office.Invariants.{IsLawful}
 use Rattle.office_state.specs.declared.office.Office.{Office}
 use Rattle.office_cells.specs.Columns.{round_shown}
 use Rattle.office_cells.specs.Forms.{IsRoundRow}
-use Rattle.office_cells.specs.Spelled.{IsSpelled}
+use Rattle.office_cells.specs.WellFormed.{IsWellFormed}
 use Rattle.office_rows.specs.Tables.{own_version, rows_at, rows_of}
-use Rattle.office_tables.specs.Steps.{IsHonest}
+use Rattle.office_tables.specs.Steps.{IsIntact}
 use Rattle.office_tables.specs.Tables.{HoldsOffice}
 use Rattle.office_migrate.specs.Causes.{HasCause, IsAllowed, MayReturn}
 use Rattle.office_migrate.specs.declared.migrating.MigrateFault.{MigrateFault}
@@ -21,23 +21,23 @@ use Rattle.office_store.specs.Migrating.{IsFaultOfMigration, MayNotMigrate, MayR
 use Rattle.office_store.specs.declared.desk.faults.DeskFault.TheVariants.{AlreadyThere}
 
 -- A fault that a migration may return is one that the desk may return.
-pub desks-may_not_migrate : (db : Database) (fault : MigrateFault) → HasCause db fault → MayNotMigrate db (migrating_fault fault)
-desks-may_not_migrate db migrate.Unavailable cause = tt
-desks-may_not_migrate db (migrate.OtherVersion version) cause = cause
-desks-may_not_migrate db migrate.NotAnOffice cause = cause
-desks-may_not_migrate db migrate.AlreadyThere cause = cause
+pub may_not_migrate : (db : Database) (fault : MigrateFault) → HasCause db fault → MayNotMigrate db (migrating_fault fault)
+may_not_migrate db migrate.Unavailable cause = tt
+may_not_migrate db (migrate.OtherVersion version) cause = cause
+may_not_migrate db migrate.NotAnOffice cause = cause
+may_not_migrate db migrate.AlreadyThere cause = cause
 
-pub desks-may_return : (db : Database) (fault : MigrateFault) → MayReturn db fault → MayReturnFault db (migrating_fault fault)
-desks-may_return db migrate.Unavailable returned = tt
-desks-may_return db (migrate.OtherVersion version) returned = returned
-desks-may_return db migrate.NotAnOffice returned = returned
-desks-may_return db migrate.AlreadyThere returned = returned
+pub may_return : (db : Database) (fault : MigrateFault) → MayReturn db fault → MayReturnFault db (migrating_fault fault)
+may_return db migrate.Unavailable returned = tt
+may_return db (migrate.OtherVersion version) returned = returned
+may_return db migrate.NotAnOffice returned = returned
+may_return db migrate.AlreadyThere returned = returned
 
-pub desks-fault_of_migration : (schema : Schema) (fault : MigrateFault) → IsAllowed schema fault → IsFaultOfMigration schema (migrating_fault fault)
-desks-fault_of_migration schema migrate.Unavailable allowed = tt
-desks-fault_of_migration schema (migrate.OtherVersion version) allowed = allowed
-desks-fault_of_migration schema migrate.NotAnOffice allowed = allowed
-desks-fault_of_migration schema migrate.AlreadyThere allowed = allowed
+pub fault_of_migration : (schema : Schema) (fault : MigrateFault) → IsAllowed schema fault → IsFaultOfMigration schema (migrating_fault fault)
+fault_of_migration schema migrate.Unavailable allowed = tt
+fault_of_migration schema (migrate.OtherVersion version) allowed = allowed
+fault_of_migration schema migrate.NotAnOffice allowed = allowed
+fault_of_migration schema migrate.AlreadyThere allowed = allowed
 
 -- A desk returns `AlreadyThere` only if the migration does.
 pub desks-there : (fault : MigrateFault) → migrating_fault fault ≡ AlreadyThere → fault ≡ migrate.AlreadyThere
@@ -47,28 +47,28 @@ desks-there migrate.NotAnOffice e = absurd (cc)
 desks-there migrate.AlreadyThere e = refl
 
 -- The rows of any version are those of this one, except for the version in the row of table `round`.
-pub desks-spelled_as_own : (version : ℕ) (office : Office) → IsSpelled (rows_at version office) → IsSpelled (rows_of office)
+pub well_formed_as_own : (version : ℕ) (office : Office) → IsWellFormed (rows_at version office) → IsWellFormed (rows_of office)
 unfolding rows_at
-desks-spelled_as_own version office spelled =
-    let row = All-head IsRoundRow (round_shown (record { version = version; number = office.number; phase = office.phase })) [] spelled.rounds in record {
-      rooms = spelled.rooms;
-      people = spelled.people;
+well_formed_as_own version office well_formed =
+    let row = All-head IsRoundRow (round_shown (record { version = version; number = office.number; phase = office.phase })) [] well_formed.rounds in record {
+      rooms = well_formed.rooms;
+      people = well_formed.people;
       rounds = All-cons IsRoundRow (round_shown (record { version = own_version; number = office.number; phase = office.phase })) [] ((own_version, refl, omega arith), row.1, row.2) (All-nil IsRoundRow);
-      choices = spelled.choices;
-      words = spelled.words;
-      results = spelled.results;
-      moves = spelled.moves;
-      lists = spelled.lists;
-      grades = spelled.grades;
-      going = spelled.going;
+      choices = well_formed.choices;
+      words = well_formed.words;
+      results = well_formed.results;
+      moves = well_formed.moves;
+      lists = well_formed.lists;
+      grades = well_formed.grades;
+      going = well_formed.going;
     }
 
-pub desks-shows_migrated : {S : Type 0} (g : Ghosts S) (new : Held S) (version : ℕ) (office : Office) → IsHonest (state g new) → IsLawful office → IsSpelled (rows_at version office)
-    → HoldsOffice (state g new).now office → Shows g (record { conn = new; kept = Some office }) office
-desks-shows_migrated g new version office honest lawful spelled holds = record {
-  is_open = honest.1;
+pub shows_migrated : {S : Type 0} (g : Ghosts S) (new : Held S) (version : ℕ) (office : Office) → IsIntact (state g new) → IsLawful office → IsWellFormed (rows_at version office)
+    → HoldsOffice (state g new).now office → Shows g (record { conn = new; cached = Some office }) office
+shows_migrated g new version office intact lawful well_formed holds = record {
+  is_open = intact.1;
   tables = holds;
-  spelled = desks-spelled_as_own version office spelled;
+  well_formed = well_formed_as_own version office well_formed;
   lawful = lawful;
-  kept = refl;
+  cached = refl;
 }

@@ -4,15 +4,15 @@ ghost use Rattle.sqlite.specs.Held.{state};
 ghost use Rattle.sqlite.specs.State.{HasCleanDisk};
 ghost use Rattle.office_state.specs.declared.office.Office.{Office as AnyOffice};
 ghost use Rattle.office_tables.specs.Layouts.{version_of};
-ghost use Rattle.office_tables.specs.Steps.{Follows, IsHonest};
+ghost use Rattle.office_tables.specs.Steps.{Follows, IsIntact};
 ghost use Rattle.office_tables.specs.Tables.{HoldsOfficeIn};
 ghost use Rattle.office_tables.specs.declared.layouts.Layout.{Layout as AnyLayout};
 ghost use Rattle.office_load.specs.Finding.{AreDeclared, AreWhole, names_round};
 ghost use Rattle.office_load.specs.Layout.{layout_in};
-ghost use Rattle.office_migrate.specs.Causes.{AreSaidRows, HoldsEarlier, SaysVersion, StandsFirst};
-ghost use Rattle.office_load.specs.Front.{IsFront, has_front};
-ghost use Rattle.office_migrate.specs.Names.{is_lacking_name_used};
-ghost use Rattle.office_migrate.specs.Versions.{IsEarlierLayout, IsNoEarlier, IsOfVersion};
+ghost use Rattle.office_migrate.specs.Causes.{AreRowsAsStated, HoldsEarlier, StatesVersion, HoldsEarlierFirst};
+ghost use Rattle.office_load.specs.FirstTables.{BeginsOffice, begins_office};
+ghost use Rattle.office_migrate.specs.Names.{uses_missing_name};
+ghost use Rattle.office_migrate.specs.Versions.{IsEarlierLayout, IsNotEarlier, IsOfVersion};
 ghost use Rattle.office_store.specs.Desk.{Shows};
 ghost use Rattle.office_store.specs.Migrating.{IsFaultOfMigration, MayNotMigrate, MayReturnFault, migrating_fault};
 
@@ -40,7 +40,7 @@ impl<S: Alter> Desk<S> {
         requires { connection.in_transaction ≡ false }
         ensures follows { IfOk result
             (λ desk. Follows (state S.Store connection) (state S.Store desk.conn)) }
-        ensures kept { IfOk result (λ desk. IsSome desk.kept) }
+        ensures cached { IfOk result (λ desk. IsSome desk.cached) }
         ensures laid { OnOk result
             (IsEarlierLayout (layout_in (state S.Store connection).now.schema)) }
         ensures shows { IfOk result (λ desk. HasCleanDisk (state S.Store desk.conn)
@@ -53,7 +53,7 @@ impl<S: Alter> Desk<S> {
         ensures outside { IfErr result (λ back. back.connection.in_transaction ≡ false) }
         ensures followed { IfErr result
             (λ back. Follows (state S.Store connection) (state S.Store back.connection)) }
-        ensures undone { IfErr result (λ back. IsHonest (state S.Store back.connection)
+        ensures undone { IfErr result (λ back. IsIntact (state S.Store back.connection)
             → (state S.Store back.connection).now ≡ (state S.Store connection).now) }
         ensures allowed { IfErr result
             (λ back. IsFaultOfMigration (state S.Store connection).now.schema back.fault) }
@@ -61,9 +61,9 @@ impl<S: Alter> Desk<S> {
             → AreDeclared (state S.Store connection).now.schema
             → MayNotMigrate (state S.Store connection).now back.fault) }
         ensures returned { IfErr result (λ back. HasCleanDisk (state S.Store back.connection)
-            → IsFront (state S.Store connection).now.schema
+            → BeginsOffice (state S.Store connection).now.schema
             → MayReturnFault (state S.Store connection).now back.fault) }
-        ensures unread { has_front (state S.Store connection).now.schema ≡ false → MatchResult result
+        ensures unread { begins_office (state S.Store connection).now.schema ≡ false → MatchResult result
             (λ desk. desk.conn ≡ connection) (λ back. back.connection ≡ connection) }
         ensures absent { names_round (state S.Store connection).now.schema ≡ false → IsErrAnd result
             (λ back. (back.fault ≡ DeskFault.NotAnOffice) × (back.connection ≡ connection)) }
@@ -73,17 +73,17 @@ impl<S: Alter> Desk<S> {
             (λ back. HasCleanDisk (state S.Store back.connection)
             → back.fault ≡ DeskFault.Unavailable) }
         ensures taken { (layout : AnyLayout) → (office : AnyOffice)
-            → StandsFirst layout (state S.Store connection).now office
-            → IsTrue (is_lacking_name_used (version_of layout) (state S.Store connection).now.schema)
+            → HoldsEarlierFirst layout (state S.Store connection).now office
+            → IsTrue (uses_missing_name (version_of layout) (state S.Store connection).now.schema)
             → MatchResult result
             (λ desk. ¬ HasCleanDisk (state S.Store desk.conn))
             (λ back. HasCleanDisk (state S.Store back.connection)
             → (back.fault ≡ DeskFault.Unavailable) ⊎ (back.fault ≡ DeskFault.AlreadyThere)) }
         ensures rows { IfErr result (λ back. back.fault ≡ DeskFault.AlreadyThere
             → HasCleanDisk (state S.Store back.connection)
-            → AreSaidRows (state S.Store connection).now) }
-        ensures other { (version : ℤ) → SaysVersion (state S.Store connection).now version
-            → IsNoEarlier version → MatchResult result
+            → AreRowsAsStated (state S.Store connection).now) }
+        ensures other { (version : ℤ) → StatesVersion (state S.Store connection).now version
+            → IsNotEarlier version → MatchResult result
             (λ desk. ¬ HasCleanDisk (state S.Store desk.conn))
             (λ back. HasCleanDisk (state S.Store back.connection)
             → (back.fault ≡ DeskFault.Unavailable)
@@ -93,10 +93,10 @@ impl<S: Alter> Desk<S> {
         match migrate(alloc, &mut conn) {
             Ok(office) => Ok(Desk {
                 conn,
-                kept: Some(office),
+                cached: Some(office),
             }),
             Err(fault) => Err(Back {
-                fault: migrating_desk_fault(fault),
+                fault: migrating_fault(fault),
                 connection: conn,
             }),
         }
@@ -104,7 +104,7 @@ impl<S: Alter> Desk<S> {
 }
 
 // Returns the desk's fault for a failed migration.
-fn migrating_desk_fault(fault: MigrateFault) -> DeskFault
+fn migrating_fault(fault: MigrateFault) -> DeskFault
     ensures { result ≡ migrating_fault fault }
 {
     match fault {

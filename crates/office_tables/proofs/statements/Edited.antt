@@ -26,9 +26,9 @@ pub record IsNumbered (rows : List Row) : Type 0 where
   pub keyed : AllByRecursion (λ r. IsTrue (is_int (rowid r))) rows
 
 -- A row whose rowid is free is added.
-pub statements-put_free : (new : Row) (rows : List Row) → is_taken rows new ≡ false → IsPermutation (put_row new rows) (new ∷ rows)
-statements-put_free new [] free = IsPermutation-refl _
-statements-put_free new (r ∷ rows) free = go (value_cmp (rowid r) (rowid new)) refl (λ h. statements-put_free new rows h)
+pub put_free : (new : Row) (rows : List Row) → is_taken rows new ≡ false → IsPermutation (put_row new rows) (new ∷ rows)
+put_free new [] free = IsPermutation-refl _
+put_free new (r ∷ rows) free = go (value_cmp (rowid r) (rowid new)) refl (λ h. put_free new rows h)
   where
     go : (o : Ordering) → value_cmp (rowid r) (rowid new) ≡ o → (is_taken rows new ≡ false → IsPermutation (put_row new rows) (new ∷ rows)) → IsPermutation (match_ordering o (r ∷ put_row new rows) (new ∷ rows) (new ∷ r ∷ rows)) (new ∷ r ∷ rows)
     go Less e more =
@@ -37,60 +37,60 @@ statements-put_free new (r ∷ rows) free = go (value_cmp (rowid r) (rowid new))
     go Equal e more = absurd (true≢false (rw e at free))
     go Greater e more = IsPermutation-refl _
 
-pub statements-put_all_free : (news rows : List Row) → are_fresh rows news ≡ true → IsPermutation (put_all rows news) (news ++ rows)
-statements-put_all_free [] rows fresh = IsPermutation-refl _
-statements-put_all_free (n ∷ news) rows fresh =
+pub put_all_free : (news rows : List Row) → are_fresh rows news ≡ true → IsPermutation (put_all rows news) (news ++ rows)
+put_all_free [] rows fresh = IsPermutation-refl _
+put_all_free (n ∷ news) rows fresh =
     let both = and_parts (not (is_taken rows n)) (are_fresh (put_row n rows) news) fresh in
     let free : is_taken rows n ≡ false = not-true _ both.0 in
-    IsPermutation-trans _ _ _ (statements-put_all_free news (put_row n rows) both.1)
-    (IsPermutation-trans _ _ _ (IsPermutation-append_right news _ _ (statements-put_free n rows free)) (IsPermutation-middle news n rows))
+    IsPermutation-trans _ _ _ (put_all_free news (put_row n rows) both.1)
+    (IsPermutation-trans _ _ _ (IsPermutation-append_right news _ _ (put_free n rows free)) (IsPermutation-middle news n rows))
 
-pub statements-flips : (a b : Row) → same_rowid a b ≡ same_rowid b a
-statements-flips a b = ap is_eq (value_cmp_total.antisymm (rowid a) (rowid b)) ∙ turned (value_cmp (rowid b) (rowid a))
+pub flips : (a b : Row) → same_rowid a b ≡ same_rowid b a
+flips a b = ap is_eq (value_cmp_total.antisymm (rowid a) (rowid b)) ∙ turned (value_cmp (rowid b) (rowid a))
   where
     turned : (o : Ordering) → is_eq (ordering_reverse o) ≡ is_eq o
     turned Less = refl
     turned Equal = refl
     turned Greater = refl
 
-pub statements-apart_filter : (p : Row → Bool) (rows : List Row) → IsDistinct same_rowid rows → IsDistinct same_rowid (filter p rows)
-statements-apart_filter p [] up = up
-statements-apart_filter p (r ∷ rows) up = go (p r) (statements-apart_filter p rows (IsDistinct-tail same_rowid r rows up))
+pub apart_filter : (p : Row → Bool) (rows : List Row) → IsDistinct same_rowid rows → IsDistinct same_rowid (filter p rows)
+apart_filter p [] up = up
+apart_filter p (r ∷ rows) up = go (p r) (apart_filter p rows (IsDistinct-tail same_rowid r rows up))
   where
     go : (b : Bool) → IsDistinct same_rowid (filter p rows) → IsDistinct same_rowid (cond b (r ∷ filter p rows) (filter p rows))
     go true more = IsDistinct-cons same_rowid r (filter p rows) (all-filter _ p rows (IsDistinct-head same_rowid r rows up)) more
     go false more = more
 
-pub statements-put_all_apart : (news rows : List Row) → are_fresh rows news ≡ true → IsDistinct same_rowid rows → IsDistinct same_rowid (put_all rows news)
-statements-put_all_apart [] rows fresh up = up
-statements-put_all_apart (n ∷ news) rows fresh up =
+pub put_all_apart : (news rows : List Row) → are_fresh rows news ≡ true → IsDistinct same_rowid rows → IsDistinct same_rowid (put_all rows news)
+put_all_apart [] rows fresh up = up
+put_all_apart (n ∷ news) rows fresh up =
     let both = and_parts (not (is_taken rows n)) (are_fresh (put_row n rows) news) fresh in
     let free : is_taken rows n ≡ false = not-true _ both.0 in
     let first : IsDistinct same_rowid (n ∷ rows) =
-    IsDistinct-cons same_rowid n rows (all_weaker _ (λ r. same_rowid n r ≡ false) (λ r h. statements-flips n r ∙ h) rows (none_from_any (λ r. same_rowid r n) rows free)) up in
-    statements-put_all_apart news (put_row n rows) both.1 (IsDistinct-IsPermutation same_rowid statements-flips _ _ (IsPermutation-sym _ _ (statements-put_free n rows free)) first)
+    IsDistinct-cons same_rowid n rows (all_weaker _ (λ r. same_rowid n r ≡ false) (λ r h. flips n r ∙ h) rows (none_from_any (λ r. same_rowid r n) rows free)) up in
+    put_all_apart news (put_row n rows) both.1 (IsDistinct-IsPermutation same_rowid flips _ _ (IsPermutation-sym _ _ (put_free n rows free)) first)
 
-statements-filter_both : {X : Type 0} (p q : X → Bool) (xs : List X) → filter p (filter q xs) ≡ filter (λ x. q x && p x) xs
-statements-filter_both p q [] = refl
-statements-filter_both p q (x ∷ xs) = go (q x) (statements-filter_both p q xs)
+filter_both : {X : Type 0} (p q : X → Bool) (xs : List X) → filter p (filter q xs) ≡ filter (λ x. q x && p x) xs
+filter_both p q [] = refl
+filter_both p q (x ∷ xs) = go (q x) (filter_both p q xs)
   where
     go : (b : Bool) → filter p (filter q xs) ≡ filter (λ y. q y && p y) xs → filter p (cond b (x ∷ filter q xs) (filter q xs)) ≡ cond (b && p x) (x ∷ filter (λ y. q y && p y) xs) (filter (λ y. q y && p y) xs)
     go true more = ap (λ l. cond (p x) (x ∷ l) l) more
     go false more = more
 
-statements-without_any : (rows : List Row) (ids : List ℤ) → without_all rows ids ≡ filter (λ r. not (list_any (λ id. has_rowid id r) ids)) rows
-statements-without_any rows [] = sym (filter_all _ rows (each_true rows))
-statements-without_any rows (id ∷ ids) =
-    statements-without_any (without_rowid id rows) ids ∙ statements-filter_both _ _ rows ∙ filter_same _ _ (λ r. neither (has_rowid id r) (list_any (λ z. has_rowid z r) ids)) rows
+without_any : (rows : List Row) (ids : List ℤ) → without_all rows ids ≡ filter (λ r. not (list_any (λ id. has_rowid id r) ids)) rows
+without_any rows [] = sym (filter_all _ rows (each_true rows))
+without_any rows (id ∷ ids) =
+    without_any (without_rowid id rows) ids ∙ filter_both _ _ rows ∙ filter_same _ _ (λ r. neither (has_rowid id r) (list_any (λ z. has_rowid z r) ids)) rows
   where
     neither : (a b : Bool) → (not a && not b) ≡ not (a || b)
     neither true b = refl
     neither false b = refl
 
 -- The order of the rowids does not matter.
-pub statements-without_permuted : (rows : List Row) (ids jds : List ℤ) → IsPermutation ids jds → without_all rows jds ≡ without_all rows ids
-statements-without_permuted rows ids jds same =
-    statements-without_any rows jds ∙ filter_same _ _ (λ r. ap not (sym (list_any-IsPermutation (λ id. has_rowid id r) ids jds same))) rows ∙ sym (statements-without_any rows ids)
+pub without_permuted : (rows : List Row) (ids jds : List ℤ) → IsPermutation ids jds → without_all rows jds ≡ without_all rows ids
+without_permuted rows ids jds same =
+    without_any rows jds ∙ filter_same _ _ (λ r. ap not (sym (list_any-IsPermutation (λ id. has_rowid id r) ids jds same))) rows ∙ sym (without_any rows ids)
 
 module _ (p : Row → Bool) where
   abbrev pub ids_where : List Row → List ℤ
@@ -107,7 +107,7 @@ module _ (p : Row → Bool) where
       let more = statements-others x xs int above.1 ints.1 in
       let first : rowid x ≡ Int (id_in (rowid x)) = int_is _ int in
       let second : rowid y ≡ Int (id_in (rowid y)) = int_is _ ints.0 in
-      ((ap is_eq (ap (value_cmp (rowid x)) (sym second)) ∙ above.0, more.0), (ap is_eq (ap (value_cmp (rowid y)) (sym first)) ∙ statements-flips y x ∙ above.0, more.1))
+      ((ap is_eq (ap (value_cmp (rowid x)) (sym second)) ∙ above.0, more.0), (ap is_eq (ap (value_cmp (rowid y)) (sym first)) ∙ flips y x ∙ above.0, more.1))
 
   pub statements-removes_where : (rows : List Row) → IsNumbered rows → without_all rows (ids_where rows) ≡ filter (λ r. not (p r)) rows
   statements-removes_where [] up = refl

@@ -18,7 +18,7 @@ use Rattle.office_tables.specs.Texts.{over, alone}
 use Rattle.office_tables.specs.Holds.{stored, Holds}
 use Rattle.office_tables.proofs.statements.Edited.{ids_where}
 use Rattle.office_tables.proofs.statements.Held.{statements-held_inserted, statements-held_deleted, held_updated, statements-found_by}
-use Rattle.office_tables.proofs.statements.Rows.{Turned, passes, shows, statements-answer_over}
+use Rattle.office_tables.proofs.statements.Rows.{Turned, passes, shows, answer_over}
 
 module _ {X : Type 0} (columns : X → Row) (table : Table) (old new : Database) (xs : List X) (held : Holds columns (old.trees table.tree) xs) where
   -- One more row, whose rowid is given or chosen.
@@ -39,7 +39,7 @@ module _ {X : Type 0} (columns : X → Row) (table : Table) (old new : Database)
     p = passes params tests
 
     statements-same : IsPermutation (map (shows params project) (filter p rows)) found
-    statements-same = statements-answer_over table.tree tests project [] old params found answer
+    statements-same = answer_over table.tree tests project [] old params found answer
 
     statements-ids_same : IsPermutation (ids_where p rows) (ids_of found)
     statements-ids_same =

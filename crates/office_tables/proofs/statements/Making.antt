@@ -20,7 +20,7 @@ use Rattle.sqlite.proofs.Callers.{runs_as}
 use Rattle.office_tables.specs.Holds.{stored}
 use Rattle.office_tables.specs.Makes.{Makes}
 use Rattle.office_tables.specs.Schema.{office_schema}
-use Rattle.office_tables.specs.Steps.{Ran}
+use Rattle.office_tables.specs.Steps.{HasRun}
 use Rattle.office_tables.specs.Texts.{over, alone}
 use Rattle.office_tables.proofs.statements.Meanings.{Means}
 use Rattle.office_tables.proofs.statements.Effects.{statements-insert_held, statements-delete_held, statements-update_held}
@@ -41,7 +41,7 @@ module _ {X : Type 0} (one : OneTable X) (old new : State) (text : List ℕ) (pa
 
   pub statements-inserted : (terms : List Term) (width : ℕ) → Means text (Insert one.at (Values terms width)) → (source : Row) → value_rows params width (length terms / width) terms ≡ source ∷ []
       → (id : List Row → ℤ) (x : X) → ((rows : List Row) → with_rowid Chosen rows (cast_row one.table source) ≡ stored one.columns (id rows, x))
-      → (HasCleanDisk new → Ran text params old new) → Changes (λ xs. x ∷ xs)
+      → (HasCleanDisk new → HasRun text params old new) → Changes (λ xs. x ∷ xs)
   statements-inserted terms width means source values id x is runs = record {
     shown = λ tables clean was.
         let r = runs clean in
@@ -55,12 +55,12 @@ module _ {X : Type 0} (one : OneTable X) (old new : State) (text : List ℕ) (pa
 
   -- The engine chooses the rowid.
   pub statements-inserted_anew : (terms : List Term) (width : ℕ) → Means text (Insert one.at (Values terms width)) → (source : Row) → value_rows params width (length terms / width) terms ≡ source ∷ []
-      → (x : X) → cast_row one.table source ≡ Null ∷ one.columns x → (HasCleanDisk new → Ran text params old new) → Changes (λ xs. x ∷ xs)
+      → (x : X) → cast_row one.table source ≡ Null ∷ one.columns x → (HasCleanDisk new → HasRun text params old new) → Changes (λ xs. x ∷ xs)
   statements-inserted_anew terms width means source values x casts = statements-inserted terms width means source values next_rowid x (λ rows. ap (with_rowid Chosen rows) casts)
 
   module _ (tests project : List Term) (keyed : (r : Row) → rowid (shows params project r) ≡ rowid r) (which : X → Bool)
       (tells : (e : ℤ × X) → passes params tests (stored one.columns e) ≡ which e.1) where
-    pub statements-deleted : Means text (Delete one.at (alone (over one.table.tree tests project []))) → (HasCleanDisk new → Ran text params old new) → Changes (delete_where which)
+    pub statements-deleted : Means text (Delete one.at (alone (over one.table.tree tests project []))) → (HasCleanDisk new → HasRun text params old new) → Changes (delete_where which)
     statements-deleted means runs = record {
       shown = λ tables clean was.
           let r = runs clean in
@@ -73,7 +73,7 @@ module _ {X : Type 0} (one : OneTable X) (old new : State) (text : List ℕ) (pa
     }
 
     pub statements-updated : (f : X → X) → ((e : ℤ × X) → cast_row one.table (drop 1 (shows params project (stored one.columns e))) ≡ stored one.columns (e.0, f e.1))
-        → Means text (Update one.at (alone (over one.table.tree tests project []))) → (HasCleanDisk new → Ran text params old new) → Changes (update_where which f)
+        → Means text (Update one.at (alone (over one.table.tree tests project []))) → (HasCleanDisk new → HasRun text params old new) → Changes (update_where which f)
     statements-updated f changed means runs = record {
       shown = λ tables clean was.
           let r = runs clean in

@@ -43,12 +43,12 @@ passes params tests r = list_all (holds (params ∷ r ∷ [])) tests
 abbrev pub shows : Row → List Term → Row → Row
 shows params project r = eval_all project (params ∷ r ∷ [])
 
-statements-no_overlay : (trees : Trees) (tree : ℕ) → overlay trees [] tree ≡ trees tree
-statements-no_overlay trees tree = elim (nat_le (2 ^ 31) tree) as (λ b. unwrap_or (cond b None None) (trees tree) ≡ trees tree) [ true ↦ refl | false ↦ refl ]
+no_overlay : (trees : Trees) (tree : ℕ) → overlay trees [] tree ≡ trees tree
+no_overlay trees tree = elim (nat_le (2 ^ 31) tree) as (λ b. unwrap_or (cond b None None) (trees tree) ≡ trees tree) [ true ↦ refl | false ↦ refl ]
 
-statements-matching : (params : Row) (tests : List Term) (rows : List Row) → flat_map (λ r. cond (passes params tests r) ((params ∷ r ∷ []) ∷ []) []) rows ≡ map (λ r. params ∷ r ∷ []) (filter (passes params tests) rows)
-statements-matching params tests [] = refl
-statements-matching params tests (r ∷ rows) = go (passes params tests r) (statements-matching params tests rows)
+matching : (params : Row) (tests : List Term) (rows : List Row) → flat_map (λ r. cond (passes params tests r) ((params ∷ r ∷ []) ∷ []) []) rows ≡ map (λ r. params ∷ r ∷ []) (filter (passes params tests) rows)
+matching params tests [] = refl
+matching params tests (r ∷ rows) = go (passes params tests r) (matching params tests rows)
   where
     go : (b : Bool) → flat_map (λ x. cond (passes params tests x) ((params ∷ x ∷ []) ∷ []) []) rows ≡ map (λ x. params ∷ x ∷ []) (filter (passes params tests) rows)
         → cond b ((params ∷ r ∷ []) ∷ []) [] ++ flat_map (λ x. cond (passes params tests x) ((params ∷ x ∷ []) ∷ []) []) rows ≡ map (λ x. params ∷ x ∷ []) (cond b (r ∷ filter (passes params tests) rows) (filter (passes params tests) rows))
@@ -56,13 +56,13 @@ statements-matching params tests (r ∷ rows) = go (passes params tests r) (stat
     go false more = more
 
 -- The answer of a query of one table has the columns of each row that passes the tests.
-pub statements-answer_over : (tree : ℕ) (tests project : List Term) (order : List (Term × Key)) (db : Database) (params : Row) (rows : List Row) → Answers db (alone (over tree tests project order)) params rows
+pub answer_over : (tree : ℕ) (tests project : List Term) (order : List (Term × Key)) (db : Database) (params : Row) (rows : List Row) → Answers db (alone (over tree tests project order)) params rows
     → IsPermutation (map (shows params project) (filter (passes params tests) (db.trees tree))) rows
-statements-answer_over tree tests project order db params rows h =
+answer_over tree tests project order db params rows h =
     let q = over tree tests project order in
     let a : IsAnswerAs Null q (overlay db.trees []) params rows = h.answer Null in
     let staged : a.staged ≡ map (λ r. params ∷ r ∷ []) (filter (passes params tests) (db.trees tree)) =
-    a.grouped ∙ ap (flat_map (λ r. cond (passes params tests r) ((params ∷ r ∷ []) ∷ []) [])) (statements-no_overlay db.trees tree) ∙ statements-matching params tests (db.trees tree) in
+    a.grouped ∙ ap (flat_map (λ r. cond (passes params tests r) ((params ∷ r ∷ []) ∷ []) [])) (no_overlay db.trees tree) ∙ matching params tests (db.trees tree) in
     let kept : a.kept ≡ map (output q) a.staged = a.distinct in
     let shown : rows ≡ map (λ (o : Output). o.1) a.ordered = a.shown in
     let outputs : map (λ (o : Output). o.1) a.kept ≡ map (shows params project) (filter (passes params tests) (db.trees tree)) =
@@ -71,20 +71,20 @@ statements-answer_over tree tests project order db params rows h =
     subst (λ l. IsPermutation l rows) outputs (subst (IsPermutation (map (λ (o : Output). o.1) a.kept)) (sym shown) (IsPermutation-map _ _ _ a.same))
 
 -- No reference of an office changes the rows that refer to a row.
-pub statements-calm : (tree : ℕ) (olds news : List Row) → works office_schema Enforced 0 tree olds news ≡ []
-statements-calm tree olds news = go (length news == 0)
+pub calm : (tree : ℕ) (olds news : List Row) → works office_schema Enforced 0 tree olds news ≡ []
+calm tree olds news = go (length news == 0)
   where
     go : (b : Bool) → flat_map (λ child. filter_map (λ ref. work_by 0 tree (pairs olds news) child ref (deed_for Enforced b ref) (parent_key office_schema.tables ref)) child.references) office_schema.tables ≡ []
     go true = refl
     go false = refl
 
 -- A part that returned a value did not stop on the way.
-pub statements-went : {B E R : Type 0} {b : B} {Stops : E → Type 0} → ((stop : E) × Stops stop × (Ok b ≡ Err stop)) ⊎ R → R
-statements-went (inl stopped) = absurd (let e = stopped.2 in cc)
-statements-went (inr on) = on
+pub continued : {B E R : Type 0} {b : B} {Stops : E → Type 0} → ((stop : E) × Stops stop × (Ok b ≡ Err stop)) ⊎ R → R
+continued (inl stopped) = absurd (let e = stopped.2 in cc)
+continued (inr on) = on
 
-pub statements-same_value : {B E : Type 0} {a b : B} → ◌≡◌ {A = Result B E} (Ok a) (Ok b) → a ≡ b
-statements-same_value e = cc
+pub same_value : {B E : Type 0} {a b : B} → ◌≡◌ {A = Result B E} (Ok a) (Ok b) → a ≡ b
+same_value e = cc
 
 -- Only the rows of this table differ, and they result from an edit.
 pub record Turned (table : Table) (old new : Database) (edit : Edit) : Type 0 where
@@ -102,12 +102,12 @@ module _ (limit : Option ℕ) (mode : Mode) (params : Row) (table : Table) (time
   task = record { limit = limit; keys = Enforced; schema = office_schema; table = table; params = params }
 
   statements-concluded : (w : Written) (tally : Tally) (after : Database) → Concludes task mode None w (Ok (tally, after)) → after ≡ record { schema = office_schema; trees = w.trees }
-  statements-concluded w tally after h = ap (λ (p : Tally × Database). p.1) (statements-same_value (statements-went (statements-went h).2).2)
+  statements-concluded w tally after h = ap (λ (p : Tally × Database). p.1) (same_value (continued (continued h).2).2)
 
   statements-turned : (edit : Edit) (next : Trees) (after : Database) → edit.table ≡ table → after ≡ record { schema = office_schema; trees = next } → Edited office_schema Enforced trees edit (Ok next)
       → Turned table (record { schema = office_schema; trees = trees }) after edit
   statements-turned edit next after same is h =
-      let step = one_step office_schema Enforced trees next edit (statements-calm edit.table.tree (taken_by trees edit) edit.news) h in
+      let step = one_step office_schema Enforced trees next edit (calm edit.table.tree (taken_by trees edit) edit.news) h in
       record {
         schema = ap (λ (d : Database). d.schema) is;
         fresh = step.fresh;
@@ -119,19 +119,19 @@ module _ (limit : Option ℕ) (mode : Mode) (params : Row) (table : Table) (time
   pub statements-row_inserted : (at : ℕ) (terms : List Term) (width : ℕ) (source : Row) (tally : Tally) (after : Database) → value_rows params width (length terms / width) terms ≡ source ∷ []
       → OnRows task mode None (Insert at (Values terms width)) trees (Ok (tally, after)) → Turned table (record { schema = office_schema; trees = trees }) after (edit_of trees table [] Chosen 0 (source ∷ []))
   statements-row_inserted at terms width source tally after one h =
-      let done = statements-went h in
+      let done = continued h in
       let is = statements-concluded done.0 tally after done.2 in
-      let given = statements-went done.1 in
+      let given = continued done.1 in
       let unstamped : stamped table params ≡ params =
       ap (λ (st : Stamps). params ++ eval_all st.terms (drop (length params - length st.formats) params ∷ [])) timeless.1 ∙ append-nil params in
       let rows : given.0 ≡ source ∷ [] = given.1.1 ∙ ap (λ (env : Row). value_rows env width (length terms / width) terms) unstamped ∙ one in
-      let counter = statements-went given.2 in
-      let put = statements-went counter.2 in
-      let counts = statements-went put.2 in
+      let counter = continued given.2 in
+      let put = continued counter.2 in
+      let counts = continued put.2 in
       let edit = edit_of trees table [] (rowids_for table (count_of counter.0)) 0 given.0 in
       let kept : Gives put.0 (Ok counts.0) =
       MatchBool-at_false _ _ (ap (λ (b : Bool). cond b (is_lt (int_cmp (count_of counter.0) (fold higher (count_of counter.0) edit.news))) false) timeless.0) counts.1 in
-      let trees_are : done.0.trees ≡ put.0 = ap (λ (it : Written). it.trees) (statements-same_value counts.2) ∙ statements-same_value kept in
+      let trees_are : done.0.trees ≡ put.0 = ap (λ (it : Written). it.trees) (same_value counts.2) ∙ same_value kept in
       let edit_is : edit ≡ edit_of trees table [] Chosen 0 (source ∷ []) =
       ap (λ (b : Bool). edit_of trees table [] (cond b (Above (count_of counter.0)) Chosen) 0 given.0) timeless.0 ∙ ap (λ (l : List Row). edit_of trees table [] Chosen 0 l) rows in
       subst (Turned table (record { schema = office_schema; trees = trees }) after) edit_is (statements-turned edit put.0 after refl (is ∙ ap (λ (t : Trees). record { schema = office_schema; trees = t }) trees_are) put.1)
@@ -139,21 +139,21 @@ module _ (limit : Option ℕ) (mode : Mode) (params : Row) (table : Table) (time
   pub statements-rows_updated : (at : ℕ) (q : Program) (tally : Tally) (after : Database) → OnRows task mode None (Update at q) trees (Ok (tally, after))
       → (rows : List Row) × Answers (record { schema = office_schema; trees = trees }) q params rows × Turned table (record { schema = office_schema; trees = trees }) after (edit_of trees table (ids_of rows) Given 1 rows)
   statements-rows_updated at q tally after h =
-      let done = statements-went h in
+      let done = continued h in
       let is = statements-concluded done.0 tally after done.2 in
-      let found = statements-went done.1 in
-      let put = statements-went found.2 in
-      let trees_are : done.0.trees ≡ put.0 = ap (λ (it : Written). it.trees) (statements-same_value put.2) in
+      let found = continued done.1 in
+      let put = continued found.2 in
+      let trees_are : done.0.trees ≡ put.0 = ap (λ (it : Written). it.trees) (same_value put.2) in
       (found.0, found.1, statements-turned (edit_of trees table (ids_of found.0) Given 1 found.0) put.0 after refl (is ∙ ap (λ (t : Trees). record { schema = office_schema; trees = t }) trees_are) put.1)
 
   pub statements-rows_deleted : (at : ℕ) (q : Program) (tally : Tally) (after : Database) → OnRows task mode None (Delete at q) trees (Ok (tally, after))
       → (rows : List Row) × Answers (record { schema = office_schema; trees = trees }) q params rows × Turned table (record { schema = office_schema; trees = trees }) after (edit_of trees table (ids_of rows) Given 0 [])
   statements-rows_deleted at q tally after h =
-      let done = statements-went h in
+      let done = continued h in
       let is = statements-concluded done.0 tally after done.2 in
-      let found = statements-went done.1 in
-      let put = statements-went found.2 in
-      let trees_are : done.0.trees ≡ put.0 = ap (λ (it : Written). it.trees) (statements-same_value put.2) in
+      let found = continued done.1 in
+      let put = continued found.2 in
+      let trees_are : done.0.trees ≡ put.0 = ap (λ (it : Written). it.trees) (same_value put.2) in
       (found.0, found.1, statements-turned (edit_of trees table (ids_of found.0) Given 0 []) put.0 after refl (is ∙ ap (λ (t : Trees). record { schema = office_schema; trees = t }) trees_are) put.1)
 
 abbrev pub at_schema : State → Database

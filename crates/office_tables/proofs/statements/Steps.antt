@@ -6,13 +6,13 @@ use Rattle.sqlite.specs.declared.error.Error.{Error}
 use Rattle.sqlite.specs.State.{State, ExecutesInside, IsUnchanged, IsRolledBack}
 use Rattle.sqlite.proofs.StateLemmas.{survives_then}
 use Rattle.sqlite.proofs.InsideLemmas.{keeps_then}
-use Rattle.office_tables.specs.Steps.{Follows, IsHonest, StaysInside, SeesTheSame, RollsBack, IsUndone}
+use Rattle.office_tables.specs.Steps.{Follows, IsIntact, StaysInside, SeesTheSame, RollsBack, IsUndone}
 
-pub statements-follows-refl : (a : State) → Follows a a
-statements-follows-refl a = record { clean = λ h. h; was_open = λ h o. o; counts = omega arith; limit = refl; closes = λ h o. inl o }
+pub follows-refl : (a : State) → Follows a a
+follows-refl a = record { clean = λ h. h; was_open = λ h o. o; counts = omega arith; limit = refl; closes = λ h o. inl o }
 
-pub statements-follows_then : (a b c : State) → Follows a b → Follows b c → Follows a c
-statements-follows_then a b c p q = record {
+pub follows_then : (a b c : State) → Follows a b → Follows b c → Follows a c
+follows_then a b c p q = record {
   clean = λ h. p.clean (q.clean h);
   was_open = λ h o. p.was_open (q.clean h) (q.was_open h o);
   counts = omega (arith, p.counts, q.counts);
@@ -33,12 +33,12 @@ statements-follows_then a b c p q = record {
     more_after x y z low more = omega (arith, low, more)
 
 -- If a state that follows another is intact, so is the other.
-pub statements-honest_before : (a b : State) → Follows a b → IsHonest b → IsHonest a
-statements-honest_before a b p h = (p.clean h.0, p.was_open h.0 h.1)
+pub intact_before : (a b : State) → Follows a b → IsIntact b → IsIntact a
+intact_before a b p h = (p.clean h.0, p.was_open h.0 h.1)
 
 -- before the first call
-pub statements-inside_none : (a : State) → StaysInside a a
-statements-inside_none a = record {
+pub inside_none : (a : State) → StaysInside a a
+inside_none a = record {
   kept = λ clean. record { was_open = λ o. o; committed = λ o. refl };
   survives = record {
     clean = omega arith;
@@ -50,23 +50,23 @@ statements-inside_none a = record {
   };
 }
 
-pub statements-inside_then : (a b c : State) → StaysInside a b → StaysInside b c → StaysInside a c
-statements-inside_then a b c p q = record {
+pub inside_then : (a b c : State) → StaysInside a b → StaysInside b c → StaysInside a c
+inside_then a b c p q = record {
   kept = λ clean. keeps_then a b c (p.kept (omega (arith, q.survives.clean))) (q.kept clean);
   survives = survives_then a b c _ _ (λ _. ⊥) (λ _ db none. none) (λ _ db none. none) p.survives q.survives;
 }
 
 -- A call that fails before any statement changes nothing.
-pub statements-undone_none : (a : State) → IsUndone a a
-statements-undone_none a honest = inl (refl, refl)
+pub undone_none : (a : State) → IsUndone a a
+undone_none a intact = inl (refl, refl)
 
 -- what the engine guarantees for a statement that it refused, or that failed
-pub statements-undone_by : (held : ℕ) (sql : List ℕ) (params : Row) (e : Error) (old new : State) → ExecutesInside held sql params old new (Err e) → IsUndone old new
-statements-undone_by held sql params e old new h honest = elim h [
+pub undone_by : (held : ℕ) (sql : List ℕ) (params : Row) (e : Error) (old new : State) → ExecutesInside held sql params old new (Err e) → IsUndone old new
+undone_by held sql params e old new h intact = elim h [
   | inl failed ↦ either failed.1
   | inr refused ↦ either (inl refused.2)
 ]
   where
     either : IsUnchanged old new ⊎ IsRolledBack old new → SeesTheSame old new ⊎ RollsBack old new
     either (inl same) = inl (same.0.now_is, same.0.mode)
-    either (inr undone) = inr ((undone.undone honest.1).0, undone.autocommit)
+    either (inr undone) = inr ((undone.undone intact.1).0, undone.autocommit)

@@ -21,26 +21,26 @@ statements-either : (b : Bool) (x : Value) → cond b x x ≡ x
 statements-either true x = refl
 statements-either false x = refl
 
-pub statements-cast-Int : (n : ℤ) → cast kind.Integer (Int n) ≡ Int n
+pub cast-Int : (n : ℤ) → cast kind.Integer (Int n) ≡ Int n
 unfolding unary
-statements-cast-Int n = statements-either _ (Int n)
+cast-Int n = statements-either _ (Int n)
 
-pub statements-cast-Null : cast kind.Integer Null ≡ Null
+pub cast-Null : cast kind.Integer Null ≡ Null
 unfolding unary
-statements-cast-Null = statements-either _ Null
+cast-Null = statements-either _ Null
 
-pub statements-cast-text_or_null : (text : Option (List ℕ)) → cast kind.Text (text_or_null text) ≡ text_or_null text
-statements-cast-text_or_null None = refl
-statements-cast-text_or_null (Some text) = refl
+pub cast-text_or_null : (text : Option (List ℕ)) → cast kind.Text (text_or_null text) ≡ text_or_null text
+cast-text_or_null None = refl
+cast-text_or_null (Some text) = refl
 
-pub statements-cast-wave_value : (wave : Wave) → cast kind.Integer (wave_value wave) ≡ wave_value wave
-statements-cast-wave_value Swap = statements-cast-Null
-statements-cast-wave_value (Nth n) = statements-cast-Int (pos n)
+pub cast-wave_value : (wave : Wave) → cast kind.Integer (wave_value wave) ≡ wave_value wave
+cast-wave_value Swap = cast-Null
+cast-wave_value (Nth n) = cast-Int (pos n)
 
 -- the test that a column of texts equals a parameter
-pub statements-same_text : (a b : List ℕ) → (is_true (binary (Compare Eq Binary) (Text a) (Text b)) && true) ≡ bytes_eq a b
+pub same_text : (a b : List ℕ) → (is_true (binary (Compare Eq Binary) (Text a) (Text b)) && true) ≡ bytes_eq a b
 unfolding binary
-statements-same_text a b = tested (is_eq (value_cmp (Text a) (Text b))) ∙ ap is_eq (value_cmp-Text a b) ∙ is_eq-slice_cmp a b
+same_text a b = tested (is_eq (value_cmp (Text a) (Text b))) ∙ ap is_eq (value_cmp-Text a b) ∙ is_eq-slice_cmp a b
   where
     tested : (t : Bool) → (is_true (from_truth (Some t)) && true) ≡ t
     tested true = refl

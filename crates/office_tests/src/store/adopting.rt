@@ -97,7 +97,7 @@ fn finds_no_office_in_an_empty_database(rt: HostRuntime) {
 }
 
 #[test]
-fn takes_tables_of_its_own_version(rt: HostRuntime) {
+fn adopts_only_tables_of_its_version(rt: HostRuntime) {
     let alloc = rt.alloc();
     let mut conn = new_desk(&rt, alloc).release();
     for (statements, wanted) in DECLARED {
@@ -106,7 +106,7 @@ fn takes_tables_of_its_own_version(rt: HostRuntime) {
 }
 
 #[test]
-fn shows_the_office_that_a_desk_left(rt: HostRuntime) {
+fn adopts_the_office_of_another_desk(rt: HostRuntime) {
     let alloc = rt.alloc();
     let mut desk = adopted(&rt, alloc, desk_after_run(&rt, alloc));
     assert!(rt; has_run(&desk.load(alloc).expect(&rt, "an office in the tables")));
@@ -114,7 +114,7 @@ fn shows_the_office_that_a_desk_left(rt: HostRuntime) {
 }
 
 #[test]
-fn takes_the_rows_of_an_office_alone(rt: HostRuntime) {
+fn adopts_only_rows_of_an_office(rt: HostRuntime) {
     let alloc = rt.alloc();
     let mut conn = desk_after_run(&rt, alloc).release();
     for (breaks, mends) in BREAKS {

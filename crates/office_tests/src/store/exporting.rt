@@ -119,7 +119,7 @@ fn fills_a_writer(rt: &impl Abort, alloc: Global, desk: &mut Desk<MemStore>) {
 
 // The writer fails after 20 bytes. The desk works on after that.
 #[test]
-fn tells_how_much_was_sent(rt: HostRuntime) {
+fn reports_how_much_was_sent(rt: HostRuntime) {
     let alloc = rt.alloc();
     let mut desk = furnished(&rt, alloc);
     fills_a_writer(&rt, alloc, &mut desk);

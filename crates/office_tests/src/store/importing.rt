@@ -2,11 +2,11 @@
 use super::adopting::adopted;
 use super::exporting::exports;
 use crate::asserting::assert_same;
-use crate::building::{lines_asked, new_desk, text};
+use crate::building::{new_desk, parse_requests, text};
 use office_core::{Command, Query};
 use office_lists::ExportKind;
 use office_store::{Desk, Handler, Request};
-use office_texts::{Said, text_of};
+use office_texts::{Response, text_of};
 use room_types::{ListKind, Listing, Word};
 use sqlite::MemStore;
 use std::alloc::{AllocError, Global};
@@ -43,59 +43,64 @@ fn import(rt: &impl Abort, alloc: Global, label: &str, kind: ListKind, list: &[u
 }
 
 // Appends the desk's printed answer to this request.
-fn say(
+fn push_answer(
     rt: &impl Abort,
     alloc: Global,
     desk: &mut Desk<MemStore>,
     request: &Request,
     text: &mut String,
 ) {
-    let answer = Said::Answered(desk.handle(alloc, request));
-    let said = text_of(alloc, &answer).expect(rt, "memory");
-    text.push_str(said.as_str()).expect(rt, "memory");
+    let answer = Response::Answered(desk.handle(alloc, request));
+    let printed = text_of(alloc, &answer).expect(rt, "memory");
+    text.push_str(printed.as_str()).expect(rt, "memory");
 }
 
 // The desk's printed answers to these requests, in turn.
-fn said(rt: &impl Abort, alloc: Global, desk: &mut Desk<MemStore>, requests: &[Request]) -> String {
+fn printed(
+    rt: &impl Abort,
+    alloc: Global,
+    desk: &mut Desk<MemStore>,
+    requests: &[Request],
+) -> String {
     let mut text = String::new(alloc);
     for request in requests {
-        say(rt, alloc, desk, request, &mut text);
+        push_answer(rt, alloc, desk, request, &mut text);
     }
     text
 }
 
 // Asserts that these are the desk's printed answers to the requests.
-pub(super) fn says(
+pub(super) fn responds(
     rt: &impl Abort,
     alloc: Global,
     desk: &mut Desk<MemStore>,
     requests: &[Request],
-    told: &str,
+    expected: &str,
 ) {
-    assert_same!(rt; said(rt, alloc, desk, requests).as_str(), told);
+    assert_same!(rt; printed(rt, alloc, desk, requests).as_str(), expected);
 }
 
 // Asserts that these are the desk's printed answers to imports of the lists, each under its label.
-pub(super) fn says_of_lists(
+pub(super) fn responds_to_lists(
     rt: &impl Abort,
     alloc: Global,
     desk: &mut Desk<MemStore>,
     kind: ListKind,
     lists: &[(&str, &[u8])],
-    told: &str,
+    expected: &str,
 ) {
     let mut text = String::new(alloc);
     for (label, list) in lists {
         let request = import(rt, alloc, label, kind, list);
-        say(rt, alloc, desk, &request, &mut text);
+        push_answer(rt, alloc, desk, &request, &mut text);
     }
-    assert_same!(rt; text.as_str(), told);
+    assert_same!(rt; text.as_str(), expected);
 }
 
 // A desk with two rooms, and with three people of whom one has a home.
 fn furnished(rt: &impl Abort, alloc: Global) -> Desk<MemStore> {
     let mut desk = new_desk(rt, alloc);
-    says_of_lists(
+    responds_to_lists(
         rt,
         alloc,
         &mut desk,
@@ -103,7 +108,7 @@ fn furnished(rt: &impl Abort, alloc: Global) -> Desk<MemStore> {
         &[("r-1", ROOMS)],
         "added 2\n",
     );
-    says_of_lists(
+    responds_to_lists(
         rt,
         alloc,
         &mut desk,
@@ -138,7 +143,7 @@ fn round(rt: &impl Abort, alloc: Global) -> Vec<Request> {
 }
 
 #[test]
-fn adds_what_lists_tell(rt: HostRuntime) {
+fn adds_the_rooms_and_people_of_lists(rt: HostRuntime) {
     let alloc = rt.alloc();
     let mut desk = furnished(&rt, alloc);
     for (kind, bytes) in [
@@ -159,8 +164,8 @@ fn adds_what_lists_tell(rt: HostRuntime) {
 fn settled(rt: &impl Abort, alloc: Global) -> Desk<MemStore> {
     let mut desk = furnished(rt, alloc);
     let requests = round(rt, alloc);
-    let told = "round 1 open\nadded 1\nclosed 3\ndrawn 3\nran 3\npublished 3\nsettled 1\n";
-    says(rt, alloc, &mut desk, &requests, told);
+    let expected = "round 1 open\nadded 1\nclosed 3\ndrawn 3\nran 3\npublished 3\nsettled 1\n";
+    responds(rt, alloc, &mut desk, &requests, expected);
     desk
 }
 
@@ -174,25 +179,25 @@ fn knows_its_lists(rt: &impl Abort, alloc: Global, desk: &mut Desk<MemStore>) {
         ("p-1", longer.as_slice()),
         ("p-2", KNOWN_THIRD),
     ];
-    let told = "added 3\nrefused 14 ListDiffers\nrefused 15 BadRecord 3 refusal 5\n";
-    says_of_lists(rt, alloc, desk, ListKind::People, &again, told);
+    let expected = "added 3\nrefused 14 ListDiffers\nrefused 15 BadRecord 3 refusal 5\n";
+    responds_to_lists(rt, alloc, desk, ListKind::People, &again, expected);
 }
 
 // After a round, importing a known list again still has its first answer and moves nobody back, also at the next desk over the
 // same database. A list that is refused is not stored and adds nobody.
 #[test]
-fn keeps_lists_under_their_labels(rt: HostRuntime) {
+fn remembers_imports_under_their_labels(rt: HostRuntime) {
     let alloc = rt.alloc();
     let mut desk = settled(&rt, alloc);
     knows_its_lists(&rt, alloc, &mut desk);
     let new = [("p-3", NO_BYTES), ("p-3", HEADER)].as_slice();
-    let told = "refused 15 BadRecord 0 header\nadded 0\n";
-    says_of_lists(&rt, alloc, &mut desk, ListKind::People, new, told);
+    let expected = "refused 15 BadRecord 0 header\nadded 0\n";
+    responds_to_lists(&rt, alloc, &mut desk, ListKind::People, new, expected);
     let mut desk = adopted(&rt, alloc, desk);
     knows_its_lists(&rt, alloc, &mut desk);
     let people = "person        home      name\nE1            H2        Ann Ash\n\
         E2            none      Bo, B.\nE3            none      Cy Coy\n";
-    says(
+    responds(
         &rt,
         alloc,
         &mut desk,
@@ -203,7 +208,7 @@ fn keeps_lists_under_their_labels(rt: HostRuntime) {
 
 // Without a round, a list of choices is too early. In an open round, each of these lists is refused for its own fault.
 #[test]
-fn refuses_lists_of_choices(rt: HostRuntime) {
+fn refuses_early_and_bad_lists_of_choices(rt: HostRuntime) {
     let alloc = rt.alloc();
     let mut desk = furnished(&rt, alloc);
     let long = "\n".repeat(alloc, 262_145).expect(&rt, "memory");
@@ -212,16 +217,16 @@ fn refuses_lists_of_choices(rt: HostRuntime) {
         ("c-2", long.as_bytes()),
     ];
     let early = "refused 1 BadPhase idle\nrefused 1 BadPhase idle\n";
-    says_of_lists(&rt, alloc, &mut desk, ListKind::Choices, &lists, early);
-    says(
+    responds_to_lists(&rt, alloc, &mut desk, ListKind::Choices, &lists, early);
+    responds(
         &rt,
         alloc,
         &mut desk,
         &[Request::Office(Command::OpenRound)],
         "round 1 open\n",
     );
-    let told = "refused 15 BadRecord 1 refusal 3\nrefused 13 LimitReached\n";
-    says_of_lists(&rt, alloc, &mut desk, ListKind::Choices, &lists, told);
+    let expected = "refused 15 BadRecord 1 refusal 3\nrefused 13 LimitReached\n";
+    responds_to_lists(&rt, alloc, &mut desk, ListKind::Choices, &lists, expected);
 }
 
 // Lists of grades. The second is the first again, and those after it are refused.
@@ -235,48 +240,48 @@ const LISTS_OF_GRADES: [(&str, &[u8]); 5] = [
 
 // The last record of a person counts. A person who is removed and added again has grade 0.
 #[test]
-fn keeps_grades_of_lists(rt: HostRuntime) {
+fn imports_grades_and_refuses_bad_ones(rt: HostRuntime) {
     let alloc = rt.alloc();
     let mut desk = furnished(&rt, alloc);
-    let told = "added 3\nadded 3\nrefused 15 BadRecord 2 refusal 2\n\
+    let expected = "added 3\nadded 3\nrefused 15 BadRecord 2 refusal 2\n\
         refused 15 BadRecord 1 field 2\nrefused 14 ListDiffers\n";
-    says_of_lists(
+    responds_to_lists(
         &rt,
         alloc,
         &mut desk,
         ListKind::Grades,
         &LISTS_OF_GRADES,
-        told,
+        expected,
     );
     let grades = b"person,grade\nE1,4\nE2,0\nE3,2\n".as_slice();
     exports(&rt, alloc, &mut desk, ExportKind::Grades, grades);
     let lines = "grade E2 5\ngrade E1 0\nremove E2\nperson E2 key00000000000e2 Bo Bay\n";
-    let requests = lines_asked(&rt, alloc, lines);
-    says(&rt, alloc, &mut desk, &requests, "ok\nok\nok\nok\n");
+    let requests = parse_requests(&rt, alloc, lines);
+    responds(&rt, alloc, &mut desk, &requests, "ok\nok\nok\nok\n");
     let grades = b"person,grade\nE1,0\nE2,0\nE3,2\n".as_slice();
     exports(&rt, alloc, &mut desk, ExportKind::Grades, grades);
 }
 
 // Grades may be imported while the round is open, and not after that.
 #[test]
-fn takes_grades_until_lists_are_final(rt: HostRuntime) {
+fn imports_grades_until_the_round_closes(rt: HostRuntime) {
     let alloc = rt.alloc();
     let mut desk = furnished(&rt, alloc);
     let list = b"person,grade\nE1,4\n".as_slice();
-    for (line, label, told) in [
+    for (line, label, expected) in [
         ("open", "g-1", "round 1 open\nadded 1\n"),
         ("close", "g-2", "closed 3\nrefused 1 BadPhase closed\n"),
-        ("rooms", "g-1", ROOMS_TOLD),
+        ("rooms", "g-1", ROOMS_PRINTED),
     ] {
-        let mut requests = lines_asked(&rt, alloc, line);
+        let mut requests = parse_requests(&rt, alloc, line);
         let list = import(&rt, alloc, label, ListKind::Grades, list);
         requests.push(list).expect(&rt, "memory");
-        says(&rt, alloc, &mut desk, &requests, told);
+        responds(&rt, alloc, &mut desk, &requests, expected);
     }
 }
 
 // The printed rooms, and the answer to a list that is known.
-const ROOMS_TOLD: &str = "room      state     tenant\nH1        occupied  E1\n\
+const ROOMS_PRINTED: &str = "room      state     tenant\nH1        occupied  E1\n\
     H2        free      none\nadded 1\n";
 
 // A list of rooms that is one too long for an office with two rooms.
@@ -328,10 +333,10 @@ fn refuses_records_as_their_commands_are_refused(rt: HostRuntime) {
     let many = too_many_rooms(alloc).expect(&rt, "memory");
     let requests = refused(&rt, alloc, &many);
     let mut desk = furnished(&rt, alloc);
-    let told = "shut\nrefused 15 BadRecord 1999 refusal 13\nrefused 15 BadRecord 1 refusal 7\n\
+    let expected = "shut\nrefused 15 BadRecord 1999 refusal 13\nrefused 15 BadRecord 1 refusal 7\n\
         refused 15 BadRecord 1 refusal 8\nround 1 open\nwithdrawn\n\
         refused 15 BadRecord 2 refusal 11\nrefused 15 BadRecord 2 refusal 7\n";
-    says(&rt, alloc, &mut desk, &requests, told);
+    responds(&rt, alloc, &mut desk, &requests, expected);
 }
 
 // A list of the given number of people without a home.
@@ -350,7 +355,7 @@ fn many_people(alloc: Global, count: u16) -> Result<Vec<u8>, AllocError> {
 fn refuses_people_over_the_limit(rt: HostRuntime) {
     let alloc = rt.alloc();
     let mut desk = furnished(&rt, alloc);
-    for (count, told) in [
+    for (count, expected) in [
         (
             1_998,
             "refused 15 BadRecord 1998 refusal 13\nround 0 idle people 3 withdrawn 0\n",
@@ -362,13 +367,13 @@ fn refuses_people_over_the_limit(rt: HostRuntime) {
             import(&rt, alloc, "p-2", ListKind::People, &list),
             Request::Ask(Query::Round),
         ];
-        says(&rt, alloc, &mut desk, &requests, told);
+        responds(&rt, alloc, &mut desk, &requests, expected);
     }
 }
 
 // Runs the command and asserts that its answer is `done`. Then a known label still has its first answer, another list under it
 // differs, and a new list has the answer `late`.
-fn looks_at_labels(
+fn checks_labels(
     rt: &impl Abort,
     alloc: Global,
     desk: &mut Desk<MemStore>,
@@ -376,13 +381,20 @@ fn looks_at_labels(
     done: &str,
     late: &str,
 ) {
-    says(rt, alloc, desk, &[Request::Office(command)], done);
+    responds(rt, alloc, desk, &[Request::Office(command)], done);
     let known = [("p-1", PEOPLE), ("p-1", HEADER)];
-    let told = "added 3\nrefused 14 ListDiffers\n";
-    says_of_lists(rt, alloc, desk, ListKind::People, &known, told);
-    let told = "refused 14 ListDiffers\n";
-    says_of_lists(rt, alloc, desk, ListKind::Rooms, &[("p-1", PEOPLE)], told);
-    says_of_lists(
+    let expected = "added 3\nrefused 14 ListDiffers\n";
+    responds_to_lists(rt, alloc, desk, ListKind::People, &known, expected);
+    let expected = "refused 14 ListDiffers\n";
+    responds_to_lists(
+        rt,
+        alloc,
+        desk,
+        ListKind::Rooms,
+        &[("p-1", PEOPLE)],
+        expected,
+    );
+    responds_to_lists(
         rt,
         alloc,
         desk,
@@ -394,7 +406,7 @@ fn looks_at_labels(
 
 // In each phase a known label has its first answer, another list under it differs, and a new list is refused.
 #[test]
-fn looks_at_labels_before_the_phase(rt: HostRuntime) {
+fn checks_labels_before_the_phase(rt: HostRuntime) {
     let alloc = rt.alloc();
     let words = vec![in alloc; Word::new(5), Word::new(6), Word::new(7)].expect(&rt, "memory");
     let draw = Command::Draw {
@@ -402,7 +414,7 @@ fn looks_at_labels_before_the_phase(rt: HostRuntime) {
     };
     let mut desk = furnished(&rt, alloc);
     let taken = "refused 15 BadRecord 2 refusal 8\n";
-    looks_at_labels(
+    checks_labels(
         &rt,
         alloc,
         &mut desk,
@@ -424,21 +436,21 @@ fn looks_at_labels_before_the_phase(rt: HostRuntime) {
             "refused 1 BadPhase published\n",
         ),
     ] {
-        looks_at_labels(&rt, alloc, &mut desk, command, done, late);
+        checks_labels(&rt, alloc, &mut desk, command, done, late);
     }
 }
 
 // An office takes 200 labels. Once they are used up, known labels still have their answers.
 #[test]
-fn gives_two_hundred_labels(rt: HostRuntime) {
+fn accepts_two_hundred_labels_and_no_more(rt: HostRuntime) {
     let alloc = rt.alloc();
     let mut desk = new_desk(&rt, alloc);
     for number in 0..200u8 {
         let label = format!(in alloc; "p-{number}").expect(&rt, "memory");
         let lists = [(label.as_str(), HEADER)];
-        says_of_lists(&rt, alloc, &mut desk, ListKind::People, &lists, "added 0\n");
+        responds_to_lists(&rt, alloc, &mut desk, ListKind::People, &lists, "added 0\n");
     }
     let lists = [("p-200", HEADER), ("p-7", HEADER), ("p-200", NO_BYTES)];
-    let told = "refused 13 LimitReached\nadded 0\nrefused 13 LimitReached\n";
-    says_of_lists(&rt, alloc, &mut desk, ListKind::People, &lists, told);
+    let expected = "refused 13 LimitReached\nadded 0\nrefused 13 LimitReached\n";
+    responds_to_lists(&rt, alloc, &mut desk, ListKind::People, &lists, expected);
 }

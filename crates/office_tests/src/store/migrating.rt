@@ -1,8 +1,8 @@
 //! Tests of desks over tables of earlier versions, and over tables in the documented order, with enough memory.
 use super::adopting::{adopted, tried_after};
-use super::importing::{says, says_of_lists};
+use super::importing::{responds, responds_to_lists};
 use crate::asserting::assert_same;
-use crate::building::lines_asked;
+use crate::building::parse_requests;
 use crate::layouts::tables_made;
 use office_store::{Back, Desk, DeskFault};
 use office_tables::layouts::Layout;
@@ -233,9 +233,15 @@ fn migrated(rt: &impl Abort, alloc: Global, conn: Connection<MemStore>) -> Desk<
 }
 
 // Asserts that these are the desk's printed answers to the lines.
-fn tells(rt: &impl Abort, alloc: Global, desk: &mut Desk<MemStore>, lines: &str, told: &str) {
-    let requests = lines_asked(rt, alloc, lines);
-    says(rt, alloc, desk, &requests, told);
+fn responds_to_lines(
+    rt: &impl Abort,
+    alloc: Global,
+    desk: &mut Desk<MemStore>,
+    lines: &str,
+    expected: &str,
+) {
+    let requests = parse_requests(rt, alloc, lines);
+    responds(rt, alloc, desk, &requests, expected);
 }
 
 // At first no desk adopts the tables. A desk migrates them and handles the lines. Then another desk adopts them, and none
@@ -244,7 +250,7 @@ fn is_migrated(
     rt: &impl Abort,
     alloc: Global,
     layout: Layout,
-    (statements, lines, told): (&str, &str, &str),
+    (statements, lines, expected): (&str, &str, &str),
 ) {
     let version = i64::from(layout.version());
     let conn = earlier_made(rt, alloc, layout, statements);
@@ -256,7 +262,7 @@ fn is_migrated(
         Some(DeskFault::OtherVersion(version)),
     );
     let mut desk = migrated(rt, alloc, conn);
-    tells(rt, alloc, &mut desk, lines, told);
+    responds_to_lines(rt, alloc, &mut desk, lines, expected);
     let desk = adopted(rt, alloc, desk);
     let (fault, _) = tried(alloc, desk.release());
     assert_same!(rt; fault, Some(DeskFault::OtherVersion(3)));
@@ -278,7 +284,7 @@ fn migrates_each_phase(rt: HostRuntime) {
 
 // A failed migration leaves the tables as they were: afterwards they are migrated.
 #[test]
-fn migrates_the_rows_of_an_office_alone(rt: HostRuntime) {
+fn migrates_only_rows_of_an_office(rt: HostRuntime) {
     let alloc = rt.alloc();
     for layout in EARLIER {
         let mut conn = earlier_made(&rt, alloc, layout, statements_of_nothing());
@@ -294,8 +300,8 @@ fn migrates_the_rows_of_an_office_alone(rt: HostRuntime) {
             }
         }
         let mut desk = migrated(&rt, alloc, conn);
-        let (_, lines, told) = PHASES[3];
-        tells(&rt, alloc, &mut desk, lines, told);
+        let (_, lines, expected) = PHASES[3];
+        responds_to_lines(&rt, alloc, &mut desk, lines, expected);
     }
 }
 
@@ -316,16 +322,16 @@ fn migrates_no_other_database(rt: HostRuntime) {
 
 // Grades and lists of grades exist from version 2 on.
 #[test]
-fn keeps_grades_of_the_second_version(rt: HostRuntime) {
+fn migrates_grades_of_the_second_version(rt: HostRuntime) {
     let alloc = rt.alloc();
     let statements = statements_of_nothing();
     let conn = earlier_made(&rt, alloc, Layout::DocumentedSecond, statements);
     let mut desk = migrated(&rt, alloc, conn);
     let order =
         "   1 0000000000000001 T1\n   2 0000000000000002 T2\n   3 0000000000000003 N grade 4\n";
-    tells(&rt, alloc, &mut desk, "order\n", order);
+    responds_to_lines(&rt, alloc, &mut desk, "order\n", order);
     let known = [("g-1", HEADER)];
-    says_of_lists(&rt, alloc, &mut desk, ListKind::Grades, &known, "added 0\n");
+    responds_to_lists(&rt, alloc, &mut desk, ListKind::Grades, &known, "added 0\n");
 }
 
 // Statements that make the drawn round an open one of this version, with T2 as a leaver.
@@ -337,7 +343,7 @@ INSERT INTO going VALUES ('T2'); INSERT INTO grade VALUES ('N', 1)";
 const LEAVERS_ROUND: &str =
     "round\nclose\ndraw 0000000000000001 0000000000000002\norder\nrun\nresults\npublish\nsettle\nmoves 1\n";
 
-const LEAVERS_ROUND_TOLD: &str = "round 1 open people 3 withdrawn 0 going 1\nclosed 2\n\
+const LEAVERS_ROUND_PRINTED: &str = "round 1 open people 3 withdrawn 0 going 1\nclosed 2\n\
     drawn 2\n   1 0000000000000002 T1\n   2 0000000000000001 N grade 1\nran 2\n\
     person        room\nN             H1\nT1            H2\npublished 2\nsettled 3\n\
     wave  person        from      to\n0     T2            H2        none\n\
@@ -356,7 +362,7 @@ fn adopts_tables_in_the_documented_order(rt: HostRuntime) {
         let stays = "UPDATE person SET withdrawn = 0 WHERE id = 'T2'";
         conn = tried_after(&rt, alloc, conn, stays, None);
         let mut desk = taken(&rt, alloc, conn);
-        tells(&rt, alloc, &mut desk, LEAVERS_ROUND, LEAVERS_ROUND_TOLD);
+        responds_to_lines(&rt, alloc, &mut desk, LEAVERS_ROUND, LEAVERS_ROUND_PRINTED);
         let _desk = adopted(&rt, alloc, desk);
     }
 }
@@ -374,7 +380,7 @@ fn taken(rt: &impl Abort, alloc: Global, conn: Connection<MemStore>) -> Desk<Mem
 // Rows of version 1 in the tables of version 2. A migration from version 1 fails, because the name of the table that it adds is
 // taken. With 2 in the row of the round they are the rows of an office of version 2.
 #[test]
-fn tells_of_the_first_version_in_tables_of_the_second(rt: HostRuntime) {
+fn refuses_first_version_rows_in_second_version_tables(rt: HostRuntime) {
     let alloc = rt.alloc();
     let mut conn = tables_made(&rt, alloc, Layout::DocumentedSecond);
     conn.execute_batch(ROWS).expect(&rt, ROWS);
@@ -390,6 +396,6 @@ fn tells_of_the_first_version_in_tables_of_the_second(rt: HostRuntime) {
     let second = "UPDATE round SET version = 2";
     conn.execute_batch(second).expect(&rt, second);
     let mut desk = migrated(&rt, alloc, conn);
-    let (_, lines, told) = PHASES[3];
-    tells(&rt, alloc, &mut desk, lines, told);
+    let (_, lines, expected) = PHASES[3];
+    responds_to_lines(&rt, alloc, &mut desk, lines, expected);
 }

@@ -5,16 +5,16 @@ use Rattle.room_types.specs.Texts.{Text}
 use Rattle.room_types.specs.Words.{word_text}
 use Rattle.office_core.specs.declared.reply.OrderRow.{OrderRow}
 use Rattle.office_texts.specs.OutputLines.{line_of}
-use Rattle.office_texts.specs.OrderLines.{order_line, order_lines, order_text, right_in, told_grade}
+use Rattle.office_texts.specs.OrderLines.{order_line, order_lines, order_text, right_in, grade_suffix}
 
 -- a line is not empty: it ends with a line feed
-pub answer_texts-line_some : (pieces : List Text) → 0 < length (line_of pieces)
-answer_texts-line_some [] = omega arith
-answer_texts-line_some (piece ∷ pieces) = omega (arith, length-append piece (line_of pieces), answer_texts-line_some pieces)
+pub line_some : (parts : List Text) → 0 < length (line_of parts)
+line_some [] = omega arith
+line_some (part ∷ parts) = omega (arith, length-append part (line_of parts), line_some parts)
 
 -- an order with rows has a text that is not empty
 pub answer_texts_order_some : (rows : List OrderRow) → 0 < length rows → 0 < length (order_text rows)
 answer_texts_order_some [] some = absurd (omega (arith, some))
 answer_texts_order_some (row ∷ rows) some =
-    let first : 0 < length (order_line 1 row) = answer_texts-line_some (right_in 4 (decimal 1) ∷ codes " " ∷ word_text row.word ∷ codes " " ∷ row.person ∷ told_grade row.grade ∷ []) in
+    let first : 0 < length (order_line 1 row) = line_some (right_in 4 (decimal 1) ∷ codes " " ∷ word_text row.word ∷ codes " " ∷ row.person ∷ grade_suffix row.grade ∷ []) in
     omega (arith, length-append (order_line 1 row) (order_lines 2 rows), first)

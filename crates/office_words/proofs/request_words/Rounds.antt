@@ -10,33 +10,33 @@ use Rattle.std.proofs.lemmas.Str.Parse.{IsDigitsTest, IsNumeralModel, numerals_b
 use Rattle.std.proofs.Math.Nat.{pow-le-pow_right}
 use Rattle.std.proofs.lemmas.Bool.{and_parts, and_from}
 use Rattle.room_types.specs.Texts.{Text}
-use Rattle.office_words.specs.Values.{is_round_number_word}
+use Rattle.office_words.specs.Values.{is_round_number}
 
-request_words-in_range : (low high n : ℕ) → is_in_range low high n ≡ true → IsInRange low high n
-request_words-in_range low high n h = search (rules, tests)
+in_range : (low high n : ℕ) → is_in_range low high n ≡ true → IsInRange low high n
+in_range low high n h = search (rules, tests)
 
-request_words-is_in : (low high n : ℕ) → IsInRange low high n → is_in_range low high n ≡ true
-request_words-is_in low high n h = search (rules, tests)
+is_in : (low high n : ℕ) → IsInRange low high n → is_in_range low high n ≡ true
+is_in low high n h = search (rules, tests)
 
 abbrev HasDigits : Text → Type 0
 HasDigits text = list_all is_ascii_digit text ≡ true
 
-request_words-digits_test : IsDigitsTest HasDigits
-request_words-digits_test = record {
+digits_test : IsDigitsTest HasDigits
+digits_test = record {
   empty = refl;
-  parts = λ c cs h. let p = and_parts (is_ascii_digit c) (list_all is_ascii_digit cs) h in (request_words-in_range 48 57 c p.0, p.1);
-  more = λ c cs r h. and_from (is_ascii_digit c) (list_all is_ascii_digit cs) (request_words-is_in 48 57 c r) h;
+  parts = λ c cs h. let p = and_parts (is_ascii_digit c) (list_all is_ascii_digit cs) h in (in_range 48 57 c p.0, p.1);
+  more = λ c cs r h. and_from (is_ascii_digit c) (list_all is_ascii_digit cs) (is_in 48 57 c r) h;
 }
 
-request_words-digits_model : IsNumeralModel HasDigits (digits_value 10)
-request_words-digits_model = numerals_by_value HasDigits request_words-digits_test
+digits_model : IsNumeralModel HasDigits (digits_value 10)
+digits_model = numerals_by_value HasDigits digits_test
 
 -- `parse` of a word of 1 to 4 digits returns the number that they write
-pub request_words-round_read : {E : Type 0} (word : Text) (r : Result ℕ E) → ParsesUnsigned 16 10 word r → is_round_number_word word ≡ true → r ≡ Ok (digits_value 10 word)
-request_words-round_read word r parses is =
+pub round_read : {E : Type 0} (word : Text) (r : Result ℕ E) → ParsesUnsigned 16 10 word r → is_round_number word ≡ true → r ≡ Ok (digits_value 10 word)
+round_read word r parses is =
     let p = and_parts (is_in_range 1 4 (length word)) (list_all is_ascii_digit word) is in
-    let long = request_words-in_range 1 4 (length word) p.0 in
-    let small = digits_value-lt 10 word (request_words-digits_model.to word p.1) in
+    let long = in_range 1 4 (length word) p.0 in
+    let small = digits_value-lt 10 word (digits_model.to word p.1) in
     let bound : 10 ^ length word ≤ 10 ^ 4 = pow-le-pow_right (omega arith) long.1 in
     let limit : 10 ^ 4 ≤ 10000 = omega arith in
-    parse_gives request_words-digits_model 16 word r parses p.1 long.0 (omega (arith, small, bound, limit))
+    parse_gives digits_model 16 word r parses p.1 long.0 (omega (arith, small, bound, limit))

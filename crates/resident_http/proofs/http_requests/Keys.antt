@@ -9,22 +9,22 @@ use Rattle.std.specs.Int.{is_in_range}
 use Rattle.std.specs.List.{list_all}
 use Rattle.room_types.specs.Grammars.{is_key, is_key_byte}
 
-http_requests-is_ascii : (b : ℕ) → is_key_byte b ≡ true → b < 128
-http_requests-is_ascii b h = grind (arith, nat_tests)
+is_ascii : (b : ℕ) → is_key_byte b ≡ true → b < 128
+is_ascii b h = grind (arith, nat_tests)
 
-http_requests-bytes_are_text : (text : List ℕ) → list_all is_key_byte text ≡ true → IsUtf8 text
-http_requests-bytes_are_text text h =
+bytes_are_text : (text : List ℕ) → list_all is_key_byte text ≡ true → IsUtf8 text
+bytes_are_text text h =
     let each = AllPass-from_list_all is_key_byte text h in
     IsUtf8-from_ascii text (λ i. elim (cases_lt i (length text)) [
-      | inl lt ↦ http_requests-is_ascii (get_or text i 0) (each i 0 lt)
+      | inl lt ↦ is_ascii (get_or text i 0) (each i 0 lt)
       | inr le ↦ rw (get_or_past text i 0 le) (lit< tt)
     ])
 
-http_requests-not_of_key : (text : List ℕ) (fits bytes : Bool) → bytes ≡ list_all is_key_byte text → ¬ (IsUtf8 text) → None ≡ cond (fits && bytes) (Some text) None
-http_requests-not_of_key text true true e h = absurd (h (http_requests-bytes_are_text text (sym e)))
-http_requests-not_of_key text true false e h = refl
-http_requests-not_of_key text false bytes e h = refl
+not_of_key : (text : List ℕ) (fits bytes : Bool) → bytes ≡ list_all is_key_byte text → ¬ (IsUtf8 text) → None ≡ cond (fits && bytes) (Some text) None
+not_of_key text true true e h = absurd (h (bytes_are_text text (sym e)))
+not_of_key text true false e h = refl
+not_of_key text false bytes e h = refl
 
 -- bytes that are not UTF-8 are not a key
-pub http_requests-no_key_of : (text : List ℕ) → ¬ (IsUtf8 text) → None ≡ cond (is_key text) (Some text) None
-http_requests-no_key_of text h = http_requests-not_of_key text (is_in_range 16 64 (length text)) (list_all is_key_byte text) refl h
+pub no_key_of : (text : List ℕ) → ¬ (IsUtf8 text) → None ≡ cond (is_key text) (Some text) None
+no_key_of text h = not_of_key text (is_in_range 16 64 (length text)) (list_all is_key_byte text) refl h

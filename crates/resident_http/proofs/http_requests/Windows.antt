@@ -9,29 +9,29 @@ use Rattle.resident_http.specs.Asks.{window, head_limit}
 http_requests-short : (n : ℕ) (xs : List ℕ) → length xs < n → take n xs ≡ xs
 http_requests-short n xs h = take_all n xs (omega arith)
 
-pub http_requests-window-few : (xs : List ℕ) → length xs < head_limit → window xs ≡ xs
+pub window-few : (xs : List ℕ) → length xs < head_limit → window xs ≡ xs
 unfolding window
-http_requests-window-few xs h = http_requests-short head_limit xs h
+window-few xs h = http_requests-short head_limit xs h
 
-pub http_requests-window-is : (xs : List ℕ) → take head_limit xs ≡ window xs
+pub window-is : (xs : List ℕ) → take head_limit xs ≡ window xs
 unfolding window
-http_requests-window-is xs = refl
+window-is xs = refl
 
-http_requests-cut : (n : ℕ) (xs : List ℕ) → n ≤ length xs → xs ≡ take n xs ++ drop (length (take n xs)) xs
-http_requests-cut n xs h = sym (take-append-drop n xs) ∙ ap (λ k. take n xs ++ drop k xs) (sym (length-take-le n xs h))
+cut : (n : ℕ) (xs : List ℕ) → n ≤ length xs → xs ≡ take n xs ++ drop (length (take n xs)) xs
+cut n xs h = sym (take-append-drop n xs) ∙ ap (λ k. take n xs ++ drop k xs) (sym (length-take-le n xs h))
 
-pub http_requests-first_cut : (xs : List ℕ) → head_limit ≤ length xs → xs ≡ take head_limit xs ++ drop (length (take head_limit xs)) xs
-http_requests-first_cut xs h = http_requests-cut head_limit xs h
+pub first_cut : (xs : List ℕ) → head_limit ≤ length xs → xs ≡ take head_limit xs ++ drop (length (take head_limit xs)) xs
+first_cut xs h = cut head_limit xs h
 
 -- the window and the bytes after it are all bytes
-pub http_requests-window-rest : (xs : List ℕ) → window xs ++ drop head_limit xs ≡ xs
+pub window-rest : (xs : List ℕ) → window xs ++ drop head_limit xs ≡ xs
 unfolding window
-http_requests-window-rest xs = take-append-drop head_limit xs
+window-rest xs = take-append-drop head_limit xs
 
-http_requests-front_of : (n : ℕ) (p q : List ℕ) → length p ≤ n → take n (p ++ q) ≡ p ++ take (n - length p) q
-http_requests-front_of n p q h = let e : n ≡ length p + (n - length p) = omega arith in ap (λ k. take k (p ++ q)) e ∙ take-append-add p q (n - length p)
+take-append-rest : (n : ℕ) (p q : List ℕ) → length p ≤ n → take n (p ++ q) ≡ p ++ take (n - length p) q
+take-append-rest n p q h = let e : n ≡ length p + (n - length p) = omega arith in ap (λ k. take k (p ++ q)) e ∙ take-append-add p q (n - length p)
 
 -- a head within the limit is a head of the window
-pub http_requests-in_window : (bytes rest : List ℕ) (h : RequestHead) → ReadsRequest bytes h rest → length (print_request h) ≤ head_limit → ReadsRequest (window bytes) h (take (head_limit - length (print_request h)) rest)
+pub in_window : (bytes rest : List ℕ) (h : RequestHead) → ReadsRequest bytes h rest → length (print_request h) ≤ head_limit → ReadsRequest (window bytes) h (take (head_limit - length (print_request h)) rest)
 unfolding window
-http_requests-in_window bytes rest h r fits = (r.0, ap (take head_limit) r.1 ∙ http_requests-front_of head_limit (print_request h) rest fits)
+in_window bytes rest h r fits = (r.0, ap (take head_limit) r.1 ∙ take-append-rest head_limit (print_request h) rest fits)

@@ -12,19 +12,19 @@ json-texts : (all : List Text) → items_have_float (items_of (map string all)) 
 json-texts [] = refl
 json-texts (text ∷ all) = json-texts all
 
-json-rooms : (rows : List RoomRow) → items_have_float (items_of (map room_data rows)) ≡ false
-json-rooms [] = refl
-json-rooms (row ∷ rows) = json-rooms rows
+rooms : (rows : List RoomRow) → items_have_float (items_of (map room_data rows)) ≡ false
+rooms [] = refl
+rooms (row ∷ rows) = rooms rows
 
-json-text_or : (text : Option Text) → has_float (text_or_null text) ≡ false
-json-text_or None = refl
-json-text_or (Some text) = refl
+text_or : (text : Option Text) → has_float (text_or_null text) ≡ false
+text_or None = refl
+text_or (Some text) = refl
 
-pub json-no_float_in_choices : (choices : List Text) → has_float (choices_data choices) ≡ false
-json-no_float_in_choices choices = rw (json-texts choices) refl
+pub no_float_in_choices : (choices : List Text) → has_float (choices_data choices) ≡ false
+no_float_in_choices choices = rw (json-texts choices) refl
 
-pub json-no_float_in_standing : (standing : Standing) → has_float (standing_data standing) ≡ false
-json-no_float_in_standing standing = rw (json-texts standing.choices, json-text_or standing.home, json-text_or standing.result) refl
+pub no_float_in_standing : (standing : Standing) → has_float (standing_data standing) ≡ false
+no_float_in_standing standing = rw (json-texts standing.choices, text_or standing.home, text_or standing.result) refl
 
-pub json-no_float_in_rooms : (rows : List RoomRow) → has_float (rooms_data rows) ≡ false
-json-no_float_in_rooms rows = json-rooms rows
+pub no_float_in_rooms : (rows : List RoomRow) → has_float (rooms_data rows) ≡ false
+no_float_in_rooms rows = rooms rows

@@ -5,7 +5,7 @@ use Rattle.resident_http.specs.declared.fields.Found.{Found}
 use Rattle.resident_http.specs.declared.fields.Found.TheVariants as found
 
 -- the search found exactly these values
-abbrev pub Tells : List ℕ → Found → List (List ℕ) → Type 0
-Tells buf found.Nothing values = values ≡ []
-Tells buf (found.One span) values = IsWithin (length buf) span × (values ≡ span_bytes buf span ∷ [])
-Tells buf found.Several values = 2 ≤ length values
+abbrev pub Finds : List ℕ → Found → List (List ℕ) → Type 0
+Finds buf found.Nothing values = values ≡ []
+Finds buf (found.One span) values = IsWithin (length buf) span × (values ≡ span_bytes buf span ∷ [])
+Finds buf found.Several values = 2 ≤ length values

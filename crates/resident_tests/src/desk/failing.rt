@@ -3,35 +3,35 @@ use std::alloc::Global;
 use std::io;
 use std::io::{Error, ErrorKind, Read, Write};
 
-/// A reader that passes at most `piece` bytes at the first read and at most `later` at each other one. After `reads` reads one
+/// A reader that passes at most `chunk` bytes at the first read and at most `later` at each other one. After `reads` reads one
 /// read fails.
 #[derive(Drop)]
-pub struct PiecewiseReader<'a> {
+pub struct ChunkedReader<'a> {
     pub unread: &'a [u8],
-    pub piece: usize,
+    pub chunk: usize,
     pub later: usize,
     pub reads: usize,
 }
 
-impl Read for PiecewiseReader<'_> {
+impl Read for ChunkedReader<'_> {
     fn read(&mut self, buf: &mut [u8]) -> io::Result<usize> {
         if self.reads == 0 {
             self.reads = usize::MAX;
             return Err(Error::from(ErrorKind::Other));
         }
         self.reads -= 1;
-        let len = self.piece.min(buf.len());
-        self.piece = self.later;
+        let len = self.chunk.min(buf.len());
+        self.chunk = self.later;
         self.unread.read(&mut buf[..len])
     }
 }
 
-/// A writer that keeps the bytes that it takes, at most `piece` a write. After `room` bytes it refuses one write: the write
+/// A writer that keeps the bytes that it takes, at most `chunk` a write. After `room` bytes it refuses one write: the write
 /// fails, or takes no byte. After that it takes `later` more bytes. Its flushes may fail.
 #[derive(Drop)]
 pub struct NarrowWriter {
     pub written: Vec<u8>,
-    pub piece: usize,
+    pub chunk: usize,
     pub room: usize,
     pub fails: bool,
     pub later: usize,
@@ -43,7 +43,7 @@ impl NarrowWriter {
     pub fn wide(alloc: Global) -> Self {
         NarrowWriter {
             written: Vec::new(alloc),
-            piece: usize::MAX,
+            chunk: usize::MAX,
             room: usize::MAX,
             fails: true,
             later: usize::MAX,
@@ -62,7 +62,7 @@ impl Write for NarrowWriter {
                 Ok(0)
             };
         }
-        let len = self.room.min(self.piece).min(buf.len());
+        let len = self.room.min(self.chunk).min(buf.len());
         self.room -= len;
         self.written.extend_from_slice(&buf[..len])?;
         Ok(len)

@@ -1,7 +1,7 @@
 //! Tests of streams that pass bytes in chunks, that end early, and that fail.
-use super::failing::{NarrowWriter, PiecewiseReader};
-use super::told::{LISTS_H2, NO_LIST, is_told};
-use super::{ANSWER, REQUEST, Talk, WELL, let_go, open_round, served, served_on};
+use super::failing::{ChunkedReader, NarrowWriter};
+use super::whole_office::{LISTS_H2, NO_LIST, is_as_expected};
+use super::{ANSWER, Exchange, REQUEST, WELL, drop_desk, open_round, served, served_on};
 use crate::asserting::{same, same_at};
 use http::StatusCode;
 use office_store::Desk;
@@ -32,10 +32,10 @@ const REFUSALS: [(bool, usize); 4] = [
 ];
 
 // Asserts how serving a connection ended and what was written, and that the stream failed if and only if that is a fault.
-fn is_talk(rt: &impl Abort, talk: &Talk, how: Served, written: &[u8], case: usize) {
-    same_at(rt, &talk.how, &how, case);
-    same_at(rt, &talk.failed, &is_fault(how), case);
-    same_at(rt, &talk.written.as_slice(), &written, case);
+fn is_exchange(rt: &impl Abort, exchange: &Exchange, how: Served, written: &[u8], case: usize) {
+    same_at(rt, &exchange.how, &how, case);
+    same_at(rt, &exchange.failed, &is_fault(how), case);
+    same_at(rt, &exchange.written.as_slice(), &written, case);
 }
 
 fn is_fault(how: Served) -> bool {
@@ -44,9 +44,9 @@ fn is_fault(how: Served) -> bool {
 
 // The response is the same however the request is cut into two chunks, and if each read gives one byte.
 #[test]
-fn cuts_do_not_matter(rt: HostRuntime) -> io::Result<()> {
+fn answers_the_same_however_a_request_is_cut(rt: HostRuntime) -> io::Result<()> {
     for cut in 0..REQUEST.len() {
-        cut_does_not_matter(&rt, rt.alloc(), cut);
+        same_answer_at_cut(&rt, rt.alloc(), cut);
     }
     println!(rt;
         "a request in two pieces, or a byte a read: {} cuts",
@@ -54,19 +54,19 @@ fn cuts_do_not_matter(rt: HostRuntime) -> io::Result<()> {
     )
 }
 
-fn cut_does_not_matter(rt: &impl Abort, alloc: Global, cut: usize) {
+fn same_answer_at_cut(rt: &impl Abort, alloc: Global, cut: usize) {
     let mut desk = open_round(rt, alloc);
-    let talk = served(alloc, &mut desk, reader_cut_at(cut));
-    is_talk(rt, &talk, WELL, ANSWER.as_bytes(), cut);
-    is_told(rt, alloc, &mut desk, LISTS_H2, cut);
-    let_go(desk);
+    let exchange = served(alloc, &mut desk, reader_cut_at(cut));
+    is_exchange(rt, &exchange, WELL, ANSWER.as_bytes(), cut);
+    is_as_expected(rt, alloc, &mut desk, LISTS_H2, cut);
+    drop_desk(desk);
 }
 
 // A reader of the request in two chunks. If the first would be empty, each read gives one byte.
-fn reader_cut_at(cut: usize) -> PiecewiseReader<'static> {
-    PiecewiseReader {
+fn reader_cut_at(cut: usize) -> ChunkedReader<'static> {
+    ChunkedReader {
         unread: REQUEST.as_bytes(),
-        piece: cut.max(1),
+        chunk: cut.max(1),
         later: if cut == 0 { 1 } else { usize::MAX },
         reads: usize::MAX,
     }
@@ -74,49 +74,49 @@ fn reader_cut_at(cut: usize) -> PiecewiseReader<'static> {
 
 // A request that ends too early is refused, and nothing changes. If no byte arrives, nothing is written.
 #[test]
-fn fronts_are_refused(rt: HostRuntime) -> io::Result<()> {
+fn refuses_each_incomplete_request(rt: HostRuntime) -> io::Result<()> {
     let mut desk = open_round(&rt, rt.alloc());
-    is_told(&rt, rt.alloc(), &mut desk, NO_LIST, 0);
+    is_as_expected(&rt, rt.alloc(), &mut desk, NO_LIST, 0);
     for len in 0..REQUEST.len() {
-        front_is_refused(&rt, rt.alloc(), &mut desk, &REQUEST.as_bytes()[..len]);
+        prefix_is_refused(&rt, rt.alloc(), &mut desk, &REQUEST.as_bytes()[..len]);
     }
-    let_go(desk);
+    drop_desk(desk);
     println!(rt; "a request that ends too early: {} cuts", REQUEST.len())
 }
 
-fn front_is_refused(rt: &impl Abort, alloc: Global, desk: &mut Desk<MemStore>, front: &[u8]) {
-    let (how, written) = if front.is_empty() {
+fn prefix_is_refused(rt: &impl Abort, alloc: Global, desk: &mut Desk<MemStore>, prefix: &[u8]) {
+    let (how, written) = if prefix.is_empty() {
         (Served::Silent, "")
     } else {
         (REFUSED, BAD_REQUEST)
     };
-    let talk = served(alloc, desk, front);
-    is_talk(rt, &talk, how, written.as_bytes(), front.len());
-    is_told(rt, alloc, desk, NO_LIST, front.len());
+    let exchange = served(alloc, desk, prefix);
+    is_exchange(rt, &exchange, how, written.as_bytes(), prefix.len());
+    is_as_expected(rt, alloc, desk, NO_LIST, prefix.len());
 }
 
 // If a read fails, nothing is written, and nothing changes.
 #[test]
 fn stops_where_a_read_fails(rt: HostRuntime) -> io::Result<()> {
     let mut desk = open_round(&rt, rt.alloc());
-    is_told(&rt, rt.alloc(), &mut desk, NO_LIST, 0);
+    is_as_expected(&rt, rt.alloc(), &mut desk, NO_LIST, 0);
     for passed in 0..REQUEST.len() {
         stops_at_read(&rt, rt.alloc(), &mut desk, passed);
     }
-    let_go(desk);
+    drop_desk(desk);
     println!(rt; "a request whose reads fail: {} faults", REQUEST.len())
 }
 
 fn stops_at_read(rt: &impl Abort, alloc: Global, desk: &mut Desk<MemStore>, passed: usize) {
-    let reader = PiecewiseReader {
+    let reader = ChunkedReader {
         unread: REQUEST.as_bytes(),
-        piece: 1,
+        chunk: 1,
         later: 1,
         reads: passed,
     };
-    let talk = served(alloc, desk, reader);
-    is_talk(rt, &talk, Served::ReadFault, b"", passed);
-    is_told(rt, alloc, desk, NO_LIST, passed);
+    let exchange = served(alloc, desk, reader);
+    is_exchange(rt, &exchange, Served::ReadFault, b"", passed);
+    is_as_expected(rt, alloc, desk, NO_LIST, passed);
 }
 
 // If a write fails or takes no byte, or the flush fails, a prefix of the response has been written, and the list stays
@@ -134,76 +134,81 @@ fn stops_where_a_write_fails(rt: HostRuntime) -> io::Result<()> {
 }
 
 // Asserts that exactly this prefix is written if the writer has room for no more, however it refuses a write.
-fn stops_after(rt: &impl Abort, alloc: Global, front: &[u8]) {
+fn stops_after(rt: &impl Abort, alloc: Global, prefix: &[u8]) {
     for (fails, later) in REFUSALS {
         let writer = NarrowWriter {
             written: Vec::new(alloc),
-            piece: 7,
-            room: front.len(),
+            chunk: 7,
+            room: prefix.len(),
             fails,
             later,
             flushes: false,
         };
-        stops_on(rt, alloc, writer, front);
+        stops_on(rt, alloc, writer, prefix);
     }
 }
 
 // Asserts that this writer takes exactly this prefix of the response.
-fn stops_on(rt: &impl Abort, alloc: Global, writer: NarrowWriter, front: &[u8]) {
-    let sent = front.len();
+fn stops_on(rt: &impl Abort, alloc: Global, writer: NarrowWriter, prefix: &[u8]) {
+    let sent = prefix.len();
     let mut desk = open_round(rt, alloc);
-    let talk = served_on(alloc, &mut desk, REQUEST.as_bytes(), writer);
-    is_talk(rt, &talk, Served::WriteFault { sent }, front, sent);
-    is_told(rt, alloc, &mut desk, LISTS_H2, sent);
-    let_go(desk);
+    let exchange = served_on(alloc, &mut desk, REQUEST.as_bytes(), writer);
+    is_exchange(rt, &exchange, Served::WriteFault { sent }, prefix, sent);
+    is_as_expected(rt, alloc, &mut desk, LISTS_H2, sent);
+    drop_desk(desk);
 }
 
 // A head of 8,192 bytes without an end is refused by the read that brings its last byte. The longest request, read one byte at
 // a time, takes as many reads as it has bytes.
 #[test]
-fn reads_no_more_than_it_may(rt: HostRuntime) {
+fn reads_up_to_the_limits_of_head_and_body(rt: HostRuntime) {
     let mut desk = open_round(&rt, rt.alloc());
     head_is_refused(&rt, rt.alloc(), &mut desk);
     longest_is_answered(&rt, rt.alloc(), &mut desk);
-    let_go(desk);
+    drop_desk(desk);
 }
 
 fn head_is_refused(rt: &impl Abort, alloc: Global, desk: &mut Desk<MemStore>) {
-    let front = "GET /me HTTP/1.1\r\nHost: a\r\nX: ";
+    let prefix = "GET /me HTTP/1.1\r\nHost: a\r\nX: ";
     let rest = "x".repeat(alloc, 9_216).expect(rt, "memory");
-    let head = format!(in alloc; "{front}{rest}").expect(rt, "memory");
-    let reader = PiecewiseReader {
+    let head = format!(in alloc; "{prefix}{rest}").expect(rt, "memory");
+    let reader = ChunkedReader {
         unread: head.as_bytes(),
-        piece: 8_191,
+        chunk: 8_191,
         later: 1,
         reads: usize::MAX,
     };
-    let talk = served(alloc, desk, reader);
-    is_talk(rt, &talk, REFUSED, BAD_REQUEST.as_bytes(), 8_192);
-    same(rt, &(talk.reads, talk.flushes), &(2, 1), "reads, flushes");
+    let exchange = served(alloc, desk, reader);
+    is_exchange(rt, &exchange, REFUSED, BAD_REQUEST.as_bytes(), 8_192);
+    same(
+        rt,
+        &(exchange.reads, exchange.flushes),
+        &(2, 1),
+        "reads, flushes",
+    );
 }
 
 fn longest_is_answered(rt: &impl Abort, alloc: Global, desk: &mut Desk<MemStore>) {
     let request = longest_request(rt, alloc);
-    let reader = PiecewiseReader {
+    let reader = ChunkedReader {
         unread: request.as_bytes(),
-        piece: 1,
+        chunk: 1,
         later: 1,
         reads: usize::MAX,
     };
-    let talk = served(alloc, desk, reader);
-    is_talk(rt, &talk, WELL, ANSWER.as_bytes(), 9_216);
-    let counts = (request.len(), talk.reads, talk.flushes);
+    let exchange = served(alloc, desk, reader);
+    is_exchange(rt, &exchange, WELL, ANSWER.as_bytes(), 9_216);
+    let counts = (request.len(), exchange.reads, exchange.flushes);
     same(rt, &counts, &(9_216, 9_216, 1), "bytes, reads, flushes");
 }
 
 // A request in which T1 hands in a list, with a head of 8,192 bytes and a body of 1,024.
 fn longest_request(rt: &impl Abort, alloc: Global) -> String {
-    let front = "PUT /me/choices HTTP/1.1\r\nHost: a\r\nRoom-Key: key00000000000t1\r\n\
+    let prefix = "PUT /me/choices HTTP/1.1\r\nHost: a\r\nRoom-Key: key00000000000t1\r\n\
         Content-Length: 1024\r\nX: ";
     let letters = "x"
-        .repeat(alloc, 8_188usize.saturating_sub(front.len()))
+        .repeat(alloc, 8_188usize.saturating_sub(prefix.len()))
         .expect(rt, "memory");
     let spaces = " ".repeat(alloc, 1_018).expect(rt, "memory");
-    format!(in alloc; "{front}{letters}\r\n\r\n[\"H2\"]{spaces}").expect(rt, "memory")
+    format!(in alloc; "{prefix}{letters}\r\n\r\n[\"H2\"]{spaces}").expect(rt, "memory")
 }

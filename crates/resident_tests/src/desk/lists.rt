@@ -1,5 +1,5 @@
 //! Tests of lists of rooms up to the limit and beyond it.
-use super::{handle_lines, is_answered, let_go, open_round};
+use super::{drop_desk, handle_lines, is_answered, open_round};
 use crate::requests::{fault_text, listed};
 use office_store::Desk;
 use sqlite::MemStore;
@@ -29,14 +29,14 @@ const LISTS: [(&str, usize, Option<(&str, &str)>); 6] = [
 
 // A list may have forty rooms. A longer one is refused for its length before the phase and the rooms are checked.
 #[test]
-fn lists_up_to_their_limit(rt: HostRuntime) {
+fn accepts_lists_up_to_the_limit(rt: HostRuntime) {
     let alloc = rt.alloc();
     let mut desk = open_round(&rt, alloc);
     for (lines, count, fault) in LISTS {
         handle_lines(&rt, alloc, &mut desk, lines);
         list_is_answered(&rt, alloc, &mut desk, count, fault);
     }
-    let_go(desk);
+    drop_desk(desk);
 }
 
 // Asserts that a list of this number of rooms gets this error, or is recorded.

@@ -1,5 +1,5 @@
 //! Tests of serving a connection over a real socket, with both ends in this process.
-use super::{ANSWER, REQUEST, WELL, let_go, open_round, read_whole};
+use super::{ANSWER, REQUEST, WELL, drop_desk, open_round, read_whole};
 use crate::asserting::assert_same;
 use office_store::Desk;
 use resident_desk::{Served, serve_one};
@@ -17,7 +17,7 @@ fn answers_over_a_socket(rt: HostRuntime) {
     let mut resident = TcpStream::connect(&rt, address).expect(&rt, "a connection");
     let mut desk = open_round(&rt, rt.alloc());
     is_answered(&rt, rt.alloc(), &mut desk, &listener, &mut resident);
-    let_go(desk);
+    drop_desk(desk);
 }
 
 // Asserts that the resident, whose connection waits at the listener, gets the response.

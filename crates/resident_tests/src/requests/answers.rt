@@ -5,10 +5,10 @@ ghost use Rattle.resident_http.specs.Faults.{names_fault};
 use crate::asserting::{assert_same, same};
 use http::StatusCode;
 use office_core::Standing;
-use resident_http::answer::{HttpAnswer, UNAVAILABLE, answer_bytes};
+use resident_http::answer::{HttpAnswer, UNAVAILABLE_RESPONSE, answer_bytes};
 use resident_http::bodies::{choices_body, fault_body, rooms_body, standing_body, withdrawn_body};
 use resident_http::choices::choices_of_body;
-use resident_http::faults::http_fault_name;
+use resident_http::faults::fault_name;
 use resident_http::method::Method;
 use room_types::{
     Choices, Grammar, Listing, OutOfMemory, Phase, RoomCode, RoomRow, State, Text, TypeFault,
@@ -119,7 +119,7 @@ fn is_written(rt: &impl Abort, alloc: Global, answer: &HttpAnswer, wanted: &[u8]
 }
 
 #[test]
-fn a_success_to_the_byte(rt: HostRuntime) {
+fn writes_a_success_to_the_byte(rt: HostRuntime) {
     let alloc = rt.alloc();
     let rooms = rooms(&rt, alloc, &["H2"]);
     let body = choices_body(alloc, &rooms).expect(&rt, "memory");
@@ -127,28 +127,28 @@ fn a_success_to_the_byte(rt: HostRuntime) {
 }
 
 #[test]
-fn a_wrong_method_to_the_byte(rt: HostRuntime) {
+fn writes_a_wrong_method_to_the_byte(rt: HostRuntime) {
     let alloc = rt.alloc();
     let answer = HttpAnswer::wrong_method(alloc, Method::Put).expect(&rt, "memory");
     is_written(&rt, alloc, &answer, WRONG_METHOD);
 }
 
 #[test]
-fn faults_with_their_reasons_and_names(rt: HostRuntime) {
+fn writes_faults_with_their_reasons_and_names(rt: HostRuntime) {
     let alloc = rt.alloc();
     for (status, line, name) in FAULTS {
-        let told = http_fault_name(status);
-        assert_same!(rt; told, name);
-        is_fault(&rt, alloc, status, line, told);
+        let printed = fault_name(status);
+        assert_same!(rt; printed, name);
+        is_fault(&rt, alloc, status, line, printed);
     }
 }
 
 #[test]
-fn a_desk_that_is_unavailable(rt: HostRuntime) {
+fn writes_that_the_desk_is_unavailable(rt: HostRuntime) {
     let alloc = rt.alloc();
     let status = StatusCode::SERVICE_UNAVAILABLE;
     let unavailable = HttpAnswer::fault(alloc, status, "Unavailable").expect(&rt, "memory");
-    is_written(&rt, alloc, &unavailable, UNAVAILABLE);
+    is_written(&rt, alloc, &unavailable, UNAVAILABLE_RESPONSE);
     let body = fault_body(alloc, "Unavailable").expect(&rt, "memory");
     assert_same!(rt; body.as_slice(), b"{\"error\":\"Unavailable\"}".as_slice());
 }
@@ -171,7 +171,7 @@ pub fn fault_text(rt: &impl Abort, alloc: Global, line: &str, name: &str) -> Str
 }
 
 #[test]
-fn faults_with_several_names(rt: HostRuntime) {
+fn writes_faults_of_statuses_with_several_names(rt: HostRuntime) {
     let alloc = rt.alloc();
     for (status, line, name) in NAMED_FAULTS {
         is_fault(&rt, alloc, status, line, name);
@@ -199,20 +199,20 @@ fn is_body(rt: &impl Abort, body: Result<Listing<u8>, OutOfMemory>, wanted: &[u8
 }
 
 #[test]
-fn bodies_to_the_byte(rt: HostRuntime) {
+fn writes_bodies_to_the_byte(rt: HostRuntime) {
     let alloc = rt.alloc();
-    ran_is_told(&rt, alloc);
-    published_is_told(&rt, alloc);
+    is_ran_body(&rt, alloc);
+    is_published_body(&rt, alloc);
     is_body(&rt, withdrawn_body(alloc), b"{\"withdrawn\":true}");
     is_body(&rt, choices_body(alloc, &[]), b"{\"choices\":[]}");
 }
 
-fn ran_is_told(rt: &impl Abort, alloc: Global) {
+fn is_ran_body(rt: &impl Abort, alloc: Global) {
     let ran = standing(rt, alloc, Phase::Ran, false, None);
     is_body(rt, standing_body(alloc, &ran), RAN);
 }
 
-fn published_is_told(rt: &impl Abort, alloc: Global) {
+fn is_published_body(rt: &impl Abort, alloc: Global) {
     let got = Some(text(rt, alloc, "H2"));
     let published = standing(rt, alloc, Phase::Published, true, got);
     is_body(rt, standing_body(alloc, &published), PUBLISHED);
@@ -227,7 +227,7 @@ fn row(rt: &impl Abort, alloc: Global, code: &str, state: State) -> RoomRow {
 }
 
 #[test]
-fn rooms_to_the_byte(rt: HostRuntime) {
+fn writes_rooms_to_the_byte(rt: HostRuntime) {
     let alloc = rt.alloc();
     let rows = vec![in alloc;
         row(&rt, alloc, "H1", State::Occupied),
@@ -258,7 +258,7 @@ const BAD_BODIES: [&[u8]; 12] = [
 const REPEATED: [&[u8]; 2] = [b"[\"H2\",\"H2\"]", b"[\"H2\",\"V\",\"H2\"]"];
 
 #[test]
-fn lists_of_rooms_are_read(rt: HostRuntime) {
+fn reads_lists_of_rooms(rt: HostRuntime) {
     let alloc = rt.alloc();
     is_list(&rt, alloc, b"[\"H2\"]", &["H2"]);
     let spaced = b" [ \"H2\" , \"\\u0056\" ]\r\n\t ";
@@ -282,7 +282,7 @@ fn longest_list(rt: &impl Abort, alloc: Global) -> usize {
 }
 
 #[test]
-fn other_bodies_are_refused(rt: HostRuntime) {
+fn refuses_other_bodies(rt: HostRuntime) {
     let alloc = rt.alloc();
     let bad = TypeFault::BadValue;
     for body in BAD_BODIES {
@@ -293,7 +293,7 @@ fn other_bodies_are_refused(rt: HostRuntime) {
 }
 
 #[test]
-fn repeated_rooms_are_refused(rt: HostRuntime) {
+fn refuses_repeated_rooms(rt: HostRuntime) {
     let alloc = rt.alloc();
     let repeated = TypeFault::RoomRepeated(text(&rt, alloc, "H2"));
     for body in REPEATED {

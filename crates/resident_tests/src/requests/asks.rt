@@ -146,7 +146,7 @@ fn path_and_key(bytes: &[u8]) -> Option<(&str, Option<&str>)> {
 }
 
 #[test]
-fn a_request_is_read(rt: HostRuntime) {
+fn parses_a_complete_request(rt: HostRuntime) {
     match read_ask(REQUEST) {
         AskState::Ask {
             method,
@@ -166,21 +166,21 @@ fn a_request_is_read(rt: HostRuntime) {
 }
 
 #[test]
-fn more_is_asked_of_each_front(rt: HostRuntime) {
+fn needs_more_after_each_prefix(rt: HostRuntime) {
     for length in 0..REQUEST.len() {
         same_at(&rt, &in_short(&REQUEST[..length]), &Asked::More, length);
     }
 }
 
 #[test]
-fn the_first_fault_counts(rt: HostRuntime) {
+fn returns_the_first_fault(rt: HostRuntime) {
     for (bytes, status) in FAULTS {
         assert_same!(rt; in_short(bytes), Asked::Refused(status));
     }
 }
 
 #[test]
-fn paths_and_keys(rt: HostRuntime) {
+fn parses_paths_and_keys(rt: HostRuntime) {
     for (bytes, path, key) in READ {
         assert_same!(rt; path_and_key(bytes), Some((path, key)));
     }
@@ -200,15 +200,15 @@ const BODIES: [(&[u8], &[u8]); 3] = [
 ];
 
 #[test]
-fn bodies_by_their_length(rt: HostRuntime) {
+fn parses_bodies_by_their_length(rt: HostRuntime) {
     for (bytes, body) in BODIES {
         assert_same!(rt; body_of(bytes), Some(body));
     }
 }
 
 // The prefix, and after it the byte the given number of times.
-fn padded(rt: &impl Abort, alloc: Global, front: &[u8], byte: u8, times: usize) -> Vec<u8> {
-    let mut bytes = Vec::from_slice(alloc, front).expect(rt, "memory");
+fn padded(rt: &impl Abort, alloc: Global, prefix: &[u8], byte: u8, times: usize) -> Vec<u8> {
+    let mut bytes = Vec::from_slice(alloc, prefix).expect(rt, "memory");
     for _ in 0..times {
         bytes.push(byte).expect(rt, "memory");
     }
@@ -217,12 +217,12 @@ fn padded(rt: &impl Abort, alloc: Global, front: &[u8], byte: u8, times: usize) 
 
 // A request whose body is a list and this number of spaces. Its length is given as 1,024 bytes.
 fn spaced_list(rt: &impl Abort, alloc: Global, spaces: usize) -> Vec<u8> {
-    let front = b"PUT /me/choices HTTP/1.1\r\nHost: a\r\nContent-Length: 1024\r\n\r\n[\"H2\"]";
-    padded(rt, alloc, front, b' ', spaces)
+    let prefix = b"PUT /me/choices HTTP/1.1\r\nHost: a\r\nContent-Length: 1024\r\n\r\n[\"H2\"]";
+    padded(rt, alloc, prefix, b' ', spaces)
 }
 
 #[test]
-fn the_longest_body(rt: HostRuntime) {
+fn parses_the_longest_body(rt: HostRuntime) {
     let alloc = rt.alloc();
     let short = spaced_list(&rt, alloc, 1_017);
     assert_same!(rt; in_short(&short), Asked::More);
@@ -249,7 +249,7 @@ const HEADS: [(usize, &[u8], Asked); 6] = [
 ];
 
 #[test]
-fn heads_up_to_their_limits(rt: HostRuntime) {
+fn parses_heads_up_to_the_limit(rt: HostRuntime) {
     for (length, end, wanted) in HEADS {
         same_at(
             &rt,
@@ -262,9 +262,9 @@ fn heads_up_to_their_limits(rt: HostRuntime) {
 
 // The result of parsing a head with this number of bytes before this end.
 fn asked_by_head(rt: &impl Abort, alloc: Global, length: usize, end: &[u8]) -> Asked {
-    let front = b"GET / HTTP/1.1\r\nHost: ".as_slice();
-    let letters = length.saturating_sub(front.len());
-    let mut head = padded(rt, alloc, front, b'a', letters);
+    let prefix = b"GET / HTTP/1.1\r\nHost: ".as_slice();
+    let letters = length.saturating_sub(prefix.len());
+    let mut head = padded(rt, alloc, prefix, b'a', letters);
     head.extend_from_slice(end).expect(rt, "memory");
     in_short(&head)
 }
@@ -280,7 +280,7 @@ fn head_of_fields(rt: &impl Abort, alloc: Global, others: usize) -> Vec<u8> {
 }
 
 #[test]
-fn fields_up_to_their_limit(rt: HostRuntime) {
+fn parses_fields_up_to_the_limit(rt: HostRuntime) {
     let most = head_of_fields(&rt, rt.alloc(), 63);
     assert_same!(rt; in_short(&most), Asked::Whole(0));
     let more = head_of_fields(&rt, rt.alloc(), 64);
@@ -289,7 +289,7 @@ fn fields_up_to_their_limit(rt: HostRuntime) {
 
 // Whether no prefix of the bytes is a complete request, the bytes themselves are refused with 400, and once a prefix is
 // refused, so are all longer ones.
-fn is_refused_from_some_front(bytes: &[u8]) -> bool {
+fn is_refused_from_some_prefix(bytes: &[u8]) -> bool {
     let mut refused = false;
     for length in 0..bytes.len() + 1 {
         let asked = in_short(&bytes[..length]);
@@ -311,10 +311,10 @@ fn may_follow(refused: bool, asked: Asked) -> bool {
 }
 
 #[test]
-fn fronts_of_what_is_refused(rt: HostRuntime) {
+fn refuses_all_that_begins_with_a_refused_prefix(rt: HostRuntime) {
     let head = head_of_fields(&rt, rt.alloc(), 64);
-    assert_same!(rt; is_refused_from_some_front(&head), true);
+    assert_same!(rt; is_refused_from_some_prefix(&head), true);
     let bad_path = b"GET /\xff HTTP/1.1\r\nHost: a\r\n\r\n";
-    assert_same!(rt; is_refused_from_some_front(bad_path), true);
-    assert_same!(rt; is_refused_from_some_front(REQUEST), false);
+    assert_same!(rt; is_refused_from_some_prefix(bad_path), true);
+    assert_same!(rt; is_refused_from_some_prefix(REQUEST), false);
 }

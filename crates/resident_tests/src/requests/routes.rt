@@ -32,14 +32,14 @@ GET /me - forbidden\n\
 PUT /me/choices - forbidden";
 
 #[test]
-fn worked_routes(rt: HostRuntime) {
+fn routes_worked_requests(rt: HostRuntime) {
     assert_same!(rt; ROUTES.lines().count(), 24);
     for row in ROUTES.lines() {
-        is_told(&rt, rt.alloc(), row);
+        is_as_expected(&rt, rt.alloc(), row);
     }
 }
 
-fn is_told(rt: &impl Abort, alloc: Global, row: &str) {
+fn is_as_expected(rt: &impl Abort, alloc: Global, row: &str) {
     let mut cells = row.split(' ');
     let (Some(method), Some(path), Some(key), Some(wanted)) = (
         cells.next(),

@@ -51,8 +51,8 @@ module _ {X : Type 0} (R : X → X → Ordering) (o : IsTotalOrder R) where
   arranged-ties_equal : (x y : X) → R x y ≡ Equal → tie x y ≡ true
   arranged-ties_equal x y e = ap (λ r. not (is_lt r) && not (is_lt (R y x))) e ∙ ap (λ r. not (is_lt r)) (tied_back o x y e)
 
-  arranged-apart_below : (x y : X) → R x y ≡ Less → tie x y ≡ false
-  arranged-apart_below x y e = ap (λ r. not (is_lt r) && not (is_lt (R y x))) e
+  arranged-below_not_tied : (x y : X) → R x y ≡ Less → tie x y ≡ false
+  arranged-below_not_tied x y e = ap (λ r. not (is_lt r) && not (is_lt (R y x))) e
 
   -- if y is below z, then y is below each item that z is not above
   arranged-below_rest : (y z : X) (zs : List X) → R y z ≡ Less → AboveNone z zs → AllByRecursion (λ w. R y w ≡ Less) zs
@@ -68,7 +68,7 @@ module _ {X : Type 0} (R : X → X → Ordering) (o : IsTotalOrder R) where
 
   arranged-no_ties : (y : X) (zs : List X) → AllByRecursion (λ w. R y w ≡ Less) zs → filter (tie y) zs ≡ []
   arranged-no_ties y [] h = refl
-  arranged-no_ties y (z ∷ zs) h = ap (λ b. cond b (z ∷ filter (tie y) zs) (filter (tie y) zs)) (arranged-apart_below y z h.0) ∙ arranged-no_ties y zs h.1
+  arranged-no_ties y (z ∷ zs) h = ap (λ b. cond b (z ∷ filter (tie y) zs) (filter (tie y) zs)) (arranged-below_not_tied y z h.0) ∙ arranged-no_ties y zs h.1
 
   arranged-starts_with_itself : (y : X) (ys : List X) → filter (tie y) (y ∷ ys) ≡ y ∷ filter (tie y) ys
   arranged-starts_with_itself y ys = ap (λ b. cond b (y ∷ filter (tie y) ys) (filter (tie y) ys)) (arranged-ties_itself y)

@@ -14,59 +14,59 @@ use Rattle.std.proofs.lemmas.List.Elements.{recursion_from_All, All-from_recursi
 use Rattle.std.proofs.lemmas.List.Sorted.{IsPermutation-refl, IsPermutation-sym, IsPermutation-trans, IsPermutation-middle, IsPermutation-cons, IsPermutation-map, All-permutation}
 use Rattle.std.proofs.lemmas.Map.Keys.{IsDistinct-IsPermutation}
 use Rattle.std.proofs.lemmas.Bool.{and_parts}
-use Rattle.room_types.proofs.maps.TextMaps.{maps-first_holds, maps-second_holds, maps-less_from_test}
+use Rattle.room_types.proofs.maps.TextMaps.{first_holds, second_holds, less_from_test}
 
 -- ---- tests
 
-maps-both_hold : (a b : Bool) → T a → T b → T (a && b)
-maps-both_hold true b p q = q
-maps-both_hold false b p q = p
+both_hold : (a b : Bool) → T a → T b → T (a && b)
+both_hold true b p q = q
+both_hold false b p q = p
 
 -- ---- lists
 
-pub maps-each_weaker : {A : Type 0} (P Q : A → Type 0) → ((x : A) → P x → Q x) → (xs : List A) → AllByRecursion P xs → AllByRecursion Q xs
-maps-each_weaker P Q f [] h = tt
-maps-each_weaker P Q f (x ∷ xs) h = (f x h.0, maps-each_weaker P Q f xs h.1)
+pub each_weaker : {A : Type 0} (P Q : A → Type 0) → ((x : A) → P x → Q x) → (xs : List A) → AllByRecursion P xs → AllByRecursion Q xs
+each_weaker P Q f [] h = tt
+each_weaker P Q f (x ∷ xs) h = (f x h.0, each_weaker P Q f xs h.1)
 
-pub maps-each_always : {A : Type 0} (P : A → Type 0) → ((x : A) → P x) → (xs : List A) → AllByRecursion P xs
-maps-each_always P f [] = tt
-maps-each_always P f (x ∷ xs) = (f x, maps-each_always P f xs)
+pub each_always : {A : Type 0} (P : A → Type 0) → ((x : A) → P x) → (xs : List A) → AllByRecursion P xs
+each_always P f [] = tt
+each_always P f (x ∷ xs) = (f x, each_always P f xs)
 
-pub maps-moved_all : {A : Type 0} (P : A → Type 0) (xs ys : List A) → IsPermutation xs ys → AllByRecursion P xs → AllByRecursion P ys
-maps-moved_all P xs ys same h = recursion_from_All P ys (All-permutation P xs ys same (All-from_recursion P xs h))
+pub permuted_all : {A : Type 0} (P : A → Type 0) (xs ys : List A) → IsPermutation xs ys → AllByRecursion P xs → AllByRecursion P ys
+permuted_all P xs ys same h = recursion_from_All P ys (All-permutation P xs ys same (All-from_recursion P xs h))
 
-pub maps-all_true : {A : Type 0} (test : A → Bool) (xs : List A) → list_all test xs ≡ true → AllByRecursion (λ x. test x ≡ true) xs
-maps-all_true test [] e = tt
-maps-all_true test (x ∷ xs) e = let parts = and_parts (test x) (list_all test xs) e in (parts.0, maps-all_true test xs parts.1)
+pub all_true : {A : Type 0} (test : A → Bool) (xs : List A) → list_all test xs ≡ true → AllByRecursion (λ x. test x ≡ true) xs
+all_true test [] e = tt
+all_true test (x ∷ xs) e = let parts = and_parts (test x) (list_all test xs) e in (parts.0, all_true test xs parts.1)
 
-pub maps-true_all : {A : Type 0} (test : A → Bool) (xs : List A) → AllByRecursion (λ x. test x ≡ true) xs → list_all test xs ≡ true
-maps-true_all test [] h = refl
-maps-true_all test (x ∷ xs) h = both_true h.0 (maps-true_all test xs h.1)
+pub true_all : {A : Type 0} (test : A → Bool) (xs : List A) → AllByRecursion (λ x. test x ≡ true) xs → list_all test xs ≡ true
+true_all test [] h = refl
+true_all test (x ∷ xs) h = both_true h.0 (true_all test xs h.1)
 
 -- ---- entries and keys
 
-pub maps-key_after : {K : Type 0} {R : K → K → Ordering} (o : IsTotalOrder R) (x q : K) → R x q ≡ Less → eq_by_cmp R q x ≡ false
-maps-key_after o x q e = ap is_eq (o.antisymm q x ∙ ap ordering_reverse e)
+pub key_after : {K : Type 0} {R : K → K → Ordering} (o : IsTotalOrder R) (x q : K) → R x q ≡ Less → eq_by_cmp R q x ≡ false
+key_after o x q e = ap is_eq (o.antisymm q x ∙ ap ordering_reverse e)
 
 module _ {K X : Type 0} (R : K → K → Ordering) where
   pub maps-none_below : (k : K) (es : List (K × X)) → T (below_all R k es) → find R k es ≡ None
   maps-none_below k [] b = refl
   maps-none_below k (e ∷ es) b =
-      ap (λ o. cond (is_eq o) (Some e.1) (find R k es)) (maps-less_from_test _ (maps-first_holds _ _ b)) ∙ maps-none_below k es (maps-second_holds _ _ b)
+      ap (λ o. cond (is_eq o) (Some e.1) (find R k es)) (less_from_test _ (first_holds _ _ b)) ∙ maps-none_below k es (second_holds _ _ b)
 
 module _ {K X : Type 0} {R : K → K → Ordering} (o : IsTotalOrder R) where
   pub maps-below_less : (k x : K) (es : List (K × X)) → R k x ≡ Less → T (below_all R x es) → T (below_all R k es)
   maps-below_less k x [] e b = tt
   maps-below_less k x (y ∷ es) e b =
-      maps-both_hold _ _ (subst (λ c. T (is_lt c)) (sym (o.trans k x y.0 e (maps-less_from_test _ (maps-first_holds _ _ b)))) tt) (maps-below_less k x es e (maps-second_holds _ _ b))
+      both_hold _ _ (subst (λ c. T (is_lt c)) (sym (o.trans k x y.0 e (less_from_test _ (first_holds _ _ b)))) tt) (maps-below_less k x es e (second_holds _ _ b))
 
 module _ {K X : Type 0} {R : K → K → Ordering} (o : IsTotalOrder R) (exact : IsAntisymmetric R) where
   maps-found_below : (x : K) (v : X) (all es : List (K × X)) → T (below_all R x es) → AllByRecursion (λ e. find R e.0 all ≡ Some e.1) es
       → AllByRecursion (λ e. find R e.0 ((x, v) ∷ all) ≡ Some e.1) es
   maps-found_below x v all [] b h = tt
   maps-found_below x v all (e ∷ es) b h = (
-    ap (λ t. cond t (Some v) (find R e.0 all)) (maps-key_after o x e.0 (maps-less_from_test _ (maps-first_holds _ _ b))) ∙ h.0,
-    maps-found_below x v all es (maps-second_holds _ _ b) h.1,
+    ap (λ t. cond t (Some v) (find R e.0 all)) (key_after o x e.0 (less_from_test _ (first_holds _ _ b))) ∙ h.0,
+    maps-found_below x v all es (second_holds _ _ b) h.1,
   )
 
   -- looking up the key of an entry finds the entry
@@ -74,7 +74,7 @@ module _ {K X : Type 0} {R : K → K → Ordering} (o : IsTotalOrder R) (exact :
   maps-entries_found [] s = tt
   maps-entries_found (e ∷ es) s = (
     ap (λ t. cond (is_eq t) (Some e.1) (find R e.0 es)) (tied_itself o e.0),
-    maps-found_below e.0 e.1 es es (maps-first_holds _ _ s) (maps-entries_found es (maps-second_holds _ _ s)),
+    maps-found_below e.0 e.1 es es (first_holds _ _ s) (maps-entries_found es (second_holds _ _ s)),
   )
 
   -- what holds for each entry holds for whatever a look-up finds
@@ -97,14 +97,14 @@ module _ {K X : Type 0} {R : K → K → Ordering} (o : IsTotalOrder R) (exact :
   -- what holds at each key holds for each entry
   pub maps-at_entries : (P : K → X → Type 0) (m : FinMap R X) → ((k : K) (v : X) → map.get m k ≡ Some v → P k v) → AllByRecursion (λ e. P e.0 e.1) (map.entries m)
   maps-at_entries P m h =
-      maps-each_weaker (λ e. find R e.0 (map.entries m) ≡ Some e.1) (λ e. P e.0 e.1) (λ e f. h e.0 e.1 (get-entries m e.0 ∙ f))
+      each_weaker (λ e. find R e.0 (map.entries m) ≡ Some e.1) (λ e. P e.0 e.1) (λ e f. h e.0 e.1 (get-entries m e.0 ∙ f))
       (map.entries m) (maps-entries_found (map.entries m) (entries_sorted m))
 
   pub maps-all_keys : (test : K → X → Bool) (m : FinMap R X) → list_all (λ e. test e.0 e.1) (map.entries m) ≡ true → (k : K) (v : X) → map.get m k ≡ Some v → test k v ≡ true
-  maps-all_keys test m e = maps-at_keys (λ k v. test k v ≡ true) m (maps-all_true (λ e. test e.0 e.1) (map.entries m) e)
+  maps-all_keys test m e = maps-at_keys (λ k v. test k v ≡ true) m (all_true (λ e. test e.0 e.1) (map.entries m) e)
 
   pub maps-keys_all : (test : K → X → Bool) (m : FinMap R X) → ((k : K) (v : X) → map.get m k ≡ Some v → test k v ≡ true) → list_all (λ e. test e.0 e.1) (map.entries m) ≡ true
-  maps-keys_all test m h = maps-true_all (λ e. test e.0 e.1) (map.entries m) (maps-at_entries (λ k v. test k v ≡ true) m h)
+  maps-keys_all test m h = true_all (λ e. test e.0 e.1) (map.entries m) (maps-at_entries (λ k v. test k v ≡ true) m h)
 
   -- ---- inserting a new key adds one entry
 
@@ -128,7 +128,7 @@ module _ {K X : Type 0} {R : K → K → Ordering} (o : IsTotalOrder R) (exact :
   maps-found_in : (m n : FinMap R X) → IsPermutation (map.entries m) (map.entries n) → (k : K) (v : X) → map.get n k ≡ Some v → map.get m k ≡ Some v
   maps-found_in m n same =
       maps-at_keys (λ k v. map.get m k ≡ Some v) n
-      (maps-moved_all (λ (e : K × X). map.get m e.0 ≡ Some e.1) (map.entries m) (map.entries n) same (maps-at_entries (λ k v. map.get m k ≡ Some v) m (λ k v f. f)))
+      (permuted_all (λ (e : K × X). map.get m e.0 ≡ Some e.1) (map.entries m) (map.entries n) same (maps-at_entries (λ k v. map.get m k ≡ Some v) m (λ k v f. f)))
 
   -- two maps in which every look-up finds the same are equal
   pub maps-same_finds : (m n : FinMap R X) → ((k : K) (v : X) → map.get n k ≡ Some v → map.get m k ≡ Some v) → ((k : K) (v : X) → map.get m k ≡ Some v → map.get n k ≡ Some v) → m ≡ n
@@ -145,16 +145,16 @@ module _ {K X : Type 0} {R : K → K → Ordering} (o : IsTotalOrder R) (exact :
   maps-one_map m n same = maps-same_finds m n (maps-found_in m n same) (maps-found_in n m (IsPermutation-sym _ _ same))
 
   -- the keys of the entries differ
-  maps-keys_apart : (x : K) (es : List (K × X)) → T (below_all R x es) → AllByRecursion (λ k. eq_by_cmp R x k ≡ false) (map_list (λ e. e.0) es)
-  maps-keys_apart x [] b = tt
-  maps-keys_apart x (e ∷ es) b = (ap is_eq (maps-less_from_test _ (maps-first_holds _ _ b)), maps-keys_apart x es (maps-second_holds _ _ b))
+  maps-keys_differ : (x : K) (es : List (K × X)) → T (below_all R x es) → AllByRecursion (λ k. eq_by_cmp R x k ≡ false) (map_list (λ e. e.0) es)
+  maps-keys_differ x [] b = tt
+  maps-keys_differ x (e ∷ es) b = (ap is_eq (less_from_test _ (first_holds _ _ b)), maps-keys_differ x es (second_holds _ _ b))
 
   maps-keys_distinct : (es : List (K × X)) → T (is_sorted R es) → IsDistinct (eq_by_cmp R) (map_list (λ e. e.0) es)
   unfolding IsDistinct
   maps-keys_distinct [] s = tt
-  maps-keys_distinct (e ∷ es) s = (maps-keys_apart e.0 es (maps-first_holds _ _ s), maps-keys_distinct es (maps-second_holds _ _ s))
+  maps-keys_distinct (e ∷ es) s = (maps-keys_differ e.0 es (first_holds _ _ s), maps-keys_distinct es (second_holds _ _ s))
 
-  pub maps-moved_keys : (m : FinMap R X) (es : List (K × X)) → IsPermutation (map.entries m) es → IsDistinct (eq_by_cmp R) (map_list (λ e. e.0) es)
-  maps-moved_keys m es same =
+  pub maps-permuted_keys : (m : FinMap R X) (es : List (K × X)) → IsPermutation (map.entries m) es → IsDistinct (eq_by_cmp R) (map_list (λ e. e.0) es)
+  maps-permuted_keys m es same =
       IsDistinct-IsPermutation (eq_by_cmp R) ((eq_by_cmp_equiv o).symm) _ _ (IsPermutation-map (λ (e : K × X). e.0) (map.entries m) es same)
       (maps-keys_distinct (map.entries m) (entries_sorted m))

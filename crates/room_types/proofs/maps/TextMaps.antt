@@ -19,21 +19,21 @@ use Rattle.room_types.specs.Ascending.{AscendsBy}
 use Rattle.room_types.specs.Texts.{Text, TextMap, text_cmp}
 
 -- two texts that tie are equal
-pub maps-exact_texts : IsAntisymmetric (slice_cmp nat_cmp)
-maps-exact_texts = slice_cmp-IsAntisymmetric nat_cmp-IsAntisymmetric
+pub exact_texts : IsAntisymmetric (slice_cmp nat_cmp)
+exact_texts = slice_cmp-IsAntisymmetric nat_cmp-IsAntisymmetric
 
 -- two texts are equal, or do not tie
-pub maps-text_cases : (q k : Text) → (q ≡ k) ⊎ (eq_by_cmp text_cmp q k ≡ false)
-maps-text_cases q k =
+pub text_cases : (q k : Text) → (q ≡ k) ⊎ (eq_by_cmp text_cmp q k ≡ false)
+text_cases q k =
     elim (text_cmp q k) as (λ o. text_cmp q k ≡ o → (q ≡ k) ⊎ (is_eq o ≡ false)) [
       | Less ↦ λ e. inr refl
-      | Equal ↦ λ e. inl (maps-exact_texts q k e)
+      | Equal ↦ λ e. inl (exact_texts q k e)
       | Greater ↦ λ e. inr refl
     ] refl
 
-pub maps-tied_text : (q k : Text) → eq_by_cmp text_cmp q k ≡ true → q ≡ k
-maps-tied_text q k ties =
-    elim (maps-text_cases q k) as (λ _. q ≡ k)
+pub tied_text : (q k : Text) → eq_by_cmp text_cmp q k ≡ true → q ≡ k
+tied_text q k ties =
+    elim (text_cases q k) as (λ _. q ≡ k)
     [ inl same ↦ same | inr other ↦ absurd (false≢true (sym other ∙ ties)) ]
 
 -- equal texts cannot fail to tie
@@ -44,31 +44,31 @@ maps-differ q k same other =
     cc
 
 -- the parts of a conjunction
-pub maps-first_holds : (a b : Bool) → T (a && b) → T a
-maps-first_holds true b h = tt
-maps-first_holds false b h = h
+pub first_holds : (a b : Bool) → T (a && b) → T a
+first_holds true b h = tt
+first_holds false b h = h
 
-pub maps-second_holds : (a b : Bool) → T (a && b) → T b
-maps-second_holds true b h = h
-maps-second_holds false b h = absurd h
+pub second_holds : (a b : Bool) → T (a && b) → T b
+second_holds true b h = h
+second_holds false b h = absurd h
 
-pub maps-less_from_test : (o : Ordering) → T (is_lt o) → o ≡ Less
-maps-less_from_test Less p = refl
-maps-less_from_test Equal p = absurd p
-maps-less_from_test Greater p = absurd p
+pub less_from_test : (o : Ordering) → T (is_lt o) → o ≡ Less
+less_from_test Less p = refl
+less_from_test Equal p = absurd p
+less_from_test Greater p = absurd p
 
 module _ {X : Type 0} where
   maps-below_key : (x : Text) (es : List (Text × X)) → T (below_all text_cmp x es)
       → AllByRecursion (λ y. text_cmp x y ≡ Less) (map (λ e. e.0) es)
   maps-below_key x [] below = tt
   maps-below_key x (e ∷ es) below =
-      (maps-less_from_test (text_cmp x e.0) (maps-first_holds _ _ below), maps-below_key x es (maps-second_holds _ _ below))
+      (less_from_test (text_cmp x e.0) (first_holds _ _ below), maps-below_key x es (second_holds _ _ below))
 
   maps-keys_ascend : (es : List (Text × X)) → T (is_sorted text_cmp es) → AscendsBy (λ e. e.0) es
   unfolding IsStrictlySortedBy
   maps-keys_ascend [] up = tt
   maps-keys_ascend (e ∷ es) up =
-      (maps-below_key e.0 es (maps-first_holds _ _ up), maps-keys_ascend es (maps-second_holds _ _ up))
+      (maps-below_key e.0 es (first_holds _ _ up), maps-keys_ascend es (second_holds _ _ up))
 
   -- the entries ascend by key
   pub maps-entries_ascend : (m : TextMap X) → AscendsBy (λ e. e.0) (maps.entries m)
@@ -108,7 +108,7 @@ module _ {X : Type 0} where
       → maps.get m q ≡ Some w
       → maps.get (maps.insert m k v) q ≡ Some w
   maps-get-put_either m k v q w e h =
-      elim (maps-text_cases q k) as (λ _. maps.get (maps.insert m k v) q ≡ Some w) [
+      elim (text_cases q k) as (λ _. maps.get (maps.insert m k v) q ≡ Some w) [
         | inl same ↦ ap (λ p. maps.get (maps.insert m k v) p) same ∙ maps-get-put_same m k v
             ∙ ap (λ x. Some x) e
         | inr other ↦ maps-get-put_other m k v q other ∙ h
@@ -123,7 +123,7 @@ module _ {X : Type 0} where
       → maps.contains_key m q ≡ true
       → maps.contains_key (maps.insert m k v) q ≡ true
   maps-contains_key-put m k v q h =
-      elim (maps-text_cases q k) as (λ _. maps.contains_key (maps.insert m k v) q ≡ true) [
+      elim (text_cases q k) as (λ _. maps.contains_key (maps.insert m k v) q ≡ true) [
         | inl same ↦ ap (λ p. maps.contains_key (maps.insert m k v) p) same
             ∙ maps-contains_key-put_same m k v
         | inr other ↦ ap is_some (maps-get-put_other m k v q other) ∙ h

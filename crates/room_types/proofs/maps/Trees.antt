@@ -67,11 +67,11 @@ module _ {K X : Type 0} {R : K → K → Ordering} (total : IsTotalOrder R) wher
   maps-len-tree m s = len-entries _ ∙ ap length (maps-entries-tree m s)
 
 -- entries with equal keys and equal values are equal
-pub maps-same_pairs : {K X : Type 0} (C : K → K → Type 0) (D : X → X → Type 0) → ((x y : K) → C x y → y ≡ x) → ((x y : X) → D x y → y ≡ x)
+pub same_pairs : {K X : Type 0} (C : K → K → Type 0) (D : X → X → Type 0) → ((x y : K) → C x y → y ≡ x) → ((x y : X) → D x y → y ≡ x)
     → (es fs : List (K × X)) → AllZip (λ p q. C p.0 q.0 × D p.1 q.1) es fs → fs ≡ es
-maps-same_pairs C D c d [] [] h = refl
-maps-same_pairs C D c d [] (f ∷ fs) h = absurd h
-maps-same_pairs C D c d (e ∷ es) [] h = absurd h
-maps-same_pairs C D c d (e ∷ es) (f ∷ fs) h =
-    let rest = maps-same_pairs C D c d es fs h.1 in
+same_pairs C D c d [] [] h = refl
+same_pairs C D c d [] (f ∷ fs) h = absurd h
+same_pairs C D c d (e ∷ es) [] h = absurd h
+same_pairs C D c d (e ∷ es) (f ∷ fs) h =
+    let rest = same_pairs C D c d es fs h.1 in
     λ i. (c e.0 f.0 h.0.0 i, d e.1 f.1 h.0.1 i) ∷ rest i

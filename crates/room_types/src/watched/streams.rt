@@ -4,7 +4,7 @@ ghost use Rattle.std.specs.Io.{ReadsAtMost, WritesAtMost};
 ghost use Rattle.std.specs.Io.KnownBytes.{Keeps, ReadConsumes, WriteAppends};
 ghost use Rattle.room_types.specs.Watched.{watched_inner, watched_failed, watched_reads, watched_taken, watched_flushes, watched_pending};
 ghost use Rattle.room_types.specs.Watched.{watched_ended, watched_wasted};
-ghost use Rattle.room_types.specs.Watched.{counted, has_taken, has_no_room, is_end, is_failure, is_failed_write, taken_after};
+ghost use Rattle.room_types.specs.Watched.{counted, has_taken, is_empty_buffer, is_end, is_failure, is_failed_write, taken_after};
 
 use crate::stream::Stream;
 use crate::watched::Watched;
@@ -26,7 +26,7 @@ impl<T: Stream> Watched<T> {
         ensures ended { watched_ended self.new ≡ watched_ended self.old || is_end buf.new result }
         ensures wasted { watched_wasted self.new
             ≡ watched_wasted self.old || watched_failed self.old || watched_ended self.old
-            || has_no_room buf.new }
+            || is_empty_buffer buf.new }
         ensures called { T.reads (watched_inner self.old) buf.old buf.new result
             (watched_inner self.new) }
     {
@@ -60,7 +60,7 @@ impl<T: Stream> Watched<T> {
         ensures pending { watched_pending self.new ≡ has_taken result || watched_pending self.old }
         ensures ended { watched_ended self.new ≡ watched_ended self.old }
         ensures wasted { watched_wasted self.new
-            ≡ watched_wasted self.old || watched_failed self.old || has_no_room buf.now }
+            ≡ watched_wasted self.old || watched_failed self.old || is_empty_buffer buf.now }
         ensures called { T.writes (watched_inner self.old) buf.now result (watched_inner self.new) }
     {
         self.wasted = self.wasted || self.failed || buf.is_empty();

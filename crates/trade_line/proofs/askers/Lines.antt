@@ -10,78 +10,78 @@ use Rattle.trade_line.specs.TopTradingCycles.{Stage, wish, taken, leave}
 use Rattle.trade_line.specs.Member.{among, Once}
 use Rattle.trade_line.specs.Inner.Queue.{AscendsFrom, Ascends, last_of, WaitsBehind, stage_of, close}
 use Rattle.trade_line.specs.Line.{front_of, tail_of, without}
-use Rattle.trade_line.proofs.searches.Search.{searches-and_nots, searches-clash, searches-is_room_gives, searches-is_room_from}
+use Rattle.trade_line.proofs.searches.Search.{and_nots, clash, is_room_gives, is_room_from}
 use Rattle.trade_line.proofs.cycles.Exchange.{cycles-taken_gives}
-use Rattle.trade_line.proofs.cycles.Unique.{cycles-same_stage, cycles-taken_from}
+use Rattle.trade_line.proofs.cycles.Unique.{same_stage, cycles-taken_from}
 use Rattle.trade_line.proofs.cycles.Chain.{cycles-wish_stays}
 
-pub askers-among_self : (a : ℕ) (xs : List ℕ) → among (a ∷ xs) a ≡ true
-askers-among_self a xs = or_left (a == a) (among xs a) (eq-eqb a a refl)
+pub among_self : (a : ℕ) (xs : List ℕ) → among (a ∷ xs) a ≡ true
+among_self a xs = or_left (a == a) (among xs a) (eq-eqb a a refl)
 
-pub askers-among_none : (l : List ℕ) → front_of l ≡ None → (p : ℕ) → among l p ≡ false
-askers-among_none [] e p = refl
-askers-among_none (x ∷ xs) e p = absurd (cc)
+pub among_none : (l : List ℕ) → front_of l ≡ None → (p : ℕ) → among l p ≡ false
+among_none [] e p = refl
+among_none (x ∷ xs) e p = absurd (cc)
 
-pub askers-among_more : (a : ℕ) (xs : List ℕ) (p : ℕ) → among xs p ≡ true → among (a ∷ xs) p ≡ true
-askers-among_more a xs p h = or_right (a == p) (among xs p) h
+pub among_more : (a : ℕ) (xs : List ℕ) (p : ℕ) → among xs p ≡ true → among (a ∷ xs) p ≡ true
+among_more a xs p h = or_right (a == p) (among xs p) h
 
-pub askers-among-append : (xs ys : List ℕ) (p : ℕ) → among (xs ++ ys) p ≡ (among xs p || among ys p)
-askers-among-append [] ys p = refl
-askers-among-append (x ∷ xs) ys p = ap (λ b. (x == p) || b) (askers-among-append xs ys p) ∙ sym (or_assoc (x == p) (among xs p) (among ys p))
+pub among-append : (xs ys : List ℕ) (p : ℕ) → among (xs ++ ys) p ≡ (among xs p || among ys p)
+among-append [] ys p = refl
+among-append (x ∷ xs) ys p = ap (λ b. (x == p) || b) (among-append xs ys p) ∙ sym (or_assoc (x == p) (among xs p) (among ys p))
 
-pub askers-among_left : (xs ys : List ℕ) (p : ℕ) → among xs p ≡ true → among (xs ++ ys) p ≡ true
-askers-among_left xs ys p h = askers-among-append xs ys p ∙ or_left (among xs p) (among ys p) h
+pub among_left : (xs ys : List ℕ) (p : ℕ) → among xs p ≡ true → among (xs ++ ys) p ≡ true
+among_left xs ys p h = among-append xs ys p ∙ or_left (among xs p) (among ys p) h
 
-pub askers-among_right : (xs ys : List ℕ) (p : ℕ) → among ys p ≡ true → among (xs ++ ys) p ≡ true
-askers-among_right xs ys p h = askers-among-append xs ys p ∙ or_right (among xs p) (among ys p) h
+pub among_right : (xs ys : List ℕ) (p : ℕ) → among ys p ≡ true → among (xs ++ ys) p ≡ true
+among_right xs ys p h = among-append xs ys p ∙ or_right (among xs p) (among ys p) h
 
-pub askers-among_cases : (xs ys : List ℕ) (p : ℕ) → among (xs ++ ys) p ≡ true → (among xs p ≡ true) ⊎ (among ys p ≡ true)
-askers-among_cases xs ys p h = or_cases (among xs p) (among ys p) (sym (askers-among-append xs ys p) ∙ h)
+pub among_cases : (xs ys : List ℕ) (p : ℕ) → among (xs ++ ys) p ≡ true → (among xs p ≡ true) ⊎ (among ys p ≡ true)
+among_cases xs ys p h = or_cases (among xs p) (among ys p) (sym (among-append xs ys p) ∙ h)
 
-pub askers-once_right : (xs ys : List ℕ) → Once (xs ++ ys) → Once ys
-askers-once_right [] ys o = o
-askers-once_right (x ∷ xs) ys o = askers-once_right xs ys o.1
+pub once_right : (xs ys : List ℕ) → Once (xs ++ ys) → Once ys
+once_right [] ys o = o
+once_right (x ∷ xs) ys o = once_right xs ys o.1
 
-pub askers-once_apart : (xs ys : List ℕ) → Once (xs ++ ys) → (p : ℕ) → among xs p ≡ true → among ys p ≡ false
-askers-once_apart [] ys o p h = absurd (both_ways false refl h)
-askers-once_apart (x ∷ xs) ys o p h =
+pub once_apart : (xs ys : List ℕ) → Once (xs ++ ys) → (p : ℕ) → among xs p ≡ true → among ys p ≡ false
+once_apart [] ys o p h = absurd (both_ways false refl h)
+once_apart (x ∷ xs) ys o p h =
     elim (or_cases (x == p) (among xs p) h) [
-      | inl e ↦ subst (λ z. among ys z ≡ false) (eqb-true x p e) (or_parts (among xs x) (among ys x) (sym (askers-among-append xs ys x) ∙ o.0)).1
-      | inr i ↦ askers-once_apart xs ys o.1 p i
+      | inl e ↦ subst (λ z. among ys z ≡ false) (eqb-true x p e) (or_parts (among xs x) (among ys x) (sym (among-append xs ys x) ∙ o.0)).1
+      | inr i ↦ once_apart xs ys o.1 p i
     ]
 
-pub askers-last_push : (a : ℕ) (ys : List ℕ) (h : ℕ) (os : List ℕ) → last_of a (ys ++ (h ∷ os)) ≡ last_of h os
-askers-last_push a [] h os = refl
-askers-last_push a (y ∷ ys) h os = askers-last_push y ys h os
+pub last_push : (a : ℕ) (ys : List ℕ) (h : ℕ) (os : List ℕ) → last_of a (ys ++ (h ∷ os)) ≡ last_of h os
+last_push a [] h os = refl
+last_push a (y ∷ ys) h os = last_push y ys h os
 
-pub askers-above_ascends : (a : ℕ) (xs : List ℕ) → AscendsFrom a xs → (p : ℕ) → among xs p ≡ true → a < p
-askers-above_ascends a [] w p h = absurd (both_ways false refl h)
-askers-above_ascends a (b ∷ r) w p h =
+pub above_ascends : (a : ℕ) (xs : List ℕ) → AscendsFrom a xs → (p : ℕ) → among xs p ≡ true → a < p
+above_ascends a [] w p h = absurd (both_ways false refl h)
+above_ascends a (b ∷ r) w p h =
     elim (or_cases (b == p) (among r p) h) [
       | inl e ↦ subst (λ z. a < z) (eqb-true b p e) w.0
-      | inr i ↦ let l : b < p = askers-above_ascends b r w.1 p i in omega (arith, w.0)
+      | inr i ↦ let l : b < p = above_ascends b r w.1 p i in omega (arith, w.0)
     ]
 
-pub askers-ascends_tail : (a : ℕ) (xs : List ℕ) → AscendsFrom a xs → Ascends xs
-askers-ascends_tail a [] w = tt
-askers-ascends_tail a (b ∷ r) w = w.1
+pub ascends_tail : (a : ℕ) (xs : List ℕ) → AscendsFrom a xs → Ascends xs
+ascends_tail a [] w = tt
+ascends_tail a (b ∷ r) w = w.1
 
-pub askers-without_hit : (t x : ℕ) (xs : List ℕ) → (x == t) ≡ true → without t (x ∷ xs) ≡ without t xs
-askers-without_hit t x xs h = cond-false (not (x == t)) (x ∷ without t xs) (without t xs) (ap not h)
+pub without_hit : (t x : ℕ) (xs : List ℕ) → (x == t) ≡ true → without t (x ∷ xs) ≡ without t xs
+without_hit t x xs h = cond-false (not (x == t)) (x ∷ without t xs) (without t xs) (ap not h)
 
-askers-without_miss : (t x : ℕ) (xs : List ℕ) → (x == t) ≡ false → without t (x ∷ xs) ≡ x ∷ without t xs
-askers-without_miss t x xs h = cond-true (not (x == t)) (x ∷ without t xs) (without t xs) (ap not h)
+without_miss : (t x : ℕ) (xs : List ℕ) → (x == t) ≡ false → without t (x ∷ xs) ≡ x ∷ without t xs
+without_miss t x xs h = cond-true (not (x == t)) (x ∷ without t xs) (without t xs) (ap not h)
 
 -- the list without one of its people
-pub askers-among-without : (t : ℕ) (xs : List ℕ) (p : ℕ) → among (without t xs) p ≡ (among xs p && not (t == p))
-askers-among-without t [] p = refl
-askers-among-without t (x ∷ xs) p =
+pub among-without : (t : ℕ) (xs : List ℕ) (p : ℕ) → among (without t xs) p ≡ (among xs p && not (t == p))
+among-without t [] p = refl
+among-without t (x ∷ xs) p =
     elim (cases_Bool (x == t)) [
       | inl y ↦
           let e : x ≡ t = eqb-true x t y in
-          ap (λ z. among z p) (askers-without_hit t x xs y) ∙ (askers-among-without t xs p ∙ subst (λ z. (among xs p && not (t == p)) ≡ (((z == p) || among xs p) && not (t == p))) (sym e) (gone (t == p) (among xs p)))
+          ap (λ z. among z p) (without_hit t x xs y) ∙ (among-without t xs p ∙ subst (λ z. (among xs p && not (t == p)) ≡ (((z == p) || among xs p) && not (t == p))) (sym e) (gone (t == p) (among xs p)))
       | inr n ↦
-          ap (λ z. among z p) (askers-without_miss t x xs n) ∙ (ap (λ b. (x == p) || b) (askers-among-without t xs p) ∙ kept (cases_Bool (x == p)) n)
+          ap (λ z. among z p) (without_miss t x xs n) ∙ (ap (λ b. (x == p) || b) (among-without t xs p) ∙ kept (cases_Bool (x == p)) n)
     ]
   where
     gone : (b c : Bool) → (c && not b) ≡ ((b || c) && not b)
@@ -95,57 +95,57 @@ askers-among-without t (x ∷ xs) p =
         rw (y, ne) refl
     kept (inr y) n = rw y refl
 
-pub askers-once_without : (t : ℕ) (xs : List ℕ) → Once xs → Once (without t xs)
-askers-once_without t [] o = tt
-askers-once_without t (x ∷ xs) o =
+pub once_without : (t : ℕ) (xs : List ℕ) → Once xs → Once (without t xs)
+once_without t [] o = tt
+once_without t (x ∷ xs) o =
     elim (cases_Bool (x == t)) [
-      | inl y ↦ subst Once (sym (askers-without_hit t x xs y)) (askers-once_without t xs o.1)
-      | inr n ↦ subst Once (sym (askers-without_miss t x xs n)) (askers-among-without t xs x ∙ and_left (among xs x) (not (t == x)) o.0, askers-once_without t xs o.1)
+      | inl y ↦ subst Once (sym (without_hit t x xs y)) (once_without t xs o.1)
+      | inr n ↦ subst Once (sym (without_miss t x xs n)) (among-without t xs x ∙ and_left (among xs x) (not (t == x)) o.0, once_without t xs o.1)
     ]
 
-pub askers-without_absent : (t : ℕ) (xs : List ℕ) → among xs t ≡ false → without t xs ≡ xs
-askers-without_absent t [] h = refl
-askers-without_absent t (x ∷ xs) h =
+pub without_absent : (t : ℕ) (xs : List ℕ) → among xs t ≡ false → without t xs ≡ xs
+without_absent t [] h = refl
+without_absent t (x ∷ xs) h =
     let b : ((x == t) ≡ false) × (among xs t ≡ false) = or_parts (x == t) (among xs t) h in
-    askers-without_miss t x xs b.0 ∙ ap (λ z. x ∷ z) (askers-without_absent t xs b.1)
+    without_miss t x xs b.0 ∙ ap (λ z. x ∷ z) (without_absent t xs b.1)
 
-pub askers-without-append : (t : ℕ) (xs ys : List ℕ) → among xs t ≡ false → without t (xs ++ ys) ≡ xs ++ without t ys
-askers-without-append t [] ys h = refl
-askers-without-append t (x ∷ xs) ys h =
+pub without-append : (t : ℕ) (xs ys : List ℕ) → among xs t ≡ false → without t (xs ++ ys) ≡ xs ++ without t ys
+without-append t [] ys h = refl
+without-append t (x ∷ xs) ys h =
     let b : ((x == t) ≡ false) × (among xs t ≡ false) = or_parts (x == t) (among xs t) h in
-    askers-without_miss t x (xs ++ ys) b.0 ∙ ap (λ z. x ∷ z) (askers-without-append t xs ys b.1)
+    without_miss t x (xs ++ ys) b.0 ∙ ap (λ z. x ∷ z) (without-append t xs ys b.1)
 
-pub askers-length-without : (t : ℕ) (xs : List ℕ) → Once xs → among xs t ≡ true → suc (length (without t xs)) ≡ length xs
-askers-length-without t [] o h = absurd (both_ways false refl h)
-askers-length-without t (x ∷ xs) o h =
+pub length-without : (t : ℕ) (xs : List ℕ) → Once xs → among xs t ≡ true → suc (length (without t xs)) ≡ length xs
+length-without t [] o h = absurd (both_ways false refl h)
+length-without t (x ∷ xs) o h =
     elim (cases_Bool (x == t)) [
-      | inl y ↦ ap suc (ap length (askers-without_hit t x xs y) ∙ ap length (askers-without_absent t xs (subst (λ z. among xs z ≡ false) (eqb-true x t y) o.0)))
-      | inr n ↦ ap suc (ap length (askers-without_miss t x xs n) ∙ askers-length-without t xs o.1 (elim (or_cases (x == t) (among xs t) h) [ inl e ↦ searches-clash (x == t) e n | inr i ↦ i ]))
+      | inl y ↦ ap suc (ap length (without_hit t x xs y) ∙ ap length (without_absent t xs (subst (λ z. among xs z ≡ false) (eqb-true x t y) o.0)))
+      | inr n ↦ ap suc (ap length (without_miss t x xs n) ∙ length-without t xs o.1 (elim (or_cases (x == t) (among xs t) h) [ inl e ↦ clash (x == t) e n | inr i ↦ i ]))
     ]
 
-askers-ascends_lower : (a b : ℕ) (xs : List ℕ) → a < b → AscendsFrom b xs → AscendsFrom a xs
-askers-ascends_lower a b [] l w = tt
-askers-ascends_lower a b (c ∷ r) l w = (omega (arith, w.0), w.1)
+ascends_lower : (a b : ℕ) (xs : List ℕ) → a < b → AscendsFrom b xs → AscendsFrom a xs
+ascends_lower a b [] l w = tt
+ascends_lower a b (c ∷ r) l w = (omega (arith, w.0), w.1)
 
-pub askers-ascends_from_without : (t a : ℕ) (xs : List ℕ) → AscendsFrom a xs → AscendsFrom a (without t xs)
-askers-ascends_from_without t a [] w = tt
-askers-ascends_from_without t a (b ∷ r) w =
+pub ascends_from_without : (t a : ℕ) (xs : List ℕ) → AscendsFrom a xs → AscendsFrom a (without t xs)
+ascends_from_without t a [] w = tt
+ascends_from_without t a (b ∷ r) w =
     elim (cases_Bool (b == t)) [
-      | inl y ↦ subst (AscendsFrom a) (sym (askers-without_hit t b r y)) (askers-ascends_lower a b (without t r) w.0 (askers-ascends_from_without t b r w.1))
-      | inr n ↦ subst (AscendsFrom a) (sym (askers-without_miss t b r n)) (w.0, askers-ascends_from_without t b r w.1)
+      | inl y ↦ subst (AscendsFrom a) (sym (without_hit t b r y)) (ascends_lower a b (without t r) w.0 (ascends_from_without t b r w.1))
+      | inr n ↦ subst (AscendsFrom a) (sym (without_miss t b r n)) (w.0, ascends_from_without t b r w.1)
     ]
 
-pub askers-ascends_without : (t : ℕ) (xs : List ℕ) → Ascends xs → Ascends (without t xs)
-askers-ascends_without t [] w = tt
-askers-ascends_without t (b ∷ r) w =
+pub ascends_without : (t : ℕ) (xs : List ℕ) → Ascends xs → Ascends (without t xs)
+ascends_without t [] w = tt
+ascends_without t (b ∷ r) w =
     elim (cases_Bool (b == t)) [
-      | inl y ↦ subst Ascends (sym (askers-without_hit t b r y)) (askers-ascends_tail b (without t r) (askers-ascends_from_without t b r w))
-      | inr n ↦ subst Ascends (sym (askers-without_miss t b r n)) (askers-ascends_from_without t b r w)
+      | inl y ↦ subst Ascends (sym (without_hit t b r y)) (ascends_tail b (without t r) (ascends_from_without t b r w))
+      | inr n ↦ subst Ascends (sym (without_miss t b r n)) (ascends_from_without t b r w)
     ]
 
-pub askers-remaining_after : (remaining : List Bool) (o : Option ℕ) (r : ℕ) → ((x : ℕ) → o ≡ Some x → x < length remaining) → get_or (close remaining o) r false ≡ (get_or remaining r false && not (is_room r o))
-askers-remaining_after remaining None r known = sym (and-true (get_or remaining r false))
-askers-remaining_after remaining (Some x) r known =
+pub remaining_after : (remaining : List Bool) (o : Option ℕ) (r : ℕ) → ((x : ℕ) → o ≡ Some x → x < length remaining) → get_or (close remaining o) r false ≡ (get_or remaining r false && not (is_room r o))
+remaining_after remaining None r known = sym (and-true (get_or remaining r false))
+remaining_after remaining (Some x) r known =
     elim (cases_eq r x) [
       | inl e ↦
           let l : x < length remaining = known x refl in
@@ -153,31 +153,31 @@ askers-remaining_after remaining (Some x) r known =
       | inr n ↦ rw (ne_eqb x r (λ e. n (sym e))) (get_or-set_other remaining x r false false n ∙ sym (and-true (get_or remaining r false)))
     ]
 
-pub askers-length-close : (remaining : List Bool) (o : Option ℕ) → length (close remaining o) ≡ length remaining
-askers-length-close remaining None = refl
-askers-length-close remaining (Some x) = length-set remaining x false
+pub length-close : (remaining : List Bool) (o : Option ℕ) → length (close remaining o) ≡ length remaining
+length-close remaining None = refl
+length-close remaining (Some x) = length-set remaining x false
 
 module _ (m : Market) where
   pub askers-taken_push : (s : Stage) (past : List ℕ) (d : ℕ) (o : Option ℕ) → wish m s d ≡ o → d < m.people → (r : ℕ) → taken m s (among (past ++ d ∷ [])) r ≡ (taken m s (among past) r || is_room r o)
   askers-taken_push s past d o e l r = one_truth (taken m s (among (past ++ d ∷ [])) r) (taken m s (among past) r || is_room r o)
       (λ h.
       let g : (q : ℕ) × (q < m.people) × (among (past ++ d ∷ []) q ≡ true) × (wish m s q ≡ Some r) = cycles-taken_gives m s (among (past ++ d ∷ [])) r h in
-      elim (askers-among_cases past (d ∷ []) g.0 g.2) [
+      elim (among_cases past (d ∷ []) g.0 g.2) [
         | inl i ↦ or_left (taken m s (among past) r) (is_room r o) (cycles-taken_from m s (among past) r g.0 g.1 i g.3)
         | inr i ↦
             let eq : d ≡ g.0 = eqb-true d g.0 (sym (or-false (d == g.0)) ∙ i) in
-            or_right (taken m s (among past) r) (is_room r o) (searches-is_room_from r o (sym e ∙ subst (λ z. wish m s z ≡ Some r) (sym eq) g.3))
+            or_right (taken m s (among past) r) (is_room r o) (is_room_from r o (sym e ∙ subst (λ z. wish m s z ≡ Some r) (sym eq) g.3))
       ])
       (λ h. elim (or_cases (taken m s (among past) r) (is_room r o) h) [
         | inl t ↦
             let g : (q : ℕ) × (q < m.people) × (among past q ≡ true) × (wish m s q ≡ Some r) = cycles-taken_gives m s (among past) r t in
-            cycles-taken_from m s (among (past ++ d ∷ [])) r g.0 g.1 (askers-among_left past (d ∷ []) g.0 g.2) g.3
-        | inr i ↦ cycles-taken_from m s (among (past ++ d ∷ [])) r d l (askers-among_right past (d ∷ []) d (askers-among_self d [])) (e ∙ searches-is_room_gives r o i)
+            cycles-taken_from m s (among (past ++ d ∷ [])) r g.0 g.1 (among_left past (d ∷ []) g.0 g.2) g.3
+        | inr i ↦ cycles-taken_from m s (among (past ++ d ∷ [])) r d l (among_right past (d ∷ []) d (among_self d [])) (e ∙ is_room_gives r o i)
       ])
 
   pub askers-leave_none : (s : Stage) → s ≡ leave m s (among [])
   unfolding leave
-  askers-leave_none s = cycles-same_stage s (leave m s (among [])) (λ p. sym (and-true (s.people p))) (λ r. sym (rw (nothing r) (and-true (s.rooms r))))
+  askers-leave_none s = same_stage s (leave m s (among [])) (λ p. sym (and-true (s.people p))) (λ r. sym (rw (nothing r) (and-true (s.rooms r))))
     where
       nothing : (r : ℕ) → taken m s (among []) r ≡ false
       nothing r = false_from_ne_true (taken m s (among []) r) (λ h.
@@ -188,7 +188,7 @@ module _ (m : Market) where
   pub askers-front_leaves : (s : Stage) (past : List ℕ) (d : ℕ) (t : List ℕ) (remaining : List Bool) (o : Option ℕ) → stage_of (d ∷ t) remaining ≡ leave m s (among past) → among t d ≡ false → d < m.people → wish m s d ≡ o → ((x : ℕ) → o ≡ Some x → x < length remaining) → stage_of t (close remaining o) ≡ leave m s (among (past ++ d ∷ []))
   unfolding leave
   askers-front_leaves s past d t remaining o e absent l w known =
-      cycles-same_stage (stage_of t (close remaining o)) (leave m s (among (past ++ d ∷ []))) people rooms
+      same_stage (stage_of t (close remaining o)) (leave m s (among (past ++ d ∷ []))) people rooms
     where
       before : (p : ℕ) → ((d == p) || among t p) ≡ (s.people p && not (among past p))
       before p = ap (λ (z : Stage). z.people p) e
@@ -200,7 +200,7 @@ module _ (m : Market) where
 
       people : (p : ℕ) → among t p ≡ (s.people p && not (among (past ++ d ∷ []) p))
       people p =
-          rw (askers-among-append past (d ∷ []) p)
+          rw (among-append past (d ∷ []) p)
           (elim (cases_Bool (d == p)) [
             | inl y ↦
                 let none : among t p ≡ false = subst (λ z. among t z ≡ false) (eqb-true d p y) absent in
@@ -212,9 +212,9 @@ module _ (m : Market) where
 
       rooms : (r : ℕ) → get_or (close remaining o) r false ≡ (s.rooms r && not (taken m s (among (past ++ d ∷ [])) r))
       rooms r =
-          askers-remaining_after remaining o r known
+          remaining_after remaining o r known
           ∙ ap (λ b. b && not (is_room r o)) (ap (λ (z : Stage). z.rooms r) e)
-          ∙ searches-and_nots (s.rooms r) (taken m s (among past) r) (is_room r o)
+          ∙ and_nots (s.rooms r) (taken m s (among past) r) (is_room r o)
           ∙ ap (λ b. s.rooms r && not b) (sym (askers-taken_push s past d o w l r))
 
   -- those behind wait on if nobody takes the homes that they wait for
@@ -227,9 +227,9 @@ module _ (m : Market) where
       cycles-wish_stays m s k b (λ h e.
           let z : Some w.0.0 ≡ Some h = sym w.0.2 ∙ e in
           let zz : w.0.0 ≡ h = cc in
-          subst (λ x. taken m s k x ≡ false) zz (free a w.0.0 (askers-among_self a (b ∷ r)) w.0.1)) ∙ w.0.2,
+          subst (λ x. taken m s k x ≡ false) zz (free a w.0.0 (among_self a (b ∷ r)) w.0.1)) ∙ w.0.2,
     ),
-    askers-waits_on s k b r (λ q h i e. free q h (askers-among_more a (b ∷ r) q i) e) w.1,
+    askers-waits_on s k b r (λ q h i e. free q h (among_more a (b ∷ r) q i) e) w.1,
   )
 
   pub askers-waits_front : (s : Stage) (a : ℕ) (xs ys : List ℕ) → WaitsBehind m s a (xs ++ ys) → WaitsBehind m s a xs
@@ -275,8 +275,8 @@ module _ (m : Market) where
           let z : x ≡ r = cc in
           subst (λ y. y < m.rooms) z (found_in s.rooms (list_of m p) x f (λ y. y < m.rooms) (ok.indexed.lists_known p l))
 
-pub askers-range_push : (a n : ℕ) → range_with_len a (n + 1) ≡ range_with_len a n ++ (a + n) ∷ []
-askers-range_push a n = rw add-one (more a n)
+pub range_push : (a n : ℕ) → range_with_len a (n + 1) ≡ range_with_len a n ++ (a + n) ∷ []
+range_push a n = rw add-one (more a n)
   where
     more : (a n : ℕ) → range_with_len a (suc n) ≡ range_with_len a n ++ (a + n) ∷ []
     more a zero = ap (λ z. z ∷ []) (sym (add-zero a))
@@ -285,22 +285,22 @@ askers-range_push a n = rw add-one (more a n)
         shift : (a + 1) + n ≡ a + suc n
         shift = omega arith
 
-askers-length_without_le : (t : ℕ) (xs : List ℕ) → length (without t xs) ≤ length xs
-askers-length_without_le t [] = omega arith
-askers-length_without_le t (x ∷ xs) =
+length_without_le : (t : ℕ) (xs : List ℕ) → length (without t xs) ≤ length xs
+length_without_le t [] = omega arith
+length_without_le t (x ∷ xs) =
     elim (cases_Bool (x == t)) [
-      | inl y ↦ let e : length (without t (x ∷ xs)) ≡ length (without t xs) = ap length (askers-without_hit t x xs y) in omega (arith, askers-length_without_le t xs)
-      | inr n ↦ let e : length (without t (x ∷ xs)) ≡ suc (length (without t xs)) = ap length (askers-without_miss t x xs n) in omega (arith, askers-length_without_le t xs)
+      | inl y ↦ let e : length (without t (x ∷ xs)) ≡ length (without t xs) = ap length (without_hit t x xs y) in omega (arith, length_without_le t xs)
+      | inr n ↦ let e : length (without t (x ∷ xs)) ≡ suc (length (without t xs)) = ap length (without_miss t x xs n) in omega (arith, length_without_le t xs)
     ]
 
 -- removing a person makes the list shorter
-pub askers-length_without_lt : (t : ℕ) (xs : List ℕ) → among xs t ≡ true → length (without t xs) < length xs
-askers-length_without_lt t [] h = absurd (both_ways false refl h)
-askers-length_without_lt t (x ∷ xs) h =
+pub length_without_lt : (t : ℕ) (xs : List ℕ) → among xs t ≡ true → length (without t xs) < length xs
+length_without_lt t [] h = absurd (both_ways false refl h)
+length_without_lt t (x ∷ xs) h =
     elim (cases_Bool (x == t)) [
-      | inl y ↦ let e : length (without t (x ∷ xs)) ≡ length (without t xs) = ap length (askers-without_hit t x xs y) in omega (arith, askers-length_without_le t xs)
+      | inl y ↦ let e : length (without t (x ∷ xs)) ≡ length (without t xs) = ap length (without_hit t x xs y) in omega (arith, length_without_le t xs)
       | inr n ↦
-          let e : length (without t (x ∷ xs)) ≡ suc (length (without t xs)) = ap length (askers-without_miss t x xs n) in
-          let ih : length (without t xs) < length xs = askers-length_without_lt t xs (elim (or_cases (x == t) (among xs t) h) [ inl y ↦ searches-clash (x == t) y n | inr i ↦ i ]) in
+          let e : length (without t (x ∷ xs)) ≡ suc (length (without t xs)) = ap length (without_miss t x xs n) in
+          let ih : length (without t xs) < length xs = length_without_lt t xs (elim (or_cases (x == t) (among xs t) h) [ inl y ↦ clash (x == t) y n | inr i ↦ i ]) in
           omega arith
     ]

@@ -3,7 +3,7 @@ use Rattle.std.proofs.Common.{◌≡◌, ℕ, suc, ◌+◌, ◌<◌, ◌≤◌, 
 use mathlib.Core.Path.{fun_ext}
 use Rattle.std.specs.List.{range_with_len}
 use Rattle.std.proofs.lemmas.Bool.{cases_Bool, cases_lt, both_ways, false_from_ne_true, cond-true}
-use Rattle.trade_line.proofs.askers.Lines.{askers-among_none}
+use Rattle.trade_line.proofs.askers.Lines.{among_none}
 use Rattle.trade_line.specs.Below.{sum_below}
 use Rattle.trade_line.specs.Market.{Market, list_of}
 use Rattle.trade_line.specs.Member.{among}
@@ -13,8 +13,8 @@ use Rattle.trade_line.specs.Line.{front_of}
 use Rattle.trade_line.specs.Assignment.{given_in}
 use Rattle.trade_line.specs.Inner.State.{State, given_to}
 use Rattle.trade_line.specs.Inner.Looks.{cursor, StayInLine, AreCursors, cursor_sum, spent, spent_sum, TurnReads, ReadSoFar}
-use Rattle.trade_line.proofs.counts.Looks.{counts-sum_le, counts-sum_none, counts-sum_point, counts-sum_two}
-use Rattle.trade_line.proofs.turns.Whole.{turns-range_has}
+use Rattle.trade_line.proofs.counts.Looks.{sum_le, sum_none, sum_point, sum_two}
+use Rattle.trade_line.proofs.turns.Whole.{range_has}
 use Rattle.trade_line.proofs.turns.Cursors.{turns-behind_fresh}
 
 module _ (m : Market) where
@@ -23,7 +23,7 @@ module _ (m : Market) where
       → place ≡ cursor c a + n → cursor_sum m d ≡ cursor_sum m c + n
   counts-moved_sum a place n c d l len e pe =
       let same : cursor d a ≡ place = ap (λ z. get_or z a 0) e ∙ get_or-set_same c a place 0 (omega arith) in
-      let sum : cursor_sum m d + cursor c a ≡ cursor_sum m c + cursor d a = counts-sum_point m.people (cursor c) (cursor d) a l (λ y yl ne. ap (λ z. get_or z y 0) e ∙ get_or-set_other c a y place 0 ne) in
+      let sum : cursor_sum m d + cursor c a ≡ cursor_sum m c + cursor d a = sum_point m.people (cursor c) (cursor d) a l (λ y yl ne. ap (λ z. get_or z y 0) e ∙ get_or-set_other c a y place 0 ne) in
       omega arith
 
   counts-moved_not : (a place : ℕ) (c d : List ℕ) → d ≡ set c a place → (p : ℕ) → (p ≡ a → ⊥)
@@ -78,7 +78,7 @@ module _ (m : Market) where
       let before : spent m s.line c a ≡ 0 = counts-spent_waits s.line c a there in
       let after : spent m t.line d a ≡ 1 = counts-spent_whole t.line d a gone (omega arith) in
       let more : spent_sum m t.line d + spent m s.line c a ≡ spent_sum m s.line c + spent m t.line d a =
-      counts-sum_point m.people (spent m s.line c) (spent m t.line d) a l (λ p pl ne. counts-spent_same s.line t.line c d p (others p ne) (counts-moved_not a place c d e p ne)) in
+      sum_point m.people (spent m s.line c) (spent m t.line d) a l (λ p pl ne. counts-spent_same s.line t.line c d p (others p ne) (counts-moved_not a place c d e p ne)) in
       record { cursors = td; reads = omega arith }
 
   -- a whole run
@@ -91,11 +91,11 @@ module _ (m : Market) where
       within = λ p l. (let z : cursor c p ≡ 0 = zeros p in omega arith);
       gone = λ p k l lk. (let z : cursor c p ≡ 0 = zeros p in absurd (omega arith));
       waiting = by_line s.line;
-      served = λ p l h. absurd (both_ways (among s.line p) h (subst (λ z. among z p ≡ true) (sym le) (turns-range_has 0 m.people p (omega arith) (omega arith))));
+      served = λ p l h. absurd (both_ways (among s.line p) h (subst (λ z. among z p ≡ true) (sym le) (range_has 0 m.people p (omega arith) (omega arith))));
     };
     reads =
-        let none_read : cursor_sum m c ≡ 0 = counts-sum_none m.people (cursor c) (λ y l. zeros y) in
-        let none_left : spent_sum m s.line c ≡ 0 = counts-sum_none m.people (spent m s.line c) (λ y l. counts-spent_waits s.line c y (subst (λ z. among z y ≡ true) (sym le) (turns-range_has 0 m.people y (omega arith) (omega arith)))) in
+        let none_read : cursor_sum m c ≡ 0 = sum_none m.people (cursor c) (λ y l. zeros y) in
+        let none_left : spent_sum m s.line c ≡ 0 = sum_none m.people (spent m s.line c) (λ y l. counts-spent_waits s.line c y (subst (λ z. among z y ≡ true) (sym le) (range_has 0 m.people y (omega arith) (omega arith)))) in
         omega arith;
   }
     where
@@ -111,16 +111,16 @@ module _ (m : Market) where
       → front_of s.line ≡ None → looks + m.people ≡ asks + all_needed m (given_in s.given)
   counts-read_all s c asks looks r e =
       let two : all_needed m (given_in s.given) + spent_sum m s.line c ≡ m.people + cursor_sum m c =
-      counts-sum_two m.people (λ p. needed m p (given_to s p)) (spent m s.line c) (cursor c) each in
+      sum_two m.people (λ p. needed m p (given_to s p)) (spent m s.line c) (cursor c) each in
       omega (arith, r.reads)
     where
       each : (p : ℕ) → p < m.people → needed m p (given_to s p) + spent m s.line c p ≡ suc (cursor c p)
       each p l =
-          let stands : rank m p (given_to s p) ≡ cursor c p = r.cursors.served p l (askers-among_none s.line e p) in
+          let holds : rank m p (given_to s p) ≡ cursor c p = r.cursors.served p l (among_none s.line e p) in
           elim (cases_lt (cursor c p) (length (list_of m p))) [
-            | inl b ↦ let z : spent m s.line c p ≡ 0 = counts-spent_not s.line c p (askers-among_none s.line e p) b in omega arith
-            | inr b ↦ let z : spent m s.line c p ≡ 1 = counts-spent_whole s.line c p (askers-among_none s.line e p) b in omega (arith, r.cursors.within p l)
+            | inl b ↦ let z : spent m s.line c p ≡ 0 = counts-spent_not s.line c p (among_none s.line e p) b in omega arith
+            | inr b ↦ let z : spent m s.line c p ≡ 1 = counts-spent_whole s.line c p (among_none s.line e p) b in omega (arith, r.cursors.within p l)
           ]
 
   pub counts-needed_listed : (f : ℕ → Option ℕ) → all_needed m f ≤ all_listed m
-  counts-needed_listed f = counts-sum_le m.people (λ p. length (list_of m p)) (λ p. needed m p (f p)) (λ p l. omega arith)
+  counts-needed_listed f = sum_le m.people (λ p. length (list_of m p)) (λ p. needed m p (f p)) (λ p l. omega arith)

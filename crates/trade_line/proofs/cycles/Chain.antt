@@ -12,50 +12,50 @@ use Rattle.trade_line.specs.Member.{among}
 use Rattle.trade_line.specs.Inner.Queue.{last_of, WaitsBehind}
 use Rattle.trade_line.specs.Inner.Removal.Reach.{here, there}
 use Rattle.trade_line.specs.Inner.Removal.Leads.{trade}
-use Rattle.trade_line.proofs.searches.Search.{searches-and_nots, searches-find_passes, searches-find_keeps, searches-first_passes, searches-first_finds, searches-is_room_gives, searches-is_room_from}
+use Rattle.trade_line.proofs.searches.Search.{and_nots, find_passes, find_keeps, first_passes, first_finds, is_room_gives, is_room_from}
 use Rattle.trade_line.proofs.cycles.Exchange.{cycles-successor_at, cycles-taken_gives, cycles-first_stays}
-use Rattle.trade_line.proofs.cycles.Unique.{cycles-same_stage, cycles-taken_from, cycles-trade_removed}
+use Rattle.trade_line.proofs.cycles.Unique.{same_stage, cycles-taken_from, cycles-trade_removed}
 
 -- those behind a point, each to the one before
 abbrev pub Behind : (ℕ → ℕ) → ℕ → List ℕ → Type 0
 Behind g a [] = Unit {0}
 Behind g a (b ∷ r) = (g b ≡ a) × Behind g b r
 
-pub cycles-reach_trans : (g : ℕ → ℕ) {a b c : ℕ} → Reach g a b → Reach g b c → Reach g a c
-cycles-reach_trans g here s = s
-cycles-reach_trans g (there r) s = there (cycles-reach_trans g r s)
+pub reach_trans : (g : ℕ → ℕ) {a b c : ℕ} → Reach g a b → Reach g b c → Reach g a c
+reach_trans g here s = s
+reach_trans g (there r) s = there (reach_trans g r s)
 
-pub cycles-among_last : (a : ℕ) (xs : List ℕ) → among (a ∷ xs) (last_of a xs) ≡ true
-cycles-among_last a [] = or_left (a == a) false (eq-eqb a a refl)
-cycles-among_last a (b ∷ r) = or_right (a == last_of b r) (among (b ∷ r) (last_of b r)) (cycles-among_last b r)
+pub among_last : (a : ℕ) (xs : List ℕ) → among (a ∷ xs) (last_of a xs) ≡ true
+among_last a [] = or_left (a == a) false (eq-eqb a a refl)
+among_last a (b ∷ r) = or_right (a == last_of b r) (among (b ∷ r) (last_of b r)) (among_last b r)
 
 -- everybody in the chain reaches its head
-cycles-to_head : (g : ℕ → ℕ) (a : ℕ) (xs : List ℕ) → Behind g a xs → (p : ℕ) → among (a ∷ xs) p ≡ true → Reach g p a
-cycles-to_head g a [] w p h =
+to_head : (g : ℕ → ℕ) (a : ℕ) (xs : List ℕ) → Behind g a xs → (p : ℕ) → among (a ∷ xs) p ≡ true → Reach g p a
+to_head g a [] w p h =
     elim (or_cases (a == p) false h) [ inl e ↦ subst (λ z. Reach g z a) (eqb-true a p e) here | inr f ↦ absurd (both_ways false refl f) ]
-cycles-to_head g a (b ∷ r) w p h =
+to_head g a (b ∷ r) w p h =
     elim (or_cases (a == p) (among (b ∷ r) p) h) [
       | inl e ↦ subst (λ z. Reach g z a) (eqb-true a p e) here
-      | inr f ↦ cycles-reach_trans g (cycles-to_head g b r w.1 p f) (there (subst (λ z. Reach g z a) (sym w.0) here))
+      | inr f ↦ reach_trans g (to_head g b r w.1 p f) (there (subst (λ z. Reach g z a) (sym w.0) here))
     ]
 
 -- the last reaches everybody
-cycles-from_last : (g : ℕ → ℕ) (a : ℕ) (xs : List ℕ) → Behind g a xs → (p : ℕ) → among (a ∷ xs) p ≡ true → Reach g (last_of a xs) p
-cycles-from_last g a [] w p h =
+from_last : (g : ℕ → ℕ) (a : ℕ) (xs : List ℕ) → Behind g a xs → (p : ℕ) → among (a ∷ xs) p ≡ true → Reach g (last_of a xs) p
+from_last g a [] w p h =
     elim (or_cases (a == p) false h) [ inl e ↦ subst (λ z. Reach g a z) (eqb-true a p e) here | inr f ↦ absurd (both_ways false refl f) ]
-cycles-from_last g a (b ∷ r) w p h =
+from_last g a (b ∷ r) w p h =
     elim (or_cases (a == p) (among (b ∷ r) p) h) [
-      | inl e ↦ cycles-reach_trans g (cycles-from_last g b r w.1 b (or_left (b == b) (among r b) (eq-eqb b b refl))) (there (subst (λ z. Reach g z p) (sym w.0) (subst (λ z. Reach g a z) (eqb-true a p e) here)))
-      | inr f ↦ cycles-from_last g b r w.1 p f
+      | inl e ↦ reach_trans g (from_last g b r w.1 b (or_left (b == b) (among r b) (eq-eqb b b refl))) (there (subst (λ z. Reach g z p) (sym w.0) (subst (λ z. Reach g a z) (eqb-true a p e) here)))
+      | inr f ↦ from_last g b r w.1 p f
     ]
 
 -- everybody behind points into the chain
-cycles-behind_stays : (g : ℕ → ℕ) (a : ℕ) (xs : List ℕ) → Behind g a xs → (p : ℕ) → among xs p ≡ true → among (a ∷ xs) (g p) ≡ true
-cycles-behind_stays g a [] w p h = absurd (both_ways false refl h)
-cycles-behind_stays g a (b ∷ r) w p h =
+behind_stays : (g : ℕ → ℕ) (a : ℕ) (xs : List ℕ) → Behind g a xs → (p : ℕ) → among xs p ≡ true → among (a ∷ xs) (g p) ≡ true
+behind_stays g a [] w p h = absurd (both_ways false refl h)
+behind_stays g a (b ∷ r) w p h =
     elim (or_cases (b == p) (among r p) h) [
       | inl e ↦ or_left (a == g p) (among (b ∷ r) (g p)) (eq-eqb a (g p) (sym (subst (λ z. g z ≡ a) (eqb-true b p e) w.0)))
-      | inr f ↦ or_right (a == g p) (among (b ∷ r) (g p)) (cycles-behind_stays g b r w.1 p f)
+      | inr f ↦ or_right (a == g p) (among (b ∷ r) (g p)) (behind_stays g b r w.1 p f)
     ]
 
 module _ (m : Market) where
@@ -73,20 +73,20 @@ module _ (m : Market) where
       closed : (p : ℕ) → among (a ∷ xs) p ≡ true → among (a ∷ xs) (successor m s p) ≡ true
       closed p h =
           elim (or_cases (a == p) (among xs p) h) [
-            | inl y ↦ subst (λ z. among (a ∷ xs) z ≡ true) (sym e ∙ ap (successor m s) (eqb-true a p y)) (cycles-among_last a xs)
-            | inr f ↦ cycles-behind_stays (successor m s) a xs w p f
+            | inl y ↦ subst (λ z. among (a ∷ xs) z ≡ true) (sym e ∙ ap (successor m s) (eqb-true a p y)) (among_last a xs)
+            | inr f ↦ behind_stays (successor m s) a xs w p f
           ]
 
       cycle : (p : ℕ) → among (a ∷ xs) p ≡ true → Reach (successor m s) (successor m s p) p
       cycle p h =
-          cycles-reach_trans (successor m s) (cycles-to_head (successor m s) a xs w (successor m s p) (closed p h))
-          (there (subst (λ z. Reach (successor m s) z p) (sym e) (cycles-from_last (successor m s) a xs w p h)))
+          reach_trans (successor m s) (to_head (successor m s) a xs w (successor m s p) (closed p h))
+          (there (subst (λ z. Reach (successor m s) z p) (sym e) (from_last (successor m s) a xs w p h)))
 
   pub cycles-tenant_at : IsMarket m → (a h : ℕ) → a < m.people → home m a ≡ Some h → tenant m h ≡ Some a
   cycles-tenant_at ok a h l e =
-      let t : (y : ℕ) × (first_below m.people (λ p. is_room h (home m p)) ≡ Some y) = searches-first_finds m.people (λ p. is_room h (home m p)) a l (searches-is_room_from h (home m a) e) in
-      let u : (is_room h (home m t.0) ≡ true) × (t.0 < m.people) = searches-first_passes m.people (λ p. is_room h (home m p)) t.0 t.1 in
-      t.1 ∙ ap Some (ok.homes_differ t.0 a h u.1 l (searches-is_room_gives h (home m t.0) u.0) e)
+      let t : (y : ℕ) × (first_below m.people (λ p. is_room h (home m p)) ≡ Some y) = first_finds m.people (λ p. is_room h (home m p)) a l (is_room_from h (home m a) e) in
+      let u : (is_room h (home m t.0) ≡ true) × (t.0 < m.people) = first_passes m.people (λ p. is_room h (home m p)) t.0 t.1 in
+      t.1 ∙ ap Some (ok.homes_differ t.0 a h u.1 l (is_room_gives h (home m t.0) u.0) e)
 
   pub cycles-home_holder : IsMarket m → (s : Stage) (a h : ℕ) → a < m.people → home m a ≡ Some h → s.people a ≡ true → holder m s h ≡ a
   unfolding holder
@@ -104,8 +104,8 @@ module _ (m : Market) where
   pub cycles-wish_stays : (s : Stage) (k : ℕ → Bool) (p : ℕ) → ((h : ℕ) → wish m s p ≡ Some h → taken m s k h ≡ false) → wish m (leave m s k) p ≡ wish m s p
   unfolding wish leave
   cycles-wish_stays s k p free =
-      ap (λ o. or_else o (home m p)) (searches-find_keeps s.rooms (leave m s k).rooms (list_of m p) (λ y t. (and_parts (s.rooms y) (not (taken m s k y)) t).0)
-      (λ x e. and_from (s.rooms x) (not (taken m s k x)) (searches-find_passes s.rooms (list_of m p) x e) (not_from_false (taken m s k x) (free x (ap (λ o. or_else o (home m p)) e)))))
+      ap (λ o. or_else o (home m p)) (find_keeps s.rooms (leave m s k).rooms (list_of m p) (λ y t. (and_parts (s.rooms y) (not (taken m s k y)) t).0)
+      (λ x e. and_from (s.rooms x) (not (taken m s k x)) (find_passes s.rooms (list_of m p) x e) (not_from_false (taken m s k x) (free x (ap (λ o. or_else o (home m p)) e)))))
 
   cycles-taken_both : (s : Stage) (k l : ℕ → Bool) → ((p : ℕ) → l p ≡ true → wish m (leave m s k) p ≡ wish m s p) → (r : ℕ) → ((s.rooms r && not (taken m s k r)) && not (taken m (leave m s k) l r)) ≡ (s.rooms r && not (taken m s (λ p. k p || l p) r))
   cycles-taken_both s k l same r = one_truth ((s.rooms r && not (taken m s k r)) && not (taken m (leave m s k) l r)) (s.rooms r && not (taken m s (λ p. k p || l p) r)) once both
@@ -136,7 +136,7 @@ module _ (m : Market) where
   -- two groups, one after the other, are one group
   pub cycles-leave_twice : (s : Stage) (k l : ℕ → Bool) → ((p : ℕ) → l p ≡ true → wish m (leave m s k) p ≡ wish m s p) → leave m (leave m s k) l ≡ leave m s (λ p. k p || l p)
   unfolding leave
-  cycles-leave_twice s k l same = cycles-same_stage (leave m (leave m s k) l) (leave m s (λ p. k p || l p)) (λ p. searches-and_nots (s.people p) (k p) (l p)) (cycles-taken_both s k l same)
+  cycles-leave_twice s k l same = same_stage (leave m (leave m s k) l) (leave m s (λ p. k p || l p)) (λ p. and_nots (s.people p) (k p) (l p)) (cycles-taken_both s k l same)
 
   -- the room v has no tenant who remains
   abbrev pub IsVacant : Stage → ℕ → Type 0
@@ -221,7 +221,7 @@ module _ (m : Market) where
           (let z : Some a ≡ Some t2 = sym t ∙ e2 in
           let zz : a ≡ t2 = cc in
           and_right (s.people t2) (not (a == t2)) (rw (eq-eqb a t2 zz) refl)) in
-          let keeps : first m (leave m s (only a)) ≡ first m s = cycles-first_stays m s (only a) (other (first m s) (subst (λ z. among (b ∷ r) z ≡ true) (sym least) (cycles-among_last b r))) in
+          let keeps : first m (leave m s (only a)) ≡ first m s = cycles-first_stays m s (only a) (other (first m s) (subst (λ z. among (b ∷ r) z ≡ true) (sym least) (among_last b r))) in
           cycles-successor_at m (leave m s (only a)) b (Some w.0.0) eb ∙ cycles-vacant_holder (leave m s (only a)) w.0.0 gone ∙ keeps ∙ least
 
       behind : IsTrade m (leave m s (only a)) (among (b ∷ r))

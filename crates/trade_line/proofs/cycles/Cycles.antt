@@ -3,18 +3,18 @@
 use Rattle.std.proofs.Common.{◌≡◌, ◌⊎◌, ℕ, zero, suc, ◌+◌, ◌<◌, Bool, true, false, not, ◌==◌, List, [], ◌∷◌, Option, Some, None, refl, sym, ap, ◌∙◌, subst, inl, inr, arith, eqb-true, eq-eqb, le_refl}
 use Rattle.std.proofs.lemmas.Bool.{and_from, cond-false, or_cases, or_left, or_right, both_ways, not_from_false}
 use Rattle.std.specs.Fn.{iterate}
-use Rattle.trade_line.proofs.askers.Lines.{askers-among_self}
+use Rattle.trade_line.proofs.askers.Lines.{among_self}
 use Rattle.trade_line.specs.Below.{some_below}
 use Rattle.trade_line.specs.Cycles.{AreCycles, IsStageOf, LeavesOtherCycles, WishesForHomeOf, WishOnTo, AllRemain, IsLoop, IsChain}
 use Rattle.trade_line.specs.Inner.Removal.{Reach, IsTrade}
 use Rattle.trade_line.specs.Inner.Removal.Reach.{here, there}
 use Rattle.trade_line.specs.Market.{Market, IsMarket, tenant}
 use Rattle.trade_line.specs.Member.{among}
-use Rattle.trade_line.specs.TopTradingCycles.{Stage, first, tenant_or_first, holder, successor, remaining_count, on_cycle, leave}
-use Rattle.trade_line.proofs.cycles.Chain.{cycles-reach_trans, cycles-home_holder}
-use Rattle.trade_line.proofs.counts.Count.{counts-pigeonhole, counts-reach_times, counts-times_after, counts-times_stays, counts-times_sum}
+use Rattle.trade_line.specs.TopTradingCycles.{Stage, first, tenant_or_first, holder, successor, remaining_count, is_on_cycle, leave}
+use Rattle.trade_line.proofs.cycles.Chain.{reach_trans, cycles-home_holder}
+use Rattle.trade_line.proofs.counts.Count.{pigeonhole, reach_times, times_after, times_stays, times_sum}
 use Rattle.trade_line.proofs.cycles.Exchange.{minus, cycles-trade_left_over, cycles-successor_at, cycles-successor_keeps, cycles-wish_keeps}
-use Rattle.trade_line.proofs.searches.Search.{searches-some_from}
+use Rattle.trade_line.proofs.searches.Search.{some_from}
 use Rattle.trade_line.proofs.cycles.Steps.{cycles_trade, cycles-leave_known, cycles-successor_remains}
 
 -- ---- how soon somebody comes back
@@ -24,35 +24,35 @@ module _ (g : ℕ → ℕ) where
     cycles-all_back : (i : ℕ) → iterate g (suc n) (iterate g i p) ≡ iterate g i p
     cycles-all_back i =
         let swapped : i + suc n ≡ suc n + i = omega arith in
-        counts-times_sum g i (suc n) p ∙ ap (λ k. iterate g k p) swapped ∙ sym (counts-times_sum g (suc n) i p) ∙ ap (iterate g i) back
+        times_sum g i (suc n) p ∙ ap (λ k. iterate g k p) swapped ∙ sym (times_sum g (suc n) i p) ∙ ap (iterate g i) back
 
     -- if two of the turns lead to the same person, as many turns as lie between them come back
     cycles-back_between : (i j : ℕ) → i < j → iterate g i p ≡ iterate g j p → (k : ℕ) × (k < j) × (iterate g (suc k) p ≡ p)
     cycles-back_between i zero l e = absurd (omega (arith, l))
     cycles-back_between zero (suc j) l e = (j, omega arith, sym e)
     cycles-back_between (suc i) (suc j) l e =
-        let same : g (iterate g i p) ≡ g (iterate g j p) = sym (counts-times_after g i p) ∙ e ∙ counts-times_after g j p in
+        let same : g (iterate g i p) ≡ g (iterate g j p) = sym (times_after g i p) ∙ e ∙ times_after g j p in
         let r : (k : ℕ) × (k < j) × (iterate g (suc k) p ≡ p) =
         cycles-back_between i j (omega (arith, l)) (sym (cycles-all_back i) ∙ ap (iterate g n) same ∙ cycles-all_back j) in
         (r.0, omega (arith, r.1), r.2)
 
 module _ (m : Market) (s : Stage) (known : IsStageOf m s) where
-  pub cycles-cycle_from : (p : ℕ) → s.people p ≡ true → Reach (successor m s) (successor m s p) p → on_cycle m s p ≡ true
-  unfolding on_cycle
+  pub cycles-cycle_from : (p : ℕ) → s.people p ≡ true → Reach (successor m s) (successor m s p) p → is_on_cycle m s p ≡ true
+  unfolding is_on_cycle
   cycles-cycle_from p h r =
-      let t : (k : ℕ) × (iterate (successor m s) k (successor m s p) ≡ p) = counts-reach_times (successor m s) r in
-      let inside : (i : ℕ) → s.people (iterate (successor m s) i p) ≡ true = λ i. counts-times_stays (successor m s) s.people (cycles-successor_remains m s known) i p h in
+      let t : (k : ℕ) × (iterate (successor m s) k (successor m s p) ≡ p) = reach_times (successor m s) r in
+      let inside : (i : ℕ) → s.people (iterate (successor m s) i p) ≡ true = λ i. times_stays (successor m s) s.people (cycles-successor_remains m s known) i p h in
       let two : (i : ℕ) × (j : ℕ) × (i < j) × (j < suc (remaining_count m s)) × (iterate (successor m s) i p ≡ iterate (successor m s) j p) =
-      counts-pigeonhole (remaining_count m s) m.people s.people (λ i. iterate (successor m s) i p) (λ i l. (known (iterate (successor m s) i p) (inside i), inside i)) (le_refl (remaining_count m s)) in
+      pigeonhole (remaining_count m s) m.people s.people (λ i. iterate (successor m s) i p) (λ i l. (known (iterate (successor m s) i p) (inside i), inside i)) (le_refl (remaining_count m s)) in
       let b : (k : ℕ) × (k < two.1) × (iterate (successor m s) (suc k) p ≡ p) = cycles-back_between (successor m s) t.0 p t.1 two.0 two.1 two.2 two.4 in
       and_from (s.people p) (some_below (remaining_count m s) (λ k. iterate (successor m s) (suc k) p == p)) h
-      (searches-some_from (remaining_count m s) (λ k. iterate (successor m s) (suc k) p == p) b.0 (omega (arith, b.1, two.3)) (eq-eqb (iterate (successor m s) (suc b.0) p) p b.2))
+      (some_from (remaining_count m s) (λ k. iterate (successor m s) (suc k) p == p) b.0 (omega (arith, b.1, two.3)) (eq-eqb (iterate (successor m s) (suc b.0) p) p b.2))
 
 -- ---- whole cycles
 
 pub cycles_leave : (m : Market) (s : Stage) → IsStageOf m s → (group : ℕ → Bool) → AreCycles m s group → IsTrade m s group
 cycles_leave m s known group c =
-    let all : IsTrade m s (on_cycle m s) = cycles_trade m s known in
+    let all : IsTrade m s (is_on_cycle m s) = cycles_trade m s known in
     record {
       known = λ p h. all.known p (c.each p h);
       remain = λ p h. all.remain p (c.each p h);
@@ -60,16 +60,16 @@ cycles_leave m s known group c =
       cycle = λ p h. all.cycle p (c.each p h);
     }
 
-pub cycles-others_stay : (m : Market) (s : Stage) (group : ℕ → Bool) → IsStageOf m s → AreCycles m s group → LeavesOtherCycles m s group
-cycles-others_stay m s group known c =
+pub others_stay : (m : Market) (s : Stage) (group : ℕ → Bool) → IsStageOf m s → AreCycles m s group → LeavesOtherCycles m s group
+others_stay m s group known c =
     let gone : IsTrade m s group = cycles_leave m s known group c in
-    let all : IsTrade m s (on_cycle m s) = cycles_trade m s known in
+    let all : IsTrade m s (is_on_cycle m s) = cycles_trade m s known in
     record {
-      wishes = cycles-wish_keeps m s group (on_cycle m s) gone all;
-      pointing = cycles-successor_keeps m s group (on_cycle m s) gone all;
+      wishes = cycles-wish_keeps m s group (is_on_cycle m s) gone all;
+      pointing = cycles-successor_keeps m s group (is_on_cycle m s) gone all;
       cycles = λ p o n.
-          let left : IsTrade m (leave m s group) (minus group (on_cycle m s)) = cycles-trade_left_over m s group (on_cycle m s) gone all in
-          let is_left : minus group (on_cycle m s) p ≡ true = and_from (on_cycle m s p) (not (group p)) o (not_from_false (group p) n) in
+          let left : IsTrade m (leave m s group) (minus group (is_on_cycle m s)) = cycles-trade_left_over m s group (is_on_cycle m s) gone all in
+          let is_left : minus group (is_on_cycle m s) p ≡ true = and_from (is_on_cycle m s p) (not (group p)) o (not_from_false (group p) n) in
           cycles-cycle_from m (leave m s group) (cycles-leave_known m s group known) p (left.remain p is_left) (left.cycle p is_left);
     }
 
@@ -120,7 +120,7 @@ module _ (m : Market) (ok : IsMarket m) (s : Stage) (known : IsStageOf m s) wher
   cycles-row_cycles room person others to remain wishes = record {
     each = λ p h.
         let both : Reach (successor m s) person p × Reach (successor m s) (successor m s p) person = cycles-along person others room person to remain wishes p h in
-        cycles-cycle_from m s known p (remain p h) (cycles-reach_trans (successor m s) both.1 both.0);
+        cycles-cycle_from m s known p (remain p h) (reach_trans (successor m s) both.1 both.0);
     closed = λ p h.
         elim (cycles-onward person others room person to remain wishes p h) [
           | inl f ↦ or_right (person == successor m s p) (among others (successor m s p)) f
@@ -136,11 +136,11 @@ module _ (m : Market) (ok : IsMarket m) (s : Stage) (known : IsStageOf m s) wher
       by_tenant None e = refl
       by_tenant (Some t) e = cond-false (s.people t) t (first m s) (free t e)
 
-pub cycles-loop_cycles : (m : Market) → IsMarket m → (s : Stage) → IsStageOf m s → (person : ℕ) (others : List ℕ) → IsLoop m s person others → AreCycles m s (among (person ∷ others))
-cycles-loop_cycles m ok s known person others loop =
-    let there_still : s.people person ≡ true = loop.remain person (askers-among_self person others) in
+pub loop_cycles : (m : Market) → IsMarket m → (s : Stage) → IsStageOf m s → (person : ℕ) (others : List ℕ) → IsLoop m s person others → AreCycles m s (among (person ∷ others))
+loop_cycles m ok s known person others loop =
+    let there_still : s.people person ≡ true = loop.remain person (among_self person others) in
     cycles-row_cycles m ok s known loop.room person others (cycles-home_holder m ok s person loop.room (known person there_still) loop.lives there_still) loop.remain loop.wishes
 
-pub cycles-chain_cycles : (m : Market) → IsMarket m → (s : Stage) → IsStageOf m s → (person : ℕ) (others : List ℕ) → IsChain m s person others → AreCycles m s (among (person ∷ others))
-cycles-chain_cycles m ok s known person others chain =
+pub chain_cycles : (m : Market) → IsMarket m → (s : Stage) → IsStageOf m s → (person : ℕ) (others : List ℕ) → IsChain m s person others → AreCycles m s (among (person ∷ others))
+chain_cycles m ok s known person others chain =
     cycles-row_cycles m ok s known chain.room person others (cycles-free_holder m ok s known chain.room chain.free ∙ chain.leads) chain.remain chain.wishes

@@ -7,20 +7,20 @@ use Rattle.trade_line.specs.Market.{Market, home, list_of, is_room, tenant}
 use Rattle.trade_line.specs.TopTradingCycles.{Stage, wish, first, tenant_or_first, holder, target, successor, taken, leave}
 use Rattle.trade_line.specs.Inner.Removal.{Reach, IsTrade}
 use Rattle.trade_line.specs.Inner.Removal.Reach.{here, there}
-use Rattle.trade_line.proofs.searches.Search.{searches-find_passes, searches-find_keeps, searches-first_passes, searches-first_keeps, searches-some_gives, searches-is_room_gives}
+use Rattle.trade_line.proofs.searches.Search.{find_passes, find_keeps, first_passes, first_keeps, some_gives, is_room_gives}
 
 -- the part of the second group that is not in the first
 abbrev pub minus : (ℕ → Bool) → (ℕ → Bool) → ℕ → Bool
 minus k l p = l p && not (k p)
 
-pub cycles-reach_closed : (g : ℕ → ℕ) (group : ℕ → Bool) → ((p : ℕ) → group p ≡ true → group (g p) ≡ true) → {a b : ℕ} → Reach g a b → group a ≡ true → group b ≡ true
-cycles-reach_closed g group closed here h = h
-cycles-reach_closed g group closed {a} (there r) h = cycles-reach_closed g group closed r (closed a h)
+pub reach_closed : (g : ℕ → ℕ) (group : ℕ → Bool) → ((p : ℕ) → group p ≡ true → group (g p) ≡ true) → {a b : ℕ} → Reach g a b → group a ≡ true → group b ≡ true
+reach_closed g group closed here h = h
+reach_closed g group closed {a} (there r) h = reach_closed g group closed r (closed a h)
 
-pub cycles-reach_same : (g k : ℕ → ℕ) (group : ℕ → Bool) → ((p : ℕ) → group p ≡ true → group (g p) ≡ true) → ((p : ℕ) → group p ≡ true → k p ≡ g p) → {a b : ℕ} → Reach g a b → group a ≡ true → Reach k a b
-cycles-reach_same g k group closed same here h = here
-cycles-reach_same g k group closed same {a} {b} (there r) h =
-    there (subst (λ z. Reach k z b) (sym (same a h)) (cycles-reach_same g k group closed same r (closed a h)))
+pub reach_same : (g k : ℕ → ℕ) (group : ℕ → Bool) → ((p : ℕ) → group p ≡ true → group (g p) ≡ true) → ((p : ℕ) → group p ≡ true → k p ≡ g p) → {a b : ℕ} → Reach g a b → group a ≡ true → Reach k a b
+reach_same g k group closed same here h = here
+reach_same g k group closed same {a} {b} (there r) h =
+    there (subst (λ z. Reach k z b) (sym (same a h)) (reach_same g k group closed same r (closed a h)))
 
 module _ (m : Market) where
   pub cycles-successor_at : (s : Stage) (p : ℕ) (o : Option ℕ) → wish m s p ≡ o → successor m s p ≡ target m s p o
@@ -30,19 +30,19 @@ module _ (m : Market) where
   pub cycles-taken_gives : (s : Stage) (k : ℕ → Bool) (r : ℕ) → taken m s k r ≡ true → (q : ℕ) × (q < m.people) × (k q ≡ true) × (wish m s q ≡ Some r)
   unfolding taken
   cycles-taken_gives s k r h =
-      let t : (q : ℕ) × (q < m.people) × ((k q && is_room r (wish m s q)) ≡ true) = searches-some_gives m.people (λ p. k p && is_room r (wish m s p)) h in
+      let t : (q : ℕ) × (q < m.people) × ((k q && is_room r (wish m s q)) ≡ true) = some_gives m.people (λ p. k p && is_room r (wish m s p)) h in
       let b : (k t.0 ≡ true) × (is_room r (wish m s t.0) ≡ true) = and_parts (k t.0) (is_room r (wish m s t.0)) t.2 in
-      (t.0, t.1, b.0, searches-is_room_gives r (wish m s t.0) b.1)
+      (t.0, t.1, b.0, is_room_gives r (wish m s t.0) b.1)
 
   -- a person in one trade and not in another doesn't point into the other
   pub cycles-points_past : (s : Stage) (k l : ℕ → Bool) → IsTrade m s k → IsTrade m s l → (p : ℕ) → l p ≡ true → k p ≡ false → k (successor m s p) ≡ false
   cycles-points_past s k l tk tl p h f =
-      false_from_ne_true (k (successor m s p)) (λ t. both_ways (k p) f (cycles-reach_closed (successor m s) k tk.closed (tl.cycle p h) t))
+      false_from_ne_true (k (successor m s p)) (λ t. both_ways (k p) f (reach_closed (successor m s) k tk.closed (tl.cycle p h) t))
 
   pub cycles-wish_keeps : (s : Stage) (k l : ℕ → Bool) → IsTrade m s k → IsTrade m s l → (p : ℕ) → l p ≡ true → k p ≡ false → wish m (leave m s k) p ≡ wish m s p
   unfolding wish leave
   cycles-wish_keeps s k l tk tl p h f =
-      ap (λ o. or_else o (home m p)) (searches-find_keeps s.rooms (leave m s k).rooms (list_of m p) (λ y t. (and_parts (s.rooms y) (not (taken m s k y)) t).0) stays)
+      ap (λ o. or_else o (home m p)) (find_keeps s.rooms (leave m s k).rooms (list_of m p) (λ y t. (and_parts (s.rooms y) (not (taken m s k y)) t).0) stays)
     where
       stays : (x : ℕ) → find s.rooms (list_of m p) ≡ Some x → (leave m s k).rooms x ≡ true
       stays x e =
@@ -51,14 +51,14 @@ module _ (m : Market) where
           let g : (q : ℕ) × (q < m.people) × (k q ≡ true) × (wish m s q ≡ Some x) = cycles-taken_gives s k x t in
           let same : successor m s g.0 ≡ successor m s p = cycles-successor_at s g.0 (Some x) g.3 ∙ sym (cycles-successor_at s p (Some x) w) in
           both_ways (k (successor m s p)) (cycles-points_past s k l tk tl p h f) (subst (λ z. k z ≡ true) same (tk.closed g.0 g.2))) in
-          and_from (s.rooms x) (not (taken m s k x)) (searches-find_passes s.rooms (list_of m p) x e) (not_from_false (taken m s k x) free)
+          and_from (s.rooms x) (not (taken m s k x)) (find_passes s.rooms (list_of m p) x e) (not_from_false (taken m s k x) free)
 
   pub cycles-first_stays : (s : Stage) (k : ℕ → Bool) → k (first m s) ≡ false → first m (leave m s k) ≡ first m s
   unfolding first leave
   cycles-first_stays s k f =
-      ap (λ o. unwrap_or o 0) (searches-first_keeps m.people s.people (leave m s k).people (λ y t. (and_parts (s.people y) (not (k y)) t).0) (λ x e.
+      ap (λ o. unwrap_or o 0) (first_keeps m.people s.people (leave m s k).people (λ y t. (and_parts (s.people y) (not (k y)) t).0) (λ x e.
       let fx : k x ≡ false = subst (λ z. k z ≡ false) (ap (λ o. unwrap_or o 0) e) f in
-      and_from (s.people x) (not (k x)) (searches-first_passes m.people s.people x e).0 (not_from_false (k x) fx)))
+      and_from (s.people x) (not (k x)) (first_passes m.people s.people x e).0 (not_from_false (k x) fx)))
 
   cycles-holder_keeps : (s : Stage) (k : ℕ → Bool) (r : ℕ) → k (holder m s r) ≡ false → holder m (leave m s k) r ≡ holder m s r
   unfolding holder leave
@@ -94,7 +94,7 @@ module _ (m : Market) where
     remain = λ p h. and_from (s.people p) (not (k p)) (tl.remain p (parts p h).0) (parts p h).1;
     closed = λ p h. subst (λ z. minus k l z ≡ true) (sym (same p h)) (stay p h);
     cycle = λ p h. subst (λ z. Reach (successor m (leave m s k)) z p) (sym (same p h))
-        (cycles-reach_same (successor m s) (successor m (leave m s k)) (minus k l) stay same (tl.cycle p (parts p h).0) (stay p h));
+        (reach_same (successor m s) (successor m (leave m s k)) (minus k l) stay same (tl.cycle p (parts p h).0) (stay p h));
   }
     where
       parts : (p : ℕ) → minus k l p ≡ true → (l p ≡ true) × (not (k p) ≡ true)

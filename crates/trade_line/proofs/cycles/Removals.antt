@@ -22,8 +22,8 @@ module _ (m : Market) (f : ℕ → Option ℕ) where
       remove group (record { each = λ p h. cycles-cycle_from m s known p (t.remain p h) (t.cycle p h); closed = t.closed }) e
       (cycles-leads_by_removals (cycles-leave_known m s group known) rest)
 
-pub cycles-removals_gets : (m : Market) (f : ℕ → Option ℕ) → IsGivenByRemovals m f (start m) → (p : ℕ) → p < m.people → f p ≡ gets m p
-cycles-removals_gets m f given = cycles-leads_gets m f (cycles-removals_lead m f (cycles-start_known m) given)
+pub removals_gets : (m : Market) (f : ℕ → Option ℕ) → IsGivenByRemovals m f (start m) → (p : ℕ) → p < m.people → f p ≡ gets m p
+removals_gets m f given = cycles-leads_gets m f (cycles-removals_lead m f (cycles-start_known m) given)
 
-pub cycles-gets_removals : (m : Market) → IsGivenByRemovals m (gets m) (start m)
-cycles-gets_removals m = cycles-leads_by_removals m (gets m) (cycles-start_known m) (cycles-gets_leads m)
+pub gets_removals : (m : Market) → IsGivenByRemovals m (gets m) (start m)
+gets_removals m = cycles-leads_by_removals m (gets m) (cycles-start_known m) (cycles-gets_leads m)

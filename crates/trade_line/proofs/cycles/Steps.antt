@@ -5,20 +5,20 @@ use Rattle.std.proofs.lemmas.Bool.{and_right, cases_Bool, cases_lt, and_parts, a
 use Rattle.std.specs.Fn.{iterate}
 use Rattle.trade_line.specs.Below.{some_below, first_below, count_below}
 use Rattle.trade_line.specs.Market.{Market, tenant}
-use Rattle.trade_line.specs.TopTradingCycles.{Stage, start, wish, first, tenant_or_first, holder, target, successor, remaining_count, on_cycle, leave, step, gets_within, gets}
+use Rattle.trade_line.specs.TopTradingCycles.{Stage, start, wish, first, tenant_or_first, holder, target, successor, remaining_count, is_on_cycle, leave, step, gets_within, gets}
 use Rattle.trade_line.specs.Cycles.{IsStageOf}
 use Rattle.trade_line.specs.Inner.Removal.{IsTrade, Leads}
 use Rattle.trade_line.specs.Inner.Removal.Leads.{done, trade}
-use Rattle.trade_line.proofs.searches.Search.{searches-some_gives, searches-some_from, searches-first_finds, searches-first_passes}
-use Rattle.trade_line.proofs.counts.Count.{counts-count_le, counts-count_most, counts-count_some, counts-count_less, counts-pigeonhole, counts-times_reach, counts-times_after, counts-times_sum, counts-times_stays}
+use Rattle.trade_line.proofs.searches.Search.{some_gives, some_from, first_finds, first_passes}
+use Rattle.trade_line.proofs.counts.Count.{count_le, count_most, count_some, count_less, pigeonhole, times_reach, times_after, times_sum, times_stays}
 use Rattle.trade_line.proofs.cycles.Unique.{cycles-wishes_lead_to_one}
 
 module _ (m : Market) where
   cycles-first_remains : (s : Stage) → IsStageOf m s → (p : ℕ) → s.people p ≡ true → s.people (first m s) ≡ true
   unfolding first
   cycles-first_remains s known p h =
-      let r : (y : ℕ) × (first_below m.people s.people ≡ Some y) = searches-first_finds m.people s.people p (known p h) h in
-      subst (λ z. s.people z ≡ true) (sym (ap (λ o. unwrap_or o 0) r.1)) (searches-first_passes m.people s.people r.0 r.1).0
+      let r : (y : ℕ) × (first_below m.people s.people ≡ Some y) = first_finds m.people s.people p (known p h) h in
+      subst (λ z. s.people z ≡ true) (sym (ap (λ o. unwrap_or o 0) r.1)) (first_passes m.people s.people r.0 r.1).0
 
   cycles-holder_remains : (s : Stage) → IsStageOf m s → (p r : ℕ) → s.people p ≡ true → s.people (holder m s r) ≡ true
   unfolding holder
@@ -40,44 +40,44 @@ module _ (m : Market) where
       by_wish None = h
       by_wish (Some r) = cycles-holder_remains s known p r h
 
-  pub cycles_trade : (s : Stage) → IsStageOf m s → IsTrade m s (on_cycle m s)
-  unfolding on_cycle
+  pub cycles_trade : (s : Stage) → IsStageOf m s → IsTrade m s (is_on_cycle m s)
+  unfolding is_on_cycle
   cycles_trade s known = record {
     known = λ p h. known p (parts p h).0;
     remain = λ p h. (parts p h).0;
     closed = λ p h.
         let c : (k : ℕ) × (k < remaining_count m s) × ((iterate (successor m s) (suc k) p == p) ≡ true) = turn p h in
-        let e : iterate (successor m s) (suc c.0) (successor m s p) ≡ successor m s p = counts-times_after (successor m s) (suc c.0) p ∙ ap (successor m s) (eqb-true (iterate (successor m s) (suc c.0) p) p c.2) in
+        let e : iterate (successor m s) (suc c.0) (successor m s p) ≡ successor m s p = times_after (successor m s) (suc c.0) p ∙ ap (successor m s) (eqb-true (iterate (successor m s) (suc c.0) p) p c.2) in
         and_from (s.people (successor m s p)) (some_below (remaining_count m s) (λ k. iterate (successor m s) (suc k) (successor m s p) == successor m s p))
         (cycles-successor_remains s known p (parts p h).0)
-        (searches-some_from (remaining_count m s) (λ k. iterate (successor m s) (suc k) (successor m s p) == successor m s p) c.0 c.1 (eq-eqb (iterate (successor m s) (suc c.0) (successor m s p)) (successor m s p) e));
+        (some_from (remaining_count m s) (λ k. iterate (successor m s) (suc k) (successor m s p) == successor m s p) c.0 c.1 (eq-eqb (iterate (successor m s) (suc c.0) (successor m s p)) (successor m s p) e));
     cycle = λ p h.
         let c : (k : ℕ) × (k < remaining_count m s) × ((iterate (successor m s) (suc k) p == p) ≡ true) = turn p h in
-        counts-times_reach (successor m s) c.0 (successor m s p) p (eqb-true (iterate (successor m s) (suc c.0) p) p c.2);
+        times_reach (successor m s) c.0 (successor m s p) p (eqb-true (iterate (successor m s) (suc c.0) p) p c.2);
   }
     where
       parts : (p : ℕ) → (s.people p && some_below (remaining_count m s) (λ k. iterate (successor m s) (suc k) p == p)) ≡ true → (s.people p ≡ true) × (some_below (remaining_count m s) (λ k. iterate (successor m s) (suc k) p == p) ≡ true)
       parts p h = and_parts (s.people p) (some_below (remaining_count m s) (λ k. iterate (successor m s) (suc k) p == p)) h
 
       turn : (p : ℕ) → (s.people p && some_below (remaining_count m s) (λ k. iterate (successor m s) (suc k) p == p)) ≡ true → (k : ℕ) × (k < remaining_count m s) × ((iterate (successor m s) (suc k) p == p) ≡ true)
-      turn p h = searches-some_gives (remaining_count m s) (λ k. iterate (successor m s) (suc k) p == p) (parts p h).1
+      turn p h = some_gives (remaining_count m s) (λ k. iterate (successor m s) (suc k) p == p) (parts p h).1
 
   -- while somebody remains, somebody is on a cycle
-  pub cycles-cycle_exists : (s : Stage) → IsStageOf m s → (p : ℕ) → s.people p ≡ true → (q : ℕ) × (on_cycle m s q ≡ true)
-  unfolding on_cycle
+  pub cycles-cycle_exists : (s : Stage) → IsStageOf m s → (p : ℕ) → s.people p ≡ true → (q : ℕ) × (is_on_cycle m s q ≡ true)
+  unfolding is_on_cycle
   cycles-cycle_exists s known p h =
       let x : ℕ → ℕ = λ i. iterate (successor m s) i p in
-      let inside : (i : ℕ) → s.people (iterate (successor m s) i p) ≡ true = λ i. counts-times_stays (successor m s) s.people (cycles-successor_remains s known) i p h in
+      let inside : (i : ℕ) → s.people (iterate (successor m s) i p) ≡ true = λ i. times_stays (successor m s) s.people (cycles-successor_remains s known) i p h in
       let r : (i : ℕ) × (j : ℕ) × (i < j) × (j < suc (remaining_count m s)) × (iterate (successor m s) i p ≡ iterate (successor m s) j p) =
-      counts-pigeonhole (remaining_count m s) m.people s.people (λ i. iterate (successor m s) i p) (λ i l. (known (iterate (successor m s) i p) (inside i), inside i)) (le_refl (remaining_count m s)) in
+      pigeonhole (remaining_count m s) m.people s.people (λ i. iterate (successor m s) i p) (λ i l. (known (iterate (successor m s) i p) (inside i), inside i)) (le_refl (remaining_count m s)) in
       let d : ℕ = r.1 - suc r.0 in
       let gap : r.0 + suc d ≡ r.1 = omega (arith, r.2) in
       let e : iterate (successor m s) (suc d) (iterate (successor m s) r.0 p) ≡ iterate (successor m s) r.0 p =
-      counts-times_sum (successor m s) r.0 (suc d) p ∙ ap (λ k. iterate (successor m s) k p) gap ∙ sym r.4 in
+      times_sum (successor m s) r.0 (suc d) p ∙ ap (λ k. iterate (successor m s) k p) gap ∙ sym r.4 in
       let q : ℕ = iterate (successor m s) r.0 p in (
         q,
         and_from (s.people q) (some_below (remaining_count m s) (λ k. iterate (successor m s) (suc k) q == q)) (inside r.0)
-            (searches-some_from (remaining_count m s) (λ k. iterate (successor m s) (suc k) q == q) d (omega (arith, r.2, r.3)) (eq-eqb (iterate (successor m s) (suc d) q) q e)),
+            (some_from (remaining_count m s) (λ k. iterate (successor m s) (suc k) q == q) d (omega (arith, r.2, r.3)) (eq-eqb (iterate (successor m s) (suc d) q) q e)),
       )
 
   pub cycles-leads_where_same : (f g : ℕ → Option ℕ) {s : Stage} → Leads m f s → ((p : ℕ) → s.people p ≡ true → f p ≡ g p) → Leads m g s
@@ -95,16 +95,16 @@ module _ (m : Market) where
   cycles-step_fewer s known k few =
       elim (cases_lt 0 (remaining_count m s)) [
         | inl some ↦
-            let x : (x : ℕ) × (x < m.people) × (s.people x ≡ true) = counts-count_some m.people s.people some in
-            let q : (q : ℕ) × (on_cycle m s q ≡ true) = cycles-cycle_exists s known x.0 x.2 in
-            let t : IsTrade m s (on_cycle m s) = cycles_trade s known in
-            let less : count_below m.people (λ p. s.people p && not (on_cycle m s p)) < count_below m.people s.people =
-            counts-count_less m.people (λ p. s.people p && not (on_cycle m s p)) s.people q.0 (λ y h. (and_parts (s.people y) (not (on_cycle m s y)) h).0) (t.known q.0 q.1) (t.remain q.0 q.1)
+            let x : (x : ℕ) × (x < m.people) × (s.people x ≡ true) = count_some m.people s.people some in
+            let q : (q : ℕ) × (is_on_cycle m s q ≡ true) = cycles-cycle_exists s known x.0 x.2 in
+            let t : IsTrade m s (is_on_cycle m s) = cycles_trade s known in
+            let less : count_below m.people (λ p. s.people p && not (is_on_cycle m s p)) < count_below m.people s.people =
+            count_less m.people (λ p. s.people p && not (is_on_cycle m s p)) s.people q.0 (λ y h. (and_parts (s.people y) (not (is_on_cycle m s y)) h).0) (t.known q.0 q.1) (t.remain q.0 q.1)
             (rw (q.1) (and_right (s.people q.0) false refl)) in
             omega arith
         | inr none ↦
-            let le : count_below m.people (λ p. s.people p && not (on_cycle m s p)) ≤ count_below m.people s.people =
-            counts-count_le m.people (λ p. s.people p && not (on_cycle m s p)) s.people (λ y h. (and_parts (s.people y) (not (on_cycle m s y)) h).0) in
+            let le : count_below m.people (λ p. s.people p && not (is_on_cycle m s p)) ≤ count_below m.people s.people =
+            count_le m.people (λ p. s.people p && not (is_on_cycle m s p)) s.people (λ y h. (and_parts (s.people y) (not (is_on_cycle m s y)) h).0) in
             omega arith
       ]
 
@@ -112,15 +112,15 @@ module _ (m : Market) where
   unfolding gets_within leave
   cycles-within_leads zero s known few =
       done (λ p. false_from_ne_true (s.people p) (λ h.
-      let l : count_below m.people (λ _. false) < count_below m.people s.people = counts-count_less m.people (λ _. false) s.people p (λ y f. absurd (both_ways false refl f)) (known p h) h refl in
+      let l : count_below m.people (λ _. false) < count_below m.people s.people = count_less m.people (λ _. false) s.people p (λ y f. absurd (both_ways false refl f)) (known p h) h refl in
       omega arith))
   cycles-within_leads (suc k) s known few =
-      let t : IsTrade m s (on_cycle m s) = cycles_trade s known in
-      let d : Leads m (gets_within m k (step m s)) (step m s) = cycles-within_leads k (step m s) (cycles-leave_known s (on_cycle m s) known) (cycles-step_fewer s known k few) in
-      trade (on_cycle m s) t
-      (λ p h. cond-true (on_cycle m s p) (wish m s p) (gets_within m k (step m s) p) h)
+      let t : IsTrade m s (is_on_cycle m s) = cycles_trade s known in
+      let d : Leads m (gets_within m k (step m s)) (step m s) = cycles-within_leads k (step m s) (cycles-leave_known s (is_on_cycle m s) known) (cycles-step_fewer s known k few) in
+      trade (is_on_cycle m s) t
+      (λ p h. cond-true (is_on_cycle m s p) (wish m s p) (gets_within m k (step m s) p) h)
       (cycles-leads_where_same (gets_within m k (step m s)) (gets_within m (suc k) s) d
-      (λ p h. sym (cond-false (on_cycle m s p) (wish m s p) (gets_within m k (step m s) p) (not-true (on_cycle m s p) (and_parts (s.people p) (not (on_cycle m s p)) h).1))))
+      (λ p h. sym (cond-false (is_on_cycle m s p) (wish m s p) (gets_within m k (step m s) p) (not-true (is_on_cycle m s p) (and_parts (s.people p) (not (is_on_cycle m s p)) h).1))))
 
   pub cycles-start_known : IsStageOf m (start m)
   unfolding start
@@ -128,7 +128,7 @@ module _ (m : Market) where
 
   pub cycles-gets_leads : Leads m (gets m) (start m)
   unfolding gets start
-  cycles-gets_leads = cycles-within_leads m.people (start m) cycles-start_known (counts-count_most m.people (start m).people)
+  cycles-gets_leads = cycles-within_leads m.people (start m) cycles-start_known (count_most m.people (start m).people)
 
   -- the result of any removals from the start is that of the simultaneous steps
   pub cycles-leads_gets : (f : ℕ → Option ℕ) → Leads m f (start m) → (p : ℕ) → p < m.people → f p ≡ gets m p

@@ -7,17 +7,17 @@ use Rattle.trade_line.specs.Market.{Market, is_room}
 use Rattle.trade_line.specs.TopTradingCycles.{Stage, wish, taken, leave}
 use Rattle.trade_line.specs.Inner.Removal.{IsTrade, Leads}
 use Rattle.trade_line.specs.Inner.Removal.Leads.{done, trade}
-use Rattle.trade_line.proofs.searches.Search.{searches-clash, searches-some_from, searches-is_room_from}
+use Rattle.trade_line.proofs.searches.Search.{clash, some_from, is_room_from}
 use Rattle.trade_line.proofs.cycles.Exchange.{minus, cycles-trade_left_over, cycles-wish_keeps, cycles-taken_gives}
 
 -- two stages with the same people and rooms are one
-pub cycles-same_stage : (s t : Stage) → ((p : ℕ) → s.people p ≡ t.people p) → ((r : ℕ) → s.rooms r ≡ t.rooms r) → s ≡ t
-cycles-same_stage s t e f = ap₂ (λ (a : ℕ → Bool) (b : ℕ → Bool). let x : Stage = record { people = a; rooms = b } in x) (fun_ext e) (fun_ext f)
+pub same_stage : (s t : Stage) → ((p : ℕ) → s.people p ≡ t.people p) → ((r : ℕ) → s.rooms r ≡ t.rooms r) → s ≡ t
+same_stage s t e f = ap₂ (λ (a : ℕ → Bool) (b : ℕ → Bool). let x : Stage = record { people = a; rooms = b } in x) (fun_ext e) (fun_ext f)
 
 module _ (m : Market) where
   pub cycles-taken_from : (s : Stage) (k : ℕ → Bool) (r q : ℕ) → q < m.people → k q ≡ true → wish m s q ≡ Some r → taken m s k r ≡ true
   unfolding taken
-  cycles-taken_from s k r q h t w = searches-some_from m.people (λ p. k p && is_room r (wish m s p)) q h (and_from (k q) (is_room r (wish m s q)) t (searches-is_room_from r (wish m s q) w))
+  cycles-taken_from s k r q h t w = some_from m.people (λ p. k p && is_room r (wish m s p)) q h (and_from (k q) (is_room r (wish m s q)) t (is_room_from r (wish m s q) w))
 
   -- a room that leaves with one of two trades leaves with the first, or then with what is left of the second
   cycles-taken_later : (s : Stage) (k l : ℕ → Bool) → IsTrade m s k → IsTrade m s l → (r : ℕ) → taken m s l r ≡ true → taken m s k r ≡ false → taken m (leave m s k) (minus k l) r ≡ true
@@ -52,14 +52,14 @@ module _ (m : Market) where
   pub cycles-leave_order : (s : Stage) (k l : ℕ → Bool) → IsTrade m s k → IsTrade m s l → leave m (leave m s k) (minus k l) ≡ leave m (leave m s l) (minus l k)
   unfolding leave
   cycles-leave_order s k l tk tl =
-      cycles-same_stage (leave m (leave m s k) (minus k l)) (leave m (leave m s l) (minus l k))
+      same_stage (leave m (leave m s k) (minus k l)) (leave m (leave m s l) (minus l k))
       (λ p. cycles-person_order (s.people p) (k p) (l p))
       (λ r. one_truth ((leave m (leave m s k) (minus k l)).rooms r) ((leave m (leave m s l) (minus l k)).rooms r) (cycles-room_order s k l tk tl r) (cycles-room_order s l k tl tk r))
 
   -- the result of removals from a stage gives each trade its wishes, and is a result from the stage after it
   pub cycles-trade_removed : (f : ℕ → Option ℕ) {s : Stage} → Leads m f s → (k : ℕ → Bool) → IsTrade m s k → ((p : ℕ) → k p ≡ true → f p ≡ wish m s p) × Leads m f (leave m s k)
   unfolding leave
-  cycles-trade_removed f {s} (done none) k tk = (λ p h. searches-clash (s.people p) (tk.remain p h) (none p), done (λ p. ap (λ b. b && not (k p)) (none p)))
+  cycles-trade_removed f {s} (done none) k tk = (λ p h. clash (s.people p) (tk.remain p h) (none p), done (λ p. ap (λ b. b && not (k p)) (none p)))
   cycles-trade_removed f {s} (trade l tl fl d) k tk =
       let ih : ((p : ℕ) → minus l k p ≡ true → f p ≡ wish m (leave m s l) p) × Leads m f (leave m (leave m s l) (minus l k)) = cycles-trade_removed f d (minus l k) (cycles-trade_left_over m s l k tl tk) in (
         λ p h. elim (cases_Bool (l p)) [
@@ -73,7 +73,7 @@ module _ (m : Market) where
 
   pub cycles-wishes_lead_to_one : (f g : ℕ → Option ℕ) {s : Stage} → Leads m f s → Leads m g s → (p : ℕ) → s.people p ≡ true → f p ≡ g p
   unfolding leave
-  cycles-wishes_lead_to_one f g {s} (done none) e p h = searches-clash (s.people p) h (none p)
+  cycles-wishes_lead_to_one f g {s} (done none) e p h = clash (s.people p) h (none p)
   cycles-wishes_lead_to_one f g {s} (trade k tk fk d) e p h =
       let r : ((p : ℕ) → k p ≡ true → g p ≡ wish m s p) × Leads m g (leave m s k) = cycles-trade_removed g e k tk in
       elim (cases_Bool (k p)) [

@@ -5,19 +5,19 @@ use Rattle.std.proofs.lemmas.Bool.{cases_lt}
 use Rattle.std.proofs.lemmas.List.FromFn.{fill_by_all}
 use Rattle.std.proofs.lemmas.List.{get_or-append_right, get_or_append_left, length-drop, take_all, drop_at, take-append-le, drop-append-le}
 use Rattle.std.proofs.Math.Seq.{take-suc}
-use Rattle.trade_line.specs.Inner.Flat.{piece, pieces, AreFlat}
+use Rattle.trade_line.specs.Inner.Flat.{flat_list, flat_lists, AreFlat}
 
 module _ (entries starts : List ℕ) (lists : List (List ℕ)) (flat : AreFlat entries starts lists) where
-  pub markets-pieces_are : pieces entries starts ≡ lists
-  markets-pieces_are =
+  pub markets-flat_lists_are : flat_lists entries starts ≡ lists
+  markets-flat_lists_are =
       let n : pred (length starts) ≡ length lists = omega (arith, flat.starts_len) in
-      ap (λ k. map (piece entries starts) (range_with_len 0 k)) n
-      ∙ sym (fill_by_all (piece entries starts) lists (length lists) [] refl (λ k l. sym (flat.lists_are k l)))
+      ap (λ k. map (flat_list entries starts) (range_with_len 0 k)) n
+      ∙ sym (fill_by_all (flat_list entries starts) lists (length lists) [] refl (λ k l. sym (flat.lists_are k l)))
 
 -- one more list
-pub markets-flat_more : (entries starts : List ℕ) (lists : List (List ℕ)) (l : List ℕ) → AreFlat entries starts lists
+pub flat_more : (entries starts : List ℕ) (lists : List (List ℕ)) (l : List ℕ) → AreFlat entries starts lists
     → AreFlat (entries ++ l) (starts ++ length (entries ++ l) ∷ []) (lists ++ l ∷ [])
-markets-flat_more entries starts lists l flat = record {
+flat_more entries starts lists l flat = record {
   starts_len = (let a : length (starts ++ e ∷ []) ≡ length starts + 1 = length-append starts (e ∷ []) in let b : length (lists ++ l ∷ []) ≡ length lists + 1 = length-append lists (l ∷ []) in omega (arith, flat.starts_len));
   ordered = λ p h. elim (cases_lt p (length lists)) [
     | inl b ↦ omega (arith, old p (omega arith), old (p + 1) (omega arith), flat.ordered p b)
@@ -54,7 +54,7 @@ markets-flat_more entries starts lists l flat = record {
     new p h = get_or-append_right starts (e ∷ []) (p + 1) (p + 1) 0 (omega (arith, flat.starts_len)) (omega arith) ∙ ap (λ k. get_or (e ∷ []) k 0) (let z : (p + 1) - (p + 1) ≡ 0 = omega arith in z)
 
     kept : (p : ℕ) → p < length lists
-        → take (get_or starts (p + 1) 0 - get_or starts p 0) (drop (get_or starts p 0) (entries ++ l)) ≡ piece entries starts p
+        → take (get_or starts (p + 1) 0 - get_or starts p 0) (drop (get_or starts p 0) (entries ++ l)) ≡ flat_list entries starts p
     kept p b =
         let o : get_or starts p 0 ≤ get_or starts (p + 1) 0 = flat.ordered p b in
         let i : get_or starts (p + 1) 0 ≤ length entries = flat.inside p b in
@@ -65,21 +65,21 @@ markets-flat_more entries starts lists l flat = record {
     added = ap (take (length (entries ++ l) - length entries)) (drop_at entries l (length entries) refl) ∙ take_all (length (entries ++ l) - length entries) l (omega (arith, len))
 
 -- a loop over the lists
-pub markets-flat_next : (entries starts : List ℕ) (lists : List (List ℕ)) (i : ℕ) (l entries' starts' : List ℕ) (n : ℕ)
+pub flat_next : (entries starts : List ℕ) (lists : List (List ℕ)) (i : ℕ) (l entries' starts' : List ℕ) (n : ℕ)
     → i < length lists → get_or lists i [] ≡ l → AreFlat entries starts (take i lists)
     → entries' ≡ entries ++ l → n ≡ length entries' → starts' ≡ starts ++ n ∷ []
     → AreFlat entries' starts' (take (i + 1) lists)
-markets-flat_next entries starts lists i l entries' starts' n h e flat ee en es =
+flat_next entries starts lists i l entries' starts' n h e flat ee en es =
     let more : take (i + 1) lists ≡ take i lists ++ l ∷ [] = ap (λ k. take k lists) (add-one i) ∙ take-suc lists i [] h ∙ ap (λ z. take i lists ++ z ∷ []) e in
     let starts_are : starts' ≡ starts ++ length (entries ++ l) ∷ [] = es ∙ ap (λ k. starts ++ k ∷ []) (en ∙ ap length ee) in
     subst (λ z. AreFlat z starts' (take (i + 1) lists)) (sym ee)
     (subst (λ z. AreFlat (entries ++ l) z (take (i + 1) lists)) (sym starts_are)
-    (subst (AreFlat (entries ++ l) (starts ++ length (entries ++ l) ∷ [])) (sym more) (markets-flat_more entries starts (take i lists) l flat)))
+    (subst (AreFlat (entries ++ l) (starts ++ length (entries ++ l) ∷ [])) (sym more) (flat_more entries starts (take i lists) l flat)))
 
-pub markets-flat_whole : (entries starts : List ℕ) (lists : List (List ℕ)) (n : ℕ) → length lists ≤ n
+pub flat_whole : (entries starts : List ℕ) (lists : List (List ℕ)) (n : ℕ) → length lists ≤ n
     → AreFlat entries starts (take n lists) → AreFlat entries starts lists
-markets-flat_whole entries starts lists n h flat = subst (AreFlat entries starts) (take_all n lists h) flat
+flat_whole entries starts lists n h flat = subst (AreFlat entries starts) (take_all n lists h) flat
 
-pub markets-flat_self : (entries starts : List ℕ) (lists : List (List ℕ)) → AreFlat entries starts lists
-    → AreFlat entries starts (pieces entries starts)
-markets-flat_self entries starts lists flat = subst (AreFlat entries starts) (sym (markets-pieces_are entries starts lists flat)) flat
+pub flat_self : (entries starts : List ℕ) (lists : List (List ℕ)) → AreFlat entries starts lists
+    → AreFlat entries starts (flat_lists entries starts)
+flat_self entries starts lists flat = subst (AreFlat entries starts) (sym (markets-flat_lists_are entries starts lists flat)) flat

@@ -4,29 +4,29 @@ use Rattle.std.proofs.lemmas.Bool.{cases_lt, cases_Bool, or_cases, or_left, or_r
 use Rattle.trade_line.specs.Below.{some_below, first_below, or_else}
 use Rattle.trade_line.specs.Market.{is_room}
 
-pub searches-clash : {A : Type 0} → (b : Bool) → b ≡ true → b ≡ false → A
-searches-clash b t f = absurd (both_ways b f t)
+pub clash : {A : Type 0} → (b : Bool) → b ≡ true → b ≡ false → A
+clash b t f = absurd (both_ways b f t)
 
-pub searches-and_nots : (a b c : Bool) → ((a && not b) && not c) ≡ (a && not (b || c))
-searches-and_nots true true c = refl
-searches-and_nots true false c = refl
-searches-and_nots false b c = refl
+pub and_nots : (a b c : Bool) → ((a && not b) && not c) ≡ (a && not (b || c))
+and_nots true true c = refl
+and_nots true false c = refl
+and_nots false b c = refl
 
-pub searches-find_passes : (q : ℕ → Bool) (xs : List ℕ) (x : ℕ) → find q xs ≡ Some x → q x ≡ true
-searches-find_passes q [] x h = absurd (cc)
-searches-find_passes q (y ∷ ys) x h =
+pub find_passes : (q : ℕ → Bool) (xs : List ℕ) (x : ℕ) → find q xs ≡ Some x → q x ≡ true
+find_passes q [] x h = absurd (cc)
+find_passes q (y ∷ ys) x h =
     elim (cases_Bool (q y)) [
       | inl t ↦
           let e : Some y ≡ Some x = sym (rw t refl) ∙ h in
           let ey : y ≡ x = cc in
           subst (λ z. q z ≡ true) ey t
-      | inr f ↦ searches-find_passes q ys x (sym (rw f refl) ∙ h)
+      | inr f ↦ find_passes q ys x (sym (rw f refl) ∙ h)
     ]
 
 -- a narrower test finds the same if it passes what was found
-pub searches-find_keeps : (q r : ℕ → Bool) (xs : List ℕ) → ((y : ℕ) → r y ≡ true → q y ≡ true) → ((x : ℕ) → find q xs ≡ Some x → r x ≡ true) → find r xs ≡ find q xs
-searches-find_keeps q r [] only same = refl
-searches-find_keeps q r (y ∷ ys) only same =
+pub find_keeps : (q r : ℕ → Bool) (xs : List ℕ) → ((y : ℕ) → r y ≡ true → q y ≡ true) → ((x : ℕ) → find q xs ≡ Some x → r x ≡ true) → find r xs ≡ find q xs
+find_keeps q r [] only same = refl
+find_keeps q r (y ∷ ys) only same =
     elim (cases_Bool (q y)) [
       | inl t ↦
           let e : find q (y ∷ ys) ≡ Some y = rw t refl in
@@ -34,12 +34,12 @@ searches-find_keeps q r (y ∷ ys) only same =
           rw (t, u) refl
       | inr f ↦
           let u : r y ≡ false = false_from_ne_true (r y) (λ h. both_ways (q y) f (only y h)) in
-          rw (f, u) (searches-find_keeps q r ys only (λ x h. same x (rw f h)))
+          rw (f, u) (find_keeps q r ys only (λ x h. same x (rw f h)))
     ]
 
-pub searches-first_passes : (n : ℕ) (q : ℕ → Bool) (x : ℕ) → first_below n q ≡ Some x → (q x ≡ true) × (x < n)
-searches-first_passes zero q x h = absurd (cc)
-searches-first_passes (suc n) q x h = first_passes_by (searches-first_passes n q x) (first_below n q) refl h
+pub first_passes : (n : ℕ) (q : ℕ → Bool) (x : ℕ) → first_below n q ≡ Some x → (q x ≡ true) × (x < n)
+first_passes zero q x h = absurd (cc)
+first_passes (suc n) q x h = first_passes_by (first_passes n q x) (first_below n q) refl h
   where
     first_passes_by : (first_below n q ≡ Some x → (q x ≡ true) × (x < n)) → (o : Option ℕ) → first_below n q ≡ o → or_else o (cond (q n) (Some n) None) ≡ Some x → (q x ≡ true) × (x < suc n)
     first_passes_by ih None e h =
@@ -56,10 +56,10 @@ searches-first_passes (suc n) q x h = first_passes_by (searches-first_passes n q
         let r : (q x ≡ true) × (x < n) = ih (e ∙ h) in
         (r.0, omega (arith, r.1))
 
-pub searches-first_keeps : (n : ℕ) (q r : ℕ → Bool) → ((y : ℕ) → r y ≡ true → q y ≡ true) → ((x : ℕ) → first_below n q ≡ Some x → r x ≡ true) → first_below n r ≡ first_below n q
-searches-first_keeps zero q r only same = refl
-searches-first_keeps (suc n) q r only same =
-    let ih : first_below n r ≡ first_below n q = searches-first_keeps n q r only (λ x h. same x (rw h refl)) in
+pub first_keeps : (n : ℕ) (q r : ℕ → Bool) → ((y : ℕ) → r y ≡ true → q y ≡ true) → ((x : ℕ) → first_below n q ≡ Some x → r x ≡ true) → first_below n r ≡ first_below n q
+first_keeps zero q r only same = refl
+first_keeps (suc n) q r only same =
+    let ih : first_below n r ≡ first_below n q = first_keeps n q r only (λ x h. same x (rw h refl)) in
     rw ih (by_found (first_below n q) refl)
   where
     by_found : (o : Option ℕ) → first_below n q ≡ o → or_else o (cond (r n) (Some n) None) ≡ or_else o (cond (q n) (Some n) None)
@@ -75,9 +75,9 @@ searches-first_keeps (suc n) q r only same =
         ]
 
 -- the least number that passes is found
-pub searches-first_finds : (n : ℕ) (q : ℕ → Bool) (x : ℕ) → x < n → q x ≡ true → (y : ℕ) × (first_below n q ≡ Some y)
-searches-first_finds zero q x h t = absurd (omega arith)
-searches-first_finds (suc n) q x h t = by_found (searches-first_finds n q x) (first_below n q) refl
+pub first_finds : (n : ℕ) (q : ℕ → Bool) (x : ℕ) → x < n → q x ≡ true → (y : ℕ) × (first_below n q ≡ Some y)
+first_finds zero q x h t = absurd (omega arith)
+first_finds (suc n) q x h t = by_found (first_finds n q x) (first_below n q) refl
   where
     by_found : (x < n → q x ≡ true → (y : ℕ) × (first_below n q ≡ Some y)) → (o : Option ℕ) → first_below n q ≡ o → (y : ℕ) × (or_else o (cond (q n) (Some n) None) ≡ Some y)
     by_found ih (Some y) e = (y, refl)
@@ -96,52 +96,52 @@ searches-first_finds (suc n) q x h t = by_found (searches-first_finds n q x) (fi
               ]
         ]
 
-pub searches-some_gives : (n : ℕ) (q : ℕ → Bool) → some_below n q ≡ true → (x : ℕ) × (x < n) × (q x ≡ true)
-searches-some_gives zero q h = absurd (cc)
-searches-some_gives (suc n) q h =
+pub some_gives : (n : ℕ) (q : ℕ → Bool) → some_below n q ≡ true → (x : ℕ) × (x < n) × (q x ≡ true)
+some_gives zero q h = absurd (cc)
+some_gives (suc n) q h =
     elim (or_cases (some_below n q) (q n) h) [
       | inl l ↦
-          let r : (x : ℕ) × (x < n) × (q x ≡ true) = searches-some_gives n q l in
+          let r : (x : ℕ) × (x < n) × (q x ≡ true) = some_gives n q l in
           (r.0, omega (arith, r.1), r.2)
       | inr t ↦ (n, omega arith, t)
     ]
 
-pub searches-some_from : (n : ℕ) (q : ℕ → Bool) (x : ℕ) → x < n → q x ≡ true → some_below n q ≡ true
-searches-some_from zero q x h t = absurd (omega arith)
-searches-some_from (suc n) q x h t =
+pub some_from : (n : ℕ) (q : ℕ → Bool) (x : ℕ) → x < n → q x ≡ true → some_below n q ≡ true
+some_from zero q x h t = absurd (omega arith)
+some_from (suc n) q x h t =
     elim (cases_lt x n) [
-      | inl l ↦ or_left (some_below n q) (q n) (searches-some_from n q x l t)
+      | inl l ↦ or_left (some_below n q) (q n) (some_from n q x l t)
       | inr g ↦
           let ex : x ≡ n = omega arith in
           or_right (some_below n q) (q n) (subst (λ z. q z ≡ true) ex t)
     ]
 
-pub searches-is_room_gives : (r : ℕ) (o : Option ℕ) → is_room r o ≡ true → o ≡ Some r
-searches-is_room_gives r None h = absurd (cc)
-searches-is_room_gives r (Some x) h = ap Some (eqb-true x r h)
+pub is_room_gives : (r : ℕ) (o : Option ℕ) → is_room r o ≡ true → o ≡ Some r
+is_room_gives r None h = absurd (cc)
+is_room_gives r (Some x) h = ap Some (eqb-true x r h)
 
-pub searches-is_room_from : (r : ℕ) (o : Option ℕ) → o ≡ Some r → is_room r o ≡ true
-searches-is_room_from r o h = rw h (eq-eqb r r refl)
+pub is_room_from : (r : ℕ) (o : Option ℕ) → o ≡ Some r → is_room r o ≡ true
+is_room_from r o h = rw h (eq-eqb r r refl)
 
 -- no number below the one found passes
-pub searches-first_is_least : (n : ℕ) (q : ℕ → Bool) (y x : ℕ) → first_below n q ≡ Some y → x < n → q x ≡ true → y ≤ x
-searches-first_is_least zero q y x e l t = absurd (omega arith)
-searches-first_is_least (suc n) q y x e l t = by_found (searches-first_is_least n q y x) (first_below n q) refl e
+pub first_is_least : (n : ℕ) (q : ℕ → Bool) (y x : ℕ) → first_below n q ≡ Some y → x < n → q x ≡ true → y ≤ x
+first_is_least zero q y x e l t = absurd (omega arith)
+first_is_least (suc n) q y x e l t = by_found (first_is_least n q y x) (first_below n q) refl e
   where
     by_found : (first_below n q ≡ Some y → x < n → q x ≡ true → y ≤ x) → (o : Option ℕ) → first_below n q ≡ o → or_else o (cond (q n) (Some n) None) ≡ Some y → y ≤ x
     by_found ih (Some z) f e =
         elim (cases_lt x n) [
           | inl b ↦ ih (f ∙ e) b t
-          | inr b ↦ let u : y < n = (searches-first_passes n q y (f ∙ e)).1 in omega arith
+          | inr b ↦ let u : y < n = (first_passes n q y (f ∙ e)).1 in omega arith
         ]
     by_found ih None f e =
         elim (cases_lt x n) [
           | inl b ↦
-              let r : (y : ℕ) × (first_below n q ≡ Some y) = searches-first_finds n q x b t in
+              let r : (y : ℕ) × (first_below n q ≡ Some y) = first_finds n q x b t in
               let z : None ≡ Some r.0 = sym f ∙ r.1 in
               absurd (cc)
           | inr b ↦
-              let u : y < suc n = (searches-first_passes (suc n) q y (rw f e)).1 in
+              let u : y < suc n = (first_passes (suc n) q y (rw f e)).1 in
               let xn : x ≡ n = omega arith in
               omega arith
         ]

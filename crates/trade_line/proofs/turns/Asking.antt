@@ -4,12 +4,12 @@ use Rattle.std.proofs.lemmas.List.{get_or-drop, length-drop}
 use Rattle.trade_line.specs.Market.{Market, home, list_of}
 use Rattle.trade_line.specs.Line.{front_of}
 use Rattle.trade_line.specs.Inner.State.{State, stage_at}
-use Rattle.trade_line.specs.Inner.Turn.{Standing}
+use Rattle.trade_line.specs.Inner.Turn.{IsConsistent}
 use Rattle.trade_line.specs.Inner.Reads.{reads, skipped}
-use Rattle.trade_line.specs.Inner.Looks.{cursor, StandsAt, StaysAt, AreCursors}
-use Rattle.trade_line.proofs.counts.Looks.{counts-skipped_most, counts-found_at, counts-none_at, counts-find_on}
+use Rattle.trade_line.specs.Inner.Looks.{cursor, CursorAt, StaysAt, AreCursors}
+use Rattle.trade_line.proofs.counts.Looks.{skipped_most, found_at, none_at, find_on}
 use Rattle.trade_line.proofs.welfare.Ranks.{welfare-rank_home}
-use Rattle.trade_line.proofs.turns.States.{turns-read_same}
+use Rattle.trade_line.proofs.turns.States.{read_same}
 use Rattle.trade_line.proofs.turns.Cursors.{turns-stays_at, turns-marked_cursors}
 
 module _ (m : Market) where
@@ -21,27 +21,27 @@ module _ (m : Market) where
     pub found : find (stage_at v).rooms (list_of m a) ≡ o
     pub some : (x : ℕ) → o ≡ Some x → StaysAt m (set c a place) a (Some x) × (read ≡ suc passed)
     pub none : o ≡ None → (place ≡ length (list_of m a)) × (read ≡ passed)
-    pub ends : o ≡ None → StandsAt m (set c a place) a (home m a)
+    pub ends : o ≡ None → CursorAt m (set c a place) a (home m a)
 
   pub turns-ask_finds : (s v : State) (a : ℕ) (c : List ℕ) (remaining : List Bool) (list : List ℕ) (from place read : ℕ) (o : Option ℕ)
-      → Standing m s → front_of s.line ≡ Some a → v.line ≡ s.line → v.asked ≡ set s.asked a true
+      → IsConsistent m s → front_of s.line ≡ Some a → v.line ≡ s.line → v.asked ≡ set s.asked a true
       → v.remaining ≡ s.remaining → v.given ≡ s.given → AreCursors m s c
       → a < m.people → remaining ≡ v.remaining → list ≡ list_of m a → from ≡ get_or c a from → o ≡ find (λ r. get_or remaining r false) (drop from list) → place ≡ from + skipped (λ r. get_or remaining r false) (drop from list) → read ≡ reads (λ r. get_or remaining r false) (drop from list) → AskFinds v a c place read o
   turns-ask_finds s v a c remaining list from place read o st e x y z u tr known re le fe oe pe de = record {
     passed = n;
     place_is = passes;
     cursors = cursors;
-    found = counts-find_on q xs at past ∙ sym oe2;
+    found = find_on q xs at past ∙ sym oe2;
     some = λ w ow. (
-        let f : (n < length rest) × (get_or rest n 0 ≡ w) × (reads q rest ≡ suc n) = counts-found_at q rest w (sym oe2 ∙ ow) in (
+        let f : (n < length rest) × (get_or rest n 0 ≡ w) × (reads q rest ≡ suc n) = found_at q rest w (sym oe2 ∙ ow) in (
           turns-stays_at m st.fits.market (set c a place) a place w known (omega (arith, f.0, passes, len)) (ap (λ k. get_or xs k 0) passes ∙ sym (get_or-drop at xs n 0) ∙ f.1) moved,
           de2 ∙ f.2,
         ));
     none = λ on. (
-        let f : (n ≡ length rest) × (reads q rest ≡ length rest) = counts-none_at q rest (sym oe2 ∙ on) in
+        let f : (n ≡ length rest) × (reads q rest ≡ length rest) = none_at q rest (sym oe2 ∙ on) in
         (omega (arith, f.0, passes, len), de2 ∙ f.1 ∙ sym f.0));
     ends = λ on. (
-        let f : (n ≡ length rest) × (reads q rest ≡ length rest) = counts-none_at q rest (sym oe2 ∙ on) in
+        let f : (n ≡ length rest) × (reads q rest ≡ length rest) = none_at q rest (sym oe2 ∙ on) in
         omega (arith, welfare-rank_home m st.fits.market a known, f.0, passes, len, moved));
   }
     where
@@ -61,7 +61,7 @@ module _ (m : Market) where
       n = skipped (stage_at v).rooms (drop (cursor c a) (list_of m a))
 
       from_is : from ≡ cursor c a
-      from_is = fe ∙ turns-read_same c a from 0 (omega (arith, tr.cursors_len))
+      from_is = fe ∙ read_same c a from 0 (omega (arith, tr.cursors_len))
 
       same : {A : Type 0} (f : (ℕ → Bool) → List ℕ → A)
           → f (λ r. get_or remaining r false) (drop from list) ≡ f (stage_at v).rooms (drop (cursor c a) (list_of m a))
@@ -80,7 +80,7 @@ module _ (m : Market) where
       len = omega (arith, length-drop (cursor c a) (list_of m a), tr.within a known)
 
       most : skipped (stage_at v).rooms (drop (cursor c a) (list_of m a)) ≤ length (drop (cursor c a) (list_of m a))
-      most = counts-skipped_most (stage_at v).rooms (drop (cursor c a) (list_of m a))
+      most = skipped_most (stage_at v).rooms (drop (cursor c a) (list_of m a))
 
       moved : cursor (set c a place) a ≡ place
       moved = get_or-set_same c a place 0 (omega (arith, tr.cursors_len))

@@ -9,23 +9,23 @@ use Rattle.trade_line.specs.Line.{front_of, tail_of, without}
 use Rattle.trade_line.specs.TopTradingCycles.{Stage, wish, leave}
 use Rattle.trade_line.specs.Inner.Queue.{close, WaitsBehind}
 use Rattle.trade_line.specs.Inner.State.{State, stage_at, has_asked, given_to}
-use Rattle.trade_line.specs.Inner.Turn.{Standing, Asks}
+use Rattle.trade_line.specs.Inner.Turn.{IsConsistent, Asks}
 use Rattle.trade_line.specs.Inner.Loop.{Closed}
 use Rattle.trade_line.specs.Inner.Reads.{skipped}
-use Rattle.trade_line.specs.Inner.Looks.{cursor, StandsAt, StaysAt, StayBehind, StayInLine, AreCursors, KeepsCursors}
-use Rattle.trade_line.proofs.counts.Looks.{counts-skipped_gone, counts-place_is, counts-among_at}
-use Rattle.trade_line.proofs.askers.Lines.{askers-among_self, askers-among_more, askers-among-append, askers-among_left, askers-among_right, askers-among-without, askers-waits_front}
+use Rattle.trade_line.specs.Inner.Looks.{cursor, CursorAt, StaysAt, StayBehind, StayInLine, AreCursors, KeepsCursors}
+use Rattle.trade_line.proofs.counts.Looks.{skipped_gone, place_is, among_at}
+use Rattle.trade_line.proofs.askers.Lines.{among_self, among_more, among-append, among_left, among_right, among-without, askers-waits_front}
 use Rattle.trade_line.proofs.turns.Loops.{turns-ring_line}
 use Rattle.trade_line.proofs.welfare.Ranks.{welfare-rank_listed}
-use Rattle.trade_line.proofs.searches.Search.{searches-clash}
+use Rattle.trade_line.proofs.searches.Search.{clash}
 use Rattle.trade_line.proofs.turns.Brought.{turns-line_without}
-use Rattle.trade_line.proofs.turns.Turns.{granted, marked, brought, turns-tenant_home}
-use Rattle.trade_line.proofs.turns.States.{turns-same_state}
+use Rattle.trade_line.proofs.turns.Turns.{granted, marked, brought, tenant_home}
+use Rattle.trade_line.proofs.turns.States.{same_state}
 
-turns-close_gone : (remaining : List Bool) (o : Option ℕ) (r : ℕ) → get_or remaining r false ≡ false
+close_gone : (remaining : List Bool) (o : Option ℕ) (r : ℕ) → get_or remaining r false ≡ false
     → get_or (close remaining o) r false ≡ false
-turns-close_gone remaining None r h = h
-turns-close_gone remaining (Some x) r h =
+close_gone remaining None r h = h
+close_gone remaining (Some x) r h =
     elim (cases_eq r x) [
       | inl e ↦ subst (λ z. get_or (set remaining x false) z false ≡ false) (sym e) (written remaining x)
       | inr n ↦ get_or-set_other remaining x r false false n ∙ h
@@ -47,7 +47,7 @@ module _ (m : Market) where
   pub turns-stays_at : IsMarket m → (c : List ℕ) (p i x : ℕ) → p < m.people → i < length (list_of m p)
       → get_or (list_of m p) i 0 ≡ x → cursor c p ≡ i → StaysAt m c p (Some x)
   turns-stays_at ok c p i x known l e at =
-      (omega arith, welfare-rank_listed m ok p x (counts-among_at (list_of m p) i x l e) ∙ counts-place_is (list_of m p) i x (ok.lists_strict p known) l e ∙ sym at)
+      (omega arith, welfare-rank_listed m ok p x (among_at (list_of m p) i x l e) ∙ place_is (list_of m p) i x (ok.lists_strict p known) l e ∙ sym at)
 
   -- other marks and cursors that are the same for those behind
   turns-behind_same : (asked asked' : List Bool) (c c' : List ℕ) (b : ℕ) (xs : List ℕ)
@@ -56,14 +56,14 @@ module _ (m : Market) where
       → StayBehind m asked' c' b xs
   turns-behind_same asked asked' c c' b [] ha hc w = tt
   turns-behind_same asked asked' c c' b (x ∷ xs) ha hc w = (
-    λ h. subst (λ z. (z < length (list_of m x)) × (rank m x (home m b) ≡ z)) (sym (hc x (askers-among_self x xs))) (w.0 (ha x (askers-among_self x xs) h)),
-    turns-behind_same asked asked' c c' x xs (λ p i. ha p (askers-among_more x xs p i)) (λ p i. hc p (askers-among_more x xs p i)) w.1,
+    λ h. subst (λ z. (z < length (list_of m x)) × (rank m x (home m b) ≡ z)) (sym (hc x (among_self x xs))) (w.0 (ha x (among_self x xs) h)),
+    turns-behind_same asked asked' c c' x xs (λ p i. ha p (among_more x xs p i)) (λ p i. hc p (among_more x xs p i)) w.1,
   )
 
   pub turns-behind_fresh : (asked : List Bool) (c : List ℕ) (b : ℕ) (xs : List ℕ)
       → ((p : ℕ) → among xs p ≡ true → get_or asked p false ≡ false) → StayBehind m asked c b xs
   turns-behind_fresh asked c b [] h = tt
-  turns-behind_fresh asked c b (x ∷ xs) h = (λ y. searches-clash (get_or asked x false) y (h x (askers-among_self x xs)), turns-behind_fresh asked c x xs (λ p i. h p (askers-among_more x xs p i)))
+  turns-behind_fresh asked c b (x ∷ xs) h = (λ y. clash (get_or asked x false) y (h x (among_self x xs)), turns-behind_fresh asked c x xs (λ p i. h p (among_more x xs p i)))
 
   turns-behind_front : (asked : List Bool) (c : List ℕ) (b : ℕ) (xs ys : List ℕ)
       → StayBehind m asked c b (xs ++ ys) → StayBehind m asked c b xs
@@ -92,12 +92,12 @@ module _ (m : Market) where
   turns-behind_wish s asked c b [] ws w all p h = absurd (both_ways false refl h)
   turns-behind_wish s asked c b (x ∷ xs) ws w all p h =
       elim (or_cases (x == p) (among xs p) h) [
-        | inl e ↦ subst (λ z. StaysAt m c z (wish m s z)) (eqb-true x p e) (subst (StaysAt m c x) (ws.0.1 ∙ sym ws.0.2) (w.0 (all x (askers-among_self x xs))))
-        | inr i ↦ turns-behind_wish s asked c x xs ws.1 w.1 (λ q j. all q (askers-among_more x xs q j)) p i
+        | inl e ↦ subst (λ z. StaysAt m c z (wish m s z)) (eqb-true x p e) (subst (StaysAt m c x) (ws.0.1 ∙ sym ws.0.2) (w.0 (all x (among_self x xs))))
+        | inr i ↦ turns-behind_wish s asked c x xs ws.1 w.1 (λ q j. all q (among_more x xs q j)) p i
       ]
 
   -- the front asks and reads on up to v
-  pub turns-asked_cursors : (s : State) (a v : ℕ) (c : List ℕ) → Standing m s → front_of s.line ≡ Some a
+  pub turns-asked_cursors : (s : State) (a v : ℕ) (c : List ℕ) → IsConsistent m s → front_of s.line ≡ Some a
       → AreCursors m s c → v ≤ length (list_of m a)
       → ((k : ℕ) → k < v → (stage_at s).rooms (get_or (list_of m a) k 0) ≡ false)
       → AreCursors m (marked s a) (set c a v)
@@ -109,7 +109,7 @@ module _ (m : Market) where
           let xa : x ≡ a = cc in
           let is : s.line ≡ a ∷ t = le0 ∙ ap (λ y. y ∷ t) xa in
           let absent : among t a ≡ false = (subst Once is st.queue.once).0 in
-          let known : a < m.people = st.queue.known a (subst (λ z. among z a ≡ true) (sym is) (askers-among_self a t)) in
+          let known : a < m.people = st.queue.known a (subst (λ z. among z a ≡ true) (sym is) (among_self a t)) in
           let here : cursor (set c a v) a ≡ v = get_or-set_same c a v 0 (omega (arith, tr.cursors_len)) in
           let away : (p : ℕ) → (p ≡ a → ⊥) → cursor (set c a v) p ≡ cursor c p = λ p n. get_or-set_other c a p v 0 n in
           record {
@@ -128,22 +128,22 @@ module _ (m : Market) where
                 (λ p i. away p (λ y. both_ways (among t a) absent (subst (λ z. among t z ≡ true) y i)))
                 (subst (StayInLine m s.asked c) is tr.waiting));
             served = λ p l h. subst (λ z. rank m p (given_to s p) ≡ z)
-                (sym (away p (λ y. both_ways (among s.line p) h (subst (λ z. among s.line z ≡ true) (sym y) (subst (λ z. among z a ≡ true) (sym is) (askers-among_self a t))))))
+                (sym (away p (λ y. both_ways (among s.line p) h (subst (λ z. among s.line z ≡ true) (sym y) (subst (λ z. among z a ≡ true) (sym is) (among_self a t))))))
                 (tr.served p l h);
           }
 
   -- the front leaves
   pub turns-granted_cursors : (s : State) (a : ℕ) (o : Option ℕ) (c : List ℕ) → Asks m a s → AreCursors m s c
-      → StandsAt m c a o → AreCursors m (granted s a o) c
+      → CursorAt m c a o → AreCursors m (granted s a o) c
   turns-granted_cursors s a o c ask tr enough = record {
     cursors_len = tr.cursors_len;
     within = tr.within;
-    gone = λ p k l lk. turns-close_gone s.remaining o (get_or (list_of m p) k 0) (tr.gone p k l lk);
+    gone = λ p k l lk. close_gone s.remaining o (get_or (list_of m p) k 0) (tr.gone p k l lk);
     waiting = subst (λ z. StayInLine m s.asked c (tail_of z)) (sym ask.split) (turns-behind_tail s.asked c a (ask.behind ++ ask.fresh) (subst (StayInLine m s.asked c) ask.split tr.waiting));
     served = λ p l h. elim (cases_eq p a) [
-      | inl e ↦ subst (λ z. StandsAt m c z (given_to (granted s a o) z)) (sym e)
-          (subst (StandsAt m c a) (sym (get_or-set_same s.given a o None (let k : a < m.people = subst (λ z. z < m.people) e l in omega (arith, ask.fits.given_len)))) enough)
-      | inr n ↦ subst (StandsAt m c p) (sym (get_or-set_other s.given a p o None n)) (tr.served p l (left p n h))
+      | inl e ↦ subst (λ z. CursorAt m c z (given_to (granted s a o) z)) (sym e)
+          (subst (CursorAt m c a) (sym (get_or-set_same s.given a o None (let k : a < m.people = subst (λ z. z < m.people) e l in omega (arith, ask.fits.given_len)))) enough)
+      | inr n ↦ subst (CursorAt m c p) (sym (get_or-set_other s.given a p o None n)) (tr.served p l (left p n h))
     ];
   }
     where
@@ -162,9 +162,9 @@ module _ (m : Market) where
     within = tr.within;
     gone = tr.gone;
     waiting = subst (StayBehind m (set s.asked t true) c t) (sym (turns-line_without m s a t ask new)) (
-      λ h. subst (StaysAt m c a) (sym (turns-tenant_home m room t e).1) enough,
+      λ h. subst (StaysAt m c a) (sym (tenant_home m room t e).1) enough,
       turns-behind_join (set s.asked t true) c a ask.behind (without t ask.fresh)
-          (turns-behind_same s.asked (set s.asked t true) c c a ask.behind (λ p j h. ask.waiting_asked p (askers-among_more a ask.behind p j)) (λ p j. refl)
+          (turns-behind_same s.asked (set s.asked t true) c c a ask.behind (λ p j h. ask.waiting_asked p (among_more a ask.behind p j)) (λ p j. refl)
           (turns-behind_front s.asked c a ask.behind ask.fresh (subst (StayInLine m s.asked c) ask.split tr.waiting))) fresh,
     );
     served = λ p l h. tr.served p l (left p h);
@@ -172,13 +172,13 @@ module _ (m : Market) where
     where
       fresh : (p : ℕ) → among (without t ask.fresh) p ≡ true → get_or (set s.asked t true) p false ≡ false
       fresh p h =
-          let b : (among ask.fresh p ≡ true) × (not (t == p) ≡ true) = and_parts (among ask.fresh p) (not (t == p)) (sym (askers-among-without t ask.fresh p) ∙ h) in
+          let b : (among ask.fresh p ≡ true) × (not (t == p) ≡ true) = and_parts (among ask.fresh p) (not (t == p)) (sym (among-without t ask.fresh p) ∙ h) in
           get_or-set_other s.asked t p true false (λ pe. both_ways (t == p) (not-true (t == p) b.1) (eq-eqb t p (sym pe))) ∙ ask.fresh_unasked p b.0
 
       left : (p : ℕ) → among (t ∷ without t s.line) p ≡ false → among s.line p ≡ false
       left p h = false_from_ne_true (among s.line p) (λ y.
           let b : ((t == p) ≡ false) × (among (without t s.line) p ≡ false) = or_parts (t == p) (among (without t s.line) p) h in
-          both_ways (among (without t s.line) p) b.1 (askers-among-without t s.line p ∙ rw (y, b.0) refl))
+          both_ways (among (without t s.line) p) b.1 (among-without t s.line p ∙ rw (y, b.0) refl))
 
   -- a loop leaves
   module _ (t room : ℕ) (s u : State) (c : List ℕ) (cl : Closed m t room s u) (tr : AreCursors m s c) (enough : StaysAt m c cl.ring.person (Some room)) where
@@ -202,7 +202,7 @@ module _ (m : Market) where
         waits = askers-waits_front m (stage_at s) cl.ring.person cl.ring.others cl.ring.after (subst (λ z. WaitsBehind m (stage_at s) cl.ring.person z) cl.ring.behind_split cl.ring.asks.waits)
 
         all : (p : ℕ) → among cl.ring.others p ≡ true → get_or s.asked p false ≡ true
-        all p h = cl.ring.asks.waiting_asked p (askers-among_more cl.ring.person cl.ring.asks.behind p (subst (λ z. among z p ≡ true) (sym cl.ring.behind_split) (askers-among_left cl.ring.others cl.ring.after p h)))
+        all p h = cl.ring.asks.waiting_asked p (among_more cl.ring.person cl.ring.asks.behind p (subst (λ z. among z p ≡ true) (sym cl.ring.behind_split) (among_left cl.ring.others cl.ring.after p h)))
 
     pub turns-closed_cursors : AreCursors m u c
     turns-closed_cursors = record {
@@ -211,26 +211,26 @@ module _ (m : Market) where
       gone = λ p k l lk. ap (λ (z : Stage). z.rooms (get_or (list_of m p) k 0)) cl.stage ∙ turns-leave_gone (stage_at s) (among ring) (get_or (list_of m p) k 0) (tr.gone p k l lk);
       waiting = subst (λ z. StayInLine m z c u.line) (sym cl.asked_kept) (turns-behind_back s.asked c cl.ring.person cl.ring.others u.line turns-behind);
       served = λ p l h. elim (cases_Bool (among ring p)) [
-        | inl y ↦ subst (StandsAt m c p) (sym (cl.given_ring p y)) (turns-in_ring p y).1
-        | inr n ↦ subst (StandsAt m c p) (sym (cl.given_kept p n)) (tr.served p l (subst (λ z. among z p ≡ false) (sym turns-line_is) (askers-among-append ring u.line p ∙ rw (n, h) refl)))
+        | inl y ↦ subst (CursorAt m c p) (sym (cl.given_ring p y)) (turns-in_ring p y).1
+        | inr n ↦ subst (CursorAt m c p) (sym (cl.given_kept p n)) (tr.served p l (subst (λ z. among z p ≡ false) (sym turns-line_is) (among-append ring u.line p ∙ rw (n, h) refl)))
       ];
     }
 
     pub turns-closed_left : (p : ℕ) → among s.line p ≡ true → among u.line p ≡ false → cursor c p < length (list_of m p)
     turns-closed_left p h out =
-        elim (or_cases (among ring p) (among u.line p) (sym (askers-among-append ring u.line p) ∙ subst (λ z. among z p ≡ true) turns-line_is h)) [
+        elim (or_cases (among ring p) (among u.line p) (sym (among-append ring u.line p) ∙ subst (λ z. among z p ≡ true) turns-line_is h)) [
           | inl y ↦ (turns-in_ring p y).0
           | inr y ↦ absurd (both_ways (among u.line p) out y)
         ]
 
   -- the turns, for states given part by part
-  pub turns-marked_cursors : (s v : State) (a place : ℕ) (c d : List ℕ) → Standing m s → front_of s.line ≡ Some a
+  pub turns-marked_cursors : (s v : State) (a place : ℕ) (c d : List ℕ) → IsConsistent m s → front_of s.line ≡ Some a
       → v.line ≡ s.line → v.asked ≡ set s.asked a true → v.remaining ≡ s.remaining → v.given ≡ s.given
       → AreCursors m s c → d ≡ set c a place
       → place ≡ cursor c a + skipped (stage_at v).rooms (drop (cursor c a) (list_of m a))
       → place ≤ length (list_of m a) → AreCursors m v d
   turns-marked_cursors s v a place c d st e x y z u tr de pe le =
-      subst (λ q. AreCursors m q d) (sym (turns-same_state v (marked s a) x y z u)) (subst (AreCursors m (marked s a)) (sym de) (turns-asked_cursors s a place c st e tr le past))
+      subst (λ q. AreCursors m q d) (sym (same_state v (marked s a) x y z u)) (subst (AreCursors m (marked s a)) (sym de) (turns-asked_cursors s a place c st e tr le past))
     where
       q : ℕ → Bool
       q = (stage_at v).rooms
@@ -243,7 +243,7 @@ module _ (m : Market) where
         where
           by_line : (l : List ℕ) → s.line ≡ l → front_of l ≡ Some a → a < m.people
           by_line [] le0 f = absurd (cc)
-          by_line (x ∷ t) le0 f = st.queue.known a (subst (λ w. among w a ≡ true) (sym le0) (let xa : x ≡ a = cc in subst (λ w. among (x ∷ t) w ≡ true) xa (askers-among_self x t)))
+          by_line (x ∷ t) le0 f = st.queue.known a (subst (λ w. among w a ≡ true) (sym le0) (let xa : x ≡ a = cc in subst (λ w. among (x ∷ t) w ≡ true) xa (among_self x t)))
 
       past : (k : ℕ) → k < place → (stage_at s).rooms (get_or (list_of m a) k 0) ≡ false
       past k l = elim (cases_lt k (cursor c a)) [
@@ -253,17 +253,17 @@ module _ (m : Market) where
             let sum : cursor c a + (k - cursor c a) ≡ k = omega arith in
             same (get_or (list_of m a) k 0)
             ∙ ap q (sym (at ∙ ap (λ n. get_or (list_of m a) n 0) sum))
-            ∙ counts-skipped_gone q (drop (cursor c a) (list_of m a)) (k - cursor c a) (omega arith)
+            ∙ skipped_gone q (drop (cursor c a) (list_of m a)) (k - cursor c a) (omega arith)
       ]
 
   pub turns-front_in : (a : ℕ) (s : State) → Asks m a s → among s.line a ≡ true
-  turns-front_in a s ask = subst (λ z. among z a ≡ true) (sym ask.split) (askers-among_self a (ask.behind ++ ask.fresh))
+  turns-front_in a s ask = subst (λ z. among z a ≡ true) (sym ask.split) (among_self a (ask.behind ++ ask.fresh))
 
-  pub turns-granted_tells : (a : ℕ) (o : Option ℕ) (s v : State) → Asks m a s → v.line ≡ tail_of s.line
+  pub turns-granted_parts : (a : ℕ) (o : Option ℕ) (s v : State) → Asks m a s → v.line ≡ tail_of s.line
       → v.asked ≡ s.asked → v.remaining ≡ close s.remaining o → v.given ≡ set s.given a o
-      → (c : List ℕ) → AreCursors m s c → StandsAt m c a o → AreCursors m v c
-  turns-granted_tells a o s v ask x y z u c tr enough =
-      subst (λ q. AreCursors m q c) (sym (turns-same_state v (granted s a o) x y z u)) (turns-granted_cursors s a o c ask tr enough)
+      → (c : List ℕ) → AreCursors m s c → CursorAt m c a o → AreCursors m v c
+  turns-granted_parts a o s v ask x y z u c tr enough =
+      subst (λ q. AreCursors m q c) (sym (same_state v (granted s a o) x y z u)) (turns-granted_cursors s a o c ask tr enough)
 
   -- nobody but the front leaves
   pub turns-others_wait : (a : ℕ) (s v : State) → Asks m a s → v.line ≡ tail_of s.line → (p : ℕ) → (p ≡ a → ⊥)
@@ -280,7 +280,7 @@ module _ (m : Market) where
       | inl e ↦ subst (λ w. among s.line w ≡ true) (sym e) (turns-front_in a s ask)
       | inr n ↦ sym (turns-others_wait a s v ask x p n) ∙ h
     ];
-    cursors = λ c tr enough. turns-granted_tells a (Some room) s v ask x y z u c tr enough.1;
+    cursors = λ c tr enough. turns-granted_parts a (Some room) s v ask x y z u c tr enough.1;
     left = λ c tr enough p h out. elim (cases_eq p a) [
       | inl e ↦ subst (λ w. cursor c w < length (list_of m w)) (sym e) enough.0
       | inr n ↦ absurd (both_ways (among v.line p) out (turns-others_wait a s v ask x p n ∙ h))
@@ -294,19 +294,19 @@ module _ (m : Market) where
   turns-brought_keeps a room t s v ask e i new x y z u = record {
     inside = λ p h. elim (or_cases (t == p) (among (without t s.line) p) (subst (λ w. among w p ≡ true) x h)) [
       | inl b ↦ subst (λ w. among s.line w ≡ true) (eqb-true t p b) i
-      | inr b ↦ (and_parts (among s.line p) (not (t == p)) (sym (askers-among-without t s.line p) ∙ b)).0
+      | inr b ↦ (and_parts (among s.line p) (not (t == p)) (sym (among-without t s.line p) ∙ b)).0
     ];
-    cursors = λ c tr enough. subst (λ q. AreCursors m q c) (sym (turns-same_state v (brought s t) x y z u)) (turns-brought_cursors s a room t c ask e i new tr enough);
+    cursors = λ c tr enough. subst (λ q. AreCursors m q c) (sym (same_state v (brought s t) x y z u)) (turns-brought_cursors s a room t c ask e i new tr enough);
     left = λ c tr enough p h out. absurd (both_ways (among v.line p) out (subst (λ w. among w p ≡ true) (sym x) (elim (cases_Bool (t == p)) [
       | inl b ↦ or_left (t == p) (among (without t s.line) p) b
-      | inr b ↦ or_right (t == p) (among (without t s.line) p) (askers-among-without t s.line p ∙ rw (h, b) refl)
+      | inr b ↦ or_right (t == p) (among (without t s.line) p) (among-without t s.line p ∙ rw (h, b) refl)
     ])));
   }
 
   pub turns-closed_keeps : (a t room : ℕ) (s u : State) → Asks m a s → Closed m t room s u
       → KeepsCursors m a room s u
   turns-closed_keeps a t room s u ask cl = record {
-    inside = λ p h. subst (λ w. among w p ≡ true) (sym line) (askers-among_right (cl.ring.person ∷ cl.ring.others) u.line p h);
+    inside = λ p h. subst (λ w. among w p ≡ true) (sym line) (among_right (cl.ring.person ∷ cl.ring.others) u.line p h);
     cursors = λ c tr enough. turns-closed_cursors t room s u c cl tr (subst (λ w. StaysAt m c w (Some room)) same enough);
     left = λ c tr enough. turns-closed_left t room s u c cl tr (subst (λ w. StaysAt m c w (Some room)) same enough);
   }

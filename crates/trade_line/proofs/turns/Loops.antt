@@ -1,6 +1,6 @@
 -- The turn that closes a loop.
 use Rattle.std.proofs.Math.Bool.{or-false}
-use Rattle.trade_line.proofs.counts.Asked.{counts-asked_split}
+use Rattle.trade_line.proofs.counts.Asked.{asked_split}
 use Rattle.std.proofs.Common.{◌≡◌, ℕ, suc, ◌+◌, ◌<◌, ◌≤◌, true, false, not, ◌&&◌, ◌==◌, List, [], ◌∷◌, ◌++◌, length, Option, Some, None, get_or, set, refl, sym, ap, ap₂, ◌∙◌, subst, inl, inr, arith, eqb-true, eq-eqb, append_assoc, get_or-set_same, get_or-set_other, length-append}
 use Rattle.std.proofs.lemmas.Bool.{cases_eq, or_cases, or_parts, false_from_ne_true, both_ways}
 use Rattle.trade_line.specs.Below.{count_below}
@@ -14,36 +14,36 @@ use Rattle.trade_line.specs.Inner.State.{State, stage_at, has_asked, given_to}
 use Rattle.trade_line.specs.Inner.Turn.{Asks, Onward, asked_in}
 use Rattle.trade_line.specs.Inner.Loop.{Ring, Closing, Closed}
 use Rattle.trade_line.specs.Inner.Removal.Leads.{trade}
-use Rattle.trade_line.proofs.searches.Search.{searches-clash}
+use Rattle.trade_line.proofs.searches.Search.{clash}
 use Rattle.trade_line.proofs.cycles.Exchange.{cycles-successor_at, cycles-taken_gives}
-use Rattle.trade_line.proofs.cycles.Chain.{cycles-among_last, cycles-home_holder, cycles-ring_trade, cycles-waits_behind}
-use Rattle.trade_line.proofs.askers.Lines.{askers-among_self, askers-among_more, askers-among-append, askers-among_left, askers-among_right, askers-among_cases, askers-once_right, askers-once_apart, askers-last_push, askers-leave_none, askers-front_leaves, askers-waits_on, askers-waits_front, askers-waits_back, askers-waits_pair, askers-wish_known}
-use Rattle.trade_line.proofs.turns.Turns.{granted, turns-granted_fits, turns-tenant_home}
+use Rattle.trade_line.proofs.cycles.Chain.{among_last, cycles-home_holder, cycles-ring_trade, cycles-waits_behind}
+use Rattle.trade_line.proofs.askers.Lines.{among_self, among_more, among-append, among_left, among_right, among_cases, once_right, once_apart, last_push, askers-leave_none, askers-front_leaves, askers-waits_on, askers-waits_front, askers-waits_back, askers-waits_pair, askers-wish_known}
+use Rattle.trade_line.proofs.turns.Turns.{granted, turns-granted_fits, tenant_home}
 
-turns-split_at : (a : ℕ) (xs : List ℕ) (t : ℕ) → among (a ∷ xs) t ≡ true → (ds : List ℕ) × (after : List ℕ) × (xs ≡ ds ++ after) × (last_of a ds ≡ t)
-turns-split_at a [] t h = ([], [], refl, eqb-true a t (sym (or-false (a == t)) ∙ h))
-turns-split_at a (b ∷ r) t h =
+split_at : (a : ℕ) (xs : List ℕ) (t : ℕ) → among (a ∷ xs) t ≡ true → (ds : List ℕ) × (after : List ℕ) × (xs ≡ ds ++ after) × (last_of a ds ≡ t)
+split_at a [] t h = ([], [], refl, eqb-true a t (sym (or-false (a == t)) ∙ h))
+split_at a (b ∷ r) t h =
     elim (or_cases (a == t) (among (b ∷ r) t) h) [
       | inl e ↦ ([], b ∷ r, refl, eqb-true a t e)
       | inr i ↦
-          let ih : (ds : List ℕ) × (after : List ℕ) × (r ≡ ds ++ after) × (last_of b ds ≡ t) = turns-split_at b r t i in
+          let ih : (ds : List ℕ) × (after : List ℕ) × (r ≡ ds ++ after) × (last_of b ds ≡ t) = split_at b r t i in
           (b ∷ ih.0, ih.1, ap (λ z. b ∷ z) ih.2, ih.3)
     ]
 
-turns-last_split : (a : ℕ) (xs past : List ℕ) (h : ℕ) (os : List ℕ) → a ∷ xs ≡ past ++ (h ∷ os) → last_of a xs ≡ last_of h os
-turns-last_split a xs [] h os q =
+last_split : (a : ℕ) (xs past : List ℕ) (h : ℕ) (os : List ℕ) → a ∷ xs ≡ past ++ (h ∷ os) → last_of a xs ≡ last_of h os
+last_split a xs [] h os q =
     let e : a ≡ h = cc in
     ap₂ last_of e (ap tail_of q)
-turns-last_split a xs (y ∷ ys) h os q = ap (last_of a) (ap tail_of q) ∙ askers-last_push a ys h os
+last_split a xs (y ∷ ys) h os q = ap (last_of a) (ap tail_of q) ∙ last_push a ys h os
 
 module _ (m : Market) where
   pub turns-ring_at : (s : State) (a room t : ℕ) → Asks m a s → wish m (stage_at s) a ≡ Some room → among s.line t ≡ true → has_asked s t ≡ true → Ring m t room s
   turns-ring_at s a room t ask w i y =
-      let inside : among (a ∷ ask.behind) t ≡ true = elim (askers-among_cases (a ∷ ask.behind) ask.fresh t (subst (λ z. among z t ≡ true) ask.split i)) [
+      let inside : among (a ∷ ask.behind) t ≡ true = elim (among_cases (a ∷ ask.behind) ask.fresh t (subst (λ z. among z t ≡ true) ask.split i)) [
         | inl b ↦ b
-        | inr b ↦ searches-clash (has_asked s t) y (ask.fresh_unasked t b)
+        | inr b ↦ clash (has_asked s t) y (ask.fresh_unasked t b)
       ] in
-      let d : (ds : List ℕ) × (after : List ℕ) × (ask.behind ≡ ds ++ after) × (last_of a ds ≡ t) = turns-split_at a ask.behind t inside in
+      let d : (ds : List ℕ) × (after : List ℕ) × (ask.behind ≡ ds ++ after) × (last_of a ds ≡ t) = split_at a ask.behind t inside in
       record { person = a; asks = ask; others = d.0; after = d.1; behind_split = d.2; ends = d.3; first_wish = w }
 
   pub turns-ring_line : (t room : ℕ) (s : State) (ring : Ring m t room s) → s.line ≡ (ring.person ∷ ring.others) ++ (ring.after ++ ring.asks.fresh)
@@ -78,19 +78,19 @@ module _ (m : Market) where
         ∙ ap (λ z. c.past ++ z) (sym c.line_split)
 
     turns-here_in : among t.line c.here ≡ true
-    turns-here_in = subst (λ z. among z c.here ≡ true) (sym c.line_split) (askers-among_self c.here (c.others ++ (c.ring.after ++ c.ring.asks.fresh)))
+    turns-here_in = subst (λ z. among z c.here ≡ true) (sym c.line_split) (among_self c.here (c.others ++ (c.ring.after ++ c.ring.asks.fresh)))
 
     pub turns-here_known : c.here < m.people
-    turns-here_known = c.ring.asks.known c.here (subst (λ z. among z c.here ≡ true) (sym turns-whole) (askers-among_right c.past t.line c.here turns-here_in))
+    turns-here_known = c.ring.asks.known c.here (subst (λ z. among z c.here ≡ true) (sym turns-whole) (among_right c.past t.line c.here turns-here_in))
 
     turns-apart : Once (c.past ++ t.line)
     turns-apart = subst Once turns-whole c.ring.asks.once
 
     turns-here_once : among (c.others ++ (c.ring.after ++ c.ring.asks.fresh)) c.here ≡ false
-    turns-here_once = (subst Once c.line_split (askers-once_right c.past t.line turns-apart)).0
+    turns-here_once = (subst Once c.line_split (once_right c.past t.line turns-apart)).0
 
     turns-here_new : among c.past c.here ≡ false
-    turns-here_new = false_from_ne_true (among c.past c.here) (λ y. both_ways (among t.line c.here) (askers-once_apart c.past t.line turns-apart c.here y) turns-here_in)
+    turns-here_new = false_from_ne_true (among c.past c.here) (λ y. both_ways (among t.line c.here) (once_apart c.past t.line turns-apart c.here y) turns-here_in)
 
     pub turns-next_known : (x : ℕ) → next ≡ Some x → x < length t.remaining
     turns-next_known x e = let l : x < m.rooms = askers-wish_known m c.fits.market (stage_at s) c.here x turns-here_known (sym c.next_is ∙ e) in omega (arith, c.fits.remaining_len)
@@ -114,16 +114,16 @@ module _ (m : Market) where
           | inl e ↦ subst (λ z. get_or (set t.given c.here next) z None ≡ wish m (stage_at s) z) (sym e)
               (get_or-set_same t.given c.here next None (let l : c.here < m.people = turns-here_known in omega (arith, c.fits.given_len)) ∙ c.next_is)
           | inr n ↦ get_or-set_other t.given c.here p next None n ∙ c.given_past p
-              (elim (askers-among_cases c.past (c.here ∷ []) p h) [ inl y ↦ y | inr y ↦ absurd (n (sym (eqb-true c.here p (sym (or-false (c.here == p)) ∙ y)))) ])
+              (elim (among_cases c.past (c.here ∷ []) p h) [ inl y ↦ y | inr y ↦ absurd (n (sym (eqb-true c.here p (sym (or-false (c.here == p)) ∙ y)))) ])
         ]
 
     turns-given_out : (p : ℕ) → among (c.past ++ c.here ∷ []) p ≡ false → given_to (granted t c.here next) p ≡ given_to s p
     turns-given_out p h =
-        let parts : (among c.past p ≡ false) × (among (c.here ∷ []) p ≡ false) = or_parts (among c.past p) (among (c.here ∷ []) p) (sym (askers-among-append c.past (c.here ∷ []) p) ∙ h) in
+        let parts : (among c.past p ≡ false) × (among (c.here ∷ []) p ≡ false) = or_parts (among c.past p) (among (c.here ∷ []) p) (sym (among-append c.past (c.here ∷ []) p) ∙ h) in
         get_or-set_other t.given c.here p next None (λ e. both_ways (c.here == p) (sym (or-false (c.here == p)) ∙ parts.1) (eq-eqb c.here p (sym e))) ∙ c.given_kept p parts.0
 
     turns-ends_at : last_of c.here c.others ≡ tenant
-    turns-ends_at = sym (turns-last_split c.ring.person c.ring.others c.past c.here c.others c.ring_split) ∙ c.ring.ends
+    turns-ends_at = sym (last_split c.ring.person c.ring.others c.past c.here c.others c.ring_split) ∙ c.ring.ends
 
     turns-more_at : (os : List ℕ) → c.others ≡ os → (c.here ≡ tenant → ⊥) → Closing m tenant room s (granted t c.here next) (home m c.here)
     turns-more_at [] e ne = absurd (ne (sym (ap (last_of c.here) e) ∙ turns-ends_at))
@@ -149,8 +149,8 @@ module _ (m : Market) where
     turns-all_at : (os : List ℕ) → c.others ≡ os → c.here ≡ tenant → Closed m tenant room s (granted t c.here next)
     turns-all_at (h ∷ os) e eq =
         let last : last_of h os ≡ c.here = ap (last_of c.here) (sym e) ∙ turns-ends_at ∙ sym eq in
-        let inside : among c.others c.here ≡ true = subst (λ z. among z c.here ≡ true) (sym e) (subst (λ z. among (h ∷ os) z ≡ true) last (cycles-among_last h os)) in
-        absurd (both_ways (among (c.others ++ (c.ring.after ++ c.ring.asks.fresh)) c.here) turns-here_once (askers-among_left c.others (c.ring.after ++ c.ring.asks.fresh) c.here inside))
+        let inside : among c.others c.here ≡ true = subst (λ z. among z c.here ≡ true) (sym e) (subst (λ z. among (h ∷ os) z ≡ true) last (among_last h os)) in
+        absurd (both_ways (among (c.others ++ (c.ring.after ++ c.ring.asks.fresh)) c.here) turns-here_once (among_left c.others (c.ring.after ++ c.ring.asks.fresh) c.here inside))
     turns-all_at [] e eq =
         let split : c.ring.person ∷ c.ring.others ≡ c.past ++ c.here ∷ [] = c.ring_split ∙ ap (λ z. c.past ++ (c.here ∷ z)) e in
         record {
@@ -176,19 +176,19 @@ module _ (m : Market) where
   -- the whole loop has left
   pub turns-closed_onward : (t room : ℕ) (s u : State) → tenant m room ≡ Some t → Closed m t room s u → Onward m s u
   turns-closed_onward t room s u te c = record {
-    standing = record {
+    consistent = record {
       fits = c.fits;
       queue = record {
         waiting = r.after;
         fresh = r.asks.fresh;
         split = c.line_is;
-        waiting_asked = λ p h. subst (λ z. get_or z p false ≡ true) (sym c.asked_kept) (r.asks.waiting_asked p (askers-among_more r.person r.asks.behind p (subst (λ z. among z p ≡ true) (sym r.behind_split) (askers-among_right r.others r.after p h))));
+        waiting_asked = λ p h. subst (λ z. get_or z p false ≡ true) (sym c.asked_kept) (r.asks.waiting_asked p (among_more r.person r.asks.behind p (subst (λ z. among z p ≡ true) (sym r.behind_split) (among_right r.others r.after p h))));
         fresh_unasked = λ p h. subst (λ z. get_or z p false ≡ false) (sym c.asked_kept) (r.asks.fresh_unasked p h);
         waits = subst (λ z. Waits m z r.after) (sym c.stage) (after_waits r.after refl);
         least = after_least r.after refl;
         ascends = r.asks.ascends;
-        once = askers-once_right ring u.line (subst Once line r.asks.once);
-        known = λ p h. r.asks.known p (subst (λ z. among z p ≡ true) (sym line) (askers-among_right ring u.line p h));
+        once = once_right ring u.line (subst Once line r.asks.once);
+        known = λ p h. r.asks.known p (subst (λ z. among z p ≡ true) (sym line) (among_right ring u.line p h));
       };
     };
     fewer = (
@@ -201,17 +201,17 @@ module _ (m : Market) where
         let len2 : length (r.others ++ u.line) ≡ length r.others + length u.line = length-append r.others u.line in
         let len3 : length r.asks.behind ≡ length (r.others ++ r.after) = ap length r.behind_split in
         let len4 : length (r.others ++ r.after) ≡ length r.others + length r.after = length-append r.others r.after in
-        let a1 : asked_in s.asked s.line ≡ suc (length r.asks.behind) = counts-asked_split s.asked s.line (r.person ∷ r.asks.behind) r.asks.fresh r.asks.split r.asks.waiting_asked r.asks.fresh_unasked in
-        let a2 : asked_in s.asked u.line ≡ length r.after = counts-asked_split s.asked u.line r.after r.asks.fresh c.line_is
-        (λ p h. r.asks.waiting_asked p (askers-among_more r.person r.asks.behind p (subst (λ z. among z p ≡ true) (sym r.behind_split) (askers-among_right r.others r.after p h)))) r.asks.fresh_unasked in
+        let a1 : asked_in s.asked s.line ≡ suc (length r.asks.behind) = asked_split s.asked s.line (r.person ∷ r.asks.behind) r.asks.fresh r.asks.split r.asks.waiting_asked r.asks.fresh_unasked in
+        let a2 : asked_in s.asked u.line ≡ length r.after = asked_split s.asked u.line r.after r.asks.fresh c.line_is
+        (λ p h. r.asks.waiting_asked p (among_more r.person r.asks.behind p (subst (λ z. among z p ≡ true) (sym r.behind_split) (among_right r.others r.after p h)))) r.asks.fresh_unasked in
         let a3 : asked_in u.asked u.line ≡ asked_in s.asked u.line = ap (λ z. asked_in z u.line) c.asked_kept in
         omega arith);
     settles = λ f st. record {
       served = λ p l h.
-          (let out : (among ring p ≡ false) × (among u.line p ≡ false) = or_parts (among ring p) (among u.line p) (sym (askers-among-append ring u.line p) ∙ subst (λ z. among z p ≡ false) line h) in
+          (let out : (among ring p ≡ false) × (among u.line p ≡ false) = or_parts (among ring p) (among u.line p) (sym (among-append ring u.line p) ∙ subst (λ z. among z p ≡ false) line h) in
           st.served p l out.1 ∙ c.given_kept p out.0);
       leads = trade (among ring) ring_is
-          (λ p h. st.served p (ring_known p h) (askers-once_apart ring u.line (subst Once line r.asks.once) p h) ∙ c.given_ring p h)
+          (λ p h. st.served p (ring_known p h) (once_apart ring u.line (subst Once line r.asks.once) p h) ∙ c.given_ring p h)
           (subst (λ z. Leads m f z) c.stage st.leads);
     };
   }
@@ -226,7 +226,7 @@ module _ (m : Market) where
       line = turns-ring_line t room s r ∙ ap (λ z. ring ++ z) (sym c.line_is)
 
       ring_in : (p : ℕ) → among ring p ≡ true → among s.line p ≡ true
-      ring_in p h = subst (λ z. among z p ≡ true) (sym line) (askers-among_left ring u.line p h)
+      ring_in p h = subst (λ z. among z p ≡ true) (sym line) (among_left ring u.line p h)
 
       ring_known : (p : ℕ) → among ring p ≡ true → p < m.people
       ring_known p h = r.asks.known p (ring_in p h)
@@ -235,12 +235,12 @@ module _ (m : Market) where
       waits = subst (λ z. WaitsBehind m (stage_at s) r.person z) r.behind_split r.asks.waits
 
       t_in : among s.line t ≡ true
-      t_in = ring_in t (subst (λ z. among ring z ≡ true) r.ends (cycles-among_last r.person r.others))
+      t_in = ring_in t (subst (λ z. among ring z ≡ true) r.ends (among_last r.person r.others))
 
       points : successor m (stage_at s) r.person ≡ last_of r.person r.others
       points =
           cycles-successor_at m (stage_at s) r.person (Some room) r.first_wish
-          ∙ cycles-home_holder m c.fits.market (stage_at s) t room (turns-tenant_home m room t te).0 (turns-tenant_home m room t te).1 t_in
+          ∙ cycles-home_holder m c.fits.market (stage_at s) t room (tenant_home m room t te).0 (tenant_home m room t te).1 t_in
           ∙ sym r.ends
 
       ring_is : IsTrade m (stage_at s) (among ring)
@@ -248,15 +248,15 @@ module _ (m : Market) where
           (cycles-waits_behind m c.fits.market (stage_at s) r.person r.others ring_known ring_in (askers-waits_front m (stage_at s) r.person r.others r.after waits)) points
 
       after_in : (p : ℕ) → among r.after p ≡ true → among u.line p ≡ true
-      after_in p h = subst (λ z. among z p ≡ true) (sym c.line_is) (askers-among_left r.after r.asks.fresh p h)
+      after_in p h = subst (λ z. among z p ≡ true) (sym c.line_is) (among_left r.after r.asks.fresh p h)
 
       -- nobody in the loop takes the home of a person behind it
       free : (q h : ℕ) → among r.after q ≡ true → home m q ≡ Some h → taken m (stage_at s) (among ring) h ≡ false
       free q h i e = false_from_ne_true (taken m (stage_at s) (among ring) h) (λ y.
           let g : (x : ℕ) × (x < m.people) × (among ring x ≡ true) × (wish m (stage_at s) x ≡ Some h) = cycles-taken_gives m (stage_at s) (among ring) h y in
-          let q_in : among s.line q ≡ true = subst (λ z. among z q ≡ true) (sym line) (askers-among_right ring u.line q (after_in q i)) in
+          let q_in : among s.line q ≡ true = subst (λ z. among z q ≡ true) (sym line) (among_right ring u.line q (after_in q i)) in
           let to : successor m (stage_at s) g.0 ≡ q = cycles-successor_at m (stage_at s) g.0 (Some h) g.3 ∙ cycles-home_holder m c.fits.market (stage_at s) q h (r.asks.known q q_in) e q_in in
-          both_ways (among u.line q) (askers-once_apart ring u.line (subst Once line r.asks.once) q (subst (λ z. among ring z ≡ true) to (ring_is.closed g.0 g.2))) (after_in q i))
+          both_ways (among u.line q) (once_apart ring u.line (subst Once line r.asks.once) q (subst (λ z. among ring z ≡ true) to (ring_is.closed g.0 g.2))) (after_in q i))
 
       after_waits : (xs : List ℕ) → r.after ≡ xs → Waits m (leave m (stage_at s) (among ring)) xs
       after_waits [] e = tt
@@ -267,5 +267,5 @@ module _ (m : Market) where
       after_least : (xs : List ℕ) → r.after ≡ xs → LastIsLeast xs u.line
       after_least [] e = tt
       after_least (b ∷ ys) e = λ p h.
-          subst (λ z. z ≤ p) (ap (last_of r.person) (r.behind_split ∙ ap (λ z. r.others ++ z) e) ∙ askers-last_push r.person r.others b ys)
-          (r.asks.least p (subst (λ z. among z p ≡ true) (sym line) (askers-among_right ring u.line p h)))
+          subst (λ z. z ≤ p) (ap (last_of r.person) (r.behind_split ∙ ap (λ z. r.others ++ z) e) ∙ last_push r.person r.others b ys)
+          (r.asks.least p (subst (λ z. among z p ≡ true) (sym line) (among_right ring u.line p h)))

@@ -1,6 +1,6 @@
 -- What each kind of turn does to the state.
 use Rattle.std.proofs.Math.Bool.{or-false}
-use Rattle.trade_line.proofs.counts.Asked.{counts-asked_split, counts-asked_none, counts-asked_other}
+use Rattle.trade_line.proofs.counts.Asked.{asked_split, asked_none, asked_other}
 use Rattle.std.proofs.Common.{◌≡◌, ℕ, suc, ◌<◌, ◌≤◌, true, false, not, ◌&&◌, ◌==◌, List, [], ◌∷◌, ◌++◌, length, Option, Some, None, set, refl, sym, ap, ◌∙◌, subst, inl, inr, arith, eqb-true, eq-eqb, get_or-set_same, get_or-set_other, length-set, pred, cond, ◌+◌}
 use mathlib.Core.Path.{fun_ext}
 use Rattle.std.specs.Option.{unwrap_or}
@@ -12,14 +12,14 @@ use Rattle.trade_line.specs.Inner.Removal.{IsTrade, Leads}
 use Rattle.trade_line.specs.Member.{among, Once}
 use Rattle.trade_line.specs.Inner.Queue.{AscendsFrom, Ascends, last_of, WaitsBehind, Waits, LastIsLeast, stage_of, close, Queue, Settles}
 use Rattle.trade_line.specs.Line.{front_of, tail_of, without}
-use Rattle.trade_line.specs.Inner.State.{State, stage_at, has_asked, given_to, Fits}
-use Rattle.trade_line.specs.Inner.Turn.{Standing, Asks, pending, Onward, asked_in}
+use Rattle.trade_line.specs.Inner.State.{State, stage_at, has_asked, given_to, IsSizedFor}
+use Rattle.trade_line.specs.Inner.Turn.{IsConsistent, Asks, pending, Onward, asked_in}
 use Rattle.trade_line.specs.Inner.Removal.Leads.{trade}
-use Rattle.trade_line.proofs.searches.Search.{searches-is_room_gives, searches-first_passes, searches-first_finds, searches-first_is_least}
-use Rattle.trade_line.proofs.counts.Count.{counts-count_le, counts-bit_le}
+use Rattle.trade_line.proofs.searches.Search.{is_room_gives, first_passes, first_finds, first_is_least}
+use Rattle.trade_line.proofs.counts.Count.{count_le, bit_le}
 use Rattle.trade_line.proofs.cycles.Exchange.{cycles-successor_at, cycles-taken_gives}
-use Rattle.trade_line.proofs.cycles.Chain.{cycles-among_last, cycles-tenant_at, cycles-home_holder, only, cycles-ring_trade, IsVacant, cycles-head_first}
-use Rattle.trade_line.proofs.askers.Lines.{askers-among_self, askers-among_more, askers-among_left, askers-among_right, askers-above_ascends, askers-ascends_tail, askers-length-close, askers-leave_none, askers-front_leaves, askers-waits_on, askers-wish_known}
+use Rattle.trade_line.proofs.cycles.Chain.{among_last, cycles-tenant_at, cycles-home_holder, only, cycles-ring_trade, IsVacant, cycles-head_first}
+use Rattle.trade_line.proofs.askers.Lines.{among_self, among_more, among_left, among_right, above_ascends, ascends_tail, length-close, askers-leave_none, askers-front_leaves, askers-waits_on, askers-wish_known}
 
 -- the state after the front of the line left with a room or nothing
 abbrev pub granted : State → ℕ → Option ℕ → State
@@ -33,30 +33,30 @@ marked s p = record { line = s.line; asked = set s.asked p true; remaining = s.r
 abbrev pub brought : State → ℕ → State
 brought s t = record { line = t ∷ without t s.line; asked = set s.asked t true; remaining = s.remaining; given = s.given }
 
-pub turns-tenant_home : (m : Market) (r t : ℕ) → tenant m r ≡ Some t → (t < m.people) × (home m t ≡ Some r)
-turns-tenant_home m r t e =
-    let u : (is_room r (home m t) ≡ true) × (t < m.people) = searches-first_passes m.people (λ p. is_room r (home m p)) t e in
-    (u.1, searches-is_room_gives r (home m t) u.0)
+pub tenant_home : (m : Market) (r t : ℕ) → tenant m r ≡ Some t → (t < m.people) × (home m t ≡ Some r)
+tenant_home m r t e =
+    let u : (is_room r (home m t) ≡ true) × (t < m.people) = first_passes m.people (λ p. is_room r (home m p)) t e in
+    (u.1, is_room_gives r (home m t) u.0)
 
 module _ (m : Market) where
   turns-first_least : (s : Stage) (x : ℕ) → x < m.people → s.people x ≡ true → ((p : ℕ) → s.people p ≡ true → x ≤ p) → first m s ≡ x
   unfolding first
   turns-first_least s x l h least =
-      let r : (y : ℕ) × (first_below m.people s.people ≡ Some y) = searches-first_finds m.people s.people x l h in
-      let below : r.0 ≤ x = searches-first_is_least m.people s.people r.0 x r.1 l h in
-      let above : x ≤ r.0 = least r.0 (searches-first_passes m.people s.people r.0 r.1).0 in
+      let r : (y : ℕ) × (first_below m.people s.people ≡ Some y) = first_finds m.people s.people x l h in
+      let below : r.0 ≤ x = first_is_least m.people s.people r.0 x r.1 l h in
+      let above : x ≤ r.0 = least r.0 (first_passes m.people s.people r.0 r.1).0 in
       let same : r.0 ≡ x = omega arith in
       ap (λ o. unwrap_or o 0) r.1 ∙ same
 
-  pub turns-granted_fits : (s : State) (p : ℕ) (o : Option ℕ) → Fits m s → Fits m (granted s p o)
+  pub turns-granted_fits : (s : State) (p : ℕ) (o : Option ℕ) → IsSizedFor m s → IsSizedFor m (granted s p o)
   turns-granted_fits s p o f = record {
     market = f.market;
     asked_len = f.asked_len;
-    remaining_len = askers-length-close s.remaining o ∙ f.remaining_len;
+    remaining_len = length-close s.remaining o ∙ f.remaining_len;
     given_len = length-set s.given p o ∙ f.given_len;
   }
 
-  pub turns-marked_fits : (s : State) (p : ℕ) → Fits m s → Fits m (marked s p)
+  pub turns-marked_fits : (s : State) (p : ℕ) → IsSizedFor m s → IsSizedFor m (marked s p)
   turns-marked_fits s p f = record {
     market = f.market;
     asked_len = length-set s.asked p true ∙ f.asked_len;
@@ -81,18 +81,18 @@ module _ (m : Market) where
   turns-marked_pending : (s : State) (a : ℕ) → a < length s.asked → pending m (marked s a) ≤ pending m s
   turns-marked_pending s a l =
       let c : count_below m.people (λ p. is_tenant m p && not (has_asked (marked s a) p)) ≤ count_below m.people (λ p. is_tenant m p && not (has_asked s p)) =
-      counts-count_le m.people (λ p. is_tenant m p && not (has_asked (marked s a) p)) (λ p. is_tenant m p && not (has_asked s p)) (turns-marked_unasked s a l) in
+      count_le m.people (λ p. is_tenant m p && not (has_asked (marked s a) p)) (λ p. is_tenant m p && not (has_asked s p)) (turns-marked_unasked s a l) in
       omega arith
 
   -- the front of the line is marked as having asked
-  pub turns-front_asks : (s : State) (a : ℕ) → Standing m s → front_of s.line ≡ Some a → Asks m a (marked s a)
+  pub turns-front_asks : (s : State) (a : ℕ) → IsConsistent m s → front_of s.line ≡ Some a → Asks m a (marked s a)
   turns-front_asks s a st e = by_line s.line refl e
     where
       q : Queue m s.line s.asked s.remaining
       q = st.queue
 
       known_a : (t : List ℕ) → s.line ≡ a ∷ t → a < length s.asked
-      known_a t e = let l : a < m.people = q.known a (subst (λ z. among z a ≡ true) (sym e) (askers-among_self a t)) in omega (arith, st.fits.asked_len)
+      known_a t e = let l : a < m.people = q.known a (subst (λ z. among z a ≡ true) (sym e) (among_self a t)) in omega (arith, st.fits.asked_len)
 
       unmarked : (t : List ℕ) → s.line ≡ a ∷ t → (p : ℕ) → among t p ≡ true → has_asked s p ≡ false → has_asked (marked s a) p ≡ false
       unmarked t e p i h =
@@ -109,13 +109,13 @@ module _ (m : Market) where
             fresh = t;
             split = e;
             waiting_asked = λ p h. subst (λ z. has_asked (marked s a) z ≡ true) (eqb-true a p (sym (or-false (a == p)) ∙ h)) (get_or-set_same s.asked a true false (known_a t e));
-            fresh_unasked = λ p h. unmarked t e p h (q.fresh_unasked p (subst (λ z. among z p ≡ true) (sym fe) (askers-among_more a t p h)));
+            fresh_unasked = λ p h. unmarked t e p h (q.fresh_unasked p (subst (λ z. among z p ≡ true) (sym fe) (among_more a t p h)));
             waits = tt;
             least = λ p h. elim (or_cases (a == p) (among t p) (subst (λ z. among z p ≡ true) e h)) [
               | inl y ↦ let z : a ≡ p = eqb-true a p y in omega arith
-              | inr y ↦ let z : a < p = askers-above_ascends a t up p y in omega arith
+              | inr y ↦ let z : a < p = above_ascends a t up p y in omega arith
             ];
-            ascends = askers-ascends_tail a t up;
+            ascends = ascends_tail a t up;
             once = q.once;
             known = q.known;
           }
@@ -130,7 +130,7 @@ module _ (m : Market) where
             fresh = q.fresh;
             split = e ∙ ap (λ z. a ∷ z) te;
             waiting_asked = λ p h. turns-marked_stays s a p (known_a t e) (q.waiting_asked p (subst (λ z. among z p ≡ true) (sym wa) h));
-            fresh_unasked = λ p h. unmarked t e p (subst (λ z. among z p ≡ true) (sym te) (askers-among_right ws q.fresh p h)) (q.fresh_unasked p h);
+            fresh_unasked = λ p h. unmarked t e p (subst (λ z. among z p ≡ true) (sym te) (among_right ws q.fresh p h)) (q.fresh_unasked p h);
             waits = subst (λ z. Waits m (stage_at s) z) wa q.waits;
             least = subst (λ z. LastIsLeast z s.line) wa q.least;
             ascends = q.ascends;
@@ -144,7 +144,7 @@ module _ (m : Market) where
           let z : x ≡ a = cc in
           by_waiting t (e ∙ ap (λ y. y ∷ t) z) q.waiting refl
 
-  turns-marked_turns : (s : State) (a : ℕ) → Standing m s → front_of s.line ≡ Some a → asked_in (set s.asked a true) s.line ≤ suc (pred (asked_in s.asked s.line))
+  turns-marked_turns : (s : State) (a : ℕ) → IsConsistent m s → front_of s.line ≡ Some a → asked_in (set s.asked a true) s.line ≤ suc (pred (asked_in s.asked s.line))
   turns-marked_turns s a st e = by_line s.line refl e
     where
       q : Queue m s.line s.asked s.remaining
@@ -153,12 +153,12 @@ module _ (m : Market) where
       by_waiting : (t : List ℕ) → s.line ≡ a ∷ t → (w : List ℕ) → q.waiting ≡ w → asked_in s.asked t ≤ pred (asked_in s.asked s.line)
       by_waiting t le [] we =
           let fe : a ∷ t ≡ q.fresh = sym le ∙ q.split ∙ ap (λ z. z ++ q.fresh) we in
-          let none : asked_in s.asked t ≡ 0 = counts-asked_none s.asked t (λ p h. q.fresh_unasked p (subst (λ z. among z p ≡ true) fe (askers-among_more a t p h))) in
+          let none : asked_in s.asked t ≡ 0 = asked_none s.asked t (λ p h. q.fresh_unasked p (subst (λ z. among z p ≡ true) fe (among_more a t p h))) in
           omega arith
       by_waiting t le (x ∷ ws) we =
           let e2 : a ∷ t ≡ x ∷ (ws ++ q.fresh) = sym le ∙ q.split ∙ ap (λ z. z ++ q.fresh) we in
           let xa : x ≡ a = cc in
-          let yes_a : has_asked s a ≡ true = q.waiting_asked a (subst (λ z. among z a ≡ true) (sym we) (subst (λ z. among (x ∷ ws) z ≡ true) xa (askers-among_self x ws))) in
+          let yes_a : has_asked s a ≡ true = q.waiting_asked a (subst (λ z. among z a ≡ true) (sym we) (subst (λ z. among (x ∷ ws) z ≡ true) xa (among_self x ws))) in
           let one : asked_in s.asked s.line ≡ cond (has_asked s a) 1 0 + asked_in s.asked t = ap (asked_in s.asked) le in
           let bit : cond {A = ℕ} (has_asked s a) 1 0 ≡ 1 = cond-true {A = ℕ} (has_asked s a) 1 0 yes_a in
           omega arith
@@ -170,13 +170,13 @@ module _ (m : Market) where
           let le2 : s.line ≡ a ∷ t = le ∙ ap (λ y. y ∷ t) z in
           let apart : among t a ≡ false = (subst Once le2 q.once).0 in
           let one : asked_in (set s.asked a true) s.line ≡ cond (has_asked (marked s a) a) 1 0 + asked_in (set s.asked a true) t = ap (asked_in (set s.asked a true)) le2 in
-          let bit : cond (has_asked (marked s a) a) 1 0 ≤ 1 = counts-bit_le (has_asked (marked s a) a) true (λ _. refl) in
-          let same : asked_in (set s.asked a true) t ≡ asked_in s.asked t = counts-asked_other s.asked a t apart in
+          let bit : cond (has_asked (marked s a) a) 1 0 ≤ 1 = bit_le (has_asked (marked s a) a) true (λ _. refl) in
+          let same : asked_in (set s.asked a true) t ≡ asked_in s.asked t = asked_other s.asked a t apart in
           omega (arith, by_waiting t le2 q.waiting refl)
 
-  pub turns-front_onward : (s t : State) (a : ℕ) → Standing m s → front_of s.line ≡ Some a → Onward m (marked s a) t → Onward m s t
+  pub turns-front_onward : (s t : State) (a : ℕ) → IsConsistent m s → front_of s.line ≡ Some a → Onward m (marked s a) t → Onward m s t
   turns-front_onward s t a st e o = record {
-    standing = o.standing;
+    consistent = o.consistent;
     fewer = let l : pending m (marked s a) ≤ pending m s = turns-marked_pending s a (known s.line refl e) in omega (arith, o.fewer);
     turns = let l : asked_in (set s.asked a true) s.line ≤ suc (pred (asked_in s.asked s.line)) = turns-marked_turns s a st e in omega (arith, o.turns);
     settles = o.settles;
@@ -186,7 +186,7 @@ module _ (m : Market) where
       known [] e f = absurd (cc)
       known (x ∷ t) e f =
           let z : x ≡ a = cc in
-          let l : a < m.people = st.queue.known a (subst (λ y. among y a ≡ true) (sym e) (subst (λ y. among (x ∷ t) y ≡ true) z (askers-among_self x t))) in
+          let l : a < m.people = st.queue.known a (subst (λ y. among y a ≡ true) (sym e) (subst (λ y. among (x ∷ t) y ≡ true) z (among_self x t))) in
           omega (arith, st.fits.asked_len)
 
   -- the front of the line leaves with the wish
@@ -195,7 +195,7 @@ module _ (m : Market) where
     turns-rest = ask.behind ++ ask.fresh
 
     turns-a_known : a < m.people
-    turns-a_known = ask.known a (subst (λ z. among z a ≡ true) (sym ask.split) (askers-among_self a (ask.behind ++ ask.fresh)))
+    turns-a_known = ask.known a (subst (λ z. among z a ≡ true) (sym ask.split) (among_self a (ask.behind ++ ask.fresh)))
 
     turns-a_once : among (ask.behind ++ ask.fresh) a ≡ false
     turns-a_once = (subst Once ask.split ask.once).0
@@ -212,16 +212,16 @@ module _ (m : Market) where
     turns-line_after = ap tail_of ask.split
 
     turns-inside : (p : ℕ) → among (tail_of s.line) p ≡ true → among s.line p ≡ true
-    turns-inside p h = subst (λ z. among z p ≡ true) (sym ask.split) (askers-among_more a (ask.behind ++ ask.fresh) p (subst (λ z. among z p ≡ true) turns-line_after h))
+    turns-inside p h = subst (λ z. among z p ≡ true) (sym ask.split) (among_more a (ask.behind ++ ask.fresh) p (subst (λ z. among z p ≡ true) turns-line_after h))
 
-    pub turns-front_standing : ((q h : ℕ) → among ask.behind q ≡ true → home m q ≡ Some h → taken m (stage_at s) (among (a ∷ [])) h ≡ false) → Standing m (granted s a o)
-    turns-front_standing free = record {
+    pub turns-front_consistent : ((q h : ℕ) → among ask.behind q ≡ true → home m q ≡ Some h → taken m (stage_at s) (among (a ∷ [])) h ≡ false) → IsConsistent m (granted s a o)
+    turns-front_consistent free = record {
       fits = turns-granted_fits s a o ask.fits;
       queue = record {
         waiting = ask.behind;
         fresh = ask.fresh;
         split = turns-line_after;
-        waiting_asked = λ p h. ask.waiting_asked p (askers-among_more a ask.behind p h);
+        waiting_asked = λ p h. ask.waiting_asked p (among_more a ask.behind p h);
         fresh_unasked = ask.fresh_unasked;
         waits = subst (λ z. Waits m z ask.behind) (sym turns-front_stage) (behind_waits ask.behind ask.waits free);
         least = behind_least ask.behind ask.least;
@@ -249,8 +249,8 @@ module _ (m : Market) where
     turns-front_turns =
         let e : length s.line ≡ suc (length (ask.behind ++ ask.fresh)) = ap length ask.split in
         let e2 : length (tail_of s.line) ≡ length (ask.behind ++ ask.fresh) = ap length turns-line_after in
-        let a1 : asked_in s.asked s.line ≡ suc (length ask.behind) = counts-asked_split s.asked s.line (a ∷ ask.behind) ask.fresh ask.split ask.waiting_asked ask.fresh_unasked in
-        let a2 : asked_in s.asked (tail_of s.line) ≡ length ask.behind = counts-asked_split s.asked (tail_of s.line) ask.behind ask.fresh turns-line_after (λ p h. ask.waiting_asked p (askers-among_more a ask.behind p h)) ask.fresh_unasked in
+        let a1 : asked_in s.asked s.line ≡ suc (length ask.behind) = asked_split s.asked s.line (a ∷ ask.behind) ask.fresh ask.split ask.waiting_asked ask.fresh_unasked in
+        let a2 : asked_in s.asked (tail_of s.line) ≡ length ask.behind = asked_split s.asked (tail_of s.line) ask.behind ask.fresh turns-line_after (λ p h. ask.waiting_asked p (among_more a ask.behind p h)) ask.fresh_unasked in
         omega arith
 
     pub turns-front_given : (f : ℕ → Option ℕ) → Settles m (tail_of s.line) (close s.remaining o) (set s.given a o) f → f a ≡ o
@@ -266,7 +266,7 @@ module _ (m : Market) where
   -- the front takes the floor
   pub turns-floor_onward : (s : State) (a : ℕ) → Asks m a s → wish m (stage_at s) a ≡ home m a → Onward m s (granted s a (home m a))
   turns-floor_onward s a ask w = record {
-    standing = turns-front_standing s a ask (home m a) w free;
+    consistent = turns-front_consistent s a ask (home m a) w free;
     fewer = turns-front_fewer s a ask (home m a) w;
     turns = turns-front_turns s a ask (home m a) w;
     settles = λ f st. record {
@@ -278,16 +278,16 @@ module _ (m : Market) where
   }
     where
       in_line : among s.line a ≡ true
-      in_line = subst (λ z. among z a ≡ true) (sym ask.split) (askers-among_self a (ask.behind ++ ask.fresh))
+      in_line = subst (λ z. among z a ≡ true) (sym ask.split) (among_self a (ask.behind ++ ask.fresh))
 
       free : (q h : ℕ) → among ask.behind q ≡ true → home m q ≡ Some h → taken m (stage_at s) (among (a ∷ [])) h ≡ false
       free q h i e = false_from_ne_true (taken m (stage_at s) (among (a ∷ [])) h) (λ y.
           let g : (x : ℕ) × (x < m.people) × (among (a ∷ []) x ≡ true) × (wish m (stage_at s) x ≡ Some h) = cycles-taken_gives m (stage_at s) (among (a ∷ [])) h y in
           let ax : a ≡ g.0 = eqb-true a g.0 (sym (or-false (a == g.0)) ∙ g.2) in
           let ha : home m a ≡ Some h = sym w ∙ subst (λ z. wish m (stage_at s) z ≡ Some h) (sym ax) g.3 in
-          let q_known : q < m.people = ask.known q (subst (λ z. among z q ≡ true) (sym ask.split) (askers-among_more a (ask.behind ++ ask.fresh) q (askers-among_left ask.behind ask.fresh q i))) in
+          let q_known : q < m.people = ask.known q (subst (λ z. among z q ≡ true) (sym ask.split) (among_more a (ask.behind ++ ask.fresh) q (among_left ask.behind ask.fresh q i))) in
           let qa : q ≡ a = ask.fits.market.homes_differ q a h q_known (ask.known a in_line) e ha in
-          both_ways (among (ask.behind ++ ask.fresh) a) (turns-a_once s a ask (home m a) w) (subst (λ z. among (ask.behind ++ ask.fresh) z ≡ true) qa (askers-among_left ask.behind ask.fresh q i)))
+          both_ways (among (ask.behind ++ ask.fresh) a) (turns-a_once s a ask (home m a) w) (subst (λ z. among (ask.behind ++ ask.fresh) z ≡ true) qa (among_left ask.behind ask.fresh q i)))
 
       points : (o : Option ℕ) → home m a ≡ o → successor m (stage_at s) a ≡ a
       points None e = cycles-successor_at m (stage_at s) a None (w ∙ e)
@@ -302,7 +302,7 @@ module _ (m : Market) where
   -- the front takes a vacant room
   pub turns-vacant_onward : (s : State) (a v : ℕ) → Asks m a s → wish m (stage_at s) a ≡ Some v → IsVacant m (stage_at s) v → Onward m s (granted s a (Some v))
   turns-vacant_onward s a v ask w none = record {
-    standing = turns-front_standing s a ask (Some v) w free;
+    consistent = turns-front_consistent s a ask (Some v) w free;
     fewer = turns-front_fewer s a ask (Some v) w;
     turns = turns-front_turns s a ask (Some v) w;
     settles = λ f st. record {
@@ -317,10 +317,10 @@ module _ (m : Market) where
       one = fun_ext (λ p. or-false (a == p))
 
       chain : (p : ℕ) → among (a ∷ ask.behind) p ≡ true → among s.line p ≡ true
-      chain p h = subst (λ z. among z p ≡ true) (sym ask.split) (askers-among_left (a ∷ ask.behind) ask.fresh p h)
+      chain p h = subst (λ z. among z p ≡ true) (sym ask.split) (among_left (a ∷ ask.behind) ask.fresh p h)
 
       apart : among ask.behind a ≡ false
-      apart = false_from_ne_true (among ask.behind a) (λ y. both_ways (among (ask.behind ++ ask.fresh) a) (turns-a_once s a ask (Some v) w) (askers-among_left ask.behind ask.fresh a y))
+      apart = false_from_ne_true (among ask.behind a) (λ y. both_ways (among (ask.behind ++ ask.fresh) a) (turns-a_once s a ask (Some v) w) (among_left ask.behind ask.fresh a y))
 
       free : (q h : ℕ) → among ask.behind q ≡ true → home m q ≡ Some h → taken m (stage_at s) (among (a ∷ [])) h ≡ false
       free q h i e = false_from_ne_true (taken m (stage_at s) (among (a ∷ [])) h) (λ y.
@@ -328,8 +328,8 @@ module _ (m : Market) where
           let ax : a ≡ g.0 = eqb-true a g.0 (sym (or-false (a == g.0)) ∙ g.2) in
           let z : Some v ≡ Some h = sym w ∙ subst (λ z. wish m (stage_at s) z ≡ Some h) (sym ax) g.3 in
           let vh : v ≡ h = cc in
-          let q_in : among s.line q ≡ true = chain q (askers-among_more a ask.behind q i) in
+          let q_in : among s.line q ≡ true = chain q (among_more a ask.behind q i) in
           both_ways (among s.line q) (none q (subst (λ x. tenant m x ≡ Some q) (sym vh) (cycles-tenant_at m ask.fits.market q h (ask.known q q_in) e))) q_in)
 
       is_first : first m (stage_at s) ≡ last_of a ask.behind
-      is_first = turns-first_least (stage_at s) (last_of a ask.behind) (ask.known (last_of a ask.behind) (chain (last_of a ask.behind) (cycles-among_last a ask.behind))) (chain (last_of a ask.behind) (cycles-among_last a ask.behind)) ask.least
+      is_first = turns-first_least (stage_at s) (last_of a ask.behind) (ask.known (last_of a ask.behind) (chain (last_of a ask.behind) (among_last a ask.behind))) (chain (last_of a ask.behind) (among_last a ask.behind)) ask.least

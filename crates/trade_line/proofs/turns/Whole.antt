@@ -1,6 +1,6 @@
 -- A whole run: its start and its end.
-use Rattle.trade_line.proofs.askers.Lines.{askers-among_none}
-use Rattle.trade_line.proofs.counts.Asked.{counts-asked_none}
+use Rattle.trade_line.proofs.askers.Lines.{among_none}
+use Rattle.trade_line.proofs.counts.Asked.{asked_none}
 use Rattle.std.proofs.Common.{◌≡◌, ℕ, zero, suc, ◌+◌, ◌<◌, ◌≤◌, true, false, not, ◌&&◌, ◌==◌, List, [], ◌∷◌, length, replicate, None, get_or, refl, sym, ap, ◌∙◌, subst, inl, inr, arith, ltb, ltb-true, lt-ltb, le-ltb, eqb-true, eq-eqb}
 use Rattle.std.specs.List.{range_with_len}
 use Rattle.std.proofs.lemmas.List.FromFn.{length-range_with_len, fill_by_all}
@@ -19,53 +19,53 @@ use Rattle.trade_line.specs.Inner.State.{State, stage_at, given_to}
 use Rattle.trade_line.specs.Inner.Run.{Underway}
 use Rattle.trade_line.specs.Inner.Turn.{asked_in}
 use Rattle.trade_line.specs.Inner.Removal.Leads.{done}
-use Rattle.trade_line.proofs.counts.Count.{counts-count_most, counts-count_le}
-use Rattle.trade_line.proofs.cycles.Unique.{cycles-same_stage}
+use Rattle.trade_line.proofs.counts.Count.{count_most, count_le}
+use Rattle.trade_line.proofs.cycles.Unique.{same_stage}
 use Rattle.trade_line.proofs.cycles.Steps.{cycles-leads_gets}
 
-pub turns-range_has : (a n p : ℕ) → a ≤ p → p < a + n → among (range_with_len a n) p ≡ true
-turns-range_has a zero p l h = absurd (omega arith)
-turns-range_has a (suc n) p l h =
+pub range_has : (a n p : ℕ) → a ≤ p → p < a + n → among (range_with_len a n) p ≡ true
+range_has a zero p l h = absurd (omega arith)
+range_has a (suc n) p l h =
     elim (cases_lt a p) [
-      | inl b ↦ or_right (a == p) (among (range_with_len (a + 1) n) p) (turns-range_has (a + 1) n p (omega arith) (omega arith))
+      | inl b ↦ or_right (a == p) (among (range_with_len (a + 1) n) p) (range_has (a + 1) n p (omega arith) (omega arith))
       | inr b ↦ or_left (a == p) (among (range_with_len (a + 1) n) p) (eq-eqb a p (omega arith))
     ]
 
-pub turns-range_within : (a n p : ℕ) → among (range_with_len a n) p ≡ true → (a ≤ p) × (p < a + n)
-turns-range_within a zero p h = absurd (both_ways false refl h)
-turns-range_within a (suc n) p h =
+pub range_within : (a n p : ℕ) → among (range_with_len a n) p ≡ true → (a ≤ p) × (p < a + n)
+range_within a zero p h = absurd (both_ways false refl h)
+range_within a (suc n) p h =
     elim (or_cases (a == p) (among (range_with_len (a + 1) n) p) h) [
       | inl e ↦ let z : a ≡ p = eqb-true a p e in (omega arith, omega arith)
-      | inr i ↦ let r : (a + 1 ≤ p) × (p < (a + 1) + n) = turns-range_within (a + 1) n p i in (omega (arith, r.0), omega (arith, r.1))
+      | inr i ↦ let r : (a + 1 ≤ p) × (p < (a + 1) + n) = range_within (a + 1) n p i in (omega (arith, r.0), omega (arith, r.1))
     ]
 
-pub turns-range_once : (a n : ℕ) → Once (range_with_len a n)
-turns-range_once a zero = tt
-turns-range_once a (suc n) =
-    (false_from_ne_true (among (range_with_len (a + 1) n) a) (λ h. let r : (a + 1 ≤ a) × (a < (a + 1) + n) = turns-range_within (a + 1) n a h in absurd (omega (arith, r.0))), turns-range_once (a + 1) n)
+pub range_once : (a n : ℕ) → Once (range_with_len a n)
+range_once a zero = tt
+range_once a (suc n) =
+    (false_from_ne_true (among (range_with_len (a + 1) n) a) (λ h. let r : (a + 1 ≤ a) × (a < (a + 1) + n) = range_within (a + 1) n a h in absurd (omega (arith, r.0))), range_once (a + 1) n)
 
-turns-range_ascends_from : (b a n : ℕ) → b < a → AscendsFrom b (range_with_len a n)
-turns-range_ascends_from b a zero h = tt
-turns-range_ascends_from b a (suc n) h = (h, turns-range_ascends_from a (a + 1) n (omega arith))
+range_ascends_from : (b a n : ℕ) → b < a → AscendsFrom b (range_with_len a n)
+range_ascends_from b a zero h = tt
+range_ascends_from b a (suc n) h = (h, range_ascends_from a (a + 1) n (omega arith))
 
-turns-range_ascends : (a n : ℕ) → Ascends (range_with_len a n)
-turns-range_ascends a zero = tt
-turns-range_ascends a (suc n) = turns-range_ascends_from a (a + 1) n (omega arith)
+range_ascends : (a n : ℕ) → Ascends (range_with_len a n)
+range_ascends a zero = tt
+range_ascends a (suc n) = range_ascends_from a (a + 1) n (omega arith)
 
-pub turns-all_same : {A : Type 0} (n : ℕ) (x : A) (i : ℕ) → get_or (replicate n x) i x ≡ x
-turns-all_same zero x i = refl
-turns-all_same (suc n) x zero = refl
-turns-all_same (suc n) x (suc i) = turns-all_same n x i
+pub all_same : {A : Type 0} (n : ℕ) (x : A) (i : ℕ) → get_or (replicate n x) i x ≡ x
+all_same zero x i = refl
+all_same (suc n) x zero = refl
+all_same (suc n) x (suc i) = all_same n x i
 
 module _ (m : Market) where
   turns-start_stage : (s : State) → s.line ≡ range_with_len 0 m.people → s.remaining ≡ replicate m.rooms true → stage_at s ≡ start m
   unfolding start
-  turns-start_stage s le ve = cycles-same_stage (stage_at s) (start m) people rooms
+  turns-start_stage s le ve = same_stage (stage_at s) (start m) people rooms
     where
       people : (p : ℕ) → among s.line p ≡ ltb p m.people
       people p = one_truth (among s.line p) (ltb p m.people)
-          (λ h. let r : (0 ≤ p) × (p < 0 + m.people) = turns-range_within 0 m.people p (subst (λ z. among z p ≡ true) le h) in lt-ltb p m.people (omega (arith, r.1)))
-          (λ h. let l : p < m.people = ltb-true p m.people h in subst (λ z. among z p ≡ true) (sym le) (turns-range_has 0 m.people p (omega arith) (omega arith)))
+          (λ h. let r : (0 ≤ p) × (p < 0 + m.people) = range_within 0 m.people p (subst (λ z. among z p ≡ true) le h) in lt-ltb p m.people (omega (arith, r.1)))
+          (λ h. let l : p < m.people = ltb-true p m.people h in subst (λ z. among z p ≡ true) (sym le) (range_has 0 m.people p (omega arith) (omega arith)))
 
       rooms : (r : ℕ) → get_or s.remaining r false ≡ ltb r m.rooms
       rooms r =
@@ -76,43 +76,43 @@ module _ (m : Market) where
 
   pub turns-underway_start : IsMarket m → (s : State) (c : List ℕ) → s.line ≡ range_with_len 0 m.people → IsFresh s.asked s.remaining s.given c → length s.asked ≡ m.people → length s.remaining ≡ m.rooms → Underway m s 0
   turns-underway_start ok s c le fresh ae ve = record {
-    standing = record {
+    consistent = record {
       fits = record { market = ok; asked_len = ae; remaining_len = ve; given_len = fresh.given_len ∙ ae };
       queue = record {
         waiting = [];
         fresh = s.line;
         split = refl;
         waiting_asked = λ p h. absurd (both_ways false refl h);
-        fresh_unasked = λ p h. ap (λ z. get_or z p false) fresh.none_asked ∙ turns-all_same (length s.asked) false p;
+        fresh_unasked = λ p h. ap (λ z. get_or z p false) fresh.none_asked ∙ all_same (length s.asked) false p;
         waits = tt;
         least = tt;
-        ascends = subst Ascends (sym le) (turns-range_ascends 0 m.people);
-        once = subst Once (sym le) (turns-range_once 0 m.people);
-        known = λ p h. (let r : (0 ≤ p) × (p < 0 + m.people) = turns-range_within 0 m.people p (subst (λ z. among z p ≡ true) le h) in omega (arith, r.1));
+        ascends = subst Ascends (sym le) (range_ascends 0 m.people);
+        once = subst Once (sym le) (range_once 0 m.people);
+        known = λ p h. (let r : (0 ≤ p) × (p < 0 + m.people) = range_within 0 m.people p (subst (λ z. among z p ≡ true) le h) in omega (arith, r.1));
       };
     };
     settles = λ f st. subst (λ z. Leads m f z) (turns-start_stage s le (fresh.all_remain ∙ ap (λ n. replicate n true) ve)) st.leads;
     turns = (
         let a : length s.line ≡ m.people = ap length le ∙ length-range_with_len 0 m.people in
         let b : count_below m.people (λ p. is_tenant m p && not (get_or s.asked p false)) ≤ tenant_count m =
-        counts-count_le m.people (λ p. is_tenant m p && not (get_or s.asked p false)) (is_tenant m) (λ y h. (and_parts (is_tenant m y) (not (get_or s.asked y false)) h).0) in
+        count_le m.people (λ p. is_tenant m p && not (get_or s.asked p false)) (is_tenant m) (λ y h. (and_parts (is_tenant m y) (not (get_or s.asked y false)) h).0) in
         omega arith);
     at_least = (
         let a : length s.line ≡ m.people = ap length le ∙ length-range_with_len 0 m.people in
-        let b : asked_in s.asked s.line ≡ 0 = counts-asked_none s.asked s.line (λ p h. ap (λ z. get_or z p false) fresh.none_asked ∙ turns-all_same (length s.asked) false p) in
+        let b : asked_in s.asked s.line ≡ 0 = asked_none s.asked s.line (λ p h. ap (λ z. get_or z p false) fresh.none_asked ∙ all_same (length s.asked) false p) in
         omega arith);
-    tenants_few = counts-count_most m.people (is_tenant m);
+    tenants_few = count_most m.people (is_tenant m);
   }
 
   pub turns-underway_end : (s : State) (asks : ℕ) → Underway m s asks → front_of s.line ≡ None → s.given ≡ ttc m
   unfolding ttc
   turns-underway_end s asks u e =
-      fill_by_all (gets m) s.given m.people None u.standing.fits.given_len (λ k l. cycles-leads_gets m (given_to s) (u.settles (given_to s) ended) k l)
+      fill_by_all (gets m) s.given m.people None u.consistent.fits.given_len (λ k l. cycles-leads_gets m (given_to s) (u.settles (given_to s) ended) k l)
     where
       ended : Settles m s.line s.remaining s.given (given_to s)
       ended = record {
         served = λ p l h. refl;
-        leads = done (λ p. askers-among_none s.line e p);
+        leads = done (λ p. among_none s.line e p);
       }
 
   pub turns-underway_asks : (s : State) (asks : ℕ) → Underway m s asks → front_of s.line ≡ None → m.people ≤ asks

@@ -12,14 +12,14 @@ use Rattle.trade_line.specs.Member.{among}
 use Rattle.trade_line.specs.Rank.{rank}
 use Rattle.trade_line.specs.Assignment.{IsAssignment}
 use Rattle.trade_line.specs.TradeApart.{TradesApart, HasNoBetterTradeApart}
-use Rattle.trade_line.specs.Core.{HasNoVacantRoom, IsInStrictCore, IsOnlyInStrictCore, IsSelfContained, KeepsSelfContained, IsStrictCoreByTradesApart}
-use Rattle.trade_line.proofs.searches.Search.{searches-clash, searches-find_passes, searches-is_room_gives, searches-is_room_from}
+use Rattle.trade_line.specs.Core.{HasNoVacantRoom, IsInStrictCore, IsUniqueInStrictCore, IsSelfContained, KeepsSelfContained, IsStrictCoreByTradesApart}
+use Rattle.trade_line.proofs.searches.Search.{clash, find_passes, is_room_gives, is_room_from}
 use Rattle.trade_line.proofs.cycles.Exchange.{cycles-successor_at, cycles-taken_gives}
 use Rattle.trade_line.proofs.cycles.Unique.{cycles-taken_from}
 use Rattle.trade_line.proofs.cycles.Chain.{cycles-home_holder}
 use Rattle.trade_line.proofs.cycles.Steps.{cycles-leave_known, cycles-start_known, cycles-gets_leads}
-use Rattle.trade_line.proofs.welfare.Ranks.{welfare-wish_is_best, welfare-not_among, welfare-rank_unlisted, welfare-rank_home}
-use Rattle.trade_line.proofs.welfare.Welfare.{HomesThere, welfare-homes_stay, welfare-start_homes, welfare-start_has_person, welfare-reach_before, welfare-wish_there, welfare-gets_rational, welfare-gets_assignment, welfare-gets_apart}
+use Rattle.trade_line.proofs.welfare.Ranks.{welfare-wish_is_best, not_among, welfare-rank_unlisted, welfare-rank_home}
+use Rattle.trade_line.proofs.welfare.Welfare.{HomesThere, welfare-homes_stay, welfare-start_homes, welfare-start_has_person, reach_before, welfare-wish_there, welfare-gets_rational, welfare-gets_assignment, welfare-gets_apart}
 
 module _ (m : Market) (ok : IsMarket m) where
   -- the wish is no worse than anything available
@@ -50,8 +50,8 @@ module _ (m : Market) (ok : IsMarket m) where
   welfare-rank_apart : (p : ℕ) → p < m.people → (x y : Option ℕ) → rank m p x ≡ rank m p y → rank m p x ≤ rank m p (home m p) → x ≡ y
   unfolding wish
   welfare-rank_apart p l x y e le =
-      welfare-wish_is_best m ok pair p l x (λ r ex. or_left (is_room r x) (is_room r y) (searches-is_room_from r x ex)) is_x
-      ∙ sym (welfare-wish_is_best m ok pair p l y (λ r ey. or_right (is_room r x) (is_room r y) (searches-is_room_from r y ey)) (omega (arith, is_x, e)))
+      welfare-wish_is_best m ok pair p l x (λ r ex. or_left (is_room r x) (is_room r y) (is_room_from r x ex)) is_x
+      ∙ sym (welfare-wish_is_best m ok pair p l y (λ r ey. or_right (is_room r x) (is_room r y) (is_room_from r y ey)) (omega (arith, is_x, e)))
     where
       pair : Stage
       pair = record { people = λ _. true; rooms = λ r. is_room r x || is_room r y }
@@ -62,9 +62,9 @@ module _ (m : Market) (ok : IsMarket m) where
           by_found : (o : Option ℕ) → find pair.rooms (list_of m p) ≡ o → rank m p x ≤ rank m p (or_else o (home m p))
           by_found None g = le
           by_found (Some z) g =
-              elim (or_cases (is_room z x) (is_room z y) (searches-find_passes pair.rooms (list_of m p) z g)) [
-                | inl i ↦ subst (λ v. rank m p x ≤ rank m p v) (searches-is_room_gives z x i) (le_refl (rank m p x))
-                | inr i ↦ subst (λ v. rank m p x ≤ rank m p v) (searches-is_room_gives z y i) (omega (arith, e))
+              elim (or_cases (is_room z x) (is_room z y) (find_passes pair.rooms (list_of m p) z g)) [
+                | inl i ↦ subst (λ v. rank m p x ≤ rank m p v) (is_room_gives z x i) (le_refl (rank m p x))
+                | inr i ↦ subst (λ v. rank m p x ≤ rank m p v) (is_room_gives z y i) (omega (arith, e))
               ]
 
   -- an assignment in the strict core has no better trade apart, and the other way round
@@ -119,7 +119,7 @@ module _ (m : Market) (ok : IsMarket m) where
       pointer : (t : ℕ) → k t ≡ true → group t ≡ true → (z : ℕ) × (k z ≡ true) × (group z ≡ true) × (wish m s z ≡ home m t)
       pointer t y gt =
           let it : traders t ≡ true = and_from (k t) (group t) y gt in
-          by_before (elim (welfare-reach_before (successor m s) traders traders_closed (tk.cycle t y) (traders_closed t it)) [
+          by_before (elim (reach_before (successor m s) traders traders_closed (tk.cycle t y) (traders_closed t it)) [
             | inl e ↦ (t, it, e)
             | inr b ↦ b
           ])
@@ -141,7 +141,7 @@ module _ (m : Market) (ok : IsMarket m) where
     -- each home of the group goes to a member
     welfare-given_out : {s : Stage} → Leads m g s → IsStageOf m s → HomesThere m ok s → HomesHeld s → (t : ℕ) → group t ≡ true → s.people t ≡ true → (z : ℕ) × (group z ≡ true) × (g z ≡ home m t)
     unfolding leave
-    welfare-given_out {s} (done none) known homes held t gt h = searches-clash (s.people t) h (none t)
+    welfare-given_out {s} (done none) known homes held t gt h = clash (s.people t) h (none t)
     welfare-given_out {s} (trade k tk gk d) known homes held t gt h =
         elim (cases_Bool (k t)) [
           | inl y ↦
@@ -195,7 +195,7 @@ module _ (m : Market) (ok : IsMarket m) where
 
       group_from : {s : Stage} → Leads m g s → IsStageOf m s → HomesThere m ok s → HomesHeld s → IsThere s → (p : ℕ) → group p ≡ true → s.people p ≡ true → f p ≡ g p
       unfolding leave
-      group_from {s} (done none) known homes held can p gp h = searches-clash (s.people p) h (none p)
+      group_from {s} (done none) known homes held can p gp h = clash (s.people p) h (none p)
       group_from {s} (trade k tk gk d) known homes held can p gp h =
           elim (cases_Bool (k p)) [
             | inl y ↦ at_k s k tk gk known homes held can p y gp ∙ sym (gk p y)
@@ -223,7 +223,7 @@ module _ (m : Market) (ok : IsMarket m) where
   welfare-listed_known p r l i =
       elim (cases_lt r m.rooms) [
         | inl lt ↦ lt
-        | inr ge ↦ absurd (both_ways (among (list_of m p) r) (welfare-not_among (list_of m p) r (λ k d kl e. absurd (omega (arith, ok.indexed.lists_known p l k d kl, e)))) i)
+        | inr ge ↦ absurd (both_ways (among (list_of m p) r) (not_among (list_of m p) r (λ k d kl e. absurd (omega (arith, ok.indexed.lists_known p l k d kl, e)))) i)
       ]
 
   welfare-rank_beyond : (p r : ℕ) → among (list_of m p) r ≡ false → length (list_of m p) ≤ rank m p (Some r)
@@ -301,11 +301,11 @@ module _ (m : Market) (ok : IsMarket m) where
           | inr n ↦ welfare-newcomer_none f ia core p l n ∙ sym (welfare-newcomer_none (gets m) (welfare-gets_assignment m ok) welfare-core_gets p l n)
         ]
 
-pub welfare-only_core : (m : Market) → IsMarket m → HasNoVacantRoom m → IsOnlyInStrictCore m (gets m)
-welfare-only_core m ok full = record { assignment = welfare-gets_assignment m ok; core = welfare-core_gets m ok; only = welfare-core_same m ok full }
+pub only_core : (m : Market) → IsMarket m → HasNoVacantRoom m → IsUniqueInStrictCore m (gets m)
+only_core m ok full = record { assignment = welfare-gets_assignment m ok; core = welfare-core_gets m ok; only = welfare-core_same m ok full }
 
-pub welfare-core_of_groups : (m : Market) → IsMarket m → KeepsSelfContained m (gets m)
-welfare-core_of_groups m ok = welfare-of_groups m ok
+pub core_of_groups : (m : Market) → IsMarket m → KeepsSelfContained m (gets m)
+core_of_groups m ok = welfare-of_groups m ok
 
-pub welfare-by_trades_apart : (m : Market) → IsMarket m → IsStrictCoreByTradesApart m
-welfare-by_trades_apart m ok = record { core = welfare-apart_core m ok; apart = welfare-core_apart m ok }
+pub by_trades_apart : (m : Market) → IsMarket m → IsStrictCoreByTradesApart m
+by_trades_apart m ok = record { core = welfare-apart_core m ok; apart = welfare-core_apart m ok }

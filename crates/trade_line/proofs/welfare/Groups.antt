@@ -15,9 +15,9 @@ use Rattle.trade_line.specs.Inner.Removal.Leads.{done, trade}
 use Rattle.trade_line.specs.Rank.{rank}
 use Rattle.trade_line.specs.OtherList.{with_lists, with_list}
 use Rattle.trade_line.specs.Groups.{OthersKeep, NoneLoses, IsGroupStrategyproof, IsNonbossy}
-use Rattle.trade_line.proofs.searches.Search.{searches-clash, searches-find_passes, searches-is_room_gives, searches-is_room_from}
-use Rattle.trade_line.proofs.cycles.Exchange.{cycles-reach_same, cycles-taken_gives}
-use Rattle.trade_line.proofs.cycles.Unique.{cycles-same_stage, cycles-taken_from, cycles-trade_removed}
+use Rattle.trade_line.proofs.searches.Search.{clash, find_passes, is_room_gives, is_room_from}
+use Rattle.trade_line.proofs.cycles.Exchange.{reach_same, cycles-taken_gives}
+use Rattle.trade_line.proofs.cycles.Unique.{same_stage, cycles-taken_from, cycles-trade_removed}
 use Rattle.trade_line.proofs.cycles.Steps.{cycles-leave_known, cycles-start_known, cycles-gets_leads}
 use Rattle.trade_line.proofs.welfare.Ranks.{welfare-wish_is_best}
 use Rattle.trade_line.proofs.welfare.Welfare.{HomesThere, welfare-homes_stay, welfare-there_from, welfare-start_homes, welfare-start_has_person, welfare-gets_assignment}
@@ -27,17 +27,17 @@ abbrev pub aim : Option ℕ → Option ℕ → List ℕ
 aim h None = []
 aim h (Some x) = cond (is_room x h) [] (x ∷ [])
 
-welfare-aim_all : (P : ℕ → Type 0) (h x : Option ℕ) → ((r : ℕ) → x ≡ Some r → is_room r h ≡ false → P r) → All P (aim h x)
-welfare-aim_all P h None has = All-nil P
-welfare-aim_all P h (Some x) has =
+aim_all : (P : ℕ → Type 0) (h x : Option ℕ) → ((r : ℕ) → x ≡ Some r → is_room r h ≡ false → P r) → All P (aim h x)
+aim_all P h None has = All-nil P
+aim_all P h (Some x) has =
     elim (cases_Bool (is_room x h)) [
       | inl t ↦ rw t (All-nil P)
       | inr n ↦ rw n (All-cons P x [] (has x refl n) (All-nil P))
     ]
 
-welfare-aim_short : (h x : Option ℕ) → length (aim h x) ≤ 1
-welfare-aim_short h None = omega arith
-welfare-aim_short h (Some x) = elim (cases_Bool (is_room x h)) [ inl t ↦ rw t (omega arith) | inr n ↦ rw n (omega arith) ]
+aim_short : (h x : Option ℕ) → length (aim h x) ≤ 1
+aim_short h None = omega arith
+aim_short h (Some x) = elim (cases_Bool (is_room x h)) [ inl t ↦ rw t (omega arith) | inr n ↦ rw n (omega arith) ]
 
 module _ (m : Market) (lists : List (List ℕ)) where
   welfare-target_same : (s : Stage) (q : ℕ) (o : Option ℕ) → target (with_lists m lists) s q o ≡ target m s q o
@@ -60,14 +60,14 @@ module _ (m : Market) (lists : List (List ℕ)) where
     where
       at_home : (h : Option ℕ) → or_else (find s.rooms (aim h h)) h ≡ h
       at_home None = refl
-      at_home (Some r) = rw (searches-is_room_from r (Some r) refl) refl
+      at_home (Some r) = rw (is_room_from r (Some r) refl) refl
 
       by_found : (o : Option ℕ) → find s.rooms (list_of m q) ≡ o → or_else (find s.rooms (aim (home m q) (or_else o (home m q)))) (home m q) ≡ or_else o (home m q)
       by_found None f = at_home (home m q)
       by_found (Some y) f =
           elim (cases_Bool (is_room y (home m q))) [
-            | inl t ↦ rw t (searches-is_room_gives y (home m q) t)
-            | inr n ↦ rw n (rw (searches-find_passes s.rooms (list_of m q) y f) refl)
+            | inl t ↦ rw t (is_room_gives y (home m q) t)
+            | inr n ↦ rw n (rw (find_passes s.rooms (list_of m q) y f) refl)
           ]
 
   -- a trade whose people keep their wishes is also a trade by the other lists
@@ -82,12 +82,12 @@ module _ (m : Market) (lists : List (List ℕ)) where
       remain = tk.remain;
       closed = λ q h. subst (λ z. k z ≡ true) (sym (welfare-successor_same q h)) (tk.closed q h);
       cycle = λ q h. subst (λ z. Reach (successor (with_lists m lists) s) z q) (sym (welfare-successor_same q h))
-          (cycles-reach_same (successor m s) (successor (with_lists m lists) s) k tk.closed welfare-successor_same (tk.cycle q h) (tk.closed q h));
+          (reach_same (successor m s) (successor (with_lists m lists) s) k tk.closed welfare-successor_same (tk.cycle q h) (tk.closed q h));
     }
 
     welfare-leave_same : leave (with_lists m lists) s k ≡ leave m s k
     unfolding leave
-    welfare-leave_same = cycles-same_stage (leave (with_lists m lists) s k) (leave m s k) (λ q. refl) (λ r. ap (λ b. s.rooms r && not b) (one_truth (taken (with_lists m lists) s k r) (taken m s k r)
+    welfare-leave_same = same_stage (leave (with_lists m lists) s k) (leave m s k) (λ q. refl) (λ r. ap (λ b. s.rooms r && not b) (one_truth (taken (with_lists m lists) s k r) (taken m s k r)
         (λ h. let g : (q : ℕ) × (q < m.people) × (k q ≡ true) × (wish (with_lists m lists) s q ≡ Some r) = cycles-taken_gives (with_lists m lists) s k r h in
         cycles-taken_from m s k r g.0 g.1 g.2 (sym (same g.0 g.2) ∙ g.3))
         (λ h. let g : (q : ℕ) × (q < m.people) × (k q ≡ true) × (wish m s q ≡ Some r) = cycles-taken_gives m s k r h in
@@ -108,7 +108,7 @@ module _ (m : Market) (lists : List (List ℕ)) where
 module _ (m : Market) (ok : IsMarket m) (lists : List (List ℕ)) (ok2 : IsMarket (with_lists m lists)) (f x : ℕ → Option ℕ) (each : (q : ℕ) → q < m.people → (list_of (with_lists m lists) q ≡ list_of m q) ⊎ ((list_of (with_lists m lists) q ≡ aim (home m q) (x q)) × (rank m q (x q) ≤ rank m q (f q)))) where
   welfare-same_from : {s : Stage} → Leads m f s → IsStageOf m s → HomesThere m ok s → Leads (with_lists m lists) x s → (p : ℕ) → s.people p ≡ true → x p ≡ f p
   unfolding leave
-  welfare-same_from {s} (done none) known homes e p h = searches-clash (s.people p) h (none p)
+  welfare-same_from {s} (done none) known homes e p h = clash (s.people p) h (none p)
   welfare-same_from {s} (trade k tk fk d) known homes e p h =
       let same : (q : ℕ) → k q ≡ true → wish (with_lists m lists) s q ≡ wish m s q = λ q h. elim (each q (tk.known q h)) [
         | inl kept ↦ welfare-wish_kept m lists s q kept
@@ -155,11 +155,11 @@ module _ (m : Market) (ok : IsMarket m) (group : ℕ → Bool) (lists : List (Li
       homes_len = ok.indexed.homes_len;
       lists_len = length-map-range_with_len (λ q. cond (group q) (aim (home m q) (gets (with_lists m lists) q)) (list_of m q)) 0 m.people;
       homes_known = ok.indexed.homes_known;
-      lists_known = welfare-all_lists (λ q xs. All (λ r. r < m.rooms) xs) (λ q l. welfare-aim_all (λ r. r < m.rooms) (home m q) (gets (with_lists m lists) q) (λ r e n. (welfare-gets_assignment (with_lists m lists) ok2).known q r l e)) ok.indexed.lists_known;
+      lists_known = welfare-all_lists (λ q xs. All (λ r. r < m.rooms) xs) (λ q l. aim_all (λ r. r < m.rooms) (home m q) (gets (with_lists m lists) q) (λ r e n. (welfare-gets_assignment (with_lists m lists) ok2).known q r l e)) ok.indexed.lists_known;
     };
     homes_differ = ok.homes_differ;
-    lists_strict = welfare-all_lists (λ q xs. AllPairs ◌≢◌ xs) (λ q l i j d ij le. absurd (omega (arith, ij, le, welfare-aim_short (home m q) (gets (with_lists m lists) q)))) ok.lists_strict;
-    own_unlisted = λ q r l e. welfare-all_lists (λ q xs. (r : ℕ) → home m q ≡ Some r → All (λ x. x ≢ r) xs) (λ q l r e. welfare-aim_all (λ x. x ≢ r) (home m q) (gets (with_lists m lists) q) (λ x ex n xr. both_ways (is_room x (home m q)) n (searches-is_room_from x (home m q) (e ∙ ap Some (sym xr))))) (λ q l r e. ok.own_unlisted q r l e) q l r e;
+    lists_strict = welfare-all_lists (λ q xs. AllPairs ◌≢◌ xs) (λ q l i j d ij le. absurd (omega (arith, ij, le, aim_short (home m q) (gets (with_lists m lists) q)))) ok.lists_strict;
+    own_unlisted = λ q r l e. welfare-all_lists (λ q xs. (r : ℕ) → home m q ≡ Some r → All (λ x. x ≢ r) xs) (λ q l r e. aim_all (λ x. x ≢ r) (home m q) (gets (with_lists m lists) q) (λ x ex n xr. both_ways (is_room x (home m q)) n (is_room_from x (home m q) (e ∙ ap Some (sym xr))))) (λ q l r e. ok.own_unlisted q r l e) q l r e;
   }
 
   welfare-start_same : (a : List (List ℕ)) → start (with_lists m a) ≡ start m
@@ -183,11 +183,11 @@ pub welfare-group_strategyproof : (m : Market) → IsMarket m → IsGroupStrateg
 welfare-group_strategyproof m ok group lists ok2 keep none p l = welfare-all_same m ok group lists ok2 keep none p l
 
 -- one person as a group
-pub welfare-one_is_a_group : (m : Market) → IsMarket m → (p : ℕ) (l : List ℕ) → IsMarket (with_list m p l) → rank m p (gets (with_list m p l) p) ≤ rank m p (gets m p) → (q : ℕ) → q < m.people → gets (with_list m p l) q ≡ gets m q
-welfare-one_is_a_group m ok p l ok2 le =
+pub one_is_a_group : (m : Market) → IsMarket m → (p : ℕ) (l : List ℕ) → IsMarket (with_list m p l) → rank m p (gets (with_list m p l) p) ≤ rank m p (gets m p) → (q : ℕ) → q < m.people → gets (with_list m p l) q ≡ gets m q
+one_is_a_group m ok p l ok2 le =
     welfare-all_same m ok (λ z. z == p) (slice_set m.lists p l) ok2
     (λ z hz n. get_or-set_other m.lists p z l [] (λ zp. both_ways (z == p) n (eq-eqb z p zp)))
     (λ z hz y. subst (λ v. rank m v (gets (with_list m p l) v) ≤ rank m v (gets m v)) (sym (eqb-true z p y)) le)
 
-pub welfare-trade_is_nonbossy : (m : Market) → IsMarket m → IsNonbossy m
-welfare-trade_is_nonbossy m ok p l h ok2 e = welfare-one_is_a_group m ok p l ok2 (subst (λ v. rank m p v ≤ rank m p (gets m p)) (sym e) (le_refl (rank m p (gets m p))))
+pub trade_is_nonbossy : (m : Market) → IsMarket m → IsNonbossy m
+trade_is_nonbossy m ok p l h ok2 e = one_is_a_group m ok p l ok2 (subst (λ v. rank m p v ≤ rank m p (gets m p)) (sym e) (le_refl (rank m p (gets m p))))

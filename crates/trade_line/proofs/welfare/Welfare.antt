@@ -14,13 +14,13 @@ use Rattle.trade_line.specs.Assignment.{IsAssignment, IsIndividuallyRational, Is
 use Rattle.trade_line.specs.TradeApart.{TradesApart, HasNoBetterTradeApart}
 use Rattle.trade_line.specs.Inner.Removal.Reach.{here, there}
 use Rattle.trade_line.specs.Inner.Removal.Leads.{done, trade}
-use Rattle.trade_line.proofs.searches.Search.{searches-clash, searches-find_passes}
-use Rattle.trade_line.proofs.counts.Count.{counts-reach_times, counts-times_sum}
+use Rattle.trade_line.proofs.searches.Search.{clash, find_passes}
+use Rattle.trade_line.proofs.counts.Count.{reach_times, times_sum}
 use Rattle.trade_line.proofs.cycles.Exchange.{cycles-successor_at, cycles-taken_gives}
 use Rattle.trade_line.proofs.cycles.Unique.{cycles-taken_from}
 use Rattle.trade_line.proofs.cycles.Chain.{cycles-home_holder}
 use Rattle.trade_line.proofs.cycles.Steps.{cycles-leave_known, cycles-start_known, cycles-gets_leads}
-use Rattle.trade_line.proofs.welfare.Ranks.{welfare-place_lt, welfare-find_among, welfare-rank_listed, welfare-rank_home, welfare-wish_is_best}
+use Rattle.trade_line.proofs.welfare.Ranks.{place_lt, find_among, welfare-rank_listed, welfare-rank_home, welfare-wish_is_best}
 
 module _ (m : Market) (ok : IsMarket m) where
   -- the wish is no worse than anything available
@@ -31,12 +31,12 @@ module _ (m : Market) (ok : IsMarket m) where
       by_found : (o : Option ℕ) → find s.rooms (list_of m p) ≡ o → rank m p (or_else o (home m p)) ≤ rank m p (home m p)
       by_found None f = omega arith
       by_found (Some y) f =
-          let i : among (list_of m p) y ≡ true = welfare-find_among s.rooms (list_of m p) y f in
-          omega (arith, welfare-rank_listed m ok p y i, welfare-place_lt y (list_of m p) i, welfare-rank_home m ok p l)
+          let i : among (list_of m p) y ≡ true = find_among s.rooms (list_of m p) y f in
+          omega (arith, welfare-rank_listed m ok p y i, place_lt y (list_of m p) i, welfare-rank_home m ok p l)
 
   pub welfare-rational_from : (f : ℕ → Option ℕ) {s : Stage} → Leads m f s → (p : ℕ) → p < m.people → s.people p ≡ true → rank m p (f p) ≤ rank m p (home m p)
   unfolding leave
-  welfare-rational_from f {s} (done none) p l h = searches-clash (s.people p) h (none p)
+  welfare-rational_from f {s} (done none) p l h = clash (s.people p) h (none p)
   welfare-rational_from f {s} (trade k tk fk d) p l h =
       elim (cases_Bool (k p)) [
         | inl y ↦ subst (λ z. rank m p z ≤ rank m p (home m p)) (sym (fk p y)) (welfare-wish_rational s p l)
@@ -49,7 +49,7 @@ module _ (m : Market) (ok : IsMarket m) where
       → ((p : ℕ) → s.people p ≡ true → (p < m.people) × (rank m p (a p) ≤ rank m p (f p)))
       → (p : ℕ) → s.people p ≡ true → a p ≡ f p
   unfolding leave
-  welfare-efficient_from f {s} (done none) a differ can better p h = searches-clash (s.people p) h (none p)
+  welfare-efficient_from f {s} (done none) a differ can better p h = clash (s.people p) h (none p)
   welfare-efficient_from f {s} (trade k tk fk d) a differ can better p h =
       elim (cases_Bool (k p)) [
         | inl y ↦ at_k p y ∙ sym (fk p y)
@@ -71,30 +71,30 @@ module _ (m : Market) (ok : IsMarket m) where
           welfare-wish_is_best m ok s p b.0 (a p) (λ r e. can p r (tk.remain p y) e) (subst (λ z. rank m p (a p) ≤ rank m p z) (fk p y) b.1)
 
 -- two people on cycles with one successor are one
-welfare-same_before : (g : ℕ → ℕ) (fuel a b x p q : ℕ) → a + b < fuel → iterate g a x ≡ p → iterate g b x ≡ q → g p ≡ x → g q ≡ x → p ≡ q
-welfare-same_before g zero a b x p q h ep eq gp gq = absurd (omega arith)
-welfare-same_before g (suc fuel) a b x p q h ep eq gp gq =
+same_before : (g : ℕ → ℕ) (fuel a b x p q : ℕ) → a + b < fuel → iterate g a x ≡ p → iterate g b x ≡ q → g p ≡ x → g q ≡ x → p ≡ q
+same_before g zero a b x p q h ep eq gp gq = absurd (omega arith)
+same_before g (suc fuel) a b x p q h ep eq gp gq =
     elim (cases_order a b) [
       | inl e ↦ sym ep ∙ ap (λ k. iterate g k x) e ∙ eq
       | inr c ↦ elim c [
         | inl l ↦
             let d : ℕ = b - suc a in
             let e : a + suc d ≡ b = omega arith in
-            let eq2 : iterate g d x ≡ q = ap (iterate g d) (sym gp) ∙ ap (iterate g (suc d)) (sym ep) ∙ counts-times_sum g a (suc d) x ∙ ap (λ k. iterate g k x) e ∙ eq in
-            welfare-same_before g fuel a d x p q (omega arith) ep eq2 gp gq
+            let eq2 : iterate g d x ≡ q = ap (iterate g d) (sym gp) ∙ ap (iterate g (suc d)) (sym ep) ∙ times_sum g a (suc d) x ∙ ap (λ k. iterate g k x) e ∙ eq in
+            same_before g fuel a d x p q (omega arith) ep eq2 gp gq
         | inr l ↦
             let d : ℕ = a - suc b in
             let e : b + suc d ≡ a = omega arith in
-            let ep2 : iterate g d x ≡ p = ap (iterate g d) (sym gq) ∙ ap (iterate g (suc d)) (sym eq) ∙ counts-times_sum g b (suc d) x ∙ ap (λ k. iterate g k x) e ∙ ep in
-            welfare-same_before g fuel d b x p q (omega arith) ep2 eq gp gq
+            let ep2 : iterate g d x ≡ p = ap (iterate g d) (sym gq) ∙ ap (iterate g (suc d)) (sym eq) ∙ times_sum g b (suc d) x ∙ ap (λ k. iterate g k x) e ∙ ep in
+            same_before g fuel d b x p q (omega arith) ep2 eq gp gq
       ]
     ]
 
 -- if a group is closed under g, everybody reached from it is in it already or right behind somebody
-pub welfare-reach_before : (g : ℕ → ℕ) (group : ℕ → Bool) → ((p : ℕ) → group p ≡ true → group (g p) ≡ true) → {a b : ℕ} → Reach g a b → group a ≡ true → (a ≡ b) ⊎ ((z : ℕ) × (group z ≡ true) × (g z ≡ b))
-welfare-reach_before g group closed here h = inl refl
-welfare-reach_before g group closed {a} (there r) h =
-    elim (welfare-reach_before g group closed r (closed a h)) [
+pub reach_before : (g : ℕ → ℕ) (group : ℕ → Bool) → ((p : ℕ) → group p ≡ true → group (g p) ≡ true) → {a b : ℕ} → Reach g a b → group a ≡ true → (a ≡ b) ⊎ ((z : ℕ) × (group z ≡ true) × (g z ≡ b))
+reach_before g group closed here h = inl refl
+reach_before g group closed {a} (there r) h =
+    elim (reach_before g group closed r (closed a h)) [
       | inl e ↦ inr (a, h, e)
       | inr t ↦ inr t
     ]
@@ -102,9 +102,9 @@ welfare-reach_before g group closed {a} (there r) h =
 module _ (m : Market) (ok : IsMarket m) where
   welfare-trade_differ : (s : Stage) (k : ℕ → Bool) → IsTrade m s k → (p q : ℕ) → k p ≡ true → k q ≡ true → successor m s p ≡ successor m s q → p ≡ q
   welfare-trade_differ s k tk p q hp hq e =
-      let a : (n : ℕ) × (iterate (successor m s) n (successor m s p) ≡ p) = counts-reach_times (successor m s) (tk.cycle p hp) in
-      let b : (n : ℕ) × (iterate (successor m s) n (successor m s q) ≡ q) = counts-reach_times (successor m s) (tk.cycle q hq) in
-      welfare-same_before (successor m s) (suc (a.0 + b.0)) a.0 b.0 (successor m s p) p q (omega arith) a.1 (ap (iterate (successor m s) b.0) e ∙ b.1) refl (sym e)
+      let a : (n : ℕ) × (iterate (successor m s) n (successor m s p) ≡ p) = reach_times (successor m s) (tk.cycle p hp) in
+      let b : (n : ℕ) × (iterate (successor m s) n (successor m s q) ≡ q) = reach_times (successor m s) (tk.cycle q hq) in
+      same_before (successor m s) (suc (a.0 + b.0)) a.0 b.0 (successor m s p) p q (omega arith) a.1 (ap (iterate (successor m s) b.0) e ∙ b.1) refl (sym e)
 
   -- the homes of those who remain also remain
   abbrev pub HomesThere : Stage → Type 0
@@ -127,12 +127,12 @@ module _ (m : Market) (ok : IsMarket m) where
       by_found None f e = kept p r h e
       by_found (Some y) f e =
           let z : y ≡ r = cc in
-          subst (λ v. s.rooms v ≡ true) z (searches-find_passes s.rooms (list_of m p) y f)
+          subst (λ v. s.rooms v ≡ true) z (find_passes s.rooms (list_of m p) y f)
 
   -- what a person gets later still remains now
   pub welfare-there_from : (f : ℕ → Option ℕ) {s : Stage} → Leads m f s → IsStageOf m s → HomesThere s → (p r : ℕ) → s.people p ≡ true → f p ≡ Some r → s.rooms r ≡ true
   unfolding leave
-  welfare-there_from f {s} (done none) known homes p r h e = searches-clash (s.people p) h (none p)
+  welfare-there_from f {s} (done none) known homes p r h e = clash (s.people p) h (none p)
   welfare-there_from f {s} (trade k tk fk d) known homes p r h e =
       elim (cases_Bool (k p)) [
         | inl y ↦ welfare-wish_there s homes p r h (sym (fk p y) ∙ e)
@@ -141,7 +141,7 @@ module _ (m : Market) (ok : IsMarket m) where
 
   welfare-differ_from : (f : ℕ → Option ℕ) {s : Stage} → Leads m f s → IsStageOf m s → HomesThere s → (p q r : ℕ) → s.people p ≡ true → s.people q ≡ true → f p ≡ Some r → f q ≡ Some r → p ≡ q
   unfolding leave
-  welfare-differ_from f {s} (done none) known homes p q r hp hq ep eq = searches-clash (s.people p) hp (none p)
+  welfare-differ_from f {s} (done none) known homes p q r hp hq ep eq = clash (s.people p) hp (none p)
   welfare-differ_from f {s} (trade k tk fk d) known homes p q r hp hq ep eq =
       elim (cases_Bool (k p)) [
         | inl yp ↦ elim (cases_Bool (k q)) [
@@ -168,7 +168,7 @@ module _ (m : Market) (ok : IsMarket m) where
       → ((p : ℕ) → group p ≡ true → rank m p (a p) ≤ rank m p (f p))
       → (p : ℕ) → group p ≡ true → s.people p ≡ true → a p ≡ f p
   unfolding leave
-  welfare-apart_from f {s} (done none) known homes group a tr own better p gp h = searches-clash (s.people p) h (none p)
+  welfare-apart_from f {s} (done none) known homes group a tr own better p gp h = clash (s.people p) h (none p)
   welfare-apart_from f {s} (trade k tk fk d) known homes group a tr own better p gp h =
       elim (cases_Bool (k p)) [
         | inl y ↦ at_k p gp y ∙ sym (fk p y)
@@ -199,7 +199,7 @@ module _ (m : Market) (ok : IsMarket m) where
       before : (q : ℕ) → group q ≡ true → k q ≡ true → (z : ℕ) × (both z ≡ true) × (successor m s z ≡ q)
       before q gq y =
           let b : both q ≡ true = and_from (group q) (k q) gq y in
-          elim (welfare-reach_before (successor m s) both both_closed (tk.cycle q y) (both_closed q b)) [
+          elim (reach_before (successor m s) both both_closed (tk.cycle q y) (both_closed q b)) [
             | inl e ↦ (q, b, e)
             | inr t ↦ t
           ]

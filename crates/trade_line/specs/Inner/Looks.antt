@@ -12,12 +12,12 @@ abbrev pub cursor : List ℕ → ℕ → ℕ
 cursor c p = slice_index_or c p 0
 
 -- the cursor of p is at the place at which p ranks x
-abbrev pub StandsAt : Market → List ℕ → ℕ → Option ℕ → Type 0
-StandsAt m c p x = rank m p x ≡ cursor c p
+abbrev pub CursorAt : Market → List ℕ → ℕ → Option ℕ → Type 0
+CursorAt m c p x = rank m p x ≡ cursor c p
 
 -- the same, at an entry of the list and not at its end
 abbrev pub StaysAt : Market → List ℕ → ℕ → Option ℕ → Type 0
-StaysAt m c p x = (cursor c p < length (list_of m p)) × StandsAt m c p x
+StaysAt m c p x = (cursor c p < length (list_of m p)) × CursorAt m c p x
 
 -- everybody behind a who has asked has the cursor at the home of the person before them
 abbrev pub StayBehind : Market → List Bool → List ℕ → ℕ → List ℕ → Type 0
@@ -38,7 +38,7 @@ pub record AreCursors (m : Market) (s : State) (c : List ℕ) : Type 0 where
   pub gone : (p k : ℕ) → p < m.people → k < cursor c p
       → (stage_at s).rooms (slice_index_or (list_of m p) k 0) ≡ false
   pub waiting : StayInLine m s.asked c s.line
-  pub served : (p : ℕ) → p < m.people → among s.line p ≡ false → StandsAt m c p (given_to s p)
+  pub served : (p : ℕ) → p < m.people → among s.line p ≡ false → CursorAt m c p (given_to s p)
 
 -- the number of entries before the cursors
 abbrev pub cursor_sum : Market → List ℕ → ℕ

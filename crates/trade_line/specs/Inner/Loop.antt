@@ -1,7 +1,7 @@
 -- A loop of tenants that leaves the line.
 use Rattle.std.specs.Prelude.{◌≡◌, ℕ, true, Option, Some, List, ◌∷◌, false, ◌++◌}
 use Rattle.trade_line.specs.Inner.Queue.{last_of}
-use Rattle.trade_line.specs.Inner.State.{State, stage_at, given_to, Fits}
+use Rattle.trade_line.specs.Inner.State.{State, stage_at, given_to, IsSizedFor}
 use Rattle.trade_line.specs.Inner.Turn.{Asks}
 use Rattle.trade_line.specs.Market.{Market}
 use Rattle.trade_line.specs.Member.{among}
@@ -30,7 +30,7 @@ pub record Closing (m : Market) (tenant : ℕ) (room : ℕ) (s t : State) (next 
   pub given_past : (p : ℕ) → among past p ≡ true → given_to t p ≡ wish m (stage_at s) p
   pub given_kept : (p : ℕ) → among past p ≡ false → given_to t p ≡ given_to s p
   pub asked_kept : t.asked ≡ s.asked
-  pub fits : Fits m t
+  pub fits : IsSizedFor m t
 
 -- the whole loop has left with its wishes
 pub record Closed (m : Market) (tenant : ℕ) (room : ℕ) (s t : State) : Type 0 where
@@ -42,4 +42,4 @@ pub record Closed (m : Market) (tenant : ℕ) (room : ℕ) (s t : State) : Type 
   pub given_kept : (p : ℕ) → among (ring.person ∷ ring.others) p ≡ false
       → given_to t p ≡ given_to s p
   pub asked_kept : t.asked ≡ s.asked
-  pub fits : Fits m t
+  pub fits : IsSizedFor m t

@@ -2,7 +2,7 @@
 use Rattle.std.specs.Prelude.{◌≡◌, ℕ, ◌<◌, ◌≤◌, ◌&&◌, not, true, Bool, Option, None, List, length, slice_index_or, false, cond}
 use Rattle.trade_line.specs.Below.{some_below}
 use Rattle.trade_line.specs.Market.{Market, IsMarket, is_room}
-use Rattle.trade_line.specs.TopTradingCycles.{Stage, wish, on_cycle, gets, gets_within}
+use Rattle.trade_line.specs.TopTradingCycles.{Stage, wish, is_on_cycle, gets, gets_within}
 use Rattle.trade_line.specs.declared.plain.Remaining.{Remaining}
 
 -- the stage of two vectors of marks
@@ -21,7 +21,7 @@ pub record AreMarks (m : Market) (s : Remaining) : Type 0 where
 -- everybody on a cycle got their wish, and nobody else got anything
 abbrev pub Gives : Market → Stage → List (Option ℕ) → List (Option ℕ) → Type 0
 Gives m s old new = (p : ℕ) → p < m.people
-    → slice_index_or new p None ≡ cond (on_cycle m s p) (wish m s p) (slice_index_or old p None)
+    → slice_index_or new p None ≡ cond (is_on_cycle m s p) (wish m s p) (slice_index_or old p None)
 
 -- a step in which the first n people had their turn
 pub record Stepping (m : Market) (s : Stage) (old : List (Option ℕ)) (given : List (Option ℕ)) (people : List Bool) (rooms : List Bool) (n : ℕ) : Type 0 where
@@ -29,13 +29,13 @@ pub record Stepping (m : Market) (s : Stage) (old : List (Option ℕ)) (given : 
   pub rooms_len : length rooms ≡ m.rooms
   pub given_len : length given ≡ m.people
   pub stayed : (p : ℕ) → p < n
-      → slice_index_or people p false ≡ (s.people p && not (on_cycle m s p))
+      → slice_index_or people p false ≡ (s.people p && not (is_on_cycle m s p))
   pub waiting : (p : ℕ) → n ≤ p → slice_index_or people p false ≡ s.people p
   pub rooms_left : (r : ℕ)
       → slice_index_or rooms r false
-      ≡ (s.rooms r && not (some_below n (λ p. on_cycle m s p && is_room r (wish m s p))))
+      ≡ (s.rooms r && not (some_below n (λ p. is_on_cycle m s p && is_room r (wish m s p))))
   pub gave : (p : ℕ) → p < n
-      → slice_index_or given p None ≡ cond (on_cycle m s p) (wish m s p) (slice_index_or old p None)
+      → slice_index_or given p None ≡ cond (is_on_cycle m s p) (wish m s p) (slice_index_or old p None)
   pub kept : (p : ℕ) → n ≤ p → slice_index_or given p None ≡ slice_index_or old p None
 
 -- after some steps: everybody who is gone was given what they get, and k steps are still to come

@@ -23,7 +23,7 @@ has_asked s p = slice_index_or s.asked p false
 abbrev pub given_to : State → ℕ → Option ℕ
 given_to s p = slice_index_or s.given p None
 
-pub record Fits (m : Market) (s : State) : Type 0 where
+pub record IsSizedFor (m : Market) (s : State) : Type 0 where
   pub market : IsMarket m
   pub asked_len : length s.asked ≡ m.people
   pub remaining_len : length s.remaining ≡ m.rooms

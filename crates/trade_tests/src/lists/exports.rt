@@ -6,7 +6,7 @@ ghost use Rattle.room_types.specs.Ascending.{AscendsBy};
 use super::{gone, moved, person_row, room_row, text};
 use crate::asserting::assert_same;
 use office_lists::{
-    ExportKind, WriteEnd, grade_row_bytes, head_bytes, move_row_bytes, person_row_bytes,
+    ExportKind, WriteEnd, grade_row_bytes, header_bytes, move_row_bytes, person_row_bytes,
     read_grades, room_row_bytes, write_grades, write_moves, write_people, write_rooms,
 };
 use room_types::{Grade, GradeRow, Move, PersonRow, RoomRow, State, Watched, Wave};
@@ -28,14 +28,14 @@ const MOVES: &[u8] =
 const GRADES: &[u8] = b"person,grade\nE1,0\nE2,0\nE3,1\n";
 
 #[test]
-fn rooms_with_and_without_a_tenant(rt: HostRuntime) -> Result<(), Fail> {
+fn exports_rooms_with_and_without_a_tenant(rt: HostRuntime) -> Result<(), Fail> {
     let alloc = rt.alloc();
     let rows = rooms(&rt, alloc)?;
     let mut output = Watched::new(Vec::new(alloc));
     assert_same!(rt; write_rooms(alloc, &rows, &mut output), Ok(()));
     assert_same!(rt; output.flushes(), 0);
     assert_same!(rt; output.into_inner().as_slice(), ROOMS);
-    let mut text = head_bytes(alloc, ExportKind::Rooms)?;
+    let mut text = header_bytes(alloc, ExportKind::Rooms)?;
     for row in &rows {
         text.extend_from_slice(&room_row_bytes(alloc, row)?)?;
     }
@@ -44,13 +44,13 @@ fn rooms_with_and_without_a_tenant(rt: HostRuntime) -> Result<(), Fail> {
 }
 
 #[test]
-fn people_whose_names_need_quotes(rt: HostRuntime) -> Result<(), Fail> {
+fn exports_people_whose_names_need_quotes(rt: HostRuntime) -> Result<(), Fail> {
     let alloc = rt.alloc();
     let rows = people(&rt, alloc)?;
     let mut output = Watched::new(Vec::new(alloc));
     assert_same!(rt; write_people(alloc, &rows, &mut output), Ok(()));
     assert_same!(rt; output.into_inner().as_slice(), PEOPLE);
-    let mut text = head_bytes(alloc, ExportKind::People)?;
+    let mut text = header_bytes(alloc, ExportKind::People)?;
     for row in &rows {
         text.extend_from_slice(&person_row_bytes(alloc, row)?)?;
     }
@@ -59,13 +59,13 @@ fn people_whose_names_need_quotes(rt: HostRuntime) -> Result<(), Fail> {
 }
 
 #[test]
-fn moves_of_two_rounds(rt: HostRuntime) -> Result<(), Fail> {
+fn exports_moves_of_two_rounds(rt: HostRuntime) -> Result<(), Fail> {
     let alloc = rt.alloc();
     let rows = moves(&rt, alloc)?;
     let mut output = Watched::new(Vec::new(alloc));
     assert_same!(rt; write_moves(alloc, &rows, &mut output), Ok(()));
     assert_same!(rt; output.into_inner().as_slice(), MOVES);
-    let mut text = head_bytes(alloc, ExportKind::Moves)?;
+    let mut text = header_bytes(alloc, ExportKind::Moves)?;
     for row in &rows {
         text.extend_from_slice(&move_row_bytes(alloc, row)?)?;
     }
@@ -75,13 +75,13 @@ fn moves_of_two_rounds(rt: HostRuntime) -> Result<(), Fail> {
 
 // If the export is read as a list, the grades are the same.
 #[test]
-fn grades_of_people(rt: HostRuntime) -> Result<(), Fail> {
+fn exports_grades_that_read_back(rt: HostRuntime) -> Result<(), Fail> {
     let alloc = rt.alloc();
     let rows = grades(&rt, alloc)?;
     let mut output = Watched::new(Vec::new(alloc));
     assert_same!(rt; write_grades(alloc, &rows, &mut output), Ok(()));
     assert_same!(rt; output.into_inner().as_slice(), GRADES);
-    let mut text = head_bytes(alloc, ExportKind::Grades)?;
+    let mut text = header_bytes(alloc, ExportKind::Grades)?;
     for row in &rows {
         text.extend_from_slice(&grade_row_bytes(alloc, row)?)?;
     }
@@ -98,7 +98,7 @@ fn grades_of_people(rt: HostRuntime) -> Result<(), Fail> {
 }
 
 #[test]
-fn a_move_out_of_the_college(rt: HostRuntime) -> Result<(), Fail> {
+fn exports_a_move_out_of_the_college(rt: HostRuntime) -> Result<(), Fail> {
     let alloc = rt.alloc();
     let row = gone(&rt, alloc, 1, "T2", "H2");
     assert_same!(rt;
@@ -109,7 +109,7 @@ fn a_move_out_of_the_college(rt: HostRuntime) -> Result<(), Fail> {
 }
 
 #[test]
-fn exports_without_rows(rt: HostRuntime) -> Result<(), Fail> {
+fn exports_only_the_header_without_rows(rt: HostRuntime) -> Result<(), Fail> {
     let alloc = rt.alloc();
     for (kind, header) in [
         (ExportKind::Rooms, b"room,state,tenant\n".as_slice()),
@@ -117,7 +117,7 @@ fn exports_without_rows(rt: HostRuntime) -> Result<(), Fail> {
         (ExportKind::Moves, b"round,wave,person,from,to\n".as_slice()),
         (ExportKind::Grades, b"person,grade\n".as_slice()),
     ] {
-        assert_same!(rt; head_bytes(alloc, kind)?.as_slice(), header);
+        assert_same!(rt; header_bytes(alloc, kind)?.as_slice(), header);
     }
     let mut output = Watched::new(Vec::new(alloc));
     assert!(rt; write_moves(alloc, &[], &mut output).is_ok());
@@ -132,7 +132,7 @@ fn exports_without_rows(rt: HostRuntime) -> Result<(), Fail> {
 
 // The bytes that Python's `csv` module writes for these names, with a line feed at the end of each record.
 #[test]
-fn names_with_and_without_quotes(rt: HostRuntime) -> Result<(), Fail> {
+fn quotes_a_name_only_if_needed(rt: HostRuntime) -> Result<(), Fail> {
     let alloc = rt.alloc();
     for (name, record) in [
         ("\"", b"T1,\"\"\"\",\n".as_slice()),
@@ -148,7 +148,7 @@ fn names_with_and_without_quotes(rt: HostRuntime) -> Result<(), Fail> {
 }
 
 #[test]
-fn a_device_that_is_full(rt: HostRuntime) -> Result<(), Fail> {
+fn stops_where_the_device_is_full(rt: HostRuntime) -> Result<(), Fail> {
     let alloc = rt.alloc();
     let rows = rooms(&rt, alloc)?;
     let mut output = Watched::new(new_device(alloc, usize::MAX, 20));
@@ -175,7 +175,7 @@ fn a_device_that_is_full(rt: HostRuntime) -> Result<(), Fail> {
 
 // The device takes one byte a write, and works again after the write that fails.
 #[test]
-fn each_write_failing_in_turn(rt: HostRuntime) -> Result<(), Fail> {
+fn stops_where_a_write_fails(rt: HostRuntime) -> Result<(), Fail> {
     let alloc = rt.alloc();
     let rows = moves(&rt, alloc)?;
     for writes in 0..MOVES.len() {
@@ -193,7 +193,7 @@ fn each_write_failing_in_turn(rt: HostRuntime) -> Result<(), Fail> {
 
 // Either the device is full after `sent` bytes, or the next write fails.
 #[test]
-fn people_to_a_device_that_fails(rt: HostRuntime) -> Result<(), Fail> {
+fn stops_where_the_device_is_full_or_fails(rt: HostRuntime) -> Result<(), Fail> {
     let alloc = rt.alloc();
     let rows = people(&rt, alloc)?;
     for sent in 0..PEOPLE.len() {

@@ -9,7 +9,7 @@ use std::process::Abort;
 use std::test::Fail;
 
 #[test]
-fn a_list_of_rooms(rt: HostRuntime) -> Result<(), Fail> {
+fn reads_a_list_of_rooms(rt: HostRuntime) -> Result<(), Fail> {
     let alloc = rt.alloc();
     for list in [
         b"room\nH1\nA-2\n".as_slice(),
@@ -32,7 +32,7 @@ fn are_codes(rooms: &[RoomCode], first: &str, second: &str) -> bool {
 
 // As Python's `csv` module writes it, with the byte order mark of `utf-8-sig`.
 #[test]
-fn a_list_of_people(rt: HostRuntime) -> Result<(), Fail> {
+fn reads_a_list_of_people(rt: HostRuntime) -> Result<(), Fail> {
     let list =
         b"\xEF\xBB\xBFperson,name,key,home\r\nE1,J\xC3\xB6rg M\xC3\xBCller,key00000000000e1,H1\r\nE2,\"Bo, \"\"B.\"\" \xC3\x96z\",key00000000000e2,\r\n";
     let people = read(&rt, read_people(rt.alloc(), list));
@@ -51,7 +51,7 @@ fn is_tenant(entry: &PersonEntry) -> bool {
 }
 
 #[test]
-fn people_of_a_first_import(rt: HostRuntime) -> Result<(), Fail> {
+fn reads_the_people_of_a_first_import(rt: HostRuntime) -> Result<(), Fail> {
     let list =
         b"\xEF\xBB\xBFperson,name,key,home\r\nE1,Ann Ash,key00000000000e1,H1\r\nE2,\"Bo, B.\",key00000000000e2,\r\nE3,Cy Coy,key00000000000e3,\r\n";
     let people = read(&rt, read_people(rt.alloc(), list));
@@ -64,7 +64,7 @@ fn people_of_a_first_import(rt: HostRuntime) -> Result<(), Fail> {
 
 // The second list is as Python's `csv` module writes it with every field in quotes.
 #[test]
-fn a_list_of_choices(rt: HostRuntime) -> Result<(), Fail> {
+fn reads_a_list_of_choices(rt: HostRuntime) -> Result<(), Fail> {
     let alloc = rt.alloc();
     let choices = read(&rt, read_choices(alloc, b"person,choices\nT1,H2 V"));
     assert!(rt;
@@ -81,7 +81,7 @@ fn a_list_of_choices(rt: HostRuntime) -> Result<(), Fail> {
 }
 
 #[test]
-fn a_list_of_grades(rt: HostRuntime) -> Result<(), Fail> {
+fn reads_a_list_of_grades(rt: HostRuntime) -> Result<(), Fail> {
     let alloc = rt.alloc();
     let grades = read(&rt, read_grades(alloc, b"person,grade\nE3,1"));
     assert!(rt; matches!(grades.as_slice(), [only] if has_grade(only, "E3", 1)));
@@ -101,7 +101,7 @@ fn has_grade(row: &GradeRow, person: &str, grade: u8) -> bool {
 }
 
 #[test]
-fn bad_grades(rt: HostRuntime) -> Result<(), Fail> {
+fn refuses_bad_grades(rt: HostRuntime) -> Result<(), Fail> {
     let alloc = rt.alloc();
     for list in [
         b"person,grade\nE1,10".as_slice(),
@@ -122,7 +122,7 @@ fn bad_grades(rt: HostRuntime) -> Result<(), Fail> {
 }
 
 #[test]
-fn no_header(rt: HostRuntime) -> Result<(), Fail> {
+fn refuses_lists_without_their_header(rt: HostRuntime) -> Result<(), Fail> {
     let alloc = rt.alloc();
     for list in [
         b"".as_slice(),
@@ -142,7 +142,7 @@ fn no_header(rt: HostRuntime) -> Result<(), Fail> {
 }
 
 #[test]
-fn bad_rooms(rt: HostRuntime) -> Result<(), Fail> {
+fn refuses_bad_rooms(rt: HostRuntime) -> Result<(), Fail> {
     let alloc = rt.alloc();
     expect(
         &rt,
@@ -181,7 +181,7 @@ fn bad_rooms(rt: HostRuntime) -> Result<(), Fail> {
 
 // The third list has a line feed in a name, as Python's `csv` module writes it.
 #[test]
-fn bad_people(rt: HostRuntime) -> Result<(), Fail> {
+fn refuses_bad_people(rt: HostRuntime) -> Result<(), Fail> {
     let alloc = rt.alloc();
     let short = b"person,name,key,home\nE1,Ann";
     expect(&rt, read_people(alloc, short), 1, Cause::FieldCount);
@@ -195,7 +195,7 @@ fn bad_people(rt: HostRuntime) -> Result<(), Fail> {
 }
 
 #[test]
-fn bad_choices(rt: HostRuntime) -> Result<(), Fail> {
+fn refuses_bad_choices(rt: HostRuntime) -> Result<(), Fail> {
     let alloc = rt.alloc();
     let two_spaces = b"person,choices\nT1,H2  V";
     expect(&rt, read_choices(alloc, two_spaces), 1, Cause::BadField(2));
@@ -218,7 +218,7 @@ fn list_of_choices(alloc: Global, rooms: u8) -> Result<Vec<u8>, AllocError> {
 }
 
 #[test]
-fn choices_up_to_the_limit(rt: HostRuntime) -> Result<(), Fail> {
+fn reads_choices_up_to_the_limit(rt: HostRuntime) -> Result<(), Fail> {
     let alloc = rt.alloc();
     let choices = read(&rt, read_choices(alloc, &list_of_choices(alloc, 40)?));
     assert!(rt; matches!(choices.as_slice(), [only] if only.choices.as_slice().len() == 40));
@@ -237,7 +237,7 @@ fn longest(alloc: Global, header: &[u8], record: &[u8]) -> Result<Vec<u8>, Alloc
 }
 
 #[test]
-fn long_lists(rt: HostRuntime) -> Result<(), Fail> {
+fn refuses_lists_of_rooms_that_are_too_long(rt: HostRuntime) -> Result<(), Fail> {
     let alloc = rt.alloc();
     let mut list = longest(alloc, b"room\n", b"A1\n")?;
     assert_same!(rt; read(&rt, read_rooms(alloc, &list)).len(), 10_000);
@@ -254,7 +254,7 @@ fn long_lists(rt: HostRuntime) -> Result<(), Fail> {
 
 // Even the longest of these lists has fewer than 262,144 bytes.
 #[test]
-fn long_lists_of_people_choices_and_grades(rt: HostRuntime) -> Result<(), Fail> {
+fn refuses_other_lists_that_are_too_long(rt: HostRuntime) -> Result<(), Fail> {
     let alloc = rt.alloc();
     let person = b"E1,Ann,key00000000000e1,\n";
     let mut list = longest(alloc, b"person,name,key,home\n", person)?;

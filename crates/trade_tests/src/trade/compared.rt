@@ -75,7 +75,7 @@ fn numbered(
 }
 
 #[test]
-fn on_every_problem_of_three_people_and_three_rooms(rt: HostRuntime) -> Result<(), Fail> {
+fn agrees_on_every_problem_of_up_to_three_people_and_rooms(rt: HostRuntime) -> Result<(), Fail> {
     let alloc = rt.alloc();
     let mut problems: u64 = 0;
     for (people, numbers) in [1, CHOICES, CHOICES * CHOICES, CHOICES * CHOICES * CHOICES]
@@ -146,7 +146,7 @@ fn drawn(
 }
 
 #[test]
-fn on_drawn_problems_of_at_most_twelve_people(rt: HostRuntime) -> Result<(), Fail> {
+fn agrees_on_drawn_problems_of_up_to_twelve_people(rt: HostRuntime) -> Result<(), Fail> {
     let alloc = rt.alloc();
     let mut generator = Generator(1999);
     for turn in 0..DRAWN_PROBLEMS {
@@ -159,7 +159,7 @@ fn on_drawn_problems_of_at_most_twelve_people(rt: HostRuntime) -> Result<(), Fai
 }
 
 #[test]
-fn on_drawn_problems_of_thirty_people(rt: HostRuntime) -> Result<(), Fail> {
+fn agrees_on_drawn_problems_of_thirty_people(rt: HostRuntime) -> Result<(), Fail> {
     let alloc = rt.alloc();
     let mut generator = Generator(1974);
     for turn in 0..DRAWN_LARGE_PROBLEMS {

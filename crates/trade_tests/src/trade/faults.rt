@@ -26,7 +26,7 @@ fn fault_of(
 }
 
 #[test]
-fn first_fault_of_a_problem_is_answered(rt: HostRuntime) -> Result<(), Fail> {
+fn returns_the_first_fault_of_a_problem(rt: HostRuntime) -> Result<(), Fail> {
     let alloc = rt.alloc();
     for (homes, lists, fault) in BAD {
         assert_same!(rt; fault_of(alloc, 2, homes, lists), Some(fault));
@@ -41,7 +41,7 @@ fn first_fault_of_a_problem_is_answered(rt: HostRuntime) -> Result<(), Fail> {
 }
 
 #[test]
-fn first_fault_of_a_list_is_answered(rt: HostRuntime) -> Result<(), Fail> {
+fn returns_the_first_fault_of_a_list(rt: HostRuntime) -> Result<(), Fail> {
     let alloc = rt.alloc();
     let problem = problem_of(alloc, 2, &[Some(0), Some(1)], &[&[1], &[0]])?;
     let faults: [(usize, &[usize], TradeFault); 4] = [
@@ -60,7 +60,7 @@ fn first_fault_of_a_list_is_answered(rt: HostRuntime) -> Result<(), Fail> {
 }
 
 #[test]
-fn faults_are_told_in_words(rt: HostRuntime) -> Result<(), Fail> {
+fn prints_faults_in_words(rt: HostRuntime) -> Result<(), Fail> {
     let alloc = rt.alloc();
     let faults = [
         (

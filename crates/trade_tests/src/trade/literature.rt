@@ -55,7 +55,7 @@ fn is_found(
 // room 3. By steps of the definition: 1 and 2 leave by the cycle 1, room 2, 2, room 7; then 3 with room 1 and 4 with room 4;
 // then 5. Asks: 1, 2, 1, 3, 4, 5. Looks: 1, 1, 1, 2, 1, 2.
 #[test]
-fn four_tenants_and_a_newcomer(rt: HostRuntime) -> Result<(), Fail> {
+fn solves_four_tenants_and_a_newcomer(rt: HostRuntime) -> Result<(), Fail> {
     let alloc = rt.alloc();
     let problem = problem_of(
         alloc,
@@ -89,7 +89,7 @@ fn four_tenants_and_a_newcomer(rt: HostRuntime) -> Result<(), Fail> {
 //     16 asks for 5 (1); 5 asks for 9 (1); 9 gets 11 (1); 5 gets 9 (1); 16 gets 5 (1)
 //     10 asks for 7 (1); 7 lists nothing and stays (0); 10 gets 10 (4)
 #[test]
-fn nine_tenants_and_seven_newcomers(rt: HostRuntime) -> Result<(), Fail> {
+fn solves_nine_tenants_and_seven_newcomers(rt: HostRuntime) -> Result<(), Fail> {
     let alloc = rt.alloc();
     let mut homes = vec![in alloc; None; 7]?;
     for room in 0..9 {
@@ -122,7 +122,7 @@ fn nine_tenants_and_seven_newcomers(rt: HostRuntime) -> Result<(), Fail> {
 // By turns, with the number of looks of each: 1 asks for room 3 (1), 6 for room 1 (1), 4 for room 2 (1), 5 for room 3 (1) and
 // closes the cycle; 1 asks for room 5 (2), 3 for room 4 (2), 2 for room 5 (2) and closes the swap; 1 stays (1).
 #[test]
-fn six_tenants_alone(rt: HostRuntime) -> Result<(), Fail> {
+fn solves_six_tenants_without_newcomers(rt: HostRuntime) -> Result<(), Fail> {
     let alloc = rt.alloc();
     let problem = problem_of(
         alloc,

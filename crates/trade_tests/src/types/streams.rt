@@ -8,7 +8,7 @@ use std::io;
 use std::io::{Read, Write};
 
 #[test]
-fn passes_on_what_a_stream_gives(rt: HostRuntime) -> io::Result<()> {
+fn forwards_reads_writes_and_flushes_of_a_stream(rt: HostRuntime) -> io::Result<()> {
     let mut stream = Watched::new(Pair {
         reader: b"ab".as_slice(),
         writer: Vec::new(rt.alloc()),
@@ -29,7 +29,7 @@ fn passes_on_what_a_stream_gives(rt: HostRuntime) -> io::Result<()> {
 }
 
 #[test]
-fn sends_texts(rt: HostRuntime) -> io::Result<()> {
+fn sends_a_text_or_returns_how_much_was_sent(rt: HostRuntime) -> io::Result<()> {
     let mut output = Watched::new(Vec::new(rt.alloc()));
     assert_same!(rt; send(&mut output, b"room H1"), Ok(()));
     assert!(rt; output.pending());
@@ -63,7 +63,7 @@ fn are_all_passed_on(
 
 // Each call of a pair, also one after a failure, makes one call of its reader or of its writer, and returns what that returned.
 #[test]
-fn pairs_pass_calls_on(rt: HostRuntime) {
+fn pairs_forward_each_call(rt: HostRuntime) {
     let mut input = faulty_pair();
     let mut output = faulty_pair();
     let mut flushed = faulty_pair();
@@ -78,7 +78,7 @@ fn pairs_pass_calls_on(rt: HostRuntime) {
 
 // The same for a pair inside a `Watched`.
 #[test]
-fn watched_pairs_pass_calls_on(rt: HostRuntime) {
+fn watched_pairs_forward_each_call(rt: HostRuntime) {
     let mut input = Watched::new(faulty_pair());
     let mut output = Watched::new(faulty_pair());
     let mut flushed = Watched::new(faulty_pair());

@@ -127,7 +127,7 @@ list|H1 V X V H1|!RoomRepeated V";
 const OTHER_COPY: &str = "!OtherCopy";
 
 #[test]
-fn worked_values(rt: HostRuntime) -> Result<(), AllocError> {
+fn reads_and_prints_worked_values(rt: HostRuntime) -> Result<(), AllocError> {
     assert_same!(rt; WORKED.lines().count(), 113);
     for row in WORKED.lines() {
         let mut cells = row.split('|');
@@ -135,14 +135,14 @@ fn worked_values(rt: HostRuntime) -> Result<(), AllocError> {
         else {
             panic!(rt; "{row} is no row");
         };
-        let told = told(rt.alloc(), kind, text)?;
-        assert_same!(rt; told.as_str(), wanted, row);
+        let outcome = outcome(rt.alloc(), kind, text)?;
+        assert_same!(rt; outcome.as_str(), wanted, row);
     }
     Ok(())
 }
 
 #[test]
-fn words_for_values(rt: HostRuntime) -> Result<(), AllocError> {
+fn prints_kinds_states_phases_and_out_of_memory(rt: HostRuntime) -> Result<(), AllocError> {
     let alloc = rt.alloc();
     let kinds = format!(in alloc;
         "{} {} {} {}",
@@ -166,7 +166,7 @@ fn words_for_values(rt: HostRuntime) -> Result<(), AllocError> {
 }
 
 // The outcome of reading the text: the printed value or the error.
-fn told(alloc: Global, kind: &str, text: &str) -> Result<String, AllocError> {
+fn outcome(alloc: Global, kind: &str, text: &str) -> Result<String, AllocError> {
     match printed(alloc, kind, text) {
         Ok(value) => Ok(value),
         Err(TypeFault::BadValue) => String::from_str(alloc, "!BadValue"),

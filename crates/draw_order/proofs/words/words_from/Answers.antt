@@ -1,21 +1,21 @@
 use Rattle.std.proofs.Common.{◌≡◌, ℕ, ◌++◌, [], ◌∷◌, sym, ap, ◌∙◌, arith}
 use Rattle.rand_core.specs.Stream.{Stream, next_u64}
 use Rattle.draw_order.specs.Words.{next_words, stream_after}
-use Rattle.draw_order.proofs.draws.Words.{draws-next_words-more, draws-stream_after-more}
+use Rattle.draw_order.proofs.draws.Words.{next_words-more, stream_after-more}
 use Rattle.draw_order.proofs.words.words_from.Goals as goal
 
 pub loop-place-preserved : goal.loop-place-preserved
 loop-place-preserved g c =
     let start = g.R.Rng.stream c.args.generator.now in
     let n = c.loop-place._place in
-    let answer : (c.next_draw_word.result, g.R.Rng.stream c.next_draw_word.new.generator) ≡ next_u64 (stream_after n start) = c.next_draw_word.ensures ∙ ap next_u64 c.loop-place.invariant.after in
+    let answer : (c.next_word.result, g.R.Rng.stream c.next_word.new.generator) ≡ next_u64 (stream_after n start) = c.next_word.ensures ∙ ap next_u64 c.loop-place.invariant.after in
     let word = ap (λ (p : ℕ × Stream). p.0) answer in
     let left = ap (λ (p : ℕ × Stream). p.1) answer in
     record {
       drawn =
-          c.in_ok-push.ensures.items ∙ ap (λ ws. ws ++ c.next_draw_word.result ∷ []) c.loop-place.invariant.drawn
-          ∙ ap (λ w. next_words n start ++ w ∷ []) word ∙ sym (draws-next_words-more n start);
-      after = left ∙ sym (draws-stream_after-more n start);
+          c.in_ok-push.ensures.items ∙ ap (λ ws. ws ++ c.next_word.result ∷ []) c.loop-place.invariant.drawn
+          ∙ ap (λ w. next_words n start ++ w ∷ []) word ∙ sym (next_words-more n start);
+      after = left ∙ sym (stream_after-more n start);
       enough = omega (arith, c.in_ok-push.ensures.capacity, c.loop-place.invariant.enough);
       as_many = omega (arith, c.in_ok-push.ensures.len);
     }

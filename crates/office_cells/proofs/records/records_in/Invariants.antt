@@ -4,6 +4,6 @@ use Rattle.office_cells.proofs.records.records_in.Given as goal
 
 abbrev pub invariant-loop-row : goal.invariant-loop-row
 invariant-loop-row g l = record {
-  told : map g.R.Record.columns l.records.items ≡ map g.R.Record.front (take l.row-index l.rows);
+  returned : map g.R.Record.columns l.records.items ≡ map g.R.Record.front (take l.row-index l.rows);
   formed : All g.R.Record.is_form (take l.row-index l.rows);
 }

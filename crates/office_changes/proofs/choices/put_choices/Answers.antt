@@ -1,6 +1,6 @@
 use Rattle.std.proofs.lemmas.Result.{on_ok_weaker}
 use Rattle.sqlite.specs.Held.{state}
-use Rattle.office_changes.proofs.changed_rows.Calls.{changed_rows-carries_choices}
+use Rattle.office_changes.proofs.changed_rows.Calls.{changed_rows-stores_choices}
 use Rattle.office_changes.proofs.choices.put_choices.Goals as goal
 
 pub returns-clause-made : goal.returns-clause-made
@@ -9,6 +9,6 @@ returns-clause-made g c =
     let mid = state g.S.Store c.drop_choices.new.tx.conn.now in
     let new = state g.S.Store c.add_choices.new.tx.conn.now in
     on_ok_weaker c.add_choices.result
-    (changed_rows-carries_choices old mid new c.add_choices.ensures.inside c.args.person.now c.args.choices.now
+    (changed_rows-stores_choices old mid new c.add_choices.ensures.inside c.args.person.now c.args.choices.now
     c.in_ok-drop_choices.ensures.made)
     c.add_choices.ensures.made

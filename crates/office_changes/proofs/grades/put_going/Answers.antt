@@ -1,6 +1,6 @@
 use Rattle.std.proofs.lemmas.Result.{on_ok_weaker}
 use Rattle.sqlite.specs.Held.{state}
-use Rattle.office_changes.proofs.changed_rows.Calls.{changed_rows-carries_going}
+use Rattle.office_changes.proofs.changed_rows.Calls.{changed_rows-stores_going}
 use Rattle.office_changes.proofs.grades.put_going.Goals as goal
 
 pub returns-clause-made : goal.returns-clause-made
@@ -8,5 +8,5 @@ returns-clause-made g c =
     let old = state g.S.Store c.args.tx.now.conn.now in
     let new = state g.S.Store c.add_going.new.tx.conn.now in
     on_ok_weaker c.add_going.result
-    (changed_rows-carries_going old new c.args.person.now c.know_changed_row_text.ensures)
+    (changed_rows-stores_going old new c.args.person.now c.lemma_text.ensures)
     c.add_going.ensures.made

@@ -1,6 +1,6 @@
 use Rattle.std.proofs.lemmas.Result.{on_ok_weaker}
 use Rattle.sqlite.specs.Held.{state}
-use Rattle.office_changes.proofs.changed_rows.Calls.{changed_rows-carries_grade}
+use Rattle.office_changes.proofs.changed_rows.Calls.{changed_rows-stores_grade}
 use Rattle.office_changes.proofs.grades.put_grade.Goals as goal
 
 pub returns-clause-made : goal.returns-clause-made
@@ -9,6 +9,6 @@ returns-clause-made g c =
     let mid = state g.S.Store c.drop_grade.new.tx.conn.now in
     let new = state g.S.Store c.record_grade.new.tx.conn.now in
     on_ok_weaker c.record_grade.result
-    (changed_rows-carries_grade old mid new c.record_grade.ensures.inside c.args.person.now c.args.grade
+    (changed_rows-stores_grade old mid new c.record_grade.ensures.inside c.args.person.now c.args.grade
     c.in_ok-drop_grade.ensures.made)
     c.record_grade.ensures.made

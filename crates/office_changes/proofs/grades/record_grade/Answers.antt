@@ -16,5 +16,5 @@ returns-clause-made g c =
     on_ok_weaker c.add_grade.result
     (changed_rows-turns_grade old new c.args.person.now c.args.grade
     (λ none. true≢false (sym (c.is_first.ensures.1 none) ∙ c.if-is_first.false))
-    c.know_changed_row_text.ensures c.know_changed_row_grade.ensures)
+    c.lemma_text.ensures c.lemma_grade.ensures)
     c.add_grade.ensures.made

@@ -1,6 +1,6 @@
 use Rattle.std.proofs.lemmas.Result.{on_ok_weaker}
 use Rattle.sqlite.specs.Held.{state}
-use Rattle.office_changes.proofs.changed_rows.Calls.{changed_rows-carries_gone}
+use Rattle.office_changes.proofs.changed_rows.Calls.{changed_rows-stores_gone}
 use Rattle.office_changes.proofs.people.remove_person.Goals as goal
 
 pub returns-clause-made : goal.returns-clause-made
@@ -9,5 +9,5 @@ returns-clause-made g c =
     let mid = state g.S.Store c.drop_grade.new.tx.conn.now in
     let new = state g.S.Store c.drop_person.new.tx.conn.now in
     on_ok_weaker c.drop_person.result
-    (changed_rows-carries_gone old mid new c.drop_person.ensures.inside c.args.person.now c.in_ok-drop_grade.ensures.made)
+    (changed_rows-stores_gone old mid new c.drop_person.ensures.inside c.args.person.now c.in_ok-drop_grade.ensures.made)
     c.drop_person.ensures.made

@@ -1,6 +1,6 @@
 use Rattle.std.proofs.lemmas.Result.{on_ok_weaker}
 use Rattle.sqlite.specs.Held.{state}
-use Rattle.office_changes.proofs.changed_rows.Calls.{changed_rows-carries_result}
+use Rattle.office_changes.proofs.changed_rows.Calls.{changed_rows-stores_result}
 use Rattle.office_changes.proofs.results.put_result.Goals as goal
 
 pub returns-clause-made : goal.returns-clause-made
@@ -8,6 +8,6 @@ returns-clause-made g c =
     let old = state g.S.Store c.args.tx.now.conn.now in
     let new = state g.S.Store c.add_result.new.tx.conn.now in
     on_ok_weaker c.add_result.result
-    (changed_rows-carries_result old new c.args.person.now c.args.room.now c.know_changed_row_text.ensures
-    c.know_changed_row_optional.ensures)
+    (changed_rows-stores_result old new c.args.person.now c.args.room.now c.lemma_text.ensures
+    c.lemma_optional_text.ensures)
     c.add_result.ensures.made

@@ -1,6 +1,6 @@
 use Rattle.std.proofs.lemmas.Result.{on_ok_weaker}
 use Rattle.sqlite.specs.Held.{state}
-use Rattle.office_changes.proofs.changed_rows.Calls.{changed_rows-carries_move}
+use Rattle.office_changes.proofs.changed_rows.Calls.{changed_rows-stores_move}
 use Rattle.office_changes.proofs.results.record_move.Goals as goal
 
 pub returns-clause-made : goal.returns-clause-made
@@ -8,4 +8,4 @@ returns-clause-made g c =
     let old = state g.S.Store c.args.tx.now.conn.now in
     let new = state g.S.Store c.add_move.new.tx.conn.now in
     on_ok_weaker c.add_move.result
-    (changed_rows-carries_move old new c.args.moved.now c.know_changed_row_move.ensures) c.add_move.ensures.made
+    (changed_rows-stores_move old new c.args.moved.now c.lemma_move.ensures) c.add_move.ensures.made

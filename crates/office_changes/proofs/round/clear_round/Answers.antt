@@ -1,6 +1,6 @@
 use Rattle.std.proofs.lemmas.Result.{on_ok_weaker}
 use Rattle.sqlite.specs.Held.{state}
-use Rattle.office_changes.proofs.changed_rows.Calls.{changed_rows-carries_cleared}
+use Rattle.office_changes.proofs.changed_rows.Calls.{changed_rows-stores_cleared}
 use Rattle.office_changes.proofs.round.clear_round.Goals as goal
 
 pub returns-clause-made : goal.returns-clause-made
@@ -9,5 +9,5 @@ returns-clause-made g c =
     let mid = state g.S.Store c.clear_round_tables.new.tx.conn.now in
     let new = state g.S.Store c.clear_withdrawn.new.tx.conn.now in
     on_ok_weaker c.clear_withdrawn.result
-    (changed_rows-carries_cleared old mid new c.clear_withdrawn.ensures.inside c.in_ok-clear_round_tables.ensures.made)
+    (changed_rows-stores_cleared old mid new c.clear_withdrawn.ensures.inside c.in_ok-clear_round_tables.ensures.made)
     c.clear_withdrawn.ensures.made

@@ -1,7 +1,7 @@
 use Rattle.sqlite.specs.Held.{state}
 use Rattle.std.proofs.Common.{arith}
 use Rattle.std.proofs.lemmas.Result.{on_ok_weaker}
-use Rattle.office_changes.proofs.changed_rows.Calls.{changed_rows-carries_round}
+use Rattle.office_changes.proofs.changed_rows.Calls.{changed_rows-stores_round}
 use Rattle.office_changes.proofs.round.put_round.Goals as goal
 
 pub returns-clause-made : goal.returns-clause-made
@@ -9,5 +9,5 @@ returns-clause-made g c =
     let old = state g.S.Store c.args.tx.now.conn.now in
     let new = state g.S.Store c.set_round.new.tx.conn.now in
     on_ok_weaker c.set_round.result
-    (changed_rows-carries_round old new c.args.number c.args.phase (omega (arith, c.ranges.number)))
+    (changed_rows-stores_round old new c.args.number c.args.phase (omega (arith, c.ranges.number)))
     c.set_round.ensures.made

@@ -1,6 +1,6 @@
 use Rattle.std.proofs.lemmas.Result.{on_ok_weaker}
 use Rattle.sqlite.specs.Held.{state}
-use Rattle.office_changes.proofs.changed_rows.Calls.{changed_rows-carries_word}
+use Rattle.office_changes.proofs.changed_rows.Calls.{changed_rows-stores_word}
 use Rattle.office_changes.proofs.words.put_word.Goals as goal
 
 pub returns-clause-made : goal.returns-clause-made
@@ -8,6 +8,6 @@ returns-clause-made g c =
     let old = state g.S.Store c.args.tx.now.conn.now in
     let new = state g.S.Store c.add_word.new.tx.conn.now in
     on_ok_weaker c.add_word.result
-    (changed_rows-carries_word old new c.args.person.now c.args.word c.know_changed_row_text.ensures
-    c.know_changed_row_word.ensures)
+    (changed_rows-stores_word old new c.args.person.now c.args.word c.lemma_text.ensures
+    c.lemma_word.ensures)
     c.add_word.ensures.made

@@ -1,5 +1,5 @@
-use Rattle.office_core.proofs.commands.Kept.{commands-results_kept}
+use Rattle.office_core.proofs.commands.Kept.{results_kept}
 use Rattle.office_core.proofs.laws.results_stay_until_the_end.Goals as goal
 
 pub returns : goal.returns
-returns c = commands-results_kept
+returns c = results_kept

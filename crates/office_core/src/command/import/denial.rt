@@ -8,7 +8,7 @@ use office_lists::Cause;
 
 /// Returns the refusal of a list for its record at this index, counted from 0, whose own command has this refusal. Returns
 /// `OutOfMemory` unchanged.
-pub(crate) fn import_denial(index: usize, refusal: &Refusal) -> Refusal
+pub(crate) fn denial_of(index: usize, refusal: &Refusal) -> Refusal
     requires { index < record_limit }
     ensures { result ≡ denial_of (index + 1) refusal.now }
 {

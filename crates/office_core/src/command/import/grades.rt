@@ -2,9 +2,9 @@
 ghost use Rattle.std.specs.Prelude.{◌≡◌, ◌≤◌, IfOk, IfErr, length};
 ghost use Rattle.office_lists.specs.Records.{record_limit};
 ghost use Rattle.office_core.specs.Command.Import.{grade_command, first_denied, list_refusal};
-ghost use Rattle.office_core.specs.Inner.Tries.{AreAdded, AreAllowed, IsOrMemory};
+ghost use Rattle.office_core.specs.Inner.Tries.{AreAdded, AreAllowed, IsOrOutOfMemory};
 
-use crate::command::import::denial::import_denial;
+use crate::command::import::denial::denial_of;
 use crate::command::set_grade::may_grade;
 use crate::refusal::Refusal;
 use office_lists::read_grades;
@@ -18,13 +18,13 @@ use std::alloc::Global;
 ///
 /// `BadRecord` for the first bad record, and if there is none for the first that is refused. `OutOfMemory` if an allocation
 /// fails.
-#[tactic(auto, using(crate::proofs::imports::ListChecks::imports_few_told, crate::proofs::imports::ListChecks::imports_few_changes))]
+#[tactic(auto, using(crate::proofs::imports::ListChecks::imports_few_entries, crate::proofs::imports::ListChecks::imports_few_changes))]
 pub fn grades_added(alloc: Global, office: &Office, bytes: &[u8]) -> Result<Vec<Change>, Refusal>
     ensures added { IfOk result
         (λ changes. AreAdded grade_command office.now bytes.now changes.items) }
     ensures few { IfOk result (λ changes. length changes.items ≤ record_limit) }
     ensures refused { IfErr result
-        (IsOrMemory (list_refusal grade_command office.now bytes.now)) }
+        (IsOrOutOfMemory (list_refusal grade_command office.now bytes.now)) }
 {
     let entries = read_grades(alloc, bytes)?;
     each_grade_added(alloc, office, entries.as_slice())
@@ -40,12 +40,12 @@ fn each_grade_added(
     ensures allowed { IfOk result
         (λ changes. AreAllowed grade_command office.now list.now changes.items) }
     ensures refused { IfErr result
-        (IsOrMemory (first_denied grade_command office.now 1 list.now)) }
+        (IsOrOutOfMemory (first_denied grade_command office.now 1 list.now)) }
 {
     let mut changes = Vec::new(alloc);
     for (i, entry) in list.iter().enumerate() {
         if let Err(refusal) = may_grade(office, &entry.person) {
-            return Err(import_denial(i, &refusal));
+            return Err(denial_of(i, &refusal));
         }
         let change = imported_grade_change(entry)?;
         changes.push(change)?;

@@ -3,10 +3,10 @@ ghost use Rattle.std.specs.Prelude.{◌≡◌, ◌≤◌, IfOk, IfErr, length};
 ghost use Rattle.office_lists.specs.Records.{record_limit};
 ghost use Rattle.office_core.specs.Command.Import.{first_denied, list_refusal, person_command};
 ghost use Rattle.office_core.specs.Inner.Passes.{Passes};
-ghost use Rattle.office_core.specs.Inner.Tries.{AreAdded, AreAllowed, IsIndexed, IsOrMemory};
+ghost use Rattle.office_core.specs.Inner.Tries.{AreAdded, AreAllowed, IsIndexed, IsOrOutOfMemory};
 ghost use Rattle.office_core.specs.Refusal.Checks.{home_checks_if_any};
 
-use crate::command::import::denial::import_denial;
+use crate::command::import::denial::denial_of;
 use crate::command::import::register::Register;
 use crate::refusal::Refusal;
 use crate::refusal::rooms::may_list;
@@ -23,12 +23,12 @@ use std::alloc::Global;
 ///
 /// `BadRecord` for the first bad record, and if there is none for the first that is refused. `OutOfMemory` if an allocation
 /// fails.
-#[tactic(auto, using(crate::proofs::imports::ListChecks::imports_few_told, crate::proofs::imports::ListChecks::imports_few_changes))]
+#[tactic(auto, using(crate::proofs::imports::ListChecks::imports_few_entries, crate::proofs::imports::ListChecks::imports_few_changes))]
 pub fn people_added(alloc: Global, office: &Office, bytes: &[u8]) -> Result<Vec<Change>, Refusal>
     ensures added { IfOk result
         (λ changes. AreAdded person_command office.now bytes.now changes.items) }
     ensures few { IfOk result (λ changes. length changes.items ≤ record_limit) }
-    ensures refused { IfErr result (IsOrMemory (list_refusal person_command office.now bytes.now)) }
+    ensures refused { IfErr result (IsOrOutOfMemory (list_refusal person_command office.now bytes.now)) }
 {
     let people = read_people(alloc, bytes)?;
     each_person_added(alloc, office, people.as_slice())
@@ -43,13 +43,13 @@ fn each_person_added(
     requires { length list.now ≤ record_limit }
     ensures allowed { IfOk result
         (λ changes. AreAllowed person_command office.now list.now changes.items) }
-    ensures refused { IfErr result (IsOrMemory (first_denied person_command office.now 1 list.now)) }
+    ensures refused { IfErr result (IsOrOutOfMemory (first_denied person_command office.now 1 list.now)) }
 {
     let mut register = Register::of(alloc, office)?;
     let mut changes = Vec::new(alloc);
     for (i, entry) in list.iter().enumerate() {
         if let Err(refusal) = may_add_person(office, &register, entry) {
-            return Err(import_denial(i, &refusal));
+            return Err(denial_of(i, &refusal));
         }
         register.add(entry)?;
         let change = imported_person_change(entry)?;
@@ -74,7 +74,7 @@ fn may_add_person(office: &Office, register: &Register, entry: &PersonEntry) -> 
     if register.keys.contains_key(&entry.key) {
         return Err(Refusal::KeyInUse);
     }
-    may_live_if_any(office, register, &entry.home)?;
+    may_have_home(office, register, &entry.home)?;
     if register.people.len() >= PEOPLE_LIMIT {
         return Err(Refusal::LimitReached);
     }
@@ -82,7 +82,7 @@ fn may_add_person(office: &Office, register: &Register, entry: &PersonEntry) -> 
 }
 
 // Checks that the home, if there is one, may be given to one more person of the register.
-fn may_live_if_any(
+fn may_have_home(
     office: &Office,
     register: &Register,
     home: &Option<RoomCode>,

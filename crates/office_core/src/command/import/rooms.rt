@@ -2,10 +2,10 @@
 ghost use Rattle.std.specs.Prelude.{◌≡◌, ◌≤◌, IfOk, IfErr, length};
 ghost use Rattle.office_lists.specs.Records.{record_limit};
 ghost use Rattle.office_core.specs.Command.Import.{first_denied, list_refusal, room_command};
-ghost use Rattle.office_core.specs.Inner.Tries.{AreAdded, AreAllowed, IsOrMemory};
+ghost use Rattle.office_core.specs.Inner.Tries.{AreAdded, AreAllowed, IsOrOutOfMemory};
 
 use crate::command::add_room::may_add_room;
-use crate::command::import::denial::import_denial;
+use crate::command::import::denial::denial_of;
 use crate::refusal::Refusal;
 use office_lists::read_rooms;
 use office_state::{Change, Office};
@@ -18,12 +18,12 @@ use std::alloc::Global;
 ///
 /// `BadRecord` for the first bad record, and if there is none for the first that is refused. `OutOfMemory` if an allocation
 /// fails.
-#[tactic(auto, using(crate::proofs::imports::ListChecks::imports_few_told, crate::proofs::imports::ListChecks::imports_few_changes))]
+#[tactic(auto, using(crate::proofs::imports::ListChecks::imports_few_entries, crate::proofs::imports::ListChecks::imports_few_changes))]
 pub fn rooms_added(alloc: Global, office: &Office, bytes: &[u8]) -> Result<Vec<Change>, Refusal>
     ensures added { IfOk result
         (λ changes. AreAdded room_command office.now bytes.now changes.items) }
     ensures few { IfOk result (λ changes. length changes.items ≤ record_limit) }
-    ensures refused { IfErr result (IsOrMemory (list_refusal room_command office.now bytes.now)) }
+    ensures refused { IfErr result (IsOrOutOfMemory (list_refusal room_command office.now bytes.now)) }
 {
     let rooms = read_rooms(alloc, bytes)?;
     each_room_added(alloc, office, rooms.as_slice())
@@ -38,13 +38,13 @@ fn each_room_added(
     requires { length list.now ≤ record_limit }
     ensures allowed { IfOk result
         (λ changes. AreAllowed room_command office.now list.now changes.items) }
-    ensures refused { IfErr result (IsOrMemory (first_denied room_command office.now 1 list.now)) }
+    ensures refused { IfErr result (IsOrOutOfMemory (first_denied room_command office.now 1 list.now)) }
 {
     let mut rooms = office.rooms.copy()?;
     let mut changes = Vec::new(alloc);
     for (i, room) in list.iter().enumerate() {
         if let Err(refusal) = may_add_room(office, &rooms, room) {
-            return Err(import_denial(i, &refusal));
+            return Err(denial_of(i, &refusal));
         }
         rooms.insert(room.copy()?, false)?;
         let change = imported_room_change(room)?;

@@ -1,10 +1,10 @@
 use Rattle.std.proofs.Common.{◌≡◌, ap, ◌∙◌, arith}
 use Rattle.std.specs.Fmt.{styled_text}
-use Rattle.office_lists.specs.Tables.{left_in}
-use Rattle.office_lists.proofs.padded_columns.Cells.{padded_columns-padded-left}
+use Rattle.office_lists.specs.Tables.{left_aligned}
+use Rattle.office_lists.proofs.padded_columns.Cells.{padded-left}
 use Rattle.office_lists.proofs.tables.push_result.Goals as goal
 
 pub returns : goal.returns
 returns c =
-    let person : styled_text c.laid_out.result c.args.person.now ≡ left_in 12 c.args.person.now = ap (λ options. styled_text options c.args.person.now) c.laid_out.ensures ∙ padded_columns-padded-left 12 c.args.person.now (omega arith) in
+    let person : styled_text c.laid_out.result c.args.person.now ≡ left_aligned 12 c.args.person.now = ap (λ options. styled_text options c.args.person.now) c.laid_out.ensures ∙ padded-left 12 c.args.person.now (omega arith) in
     rw (← person) c.writeln.ensures.bytes

@@ -1,17 +1,17 @@
 use Rattle.std.proofs.Common.{sym}
-use Rattle.office_load.specs.Layout.{is_index_as, unique_index}
+use Rattle.office_load.specs.Layout.{is_this_index, unique_index}
 use Rattle.office_load.proofs.found_offices.Passing.{found_offices-fails_at, found_offices-passes_at}
 use Rattle.office_load.proofs.layout.are_these_indexes.Goals as goal
 
 pub returns-then-not-is_this_index : goal.returns-then-not-is_this_index
 returns-then-not-is_this_index c =
-    sym (found_offices-fails_at (λ o. unique_index (o.0.now, o.1, o.2, o.3.now)) is_index_as c.args.own.now c.args.indexes.now c.loop-place.place _
+    sym (found_offices-fails_at (λ o. unique_index (o.0.now, o.1, o.2, o.3.now)) is_this_index c.args.own.now c.args.indexes.now c.loop-place.place _
     c.index-indexes-place.result c.loop-place.invariant.even c.loop-place-test.true c.index-indexes-place.is
     (sym c.if-not-is_this_index.ensures) c.loop-place.invariant.left)
 
 pub loop-place-preserved : goal.loop-place-preserved
 loop-place-preserved c = record {
-  left = found_offices-passes_at (λ o. unique_index (o.0.now, o.1, o.2, o.3.now)) is_index_as c.args.own.now c.args.indexes.now c.loop-place.place _
+  left = found_offices-passes_at (λ o. unique_index (o.0.now, o.1, o.2, o.3.now)) is_this_index c.args.own.now c.args.indexes.now c.loop-place.place _
       c.index-indexes-place.result c.loop-place.invariant.even c.loop-place-test.true c.index-indexes-place.is
       (sym c.if-not-is_this_index.ensures) c.loop-place.invariant.left;
   even = c.loop-place.invariant.even;

@@ -2,18 +2,18 @@ use Rattle.std.proofs.Common.{sym, subst}
 use Rattle.std.proofs.lemmas.Result.{IfOk-weaker}
 use Rattle.sqlite.specs.Held.{state}
 use Rattle.office_load.specs.Versions.{IsOnly}
-use Rattle.office_load.proofs.loaded.Listings.{loaded-some_weaker}
-use Rattle.office_load.proofs.loaded.OnlyRows.{loaded-held_if_read, loaded-read_if_held}
+use Rattle.office_load.proofs.loaded.Listings.{some_weaker}
+use Rattle.office_load.proofs.loaded.OnlyRows.{held_if_read, read_if_held}
 use Rattle.office_load.proofs.versions.version_held.Goals as goal
 
 pub returns-clause-held : goal.returns-clause-held
 returns-clause-held g c =
-    IfOk-weaker c.version_in.result _ _ (λ found only clean has. loaded-some_weaker found _ _
-    (λ version h. loaded-held_if_read (state g.S.Store c.args.conn.now).now _ version (c.in_ok-rows.ensures.shown clean has) (subst (λ rows. IsOnly rows version) c.as_slice.ensures.value h)) only)
+    IfOk-weaker c.version_in.result _ _ (λ found only clean has. some_weaker found _ _
+    (λ version h. held_if_read (state g.S.Store c.args.conn.now).now _ version (c.in_ok-rows.ensures.shown clean has) (subst (λ rows. IsOnly rows version) c.as_slice.ensures.value h)) only)
     c.version_in.ensures.held
 
-pub returns-clause-told : goal.returns-clause-told
-returns-clause-told g c =
-    IfOk-weaker c.version_in.result _ _ (λ found told clean has version holds. told version
-    (subst (λ rows. IsOnly rows version) (sym c.as_slice.ensures.value) (loaded-read_if_held (state g.S.Store c.args.conn.now).now _ version (c.in_ok-rows.ensures.shown clean has) holds)))
-    c.version_in.ensures.told
+pub returns-clause-returned : goal.returns-clause-returned
+returns-clause-returned g c =
+    IfOk-weaker c.version_in.result _ _ (λ found returned clean has version holds. returned version
+    (subst (λ rows. IsOnly rows version) (sym c.as_slice.ensures.value) (read_if_held (state g.S.Store c.args.conn.now).now _ version (c.in_ok-rows.ensures.shown clean has) holds)))
+    c.version_in.ensures.returned

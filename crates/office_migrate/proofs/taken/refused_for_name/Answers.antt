@@ -2,23 +2,23 @@ use Rattle.std.proofs.Common.{◌≡◌, Some, refl, sym, ap, ◌∙◌, subst, 
 use Rattle.std.specs.Option.{is_some}
 use Rattle.sqlite.specs.Held.{state}
 use Rattle.office_load.specs.Finding.{AreDeclared, AreWhole}
-use Rattle.office_load.specs.Front.{Begins}
-use Rattle.office_load.proofs.found_offices.Versions.{found_offices-none_some, found_offices-same_some}
-use Rattle.office_load.proofs.loaded.WholeRows.{loaded-first_if_sound}
-use Rattle.office_migrate.specs.Causes.{StandsFirst}
+use Rattle.office_load.specs.FirstTables.{Begins}
+use Rattle.office_load.proofs.found_offices.Versions.{none_some, same_some}
+use Rattle.office_load.proofs.loaded.WholeRows.{first_if_sound}
+use Rattle.office_migrate.specs.Causes.{HoldsEarlierFirst}
 use Rattle.office_migrate.specs.First.{first_layout}
 use Rattle.office_migrate.specs.Versions.{IsEarlier, IsOfVersion}
-use Rattle.office_migrate.proofs.earlier.First.{earlier-first_found}
-use Rattle.office_migrate.proofs.earlier.Taken.{earlier-begins_is_found, earlier-held_in_found, earlier-stands_if_held}
-use Rattle.office_migrate.proofs.earlier.Taken.{earlier-stands_in_found}
+use Rattle.office_migrate.proofs.earlier.First.{first_found}
+use Rattle.office_migrate.proofs.earlier.Taken.{earlier-begins_is_found, earlier-held_in_found, earlier-first_if_held}
+use Rattle.office_migrate.proofs.earlier.Taken.{earlier-first_in_found}
 use Rattle.office_migrate.proofs.taken.refused_for_name.Goals as goal
 
 pub returns-in_default-clause-rows : goal.returns-in_default-clause-rows
 returns-in_default-clause-rows g c already clean other same begins whole =
     let start = state g.S.Store c.args.conn.now in
     let none = ap (first_layout c.args.version) (sym c.schema.ensures.value) ∙ sym c.in_default.ensures.tested in
-    absurd (found_offices-none_some other (sym none ∙ subst (λ v. first_layout v start.now.schema ≡ Some other) same
-    (earlier-first_found other start.now.schema (subst IsEarlier (sym same) c.requires.earlier) begins)))
+    absurd (none_some other (sym none ∙ subst (λ v. first_layout v start.now.schema ≡ Some other) same
+    (first_found other start.now.schema (subst IsEarlier (sym same) c.requires.earlier) begins)))
 
 pub returns-then-is_of_version-clause-rows : goal.returns-then-is_of_version-clause-rows
 returns-then-is_of_version-clause-rows g c already clean other same begins whole =
@@ -28,30 +28,30 @@ returns-then-is_of_version-clause-rows g c already clean other same begins whole
     let is = earlier-begins_is_found c.args.version c.requires.earlier start.now layout tested other same begins in
     let open_ = c.held.ensures.reads.follows.was_open clean (c.in-Ok-Some.ensures.is_open clean) in
     let sound = (c.schema.ensures.live open_).0 in
-    let laid = loaded-first_if_sound layout start.now sound (subst (λ l. Begins l start.now.schema) (sym is) begins)
+    let laid = first_if_sound layout start.now sound (subst (λ l. Begins l start.now.schema) (sym is) begins)
     (subst (λ l. AreWhole l start.now.trees) (sym is) whole) in
     let office = c.in-Ok-Some.office in
-    let stands = earlier-stands_if_held c.args.version c.requires.earlier start.now layout tested office
+    let holding = earlier-first_if_held c.args.version c.requires.earlier start.now layout tested office
     (rw c.in-Ok-Some.field-0-is at c.in-Ok-Some.ensures.lawful)
-    ((rw c.in-Ok-Some.field-0-is at c.in-Ok-Some.ensures.spelled_first) clean laid)
+    ((rw c.in-Ok-Some.field-0-is at c.in-Ok-Some.ensures.well_formed_first) clean laid)
     (c.is_of_version.ensures.0 c.if-is_of_version.true)
     ((rw c.in-Ok-Some.field-0-is at c.in-Ok-Some.ensures.held_first) clean laid) in
-    (office, subst (λ l. StandsFirst l start.now office) is stands)
+    (office, subst (λ l. HoldsEarlierFirst l start.now office) is holding)
 
 pub returns-else-is_of_version-clause-none : goal.returns-else-is_of_version-clause-none
 returns-else-is_of_version-clause-none g c is_none clean other same office h =
     let start = state g.S.Store c.args.conn.now in
     let layout = c.in-Some.layout in
     let tested = ap (first_layout c.args.version) (sym c.schema.ensures.value) ∙ sym c.in-Some.ensures.tested in
-    let here = earlier-stands_in_found c.args.version c.requires.earlier start.now layout tested other office same h in
+    let here = earlier-first_in_found c.args.version c.requires.earlier start.now layout tested other office same h in
     let held = earlier-held_in_found c.args.version c.requires.earlier start.now layout tested office here in
-    let found = (rw c.in-Ok-Some.field-0-is at c.in-Ok-Some.ensures.first) clean office h.lawful here.spelled held in
-    let one = found_offices-same_some c.in-Ok-Some.office office found in
+    let found = (rw c.in-Ok-Some.field-0-is at c.in-Ok-Some.ensures.first) clean office h.lawful here.well_formed held in
+    let one = same_some c.in-Ok-Some.office office found in
     let kind = c.is_of_version.ensures.1 (subst (IsOfVersion c.args.version) (sym one) (subst (λ v. IsOfVersion v office) same h.kind)) in
     absurd (true≢false (sym kind ∙ c.if-is_of_version.false))
 
-pub returns-else-is_of_version-clause-told : goal.returns-else-is_of_version-clause-told
-returns-else-is_of_version-clause-told g c clean other office same h =
+pub returns-else-is_of_version-clause-returned : goal.returns-else-is_of_version-clause-returned
+returns-else-is_of_version-clause-returned g c clean other office same h =
     absurd (returns-else-is_of_version-clause-none g c refl clean other same office h)
 
 pub returns-in-Ok-None-clause-none : goal.returns-in-Ok-None-clause-none
@@ -59,12 +59,12 @@ returns-in-Ok-None-clause-none g c is_none clean other same office h =
     let start = state g.S.Store c.args.conn.now in
     let layout = c.in-Some.layout in
     let tested = ap (first_layout c.args.version) (sym c.schema.ensures.value) ∙ sym c.in-Some.ensures.tested in
-    let here = earlier-stands_in_found c.args.version c.requires.earlier start.now layout tested other office same h in
+    let here = earlier-first_in_found c.args.version c.requires.earlier start.now layout tested other office same h in
     let held = earlier-held_in_found c.args.version c.requires.earlier start.now layout tested office here in
-    found_offices-none_some office ((rw c.in-Ok-None.field-0-is at c.in-Ok-None.ensures.first) clean office h.lawful here.spelled held)
+    none_some office ((rw c.in-Ok-None.field-0-is at c.in-Ok-None.ensures.first) clean office h.lawful here.well_formed held)
 
-pub returns-in-Ok-None-clause-told : goal.returns-in-Ok-None-clause-told
-returns-in-Ok-None-clause-told g c clean other office same h =
+pub returns-in-Ok-None-clause-returned : goal.returns-in-Ok-None-clause-returned
+returns-in-Ok-None-clause-returned g c clean other office same h =
     absurd (returns-in-Ok-None-clause-none g c refl clean other same office h)
 
 pub returns-else-is_of_version-clause-known : goal.returns-else-is_of_version-clause-known

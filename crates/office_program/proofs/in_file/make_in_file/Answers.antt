@@ -5,4 +5,4 @@ pub returns-clause-makes : goal.returns-clause-makes
 returns-clause-makes g c =
     let made = c.create_in-made.ensures in
     let closed = c.close.ensures in
-    done_lines-file_desk_made _ _ _ _ _ c.create_in-made.result c.say_made-status.result _ _ made.shows made.blank made.cause c.say_made-status.ensures.tells closed.closed closed.none
+    done_lines-file_desk_made _ _ _ _ _ c.create_in-made.result c.print_made-status.result _ _ made.shows made.blank made.cause c.print_made-status.ensures.prints closed.closed closed.none

@@ -2,7 +2,7 @@ use Rattle.std.proofs.Common.{◌≡◌, List, [], sym, ap, ◌∙◌}
 use Rattle.std.specs.Prelude.{unwrap_or, Option}
 use Rattle.room_types.specs.Texts.{Text}
 use Rattle.office_rows.specs.Inner.Gathered.{list_at}
-use Rattle.office_rows.proofs.rows_read.Gathering.{rows_read-turn}
+use Rattle.office_rows.proofs.rows_read.Gathering.{turn}
 use Rattle.office_rows.proofs.choices.gather.Goals.{in-Some, in-None}
 use Rattle.office_rows.proofs.choices.gather.Goals as goal
 
@@ -14,5 +14,5 @@ loop-row-preserved c =
       | in-None w ↦ w.codes-is ∙ w.empty-codes.ensures ∙ ap (λ (o : Option (List Text)). unwrap_or o []) (sym w.in-None.is ∙ c.take.ensures.value)
     ] in
     c.loop-row.invariant
-    ∙ rows_read-turn c.loop-row.lists c.take.new.self c.insert.new.self c.args.rows.now c.loop-row.row-index row c.match-take.codes c.push.new.self c.in_ok-copy-2.field-0 c.in_ok-copy.field-0
+    ∙ turn c.loop-row.lists c.take.new.self c.insert.new.self c.args.rows.now c.loop-row.row-index row c.match-take.codes c.push.new.self c.in_ok-copy-2.field-0 c.in_ok-copy.field-0
     c.loop-row-test.true c.row-item.is codes_are (c.if-row-len.false ∙ c.len.ensures) c.take.ensures.gone c.in_ok-copy-2.ensures c.in_ok-copy.ensures c.in_ok-push.ensures.ok c.in_ok-insert.ensures.ok

@@ -1,10 +1,10 @@
 use Rattle.std.proofs.Common.{rules, ◌<◌, length, sym, ap, ◌∙◌, subst}
 use Rattle.std.specs.FinMap as map
 use Rattle.std.proofs.lemmas.Result.{IfOk-weaker, on_err_weaker}
-use Rattle.office_rows.specs.Rows.{AreKeptLists, choice_rows}
+use Rattle.office_rows.specs.Rows.{AreValidLists, choice_rows}
 use Rattle.office_rows.specs.Inner.Gathered.{gathered}
 use Rattle.office_rows.specs.Reads.{Reads}
-use Rattle.office_rows.proofs.rows_read.Gathering.{rows_read-fewer_moved, rows_read-gathered-from, rows_read-reads-none, rows_read-reads-some}
+use Rattle.office_rows.proofs.rows_read.Gathering.{fewer_moved, gathered-from, rows_read-reads-none, rows_read-reads-some}
 use Rattle.office_rows.proofs.choices.read_choices.Goals as goal
 
 pub returns-in_default-clause-reads : goal.returns-in_default-clause-reads
@@ -14,21 +14,21 @@ returns-in_default-clause-reads c =
 
 pub returns-clause-reads : goal.returns-clause-reads
 returns-clause-reads c =
-    IfOk-weaker c.all_chosen.result _ _ (λ found e. subst (λ o. Reads AreKeptLists choice_rows c.args.rows.items o) (sym e)
+    IfOk-weaker c.all_chosen.result _ _ (λ found e. subst (λ o. Reads AreValidLists choice_rows c.args.rows.items o) (sym e)
     (rows_read-reads-some c.args.rows.items c.sort_choice_rows.new.rows.items c.sort_choice_rows.ensures.moved c.sort_choice_rows.ensures.ascending c.in-Some.lists
     (ap (gathered map.empty) (sym c.as_slice.ensures.value) ∙ sym c.in_ok-lists.ensures.gathers ∙ c.in-Some.is))) c.all_chosen.ensures.chooses
 
 pub returns-in_err-lists-clause-memory : goal.returns-in_err-lists-clause-memory
 returns-in_err-lists-clause-memory c =
     let some =
-    rows_read-fewer_moved c.args.rows.items c.sort_choice_rows.new.rows.items c.sort_choice_rows.ensures.moved
+    fewer_moved c.args.rows.items c.sort_choice_rows.new.rows.items c.sort_choice_rows.ensures.moved
     (subst (λ rows. 0 < length rows) c.as_slice.ensures.value c.in_err-lists.ensures.memory) in
     search (rules, some)
 
 pub returns-clause-memory : goal.returns-clause-memory
 returns-clause-memory c =
     on_err_weaker c.all_chosen.result (λ some.
-    rows_read-fewer_moved c.args.rows.items c.sort_choice_rows.new.rows.items c.sort_choice_rows.ensures.moved
-    (rows_read-gathered-from c.sort_choice_rows.new.rows.items c.in-Some.lists
+    fewer_moved c.args.rows.items c.sort_choice_rows.new.rows.items c.sort_choice_rows.ensures.moved
+    (gathered-from c.sort_choice_rows.new.rows.items c.in-Some.lists
     (ap (gathered map.empty) (sym c.as_slice.ensures.value) ∙ sym c.in_ok-lists.ensures.gathers ∙ c.in-Some.is) some))
     c.all_chosen.ensures.memory

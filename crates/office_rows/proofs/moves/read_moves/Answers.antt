@@ -1,10 +1,10 @@
 use Rattle.std.proofs.Common.{sym, subst}
 use Rattle.std.proofs.lemmas.Result.{IfOk-weaker}
-use Rattle.office_rows.specs.Rows.{AreKeptMoves, move_rows}
+use Rattle.office_rows.specs.Rows.{AreValidMoves, move_rows}
 use Rattle.office_rows.specs.Reads.{Reads}
-use Rattle.office_rows.proofs.rows_read.Moving.{rows_read-recorded_moves-reads}
+use Rattle.office_rows.proofs.rows_read.Moving.{recorded_moves-reads}
 use Rattle.office_rows.proofs.moves.read_moves.Goals as goal
 
 pub returns-clause-reads : goal.returns-clause-reads
 returns-clause-reads c =
-    IfOk-weaker c.fill_moves.result _ _ (λ found e. subst (λ o. Reads AreKeptMoves move_rows c.args.rows.items o) (sym e) (rows_read-recorded_moves-reads c.args.rows.items)) c.fill_moves.ensures.fills
+    IfOk-weaker c.fill_moves.result _ _ (λ found e. subst (λ o. Reads AreValidMoves move_rows c.args.rows.items o) (sym e) (recorded_moves-reads c.args.rows.items)) c.fill_moves.ensures.fills

@@ -1,10 +1,10 @@
 use Rattle.std.proofs.Common.{◌≡◌, ◌≤◌, length, reverse, vec_len}
-use Rattle.office_rows.specs.Inner.Peopled.{nobody, peopled}
+use Rattle.office_rows.specs.Inner.FilledPeople.{nobody, filled_people}
 use Rattle.office_rows.proofs.people.fill_people.Given as goal
 
 abbrev pub invariant-loop-row : goal.invariant-loop-row
 invariant-loop-row l = record {
-  left : peopled nobody (reverse l.fn.rows.items) ≡ peopled (record { people = l.people; withdrawn = l.withdrawn }) (reverse l.rows.items);
+  left : filled_people nobody (reverse l.fn.rows.items) ≡ filled_people (record { people = l.people; withdrawn = l.withdrawn }) (reverse l.rows.items);
   fewer : length l.rows.items ≤ length l.fn.rows.items;
 }
 

@@ -1,10 +1,10 @@
 use Rattle.std.proofs.Common.{◌≡◌, ◌-◌, ◌+◌, ◌∙◌, suc, refl, ap, sym, subst, arith}
 use Rattle.sqlite.specs.Held.{state}
 use Rattle.sqlite.specs.State.{HasCleanDisk}
-use Rattle.office_tables.specs.Declaring.{LeftStand}
+use Rattle.office_tables.specs.Declaring.{LeavesFirst}
 use Rattle.office_tables.specs.Layouts.{table_count}
-use Rattle.office_tables.proofs.statements.Cleared.{statements-one_fewer, statements-whole_layout}
-use Rattle.office_tables.proofs.statements.Steps.{statements-inside_none, statements-inside_then}
+use Rattle.office_tables.proofs.statements.Cleared.{statements-one_fewer, whole_layout}
+use Rattle.office_tables.proofs.statements.Steps.{inside_none, inside_then}
 use Rattle.office_tables.proofs.dropping.drop_tables_to.Goals as goal
 
 pub loop-step-init : goal.loop-step-init
@@ -12,8 +12,8 @@ loop-step-init g c =
     let start = state g.S.Store c.args.tx.now.conn.now in
     record {
       same_reference = refl;
-      stands = subst (λ n. LeftStand c.args.layout n start start) (omega arith) (statements-whole_layout c.args.layout start);
-      inside = statements-inside_none start;
+      change = subst (λ n. LeavesFirst c.args.layout n start start) (omega arith) (whole_layout c.args.layout start);
+      inside = inside_none start;
     }
 
 pub loop-step-preserved : goal.loop-step-preserved
@@ -27,8 +27,8 @@ loop-step-preserved g c =
     let after : place ≡ table_count c.args.layout - (c.loop-step.step + 1) = omega (arith, c.tables-count.ensures) in
     record {
       same_reference = c.in_ok-run.ensures.same_reference ∙ c.loop-step.invariant.same_reference;
-      stands = subst (λ n. LeftStand c.args.layout n old new) after
+      change = subst (λ n. LeavesFirst c.args.layout n old new) after
           (statements-one_fewer old mid new early c.args.layout place (omega (arith, c.tables-count.ensures)) (omega (arith, c.tables-count.ensures))
-          (λ clean. rw c.table_drop.ensures at (c.in_ok-run.ensures.ran clean)) (subst (λ n. LeftStand c.args.layout n old mid) before c.loop-step.invariant.stands));
-      inside = statements-inside_then _ _ _ c.loop-step.invariant.inside c.run.ensures.inside;
+          (λ clean. rw c.drop_text.ensures at (c.in_ok-run.ensures.ran clean)) (subst (λ n. LeavesFirst c.args.layout n old mid) before c.loop-step.invariant.change));
+      inside = inside_then _ _ _ c.loop-step.invariant.inside c.run.ensures.inside;
     }

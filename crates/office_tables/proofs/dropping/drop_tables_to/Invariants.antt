@@ -1,6 +1,6 @@
 use Rattle.std.proofs.Common.{◌≡◌, ◌-◌}
 use Rattle.sqlite.specs.Held.{state}
-use Rattle.office_tables.specs.Declaring.{LeftStand}
+use Rattle.office_tables.specs.Declaring.{LeavesFirst}
 use Rattle.office_tables.specs.Layouts.{table_count}
 use Rattle.office_tables.specs.Steps.{StaysInside}
 use Rattle.office_tables.proofs.dropping.drop_tables_to.Given as goal
@@ -9,6 +9,6 @@ use Rattle.office_tables.proofs.dropping.drop_tables_to.Given as goal
 abbrev pub invariant-loop-step : goal.invariant-loop-step
 invariant-loop-step g l = record {
   same_reference : l.tx.conn.ghost_name ≡ l.fn.tx.conn.ghost_name;
-  stands : LeftStand l.layout (table_count l.layout - l.step) (state g.S.Store l.fn.tx.conn.now) (state g.S.Store l.tx.conn.now);
+  change : LeavesFirst l.layout (table_count l.layout - l.step) (state g.S.Store l.fn.tx.conn.now) (state g.S.Store l.tx.conn.now);
   inside : StaysInside (state g.S.Store l.fn.tx.conn.now) (state g.S.Store l.tx.conn.now);
 }

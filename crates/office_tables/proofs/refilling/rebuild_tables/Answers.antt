@@ -3,14 +3,14 @@ use Rattle.std.proofs.lemmas.Result.{on_ok_weaker}
 use Rattle.sqlite.specs.Held.{state}
 use Rattle.office_tables.specs.Layouts.{schema_of}
 use Rattle.office_tables.specs.Schema.{first_tables, office_schema}
-use Rattle.office_tables.proofs.statements.Cleared.{statements-and_then, statements-first_three, statements-rebuilds}
+use Rattle.office_tables.proofs.statements.Cleared.{statements-and_then, first_three, rebuilds}
 use Rattle.office_tables.proofs.refilling.rebuild_tables.Goals as goal
 
 pub returns-clause-made : goal.returns-clause-made
 returns-clause-made g c =
     let old = state g.S.Store c.args.tx.now.conn.now in
     let mid = state g.S.Store c.drop_tables_to.new.tx.conn.now in
-    let new = state g.S.Store c.make_tables_from.new.tx.conn.now in
-    let dropped = statements-first_three c.args.layout old mid c.in_ok-drop_tables_to.ensures.made in
-    on_ok_weaker _ (λ made. statements-rebuilds c.args.layout old new (statements-and_then old mid new (λ clean. omega (arith, c.make_tables_from.ensures.inside.survives.clean)) (schema_of c.args.layout) (first_tables 3) (first_tables 10) (take 3 office_schema.tables) (take 3 office_schema.tables) [] (drop 3 (take 10 office_schema.tables))
-    (λ x y h. h) dropped made)) c.make_tables_from.ensures.made
+    let new = state g.S.Store c.create_tables_from.new.tx.conn.now in
+    let dropped = first_three c.args.layout old mid c.in_ok-drop_tables_to.ensures.made in
+    on_ok_weaker _ (λ made. rebuilds c.args.layout old new (statements-and_then old mid new (λ clean. omega (arith, c.create_tables_from.ensures.inside.survives.clean)) (schema_of c.args.layout) (first_tables 3) (first_tables 10) (take 3 office_schema.tables) (take 3 office_schema.tables) [] (drop 3 (take 10 office_schema.tables))
+    (λ x y h. h) dropped made)) c.create_tables_from.ensures.made

@@ -3,8 +3,8 @@ use Rattle.std.proofs.lemmas.List.{drop_all}
 use Rattle.sqlite.specs.Held.{state}
 use Rattle.office_tables.specs.Refilling.{with_all}
 use Rattle.office_tables.specs.Tables.{HasTables}
-use Rattle.office_tables.proofs.statements.Refilled.{statements-next_of}
-use Rattle.office_tables.proofs.statements.Steps.{statements-inside_then, statements-inside_none}
+use Rattle.office_tables.proofs.statements.Refilled.{next_of}
+use Rattle.office_tables.proofs.statements.Steps.{inside_then, inside_none}
 use Rattle.office_tables.proofs.refilling.refill.Goals as goal
 
 pub loop-row-init : goal.loop-row-init
@@ -12,7 +12,7 @@ loop-row-init g c = record {
   same_reference = refl;
   made = λ tables clean was. (tables, was, refl);
   mode = λ clean. refl;
-  inside = statements-inside_none (state g.S.Store c.args.tx.now.conn.now);
+  inside = inside_none (state g.S.Store c.args.tx.now.conn.now);
 }
 
 pub loop-row-preserved : goal.loop-row-preserved
@@ -21,7 +21,7 @@ loop-row-preserved g c =
     let i = c.loop-row.row-index in
     let row = c.row-item.result in
     let low : i < length xs = omega arith in
-    let here : drop i xs ≡ row ∷ drop (i + 1) xs = statements-next_of xs i row low c.row-item.is in
+    let here : drop i xs ≡ row ∷ drop (i + 1) xs = next_of xs i row low c.row-item.is in
     record {
       same_reference = c.in_ok-add_again.ensures.same_reference ∙ c.loop-row.invariant.same_reference;
       made = λ tables clean was.
@@ -29,7 +29,7 @@ loop-row-preserved g c =
           let shown = c.in_ok-add_again.ensures.made.shown m.0 clean m.1 in
           (g.R.Refilled.with_row row m.0, shown, ap (λ l. with_all g.R.Refilled.with_row l m.0) (sym here) ∙ m.2);
       mode = λ clean. c.in_ok-add_again.ensures.made.mode clean ∙ c.loop-row.invariant.mode (omega (arith, c.add_again.ensures.inside.survives.clean));
-      inside = statements-inside_then _ _ _ c.loop-row.invariant.inside c.add_again.ensures.inside;
+      inside = inside_then _ _ _ c.loop-row.invariant.inside c.add_again.ensures.inside;
     }
 
 pub returns-clause-made : goal.returns-clause-made

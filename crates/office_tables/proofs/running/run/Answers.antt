@@ -3,7 +3,7 @@ use Rattle.std.proofs.lemmas.Bool.{cases_Bool}
 use Rattle.std.proofs.lemmas.Result.{err_from_is_err_and}
 use Rattle.sqlite.specs.Held.{state}
 use Rattle.office_tables.specs.Steps.{IsUndone}
-use Rattle.office_tables.proofs.statements.Steps.{statements-undone_none, statements-undone_by}
+use Rattle.office_tables.proofs.statements.Steps.{undone_none, undone_by}
 use Rattle.office_tables.proofs.running.run.Goals as goal
 
 pub returns-clause-ran : goal.returns-clause-ran
@@ -20,7 +20,7 @@ returns-in_err-execute-clause-undone g c =
     let p = err_from_is_err_and c.from_residual.result c.from_residual.ensures.1 in
     let old = state g.S.Store c.args.tx.now.conn.now in
     let new = state g.S.Store c.execute.new.self.conn.now in
-    rw (p.1) (λ honest. elim (cases_Bool c.args.tx.now.conn.now.in_transaction) [
-      | inl inside ↦ statements-undone_by 0 _ _ _ old new (c.in_err-execute.ensures.runs honest.0 inside) honest
-      | inr ended ↦ subst (λ s. IsUndone old (state g.S.Store s)) (sym (c.execute.ensures.ended ended).1) (statements-undone_none old) honest
+    rw (p.1) (λ intact. elim (cases_Bool c.args.tx.now.conn.now.in_transaction) [
+      | inl inside ↦ undone_by 0 _ _ _ old new (c.in_err-execute.ensures.runs intact.0 inside) intact
+      | inr ended ↦ subst (λ s. IsUndone old (state g.S.Store s)) (sym (c.execute.ensures.ended ended).1) (undone_none old) intact
     ])

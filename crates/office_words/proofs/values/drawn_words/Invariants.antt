@@ -1,6 +1,6 @@
 use Rattle.std.proofs.Common.{◌≡◌, ◌⊎◌, true}
 use Rattle.room_types.specs.Words.{word_of}
-use Rattle.office_words.specs.Words.{first_in, is_drawn_word}
+use Rattle.office_words.specs.Requests.{first_in, is_drawn_word}
 use Rattle.office_words.proofs.request_words.Codes.{IsReadTo, texts}
 use Rattle.office_words.proofs.values.drawn_words.Given as goal
 

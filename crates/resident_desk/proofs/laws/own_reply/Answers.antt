@@ -1,5 +1,5 @@
-use Rattle.resident_desk.proofs.own_replies.Replies.{own_replies-replies_by_own_record}
+use Rattle.resident_desk.proofs.own_replies.Replies.{replies_by_own_record}
 use Rattle.resident_desk.proofs.laws.own_reply.Goals as goal
 
 pub returns : goal.returns
-returns c = own_replies-replies_by_own_record
+returns c = replies_by_own_record

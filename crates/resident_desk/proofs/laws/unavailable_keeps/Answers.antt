@@ -1,5 +1,5 @@
-use Rattle.resident_desk.proofs.own_replies.Replies.{own_replies-keeps_where_unavailable}
+use Rattle.resident_desk.proofs.own_replies.Replies.{keeps_where_unavailable}
 use Rattle.resident_desk.proofs.laws.unavailable_keeps.Goals as goal
 
 pub returns : goal.returns
-returns c = own_replies-keeps_where_unavailable
+returns c = keeps_where_unavailable

@@ -1,12 +1,12 @@
 use Rattle.std.proofs.Common.{sym}
-use Rattle.resident_http.proofs.http_requests.Windows.{http_requests-window-few, http_requests-window-is, http_requests-first_cut}
+use Rattle.resident_http.proofs.http_requests.Windows.{window-few, window-is, first_cut}
 use Rattle.resident_http.proofs.ask.first_bytes.Goals as goal
 
 pub returns-then-bytes-lt-HEAD_LIMIT-clause-value : goal.returns-then-bytes-lt-HEAD_LIMIT-clause-value
-returns-then-bytes-lt-HEAD_LIMIT-clause-value c = sym (http_requests-window-few c.args.bytes.now c.if-bytes-lt-HEAD_LIMIT.true)
+returns-then-bytes-lt-HEAD_LIMIT-clause-value c = sym (window-few c.args.bytes.now c.if-bytes-lt-HEAD_LIMIT.true)
 
 pub returns-clause-value : goal.returns-clause-value
-returns-clause-value c = http_requests-window-is c.args.bytes.now
+returns-clause-value c = window-is c.args.bytes.now
 
 pub returns-clause-all : goal.returns-clause-all
-returns-clause-all c = http_requests-first_cut c.args.bytes.now c.if-bytes-lt-HEAD_LIMIT.false
+returns-clause-all c = first_cut c.args.bytes.now c.if-bytes-lt-HEAD_LIMIT.false

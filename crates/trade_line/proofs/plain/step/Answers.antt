@@ -8,8 +8,8 @@ use Rattle.trade_line.proofs.searches.PlainSteps.{searches-stepping_stays, searc
 use Rattle.trade_line.proofs.plain.step.Goals as goal
 use Rattle.trade_line.proofs.plain.step.Goals.{then-is_on_cycle+in-Some, then-is_on_cycle+in_default, else-is_on_cycle}
 
-told : (m : Market) (s : Stage) (old given given' : List (Option ℕ)) (people people' rooms rooms' : List Bool) (n : ℕ) → given' ≡ given → people' ≡ people → rooms' ≡ rooms → Stepping m s old given people rooms n → Stepping m s old given' people' rooms' n
-told m s old given given' people people' rooms rooms' n g p r t =
+same_parts : (m : Market) (s : Stage) (old given given' : List (Option ℕ)) (people people' rooms rooms' : List Bool) (n : ℕ) → given' ≡ given → people' ≡ people → rooms' ≡ rooms → Stepping m s old given people rooms n → Stepping m s old given' people' rooms' n
+same_parts m s old given given' people people' rooms rooms' n g p r t =
     subst (λ z. Stepping m s old z people' rooms' n) (sym g) (subst (λ z. Stepping m s old given z rooms' n) (sym p) (subst (λ z. Stepping m s old given people z n) (sym r) t))
 
 pub index_mut-requires-in-Some : goal.index_mut-requires-in-Some
@@ -28,7 +28,7 @@ loop-person-preserved c =
     elim c.if-is_on_cycle.branch [
       | then-is_on_cycle+in-Some w ↦
           let is : wish c.args.problem.now s c.loop-person.person ≡ Some w.in-Some.taken = sym w.wish-room.ensures ∙ w.in-Some.is in
-          told c.args.problem.now s c.args.given.now.items (set given c.loop-person.person (wish c.args.problem.now s c.loop-person.person)) c.if-is_on_cycle.given.items (set people c.loop-person.person false) c.if-is_on_cycle.next.people.items
+          same_parts c.args.problem.now s c.args.given.now.items (set given c.loop-person.person (wish c.args.problem.now s c.loop-person.person)) c.if-is_on_cycle.given.items (set people c.loop-person.person false) c.if-is_on_cycle.next.people.items
           (close rooms (wish c.args.problem.now s c.loop-person.person)) c.if-is_on_cycle.next.rooms.items (c.loop-person.person + 1)
           (ap (λ v. v.items) w.given-is ∙ ap (set given c.loop-person.person) w.wish-room.ensures)
           (ap (λ v. v.people.items) w.next-is)
@@ -37,7 +37,7 @@ loop-person-preserved c =
           (λ x e. askers-wish_known c.args.problem.now c.requires.marks.market s c.loop-person.person x l e))
       | then-is_on_cycle+in_default w ↦
           let is : wish c.args.problem.now s c.loop-person.person ≡ None = sym w.wish-room.ensures ∙ w.in_default.is in
-          told c.args.problem.now s c.args.given.now.items (set given c.loop-person.person (wish c.args.problem.now s c.loop-person.person)) c.if-is_on_cycle.given.items (set people c.loop-person.person false) c.if-is_on_cycle.next.people.items
+          same_parts c.args.problem.now s c.args.given.now.items (set given c.loop-person.person (wish c.args.problem.now s c.loop-person.person)) c.if-is_on_cycle.given.items (set people c.loop-person.person false) c.if-is_on_cycle.next.people.items
           (close rooms (wish c.args.problem.now s c.loop-person.person)) c.if-is_on_cycle.next.rooms.items (c.loop-person.person + 1)
           (ap (λ v. v.items) w.given-is ∙ ap (set given c.loop-person.person) w.wish-room.ensures)
           (ap (λ v. v.people.items) w.next-is)
@@ -45,7 +45,7 @@ loop-person-preserved c =
           (searches-stepping_leaves c.args.problem.now s c.args.given.now.items given people rooms c.loop-person.person c.loop-person.invariant l (sym c.is_on_cycle.ensures ∙ w.if-is_on_cycle.true)
           (λ x e. askers-wish_known c.args.problem.now c.requires.marks.market s c.loop-person.person x l e))
       | else-is_on_cycle w ↦
-          told c.args.problem.now s c.args.given.now.items given c.if-is_on_cycle.given.items people c.if-is_on_cycle.next.people.items rooms c.if-is_on_cycle.next.rooms.items (c.loop-person.person + 1)
+          same_parts c.args.problem.now s c.args.given.now.items given c.if-is_on_cycle.given.items people c.if-is_on_cycle.next.people.items rooms c.if-is_on_cycle.next.rooms.items (c.loop-person.person + 1)
           (ap (λ v. v.items) w.given-is) (ap (λ v. v.people.items) w.next-is) (ap (λ v. v.rooms.items) w.next-is)
           (searches-stepping_stays c.args.problem.now s c.args.given.now.items given people rooms c.loop-person.person c.loop-person.invariant (sym c.is_on_cycle.ensures ∙ w.if-is_on_cycle.false))
     ]

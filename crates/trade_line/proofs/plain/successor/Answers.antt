@@ -4,8 +4,8 @@ use Rattle.trade_line.specs.TopTradingCycles.{first, successor}
 use Rattle.trade_line.specs.Inner.Plain.{remains}
 use Rattle.trade_line.proofs.askers.Lines.{askers-wish_known}
 use Rattle.trade_line.proofs.cycles.Steps.{cycles-successor_remains}
-use Rattle.trade_line.proofs.turns.Turns.{turns-tenant_home}
-use Rattle.trade_line.proofs.searches.PlainSteps.{searches-read_mark, searches-known_marks, searches-points_none, searches-points_tenant, searches-points_served, searches-points_vacant}
+use Rattle.trade_line.proofs.turns.Turns.{tenant_home}
+use Rattle.trade_line.proofs.searches.PlainSteps.{read_mark, searches-known_marks, searches-points_none, searches-points_tenant, searches-points_served, searches-points_vacant}
 use Rattle.trade_line.proofs.plain.successor.Goals as goal
 use Rattle.trade_line.proofs.plain.successor.Goals.{in_default-via-in-Some-tenant_of+else-index, in_default-via-in_default}
 
@@ -19,7 +19,7 @@ tenant_of-requires c =
 
 pub index-requires : goal.index-requires
 index-requires c =
-    let home : (c.in-Some-tenant_of.tenant < c.args.problem.now.people) × (home c.args.problem.now c.in-Some-tenant_of.tenant ≡ Some c.in-Some.room) = turns-tenant_home c.args.problem.now c.in-Some.room c.in-Some-tenant_of.tenant (sym c.tenant_of.ensures ∙ c.in-Some-tenant_of.is) in
+    let home : (c.in-Some-tenant_of.tenant < c.args.problem.now.people) × (home c.args.problem.now c.in-Some-tenant_of.tenant ≡ Some c.in-Some.room) = tenant_home c.args.problem.now c.in-Some.room c.in-Some-tenant_of.tenant (sym c.tenant_of.ensures ∙ c.in-Some-tenant_of.is) in
     omega (arith, home.0, c.requires.marks.people_len, c.args.stage.now.people.ok.0)
 
 pub returns-in-None : goal.returns-in-None
@@ -30,9 +30,9 @@ returns-in-None c = record {
 
 pub returns-in-Some-tenant_of : goal.returns-in-Some-tenant_of
 returns-in-Some-tenant_of c =
-    let home : (c.in-Some-tenant_of.tenant < c.args.problem.now.people) × (home c.args.problem.now c.in-Some-tenant_of.tenant ≡ Some c.in-Some.room) = turns-tenant_home c.args.problem.now c.in-Some.room c.in-Some-tenant_of.tenant (sym c.tenant_of.ensures ∙ c.in-Some-tenant_of.is) in
+    let home : (c.in-Some-tenant_of.tenant < c.args.problem.now.people) × (home c.args.problem.now c.in-Some-tenant_of.tenant ≡ Some c.in-Some.room) = tenant_home c.args.problem.now c.in-Some.room c.in-Some-tenant_of.tenant (sym c.tenant_of.ensures ∙ c.in-Some-tenant_of.is) in
     let stays : (remains c.args.stage.now).people c.in-Some-tenant_of.tenant ≡ true =
-    searches-read_mark c.args.stage.now.people.items c.in-Some-tenant_of.tenant c.index.result.now (omega (arith, home.0, c.requires.marks.people_len)) c.index.ensures ∙ c.if-index.true in record {
+    read_mark c.args.stage.now.people.items c.in-Some-tenant_of.tenant c.index.result.now (omega (arith, home.0, c.requires.marks.people_len)) c.index.ensures ∙ c.if-index.true in record {
       successor = searches-points_tenant c.args.problem.now (remains c.args.stage.now) c.args.person c.in-Some.room c.in-Some-tenant_of.tenant (sym c.wish.ensures ∙ c.in-Some.is) (sym c.tenant_of.ensures ∙ c.in-Some-tenant_of.is) stays;
       remains = stays;
     }
@@ -42,9 +42,9 @@ returns-in_default c =
     let points : first c.args.problem.now (remains c.args.stage.now) ≡ successor c.args.problem.now (remains c.args.stage.now) c.args.person =
     elim c.in_default.branch [
       | in_default-via-in-Some-tenant_of+else-index w ↦
-          let home : (w.in-Some-tenant_of.tenant < c.args.problem.now.people) × (home c.args.problem.now w.in-Some-tenant_of.tenant ≡ Some c.in-Some.room) = turns-tenant_home c.args.problem.now c.in-Some.room w.in-Some-tenant_of.tenant (sym c.tenant_of.ensures ∙ w.in-Some-tenant_of.is) in
+          let home : (w.in-Some-tenant_of.tenant < c.args.problem.now.people) × (home c.args.problem.now w.in-Some-tenant_of.tenant ≡ Some c.in-Some.room) = tenant_home c.args.problem.now c.in-Some.room w.in-Some-tenant_of.tenant (sym c.tenant_of.ensures ∙ w.in-Some-tenant_of.is) in
           searches-points_served c.args.problem.now (remains c.args.stage.now) c.args.person c.in-Some.room w.in-Some-tenant_of.tenant (sym c.wish.ensures ∙ c.in-Some.is) (sym c.tenant_of.ensures ∙ w.in-Some-tenant_of.is)
-          (searches-read_mark c.args.stage.now.people.items w.in-Some-tenant_of.tenant w.index.result.now (omega (arith, home.0, c.requires.marks.people_len)) w.index.ensures ∙ w.if-index.false)
+          (read_mark c.args.stage.now.people.items w.in-Some-tenant_of.tenant w.index.result.now (omega (arith, home.0, c.requires.marks.people_len)) w.index.ensures ∙ w.if-index.false)
       | in_default-via-in_default w ↦
           searches-points_vacant c.args.problem.now (remains c.args.stage.now) c.args.person c.in-Some.room (sym c.wish.ensures ∙ c.in-Some.is) (sym c.tenant_of.ensures ∙ w.in_default.is)
     ] in

@@ -1,6 +1,6 @@
 use Rattle.std.proofs.Common.{◌<◌, length, sym, ◌∙◌, arith}
 use Rattle.trade_line.proofs.turns.Loops.{turns-closing_start, turns-next_known}
-use Rattle.trade_line.proofs.turns.States.{turns-if_some, turns-closing_front, turns-closing_given, turns-closing_more, turns-closing_all}
+use Rattle.trade_line.proofs.turns.States.{if_some, turns-closing_front, turns-closing_given, turns-closing_more, turns-closing_all}
 use Rattle.trade_line.proofs.trade.close_loop.Goals as goal
 
 pub loop-person-init : goal.loop-person-init
@@ -13,7 +13,7 @@ grant-requires-clause-person g c =
 
 pub grant-requires-clause-room : goal.grant-requires-clause-room
 grant-requires-clause-room g c =
-    turns-if_some c.loop-person.next _ (λ x e.
+    if_some c.loop-person.next _ (λ x e.
     let h : x < length c.loop-person.progress.remaining.items = turns-next_known c.args.problem.now c.args.tenant c.args.room _ _ _ c.loop-person.invariant x e in
     omega (arith, c.loop-person.progress.remaining.ok.0))
 

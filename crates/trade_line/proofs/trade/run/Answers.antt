@@ -5,7 +5,7 @@ use Rattle.trade_line.specs.Assignment.{given_in, IsAssignment, IsIndividuallyRa
 use Rattle.trade_line.specs.TradeApart.{HasNoBetterTradeApart}
 use Rattle.trade_line.specs.Looks.{all_needed}
 use Rattle.trade_line.specs.Inner.State.{state_of}
-use Rattle.trade_line.proofs.turns.Whole.{turns-underway_asks, turns-underway_start, turns-underway_end, turns-all_same}
+use Rattle.trade_line.proofs.turns.Whole.{turns-underway_asks, turns-underway_start, turns-underway_end, all_same}
 use Rattle.trade_line.proofs.counts.ReadSums.{counts-read_start, counts-read_all, counts-needed_listed}
 use Rattle.trade_line.proofs.welfare.Given.{welfare-given_assignment, welfare-given_rational, welfare-given_efficient, welfare-given_apart}
 use Rattle.trade_line.proofs.trade.run.Goals as goal
@@ -17,9 +17,9 @@ loop-person-init g c =
     record {
       underway = turns-underway_start c.args.problem.now c.people-people.ensures.market _ _ c.requires.line fresh people (c.into_progress-progress.ensures.rooms ∙ ap (λ z. z.rooms) c.requires.bench);
       read = counts-read_start c.args.problem.now (state_of (g.L.Line.people c.args.line) c.into_progress-progress.result.0) c.into_progress-progress.result.1.items c.requires.line
-          (λ p. ap (λ z. get_or z p false) fresh.none_asked ∙ turns-all_same (length c.into_progress-progress.result.0.asked.items) false p)
+          (λ p. ap (λ z. get_or z p false) fresh.none_asked ∙ all_same (length c.into_progress-progress.result.0.asked.items) false p)
           (ap length fresh.cursors_start ∙ length-replicate (length c.into_progress-progress.result.0.asked.items) 0 ∙ people)
-          (λ p. ap (λ z. get_or z p 0) fresh.cursors_start ∙ turns-all_same (length c.into_progress-progress.result.0.asked.items) 0 p);
+          (λ p. ap (λ z. get_or z p 0) fresh.cursors_start ∙ all_same (length c.into_progress-progress.result.0.asked.items) 0 p);
       few = omega arith;
     }
 

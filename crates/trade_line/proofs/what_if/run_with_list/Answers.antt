@@ -4,7 +4,7 @@ use Rattle.trade_line.specs.OtherList.{with_list}
 use Rattle.trade_line.specs.Rank.{rank}
 use Rattle.trade_line.specs.TopTradingCycles.{gets, ttc}
 use Rattle.trade_line.proofs.welfare.Given.{welfare-given_gets}
-use Rattle.trade_line.proofs.welfare.Manipulation.{welfare-list_proof}
+use Rattle.trade_line.proofs.welfare.Manipulation.{list_proof}
 use Rattle.trade_line.proofs.welfare.OtherLists.{welfare-with_list_market}
 use Rattle.trade_line.proofs.what_if.run_with_list.Goals as goal
 
@@ -16,7 +16,7 @@ returns c =
     ∙ welfare-given_gets (with_list c.args.problem.now c.args.person c.args.list.items) ok c.args.person c.in_ok-changed.ensures.fits.0.0 in record {
       room = is;
       no_gain = subst (λ z. rank c.args.problem.now c.args.person (gets c.args.problem.now c.args.person) ≤ rank c.args.problem.now c.args.person z) (sym is)
-          (welfare-list_proof c.args.problem.now c.in_ok-changed.ensures.market c.args.person c.args.list.items c.in_ok-changed.ensures.fits.0.0 ok);
+          (list_proof c.args.problem.now c.in_ok-changed.ensures.market c.args.person c.args.list.items c.in_ok-changed.ensures.fits.0.0 ok);
       accepted = c.in_ok-changed.ensures.fits;
       first_fault = tt;
     }

@@ -4,13 +4,13 @@ use Rattle.std.specs.FinMap as map
 use Rattle.std.proofs.lemmas.Result.{err_from_is_err_and}
 use Rattle.office_state.specs.Office.Limits.{byte_limit, label_limit}
 use Rattle.office_core.specs.declared.refusal.Refusal.TheVariants as refused
-use Rattle.office_core.proofs.imports.ListChecks.{imports-list_is_refused}
+use Rattle.office_core.proofs.imports.ListChecks.{list_is_refused}
 use Rattle.office_core.proofs.command.import.import_new.Goals as goal
 
 pub returns-in_err-changes : goal.returns-in_err-changes
 returns-in_err-changes c =
     let p = err_from_is_err_and c.from_residual.result c.from_residual.ensures.1 in
-    rw (p.1, p.2) (imports-list_is_refused c.args.office.now c.args.label.now c.args.kind c.args.bytes.now
+    rw (p.1, p.2) (list_is_refused c.args.office.now c.args.label.now c.args.kind c.args.bytes.now
     c.in_err-changes.field-0.0
     (cc c.if-not-may_import.ensures)
     (lt-leb label_limit (map.len c.args.office.now.lists)
@@ -23,7 +23,7 @@ pub returns-in_err-push : goal.returns-in_err-push
 returns-in_err-push c =
     let p = err_from_is_err_and c.from_residual-in_err-push.result
     c.from_residual-in_err-push.ensures.1 in
-    rw (p.1, p.2) (imports-list_is_refused c.args.office.now c.args.label.now c.args.kind c.args.bytes.now
+    rw (p.1, p.2) (list_is_refused c.args.office.now c.args.label.now c.args.kind c.args.bytes.now
     refused.OutOfMemory
     (cc c.if-not-may_import.ensures)
     (lt-leb label_limit (map.len c.args.office.now.lists)

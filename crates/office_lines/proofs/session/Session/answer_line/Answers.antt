@@ -1,14 +1,14 @@
 use Rattle.std.proofs.Common.{rules, ◌≡◌, ◌-◌, not, length, arith, ap, ◌∙◌, refl, inl}
 use Rattle.office_texts.specs.Texts.{text_of}
-use Rattle.room_types.proofs.watched_bytes.Streams.{watched_bytes-Puts-nil}
+use Rattle.room_types.proofs.watched_bytes.Streams.{Puts-nil}
 use Rattle.office_lines.proofs.session.Session.answer_line.Goals as goal
 
 pub returns-in-Ok-send-clause-answered : goal.returns-in-Ok-send-clause-answered
 returns-in-Ok-send-clause-answered g c =
-    let text : c.as_bytes.result.now ≡ text_of c.hear-said.result = c.as_bytes.ensures.value ∙ c.deref-in-Ok.ensures.value ∙ c.in-Ok.ensures.text in
+    let text : c.as_bytes.result.now ≡ text_of c.handle_line-response.result = c.as_bytes.ensures.value ∙ c.deref-in-Ok.ensures.value ∙ c.in-Ok.ensures.text in
     record {
-      said = c.hear-said.result;
-      step = rw c.deref.ensures.value at c.hear-said.ensures.step;
+      response = c.handle_line-response.result;
+      step = rw c.deref.ensures.value at c.handle_line-response.ensures.step;
       partial_line = c.clear.ensures.items;
       written = rw text at c.in-Ok-send.ensures.sent;
       flushes = c.send.ensures.flushes;
@@ -19,15 +19,15 @@ returns-in-Ok-send-clause-answered g c =
 
 pub returns-in-Ok-clause-broken : goal.returns-in-Ok-clause-broken
 returns-in-Ok-clause-broken g c =
-    let step = rw c.deref.ensures.value at c.hear-said.ensures.step in
-    let text : c.as_bytes.result.now ≡ text_of c.hear-said.result = c.as_bytes.ensures.value ∙ c.deref-in-Ok.ensures.value ∙ c.in-Ok.ensures.text in
+    let step = rw c.deref.ensures.value at c.handle_line-response.ensures.step in
+    let text : c.as_bytes.result.now ≡ text_of c.handle_line-response.result = c.as_bytes.ensures.value ∙ c.deref-in-Ok.ensures.value ∙ c.in-Ok.ensures.text in
     let short = c.in-Err-send.ensures.short in
     record {
-      said = c.hear-said.result;
+      response = c.handle_line-response.result;
       sent = c.in-Err-send.sent;
       unsent = length c.as_bytes.result.now - c.in-Err-send.sent;
       step = step;
-      written = rw text at c.in-Err-send.ensures.front;
+      written = rw text at c.in-Err-send.ensures.prefix;
       unflushed = c.send.ensures.flushes;
       all = omega (arith, short, ap length text);
       suits = refl;
@@ -35,11 +35,11 @@ returns-in-Ok-clause-broken g c =
 
 pub returns-clause-broken : goal.returns-clause-broken
 returns-clause-broken g c = record {
-  said = c.hear-said.result;
+  response = c.handle_line-response.result;
   sent = 0;
-  unsent = length (text_of c.hear-said.result);
-  step = rw c.deref.ensures.value at c.hear-said.ensures.step;
-  written = watched_bytes-Puts-nil _;
+  unsent = length (text_of c.handle_line-response.result);
+  step = rw c.deref.ensures.value at c.handle_line-response.ensures.step;
+  written = Puts-nil _;
   unflushed = refl;
   all = omega arith;
   suits = (omega arith, inl (refl, c.in-Err.ensures.memory, ap not c.in-Err.ensures.made));

@@ -1,35 +1,35 @@
 use Rattle.std.proofs.Common.{rules, tests, ◌≡◌, ◌≤◌, length, arith, eqb, false}
 use Rattle.std.proofs.lemmas.Result.{MatchResult-weaker}
 use Rattle.office_lines.specs.Lines.{line_limit}
-use Rattle.office_lines.proofs.heard.Sessions.{heard-newline_heard, heard-newline_halted, heard-longer_heard, heard-too_long, heard-no_room}
+use Rattle.office_lines.proofs.handled.Sessions.{newline_handled, handled-newline_halted, longer_handled, handled-too_long, no_memory}
 use Rattle.office_lines.proofs.session.Session.take_byte.Goals as goal
 
-pub returns-then-byte-eq10-clause-heard : goal.returns-then-byte-eq10-clause-heard
-returns-then-byte-eq10-clause-heard g c =
+pub returns-then-byte-eq10-clause-handled : goal.returns-then-byte-eq10-clause-handled
+returns-then-byte-eq10-clause-handled g c =
     let line = c.args.self.now.partial_line in
     let short : length line.items ≤ line_limit = omega (arith, line.ok.0, c.args.self.now.short) in
     MatchResult-weaker c.answer_line.result c.answer_line.ensures.answered
-    (λ x h. heard-newline_heard _ _ _ c.args.byte c.if-byte-eq10.true short h) (λ e h. tt)
+    (λ x h. newline_handled _ _ _ c.args.byte c.if-byte-eq10.true short h) (λ e h. tt)
 
 pub returns-then-byte-eq10-clause-halted : goal.returns-then-byte-eq10-clause-halted
 returns-then-byte-eq10-clause-halted g c =
     let line = c.args.self.now.partial_line in
     let short : length line.items ≤ line_limit = omega (arith, line.ok.0, c.args.self.now.short) in
     MatchResult-weaker c.answer_line.result c.answer_line.ensures.broken
-    (λ x h. tt) (λ e h. heard-newline_halted _ _ _ _ c.args.byte e c.if-byte-eq10.true short h)
+    (λ x h. tt) (λ e h. handled-newline_halted _ _ _ _ c.args.byte e c.if-byte-eq10.true short h)
 
 pub returns-then-len-ge-LINE_LIMIT-clause-halted : goal.returns-then-len-ge-LINE_LIMIT-clause-halted
 returns-then-len-ge-LINE_LIMIT-clause-halted g c =
     let other : eqb c.args.byte 10 ≡ false = search (rules, tests) in
     let line = c.args.self.now.partial_line in
-    heard-too_long _ _ c.args.byte other (omega (arith, line.ok.0, c.len.ensures, c.if-len-ge-LINE_LIMIT.true, c.args.self.now.short))
+    handled-too_long _ _ c.args.byte other (omega (arith, line.ok.0, c.len.ensures, c.if-len-ge-LINE_LIMIT.true, c.args.self.now.short))
 
-pub returns-in-Ok-clause-heard : goal.returns-in-Ok-clause-heard
-returns-in-Ok-clause-heard g c =
+pub returns-in-Ok-clause-handled : goal.returns-in-Ok-clause-handled
+returns-in-Ok-clause-handled g c =
     let other : eqb c.args.byte 10 ≡ false = search (rules, tests) in
-    rw c.in-Ok.ensures.items (heard-longer_heard _ _ _ _ _ _ c.args.byte other)
+    rw c.in-Ok.ensures.items (longer_handled _ _ _ _ _ _ c.args.byte other)
 
 pub returns-in-Err-clause-halted : goal.returns-in-Err-clause-halted
 returns-in-Err-clause-halted g c =
     let other : eqb c.args.byte 10 ≡ false = search (rules, tests) in
-    heard-no_room _ _ c.args.byte other (omega (arith, c.args.self.now.partial_line.ok.0, c.len.ensures, c.if-len-ge-LINE_LIMIT.false))
+    no_memory _ _ c.args.byte other (omega (arith, c.args.self.now.partial_line.ok.0, c.len.ensures, c.if-len-ge-LINE_LIMIT.false))

@@ -3,7 +3,7 @@ use Rattle.room_types.specs.declared.phase.Phase.TheVariants.{Idle}
 use Rattle.office_state.specs.Office.Invariants.{IsLawful}
 use Rattle.office_state.specs.Office.{empty_office}
 use Rattle.office_state.specs.declared.office.Office.{Office}
-use Rattle.office_state.proofs.offices.Empty.{offices-empty_lawful}
+use Rattle.office_state.proofs.offices.Empty.{empty_lawful}
 use Rattle.office_state.proofs.office.Office.empty.Goals as goal
 
 pub returns-clause-lawful : goal.returns-clause-lawful
@@ -38,4 +38,4 @@ returns-clause-lawful c =
       number = 0;
       phase = Idle;
     } in
-    subst (λ o. IsLawful o) (sym same) offices-empty_lawful
+    subst (λ o. IsLawful o) (sym same) empty_lawful

@@ -5,7 +5,7 @@ use Rattle.std.specs.Map.Iter.{deref_pair}
 use Rattle.std.proofs.lemmas.Map.Iter.{rest_more}
 use Rattle.room_types.specs.Texts.{text_eq}
 use Rattle.office_state.specs.Office.{first_person, lives_in, is_text}
-use Rattle.office_state.proofs.offices.Tenants.{offices-tenants-none, offices-tenants-put}
+use Rattle.office_state.proofs.offices.Tenants.{tenants-none, tenants-put}
 use Rattle.office_state.proofs.office.Office.tenants.Goals as goal
 
 pub loop-id-init : goal.loop-id-init
@@ -15,7 +15,7 @@ loop-id-init c = record {
   found = λ room.
       ap (λ m. option_or (map.get m room)
       (first_person (lives_in room) c.into_iter-id-iterator.result)) c.new-tenants.ensures
-      ∙ offices-tenants-none room (first_person (lives_in room) c.into_iter-id-iterator.result)
+      ∙ tenants-none room (first_person (lives_in room) c.into_iter-id-iterator.result)
       ∙ ap (λ es. first_person (lives_in room) es)
       (c.into_iter-id-iterator.ensures.into_iter_gives ∙ c.iter-id-items.ensures.rest);
   left = search rules;
@@ -31,7 +31,7 @@ loop-id-preserved-in_ok-insert c = record {
       ap (λ n. option_or (map.get n room) left) c.in_ok-insert.ensures.ok
       ∙ ap (λ home. option_or (map.get (map.insert m home c.in_ok-copy-2.field-0) room) left)
       c.in_ok-copy.ensures
-      ∙ offices-tenants-put m c.in-Some-home.home c.in_ok-copy-2.field-0 room left
+      ∙ tenants-put m c.in-Some-home.home c.in_ok-copy-2.field-0 room left
       (sym c.contains_key.ensures ∙ c.if-not-contains_key.true)
       ∙ ap (λ id. option_or (map.get m room)
       (cond (text_eq c.in-Some-home.home room) (Some id) left)) c.in_ok-copy-2.ensures

@@ -7,10 +7,10 @@ use Rattle.office_state.proofs.round.lists.lists.Goals as goal
 
 pub loop-person-preserved : goal.loop-person-preserved
 loop-person-preserved c = record {
-  told = grind (arith, common_steps);
+  returned = grind (arith, common_steps);
   differ = All-more (λ p. first_repeated [] (choices_of c.args.office.now p) ≡ None)
       c.args.people.now c.loop-person.person-index c.person-item.result c.loop-person-test.true
       c.loop-person.invariant.differ
       (subst (λ p. first_repeated [] (choices_of c.args.office.now p) ≡ None) c.person-item.is
-      c.in_ok-recorded_list.ensures.differ);
+      c.in_ok-list_numbers.ensures.differ);
 }

@@ -8,7 +8,7 @@ use Rattle.office_state.proofs.round.lists.lists.Given as goal
 
 abbrev pub invariant-loop-person : goal.invariant-loop-person
 invariant-loop-person l = record {
-  told : map (λ list. list.items) l.lists.items
+  returned : map (λ list. list.items) l.lists.items
       ≡ map (λ p. filter_map (maps.get l.numbers)
       (before_own (home_of l.office p) (choices_of l.office p))) (take l.person-index l.people);
   differ : All (λ p. first_repeated [] (choices_of l.office p) ≡ None)

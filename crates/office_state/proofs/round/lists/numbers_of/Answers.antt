@@ -9,17 +9,17 @@ pub loop-code-preserved : goal.loop-code-preserved
 loop-code-preserved c =
     let number = map.get c.args.numbers.now in
     let codes = c.before_own-code-items.result.now in
-    let told = c.get.ensures in
+    let returned = c.get.ensures in
     elim c.match-get.branch [
       | in-Some+in_ok-push w ↦
           ap (λ (list : Vec ℕ Global). list.items) w.list-is ∙ w.in_ok-push.ensures.items
           ∙ ap (λ xs. xs ++ w.in-Some.number.now ∷ []) c.loop-code.invariant
           ∙ sym (round_problems-numbered-some number codes c.loop-code.code-index c.code-item.result
           c.loop-code-test.true c.code-item.is w.in-Some.number.now
-          (sym told ∙ ap option_copied w.in-Some.is))
+          (sym returned ∙ ap option_copied w.in-Some.is))
       | in_default w ↦
           ap (λ (list : Vec ℕ Global). list.items) w.list-is
           ∙ c.loop-code.invariant
           ∙ sym (round_problems-numbered-none number codes c.loop-code.code-index c.code-item.result
-          c.loop-code-test.true c.code-item.is (sym told ∙ ap option_copied w.in_default.is))
+          c.loop-code-test.true c.code-item.is (sym returned ∙ ap option_copied w.in_default.is))
     ]

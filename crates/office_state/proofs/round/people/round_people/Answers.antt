@@ -8,5 +8,5 @@ pub returns-clause-people : goal.returns-clause-people
 unfolding round_people
 returns-clause-people c =
     IfOk-weaker c.order.result _ _
-    (λ people is. is ∙ ap drawn_order (c.deref.ensures.value ∙ c.in_ok-lots.ensures.lots))
+    (λ people is. is ∙ ap drawn_order (c.deref.ensures.value ∙ c.in_ok-tickets.ensures.tickets))
     c.order.ensures.computed

@@ -6,14 +6,14 @@ use Rattle.trade_line.specs.Market.{IsMarket}
 use Rattle.trade_line.specs.Problem.{market_of}
 use Rattle.office_state.specs.Office.{choices_of}
 use Rattle.office_state.specs.Round.{round_market, number_in}
-use Rattle.office_state.proofs.round_problems.Problem.{round_problems-market-IsMarket, round_problems-market-same, round_problems-sole_fault}
+use Rattle.office_state.proofs.round_problems.Problem.{round_problems-market-IsMarket, market-same, sole_fault}
 use Rattle.office_state.proofs.round.problem.round_problem.Goals as goal
 
-pub round_problem_want_of_memory-requires : goal.round_problem_want_of_memory-requires
-round_problem_want_of_memory-requires c =
+pub out_of_memory-requires : goal.out_of_memory-requires
+out_of_memory-requires c =
     let made : market_of c.len.result c.len-2.result c.in_ok-homes.homes.items
     c.in_ok-lists.lists.items ≡ round_market c.args.office.now =
-    round_problems-market-same c.args.office.now c.len.result c.len-2.result c.deref-3.result.now
+    market-same c.args.office.now c.len.result c.len-2.result c.deref-3.result.now
     c.deref-2.result.now c.deref-3.result.now c.deref.result.now c.deref.result.now
     c.in_ok-homes.homes.items (map (λ (list : Vec ℕ Global). list.items) c.in_ok-lists.lists.items)
     (maps.get c.in_ok-numbers.numbers)
@@ -28,7 +28,7 @@ round_problem_want_of_memory-requires c =
     round_problems-market-IsMarket c.args.office.now c.requires
     (subst (λ people. All (λ p. first_repeated [] (choices_of c.args.office.now p) ≡ None) people)
     (c.deref-3.ensures.value ∙ c.in_ok-people.ensures.people) c.in_ok-lists.ensures.differ) in
-    round_problems-sole_fault (market_of c.len.result c.len-2.result c.in_ok-homes.homes.items
+    sole_fault (market_of c.len.result c.len-2.result c.in_ok-homes.homes.items
     c.in_ok-lists.lists.items) (subst IsMarket (sym made) ok) c.in-Err.fault
     c.in-Err.ensures.first_fault
 
@@ -36,7 +36,7 @@ pub returns-in-Ok-clause-problem : goal.returns-in-Ok-clause-problem
 returns-in-Ok-clause-problem c =
     let made : market_of c.len.result c.len-2.result c.in_ok-homes.homes.items
     c.in_ok-lists.lists.items ≡ round_market c.args.office.now =
-    round_problems-market-same c.args.office.now c.len.result c.len-2.result c.deref-3.result.now
+    market-same c.args.office.now c.len.result c.len-2.result c.deref-3.result.now
     c.deref-2.result.now c.deref-3.result.now c.deref.result.now c.deref.result.now
     c.in_ok-homes.homes.items (map (λ (list : Vec ℕ Global). list.items) c.in_ok-lists.lists.items)
     (maps.get c.in_ok-numbers.numbers)

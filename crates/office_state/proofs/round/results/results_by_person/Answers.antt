@@ -5,7 +5,7 @@ use Rattle.std.specs.FinMap as map
 use Rattle.std.specs.FinMap.{get-empty}
 use Rattle.room_types.specs.Texts.{text_cmp}
 use Rattle.office_state.specs.declared.office.Assigned.{Assigned}
-use Rattle.office_state.proofs.round_problems.Names.{round_problems-given-more}
+use Rattle.office_state.proofs.round_problems.Names.{given-more}
 use Rattle.office_state.proofs.round.results.results_by_person.Goals as goal
 
 pub loop-number-init : goal.loop-number-init
@@ -23,7 +23,7 @@ loop-number-preserved c = λ name.
     ap (λ m. map.get m name) (c.in_ok-insert.ensures.ok
     ∙ ap (λ k. map.insert c.loop-number.results k (record { room = c.in_ok-room.room }))
     c.in_ok-copy.ensures)
-    ∙ round_problems-given-more gives c.loop-number.results c.args.people.now c.loop-number.number
+    ∙ given-more gives c.loop-number.results c.args.people.now c.loop-number.number
     c.index-people-number.result (record { room = c.in_ok-room.room }) c.requires
     c.loop-number-test.true c.index-people-number.is
     (ap (λ o. record { room = o })

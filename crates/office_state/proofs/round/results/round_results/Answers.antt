@@ -4,15 +4,15 @@ use Rattle.std.proofs.lemmas.Result.{IfOk-weaker}
 use Rattle.trade_line.specs.Market.{IsMarket}
 use Rattle.trade_line.specs.TopTradingCycles.{ttc}
 use Rattle.office_state.specs.Round.{round_market}
-use Rattle.office_state.proofs.round_problems.People.{round_problems-people_differ}
-use Rattle.office_state.proofs.round_outcomes.Results.{round_outcomes-results-same}
+use Rattle.office_state.proofs.round_problems.People.{people_differ}
+use Rattle.office_state.proofs.round_outcomes.Results.{results-same}
 use Rattle.office_state.proofs.round.results.round_results.Goals as goal
 
 pub results_by_person-requires : goal.results_by_person-requires
 results_by_person-requires c =
     subst (λ names. AllPairs ◌≢◌ names)
     (sym (c.deref.ensures.value ∙ c.in_ok-round.ensures.problem.people))
-    (round_problems-people_differ c.args.office.now)
+    (people_differ c.args.office.now)
 
 pub returns : goal.returns
 returns c =
@@ -20,9 +20,9 @@ returns c =
     let ok : IsMarket (round_market office) = c.in_ok-round.ensures.well_formed in
     let about = c.in_ok-round.ensures.problem in
     record {
-      results = IfOk-weaker c.results_by_person.result _ _ (λ results told.
-          round_outcomes-results-same office results c.deref.result.now c.deref-2.result.now
+      results = IfOk-weaker c.results_by_person.result _ _ (λ results returned.
+          results-same office results c.deref.result.now c.deref-2.result.now
           c.in_ok-outcome.outcome.rooms ok
           (c.deref.ensures.value ∙ about.people) (c.deref-2.ensures.value ∙ about.rooms)
-          (c.in_ok-outcome.ensures ∙ ap ttc about.market) told) c.results_by_person.ensures;
+          (c.in_ok-outcome.ensures ∙ ap ttc about.market) returned) c.results_by_person.ensures;
     }

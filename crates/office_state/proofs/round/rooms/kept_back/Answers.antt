@@ -7,7 +7,7 @@ use Rattle.std.specs.FinMap.{get-empty}
 use Rattle.std.proofs.lemmas.Map.Iter.{rest_more}
 use Rattle.room_types.specs.Texts.{text_cmp}
 use Rattle.office_state.specs.Office.{has_withdrawn, lives_in, is_text}
-use Rattle.office_state.proofs.round_problems.Names.{round_problems-kept_back-more}
+use Rattle.office_state.proofs.round_problems.Names.{kept_back-more}
 use Rattle.office_state.proofs.round.rooms.kept_back.Goals as goal
 
 pub loop-id-init : goal.loop-id-init
@@ -32,7 +32,7 @@ loop-id-preserved-in_ok-insert c = record {
       let m = c.loop-id.homes in
       ap (λ n. map.contains_key n room || left)
       (c.in_ok-insert.ensures.ok ∙ ap (λ home. map.insert m home tt) c.in_ok-copy.ensures)
-      ∙ round_problems-kept_back-more m c.in-Some-home.home room left
+      ∙ kept_back-more m c.in-Some-home.home room left
       ∙ ap (λ home. map.contains_key m room || (is_text home room || left)) (sym c.in-Some-home.is)
       ∙ ap (λ b. map.contains_key m room || ((b && is_text c.in-Some.person.now.home room) || left))
       (sym (sym c.contains_key.ensures ∙ c.if-contains_key.true))

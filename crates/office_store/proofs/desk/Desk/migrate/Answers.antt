@@ -2,29 +2,29 @@ use Rattle.std.proofs.Common.{Err, Some, inl, inr, sym, ap, ◌∙◌, subst}
 use Rattle.office_store.specs.Desk.{Shows}
 use Rattle.office_store.specs.Migrating.{migrating_fault}
 use Rattle.office_tables.specs.Layouts.{version_of}
-use Rattle.office_store.proofs.desks.Migrated.{desks-shows_migrated, desks-there}
+use Rattle.office_store.proofs.desks.Migrated.{shows_migrated, desks-there}
 use Rattle.office_store.proofs.desk.Desk.migrate.Goals as goal
 
 pub returns-in-Ok-clause-shows : goal.returns-in-Ok-clause-shows
 returns-in-Ok-clause-shows g c clean declared layout laid wide =
     let made = c.in-Ok.ensures.migrated clean declared layout laid wide in
-    (c.in-Ok.office, made.0, made.1, desks-shows_migrated g.S.Store c.migrate.new.conn (version_of layout) c.in-Ok.office (clean, c.in-Ok.ensures.is_open clean) c.in-Ok.ensures.lawful made.2 made.3)
+    (c.in-Ok.office, made.0, made.1, shows_migrated g.S.Store c.migrate.new.conn (version_of layout) c.in-Ok.office (clean, c.in-Ok.ensures.is_open clean) c.in-Ok.ensures.lawful made.2 made.3)
 
 pub returns-in-Ok-clause-accepts : goal.returns-in-Ok-clause-accepts
 returns-in-Ok-clause-accepts g c layout office earlier clean =
     let made = c.in-Ok.ensures.accepts clean layout office earlier in
-    subst (λ kept. Shows g.S.Store (record { conn = c.migrate.new.conn; kept = Some kept }) office) (sym made.0)
-    (desks-shows_migrated g.S.Store c.migrate.new.conn (version_of layout) office (clean, c.in-Ok.ensures.is_open clean) earlier.lawful earlier.spelled made.1)
+    subst (λ cached. Shows g.S.Store (record { conn = c.migrate.new.conn; cached = Some cached }) office) (sym made.0)
+    (shows_migrated g.S.Store c.migrate.new.conn (version_of layout) office (clean, c.in-Ok.ensures.is_open clean) earlier.lawful earlier.well_formed made.1)
 
 pub returns-in-Ok-clause-other : goal.returns-in-Ok-clause-other
 returns-in-Ok-clause-other g c version says other clean = c.in-Ok.ensures.other clean version says other
 
 pub returns-in-Err-clause-other : goal.returns-in-Err-clause-other
 returns-in-Err-clause-other g c version says other clean =
-    let told = c.in-Err.ensures.other clean version says other in
-    elim told [
-      | inl want ↦ inl (c.migrating_desk_fault.ensures ∙ ap migrating_fault want)
-      | inr held ↦ inr (c.migrating_desk_fault.ensures ∙ ap migrating_fault held)
+    let returned = c.in-Err.ensures.other clean version says other in
+    elim returned [
+      | inl want ↦ inl (c.migrating_fault.ensures ∙ ap migrating_fault want)
+      | inr held ↦ inr (c.migrating_fault.ensures ∙ ap migrating_fault held)
     ]
 
 pub returns-in-Ok-clause-taken : goal.returns-in-Ok-clause-taken
@@ -32,12 +32,12 @@ returns-in-Ok-clause-taken g c layout office first used clean = c.in-Ok.ensures.
 
 pub returns-in-Err-clause-taken : goal.returns-in-Err-clause-taken
 returns-in-Err-clause-taken g c layout office first used clean =
-    let told = c.in-Err.ensures.taken clean layout office first used in
-    elim told [
-      | inl want ↦ inl (c.migrating_desk_fault.ensures ∙ ap migrating_fault want)
-      | inr there ↦ inr (c.migrating_desk_fault.ensures ∙ ap migrating_fault there)
+    let returned = c.in-Err.ensures.taken clean layout office first used in
+    elim returned [
+      | inl want ↦ inl (c.migrating_fault.ensures ∙ ap migrating_fault want)
+      | inr there ↦ inr (c.migrating_fault.ensures ∙ ap migrating_fault there)
     ]
 
 pub returns-in-Err-clause-rows : goal.returns-in-Err-clause-rows
 returns-in-Err-clause-rows g c there clean =
-    c.in-Err.ensures.rows (ap Err (desks-there c.in-Err.fault (sym c.migrating_desk_fault.ensures ∙ there))) clean
+    c.in-Err.ensures.rows (ap Err (desks-there c.in-Err.fault (sym c.migrating_fault.ensures ∙ there))) clean

@@ -2,12 +2,12 @@ use Rattle.std.proofs.Common.{◌∙◌, sym, ap, rules}
 use Rattle.std.specs.Cmp.Lexicographic.{nat_list_cmp_total}
 use Rattle.std.specs.FinMap as map
 use Rattle.room_types.proofs.maps.Trees.{maps-insert-tree, maps-get-tree}
-use Rattle.room_types.proofs.maps.TextMaps.{maps-exact_texts}
+use Rattle.room_types.proofs.maps.TextMaps.{exact_texts}
 use Rattle.room_types.proofs.table.Table.insert.Goals as goal
 
 pub returns-clause-ok : goal.returns-clause-ok
 returns-clause-ok g c =
-    maps-insert-tree nat_list_cmp_total maps-exact_texts c.self.inside.tree c.insert.new.self c.args.key c.args.value c.in_ok-insert.ensures.updates.0
+    maps-insert-tree nat_list_cmp_total exact_texts c.self.inside.tree c.insert.new.self c.args.key c.args.value c.in_ok-insert.ensures.updates.0
     ∙ ap (λ m. map.insert m c.args.key c.args.value) c.self.view_is
 
 pub returns-in_err-insert-clause-absent : goal.returns-in_err-insert-clause-absent

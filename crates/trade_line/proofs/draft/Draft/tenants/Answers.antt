@@ -1,7 +1,7 @@
 use Rattle.std.proofs.Common.{false, ◌≡◌, ℕ, ◌<◌, ◌+◌, Some, None, length, get_or, sym, ◌∙◌, ap, arith, subst, is_some, length-set}
 use Rattle.trade_line.specs.Inner.Tenants.{AreHoused}
 use Rattle.trade_line.proofs.markets.Drafts.{markets-housed_none, markets-housed_some, markets-housed_shared}
-use Rattle.trade_line.proofs.turns.States.{turns-read_same}
+use Rattle.trade_line.proofs.turns.States.{read_same}
 use Rattle.trade_line.proofs.draft.Draft.tenants.Goals as goal
 use Rattle.trade_line.proofs.draft.Draft.tenants.Goals.{in-Some+else-is_some, in_default}
 
@@ -10,7 +10,7 @@ returns-then-is_some-clause-fault c =
     let lp : c.loop-person.person < length c.args.self.now.homes.items = omega (arith, ap length c.deref-home-items.ensures.value, c.loop-person-test.true) in
     let home_is : get_or c.args.self.now.homes.items c.loop-person.person None ≡ Some c.in-Some.room = sym (ap (λ z. get_or z c.loop-person.person None) c.deref-home-items.ensures.value) ∙ c.in-Some.is in
     let room : c.in-Some.room < length c.loop-person.tenants.items = omega (arith, c.requires.homes_known c.loop-person.person c.in-Some.room (omega (arith, c.requires.homes_len)) home_is, c.loop-person.invariant.1) in
-    let read : get_or c.loop-person.tenants.items c.in-Some.room None ≡ c.index.result.now = turns-read_same c.loop-person.tenants.items c.in-Some.room None c.index.result.now room ∙ sym c.index.ensures in
+    let read : get_or c.loop-person.tenants.items c.in-Some.room None ≡ c.index.result.now = read_same c.loop-person.tenants.items c.in-Some.room None c.index.result.now room ∙ sym c.index.ensures in
     let was : (p : ℕ) × (p < c.loop-person.person) × (get_or c.args.self.now.homes.items p None ≡ Some c.in-Some.room) =
     markets-housed_shared c.args.self.now.homes.items c.loop-person.tenants.items c.loop-person.person c.in-Some.room c.loop-person.invariant.0 home_is room (ap is_some read ∙ sym c.is_some.ensures ∙ c.if-is_some.true) in (
       c.requires,
@@ -27,7 +27,7 @@ loop-person-preserved c =
           let home_is : get_or c.args.self.now.homes.items c.loop-person.person None ≡ Some w.in-Some.room = sym (ap (λ z. get_or z c.loop-person.person None) c.deref-home-items.ensures.value) ∙ w.in-Some.is in
           let room : w.in-Some.room < length c.loop-person.tenants.items = omega (arith, c.requires.homes_known c.loop-person.person w.in-Some.room (omega (arith, c.requires.homes_len)) home_is, c.loop-person.invariant.1) in
           let unlet : is_some (get_or c.loop-person.tenants.items w.in-Some.room None) ≡ false =
-          ap is_some (turns-read_same c.loop-person.tenants.items w.in-Some.room None w.index.result.now room ∙ sym w.index.ensures) ∙ sym w.is_some.ensures ∙ w.if-is_some.false in
+          ap is_some (read_same c.loop-person.tenants.items w.in-Some.room None w.index.result.now room ∙ sym w.index.ensures) ∙ sym w.is_some.ensures ∙ w.if-is_some.false in
           let free : get_or c.loop-person.tenants.items w.in-Some.room None ≡ None = grind (arith, unlet) in (
             subst (λ z. AreHoused c.args.self.now.homes.items z (c.loop-person.person + 1)) (sym (ap (λ v. v.items) w.tenants-is))
                 (markets-housed_some c.args.self.now.homes.items c.loop-person.tenants.items c.loop-person.person w.in-Some.room c.loop-person.invariant.0 home_is room free),

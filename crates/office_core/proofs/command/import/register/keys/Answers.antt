@@ -6,7 +6,7 @@ use Rattle.std.specs.Map.Iter.{deref_pair}
 use Rattle.std.proofs.lemmas.Map.Iter.{rest_more}
 use Rattle.room_types.specs.Texts.{text_cmp}
 use Rattle.office_state.specs.Office.{first_person, is_text}
-use Rattle.office_core.proofs.imports.Indexed.{imports-keys-put}
+use Rattle.office_core.proofs.imports.Indexed.{keys-put}
 use Rattle.office_core.proofs.command.import.register.keys.Goals as goal
 
 pub loop-person-init : goal.loop-person-init
@@ -33,7 +33,7 @@ loop-person-preserved c = record {
       let m = c.loop-person.keys in
       ap (λ n. map.contains_key n key || is_some left) c.in_ok-insert.ensures.ok
       ∙ ap (λ k. map.contains_key (map.insert m k tt) key || is_some left) c.in_ok-copy.ensures
-      ∙ imports-keys-put m c.in-Some.person.now.key tt c.in-Some.field-0-0.now key left
+      ∙ keys-put m c.in-Some.person.now.key tt c.in-Some.field-0-0.now key left
       ∙ ap (λ es. map.contains_key m key || is_some (all es))
       (sym (rest_more deref_pair _ _ _
       (c.in-Some.field-0-0, c.in-Some.person) c.in-Some.is c.next.ensures.steps))

@@ -6,7 +6,7 @@ use Rattle.std.proofs.lemmas.Result.{on_ok_weaker, on_err_weaker}
 use Rattle.office_state.specs.Office.Moves.{with_move}
 use Rattle.room_types.proofs.maps.Trees.{maps-get-tree}
 use Rattle.office_state.proofs.offices.Moves.{offices-move-written, offices-move-unwritten}
-use Rattle.office_state.proofs.offices.Moves.{offices-move-begun}
+use Rattle.office_state.proofs.offices.Moves.{move-begun}
 use Rattle.office_state.proofs.office.moves.Rounds+RoundMoves.add.Goals as goal
 
 pub returns-in-Some-clause-ok : goal.returns-in-Some-clause-ok
@@ -60,4 +60,4 @@ returns-in-None-clause-ok c =
             wave = c.args.moved.now.wave;
           });
     }))
-    ∙ offices-move-begun c.args.self.now c.args.moved.now none) c.begin.ensures.ok
+    ∙ move-begun c.args.self.now c.args.moved.now none) c.begin.ensures.ok

@@ -2,7 +2,7 @@ use Rattle.std.proofs.Common.{◌∙◌, ap, sym}
 use Rattle.std.specs.Ordering.{nat_cmp}
 use Rattle.std.specs.FinMap as map
 use Rattle.std.specs.FinMap.{empty_of_len}
-use Rattle.room_types.proofs.maps.Trees.{maps-same_pairs}
+use Rattle.room_types.proofs.maps.Trees.{same_pairs}
 use Rattle.office_state.proofs.office.moves.Rounds.copy.Goals as goal
 
 pub returns-then-len-eq0-clause-copy : goal.returns-then-len-eq0-clause-copy
@@ -12,6 +12,6 @@ returns-then-len-eq0-clause-copy g c =
 pub returns-clause-copy : goal.returns-clause-copy
 returns-clause-copy g c =
     ap (λ es. map.from_entries {R = nat_cmp} es)
-    (maps-same_pairs _ _ (λ x y h. h) g.met.V.Copied.same c.self.inside.tree.entries
+    (same_pairs _ _ (λ x y h. h) g.met.V.ExactClone.same c.self.inside.tree.entries
     c.in_ok-tree.tree.entries c.in_ok-tree.ensures.cases)
     ∙ c.self.view_is

@@ -1,0 +1,8 @@
+use Rattle.std.proofs.Common.{◌≡◌, ◌++◌, take, map}
+use Rattle.office_core.specs.Command.Settle.{leaving, departures}
+use Rattle.office_core.proofs.command.settle.push_departures.Given as goal
+
+-- the changes before the call, followed by those of the people who have left so far
+abbrev pub invariant-loop-moved : goal.invariant-loop-moved
+invariant-loop-moved l =
+    l.changes.items ≡ l.fn.changes.items ++ map leaving (departures (take l.moved-index l.moves))

@@ -1,0 +1,33 @@
+//! Printing a text with an exit status.
+ghost use Rattle.room_types.specs.Streams.{output_of};
+ghost use Rattle.room_types.specs.Watched.{StopsAtFailure};
+ghost use Rattle.office_lines.specs.Printing.{Prints, PrintsUnavailable};
+
+use office_texts::UNAVAILABLE;
+use room_types::Watched;
+use room_types::send::send;
+use std::io::Write;
+
+/// Writes the text and flushes. Returns `status`, or 3 if the device fails.
+pub fn print<W: Write>(output: &mut Watched<W>, text: &str, status: u8) -> u8
+    ensures no_wasted_write { StopsAtFailure output.old output.new }
+    ensures prints { Prints text.now status result (output_of W.contents output.old)
+        (output_of W.contents output.new) }
+{
+    match send(output, text.as_bytes()) {
+        Ok(()) => match output.flush() {
+            Ok(()) => status,
+            Err(_) => UNAVAILABLE,
+        },
+        Err(_) => UNAVAILABLE,
+    }
+}
+
+/// Prints `unavailable`, because an allocation or the database failed. Returns exit status 3.
+pub fn print_unavailable<W: Write>(output: &mut Watched<W>) -> u8
+    ensures no_wasted_write { StopsAtFailure output.old output.new }
+    ensures prints { PrintsUnavailable result (output_of W.contents output.old)
+        (output_of W.contents output.new) }
+{
+    print(output, "unavailable\n", UNAVAILABLE)
+}

@@ -1,0 +1,29 @@
+-- The inverse of following the leavers.
+use Rattle.std.specs.Prelude.{◌≡◌, ℕ, ◌+◌, ◌<◌, List, length, slice_index_or, Option, Some, ◌⊎◌}
+use Rattle.room_types.specs.declared.moves.Wave.{Wave}
+use Rattle.room_types.specs.declared.moves.Wave.TheVariants.{Swap, Nth}
+use Rattle.office_lists.specs.Waves.{next, followed}
+
+-- each leaver is an entry, and no two entries have the same leaver
+pub record AreInjective (leavers : List (Option ℕ)) : Type 0 where
+  pub within : (i j : ℕ) → next leavers i ≡ Some j → j < length leavers
+  pub one : (i j k : ℕ) → next leavers i ≡ Some k → next leavers j ≡ Some k → i ≡ j
+
+-- `successors` is the inverse of `leavers`: for each entry, the one whose leaver it is
+pub record AreSuccessors (leavers successors : List (Option ℕ)) : Type 0 where
+  pub same_length : length successors ≡ length leavers
+  pub after : (i j : ℕ) → next successors j ≡ Some i → next leavers i ≡ Some j
+  pub before : (i j : ℕ) → next leavers i ≡ Some j → next successors j ≡ Some i
+
+-- entry i has a numbered wave
+abbrev pub IsNumbered : List Wave → ℕ → Type 0
+IsNumbered waves i = (number : ℕ) × (slice_index_or waves i Swap ≡ Nth number)
+
+-- Each entry on the chain that ends at `end` has a number: the one that it had before, or its distance from `end` plus
+-- `first`. All other entries are as before.
+pub record NumbersChain (successors : List (Option ℕ)) (end first : ℕ) (old new : List Wave) : Type 0 where
+  pub reached : (count i : ℕ) → followed successors count end ≡ Some i → IsNumbered new i
+  pub right : (i number : ℕ) → slice_index_or new i Swap ≡ Nth number
+      → (slice_index_or old i Swap ≡ Nth number)
+      ⊎ ((count : ℕ) × (number ≡ count + first) × (followed successors count end ≡ Some i))
+  pub kept : (i number : ℕ) → slice_index_or old i Swap ≡ Nth number → IsNumbered new i

@@ -1,5 +1,0 @@
-use Rattle.office_state.proofs.round_outcomes.Lists.{round_outcomes-none_gain}
-use Rattle.office_state.proofs.round.laws.no_group_gains.Goals as goal
-
-pub returns : goal.returns
-returns c = round_outcomes-none_gain

@@ -1,5 +1,0 @@
-use Rattle.office_state.proofs.round_outcomes.Lists.{round_outcomes-by_list, round_outcomes-own_list_best}
-use Rattle.office_state.proofs.round.laws.own_list_is_best.Goals as goal
-
-pub returns : goal.returns
-returns c = record { best = round_outcomes-own_list_best; by_another = round_outcomes-by_list }

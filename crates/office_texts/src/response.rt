@@ -1,0 +1,13 @@
+//! The response to an input line.
+use office_store::Answer;
+
+/// The response to an input line.
+#[derive(Drop)]
+pub enum Response {
+    /// No response: the line is a comment or has no words.
+    Nothing,
+    /// The answer to a request.
+    Answered(Answer),
+    /// The line is not understood.
+    NotUnderstood,
+}

@@ -1,4 +1,0 @@
--- Lemmas about serving one connection.
-pub mod AtDesk
-pub mod Carried
-pub mod Streams

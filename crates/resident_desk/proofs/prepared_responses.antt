@@ -1,0 +1,2 @@
+-- Lemmas about prepared responses.
+pub mod Prepared
