@@ -1,14 +1,14 @@
 #!/usr/bin/env bash
-# Cuts what comes and goes at each place: a resident's request in two pieces at each byte, a byte a read, and at its end too early;
-# each read and each write failing in turn, of a conversation, of a rehearsed register, and of exports. These are tests of
-# `resident_tests`, `program_tests` and `trade_tests`, which tell how often they did it; the last line has the sums. It proves the
-# tests first, which takes some minutes.
+# Cuts input and output at each place: a resident's request in two chunks at each byte, a byte a read, and at its end too
+# early; each read and each write fails in turn, of an exchange, of a rehearsed register, and of exports. These are tests of
+# `resident_tests`, `program_tests` and `trade_tests`, which print how often they did it; the last line has the sums. It
+# proves the tests first, which takes some minutes.
 #
 #     bench/cuts.sh
 set -euo pipefail
 cd "$(dirname "$0")/../crates"
 
-# The tests of a module of a crate, each with what it tells.
+# The tests of a module of a crate, each with what it prints.
 tell() {
     local crate=$1 module=$2 test
     shift 2
@@ -18,7 +18,7 @@ tell() {
     done
 }
 
-# Its input, with the sums of what its lines tell.
+# Its input, with the sums of the numbers in its lines.
 with_sums() {
     awk '{ print } / cuts$/ { cuts += $(NF - 1) } / faults$/ { faults += $(NF - 1) }
         END { print cuts " cuts and " faults " faults in all" }'

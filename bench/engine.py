@@ -1,4 +1,4 @@
-"""Lines over a large office's file beside what the engine alone takes; bench/engine.sh says what is timed."""
+"""Times lines over a large office's file, and the engine alone; bench/engine.sh says what is timed."""
 
 import random
 import shutil
@@ -45,7 +45,7 @@ def timed(line, given=""):
 
 
 def compare(what, file, words, alone, given):
-    """Times a line of `rooms do` and the engine by turns, each on a copy of the file, and tells the medians."""
+    """Times a line of `rooms do` and the engine by turns, each on a copy of the file, and prints the medians."""
     program, engine = [], []
     for _ in range(TURNS):
         program.append(timed([*words[:3], str(copied(file, "program.db")), *words[3:]]))

@@ -1,7 +1,7 @@
 #!/usr/bin/env bash
-# Times lines of `rooms do` over the file of an office of 2,000 people, each with a list of 40 rooms, beside
+# Times lines of `rooms do` over the file of an office of 2,000 people, each with a list of 40 rooms, and
 # what the database engine alone takes: to open that file and read its rows, and to carry out the statements
-# that a `run` and a `settle` come to, in one transaction. The engine's own program is bench/engine/main.txt.
+# of a `run` and a `settle`, in one transaction. The engine's own program is bench/engine/main.txt.
 # The gate does not check it, since it only measures and nothing is built on it: it is proved here, each time
 # anew, which takes some minutes.
 #

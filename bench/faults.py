@@ -1,13 +1,13 @@
 """Lets `rooms do` and `rooms import` fail while they work on a file, and looks at what the file holds afterwards.
 
-Each line of some scripts is told to copies of an office's file, and each of these runs meets a fault at a drawn place:
+Runs each line of some scripts on copies of an office's file; each of these runs meets a fault at a drawn place:
 
 - `kill`: it is killed (SIGKILL) after a drawn part of the time that the line takes;
-- `limit`: its files may not grow past a drawn size, so that a write is refused, or kills it where the signal is not ignored;
+- `limit`: its files may not grow past a drawn size, so that a write is refused, or kills it if the signal is not ignored;
 - `full`: it works on a small disk in memory of which a drawn part is left free (this mounts a tmpfs, which root alone may).
 
-Then the file is opened again where nothing fails: `sqlite3` has to find it whole, and what the program tells of it has to be
-the office before the line or the one after it, and the one after it where the line's whole answer had come. The script goes on
+Then the file is opened again, and nothing fails: `sqlite3` has to find it intact, and what the program says of it has to be
+the office before the line or the one after it, and the one after it if the line's whole answer had come. The script goes on
 with a copy that met no fault. A line `import KIND LABEL PATH` brings a list. The rows of its tables are read by Python's own
 `sqlite3` each time. The last line has the sum of the runs that met a fault.
 """
@@ -38,7 +38,7 @@ def kept_words(path):
 
 
 def copy_office(source, target):
-    """A copy of an office: its file and the log beside it."""
+    """A copy of an office: its file and the log next to it."""
     for end in ENDS:
         old, new = Path(f"{source}{end}"), Path(f"{target}{end}")
         new.unlink(missing_ok=True)
@@ -149,7 +149,7 @@ class Trial:
         return done.stdout, time.monotonic() - began
 
     def shown(self, office):
-        """All that the program tells of the office, asked of a copy."""
+        """All that the program says of the office, asked of a copy."""
         copy = self.folder / "shown.db"
         copy_office(office, copy)
         return tuple(self.told(copy, line.split())[0] for line in ASKED), content_of(copy)
@@ -188,13 +188,13 @@ class Trial:
             sys.exit(f"another answer: {line}: {came}")
         self.seen["runs"] += 1
         self.seen["answered"] += came == answer
-        self.seen["told that it is unavailable"] += came == "unavailable\n"
+        self.seen["answered unavailable"] += came == "unavailable\n"
         self.seen["kept, and not answered"] += changed and came != answer and shown == after_shown
         self.seen["nothing kept"] += changed and shown == before_shown
 
 
 def tried(program, fault, folder, script, times):
-    """Tells a year to an office, each line with so many runs that fail; gives what was seen."""
+    """Takes an office through a year, each line with so many runs that fail; returns what was seen."""
     trial, office = Trial(program, fault, folder), folder / "office.db"
     subprocess.run([program, "new", "--db", str(office)], check=True, stdout=subprocess.DEVNULL)
     for words in kept_words(Path(script)):

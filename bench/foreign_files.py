@@ -1,4 +1,4 @@
-"""Files that another program than `rooms` wrote, or has in its hands; bench/foreign-files.sh says what is looked at."""
+"""Files that another program than `rooms` wrote, or has open; bench/foreign-files.sh says what is checked."""
 
 import sys
 
@@ -7,7 +7,7 @@ from foreign.program import Program
 
 
 def main(program: str) -> None:
-    """Tries all groups, and ends well where none of them held a surprise."""
+    """Tries all groups, and succeeds if none of them held a surprise."""
     words = Program((program,))
     surprises = taken.try_all(words) + earlier.try_all(words) + changed.try_all(words) + files.try_all(words)
     if surprises:

@@ -1,8 +1,8 @@
 """Runs the gate, and prints what each crate's proof, tests and mutants cost, and which mutants cost most.
 
 The prover's processes are looked at twice a second: a process names its crate, a check of tests has a flag of its own,
-and a mutant is checked in a temporary folder, which is told by what stands there. What a process used after the last look at
-it is not counted. The table so far is kept beside the log, once a minute.
+and a mutant is checked in a temporary folder; the files there tell which one it is. What a process used after the last look at
+it is not counted. The table so far is written next to the log, once a minute.
 """
 
 import os
@@ -64,8 +64,8 @@ def edited(edit, crate):
 
 
 def name_of(crate, room):
-    """Which mutant of the crate stands in the folder: the one that makes its files of the crate's. Where none does, the
-    crate as it is stands there, or what is there is gone already."""
+    """Which mutant of the crate is in the folder: the one that makes its files of the crate's. If none does, the folder
+    has the crate as it is, or its files are gone already."""
     bodies = f"crates/{crate}/must-fail"
     for name in sorted(os.listdir(bodies)):
         try:
@@ -105,7 +105,7 @@ def part_of(words, folder):
 
 def look(gate, costs, tried, now):
     """Adds what the gate's processes have used to the costs: a child's to those of the check that started it. What is used in a
-    folder of a mutant is told apart, in `tried`."""
+    folder of a mutant is kept apart, in `tried`."""
     seen = {number: rest for number, *rest in processes()}
     for number, (_, used, start, _, _) in seen.items():
         above, part, room = number, None, None
@@ -160,7 +160,7 @@ def told(costs, tried, elapsed):
 
 
 def keep(path, text):
-    """Writes the table so far, so that a run which is stopped tells what it had cost."""
+    """Writes the table so far, so that a run that is stopped shows what it had cost."""
     with open(path, "w", encoding="utf-8") as out:
         print(text, file=out)
 

@@ -1,4 +1,4 @@
-"""How a round in memory grows, beside the engine alone; bench/growth.sh says what is timed."""
+"""How the time of a round in memory grows, and that of the engine alone; bench/growth.sh says what is timed."""
 
 import re
 import shutil

@@ -1,7 +1,7 @@
 #!/usr/bin/env bash
-# How a whole round in memory (bench/round.sh) grows from 1,000 people to 2,000, beside the part of it that the database engine
-# alone takes for the register: rooms, people without a home, homes. Prints seconds, the median of some runs each, and thousands
-# of millions of instructions where there is valgrind. The engine's own program is bench/growth/main.txt; it is proved here, each
+# How the time of a whole round in memory (bench/round.sh) grows from 1,000 people to 2,000, and that of the database engine
+# alone for the register: rooms, people without a home, homes. Prints seconds, the median of some runs each, and thousands
+# of millions of instructions if there is valgrind. The engine's own program is bench/growth/main.txt; it is proved here, each
 # time anew, which takes some minutes.
 #
 #     bench/growth.sh

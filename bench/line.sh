@@ -1,12 +1,12 @@
 #!/usr/bin/env bash
-# Times the proved line beside the same mechanism in plain Rust (bench/line), on the same drawn markets:
+# Times the proved line and the same mechanism in plain Rust (bench/line), on the same drawn markets:
 #
 #     bench/line.sh [ROUNDS]
 #
-# The two programs take turns, 31 rounds where no number is given. For each market it prints the people, the rooms that
+# The two programs take turns, 31 rounds if no number is given. For each market it prints the people, the rooms that
 # each lists, the kind of market, the asks and looks of one run, the least and the median time of a run of both in
-# microseconds, the ratio of the medians, and nanoseconds of the proved line for each ask and look. It refuses where the
-# two programs differ in asks, looks or rooms. A run takes its own memory and gives it back. Both are built for the same
+# microseconds, the ratio of the medians, and nanoseconds of the proved line for each ask and look. It fails if the
+# two programs differ in asks, looks or rooms. A run allocates its own memory and frees it. Both are built for the same
 # processors. It needs `rustc` and the kit.
 set -euo pipefail
 rounds=${1:-31}

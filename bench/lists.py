@@ -1,4 +1,4 @@
-"""Large lists come in, and what came of them goes out; bench/lists.sh says what is compared and measured."""
+"""Imports large lists, and exports the outcome; bench/lists.sh says what is compared and measured."""
 
 import csv
 import io
@@ -14,7 +14,7 @@ from pathlib import Path
 from faults import content_of, opened
 
 COUNT = 2000
-# How many people's choices stand in a list, which has 262,144 bytes at most.
+# How many people's choices are in a list, which has 262,144 bytes at most.
 PART = {20: COUNT, 40: COUNT // 2}
 
 
@@ -30,7 +30,7 @@ class Ran:
 
 
 class Office:
-    """An office in a file, told by the program."""
+    """An office in a file, which the program works on."""
 
     def __init__(self, program, file):
         self.program, self.file = program, file
@@ -53,13 +53,13 @@ class Office:
         return Ran(text, run.returncode, seconds, used.ru_utime + used.ru_stime, used.ru_maxrss)
 
     def do(self, line, answer):
-        """Tells a line, which has to be answered so. Gives what it took."""
+        """Runs a line, which has to get this answer. Returns what it took."""
         ran = self.run("do", *line.split())
         assert ran.text == answer + "\n", (line[:40], ran.text)
         return ran
 
     def bring(self, kind, label, path):
-        """Lets a list come in."""
+        """Imports a list."""
         return self.run("import", kind, label, path)
 
     def export(self, kind):
@@ -109,7 +109,7 @@ def write_choices(folder, choices, part):
 
 
 def bring_twice(office, sent):
-    """A list comes in, and again; the second time it changes nothing."""
+    """Imports a list twice; the second time it changes nothing."""
     for turn in ("first", "again"):
         before = content_of(office.file)
         ran = office.bring(sent.kind, sent.label, sent.path)

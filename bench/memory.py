@@ -40,7 +40,7 @@ class Program:
     refuse: str
 
     def refusing(self, number):
-        """The environment in which this allocation is refused, and the pipe that tells so."""
+        """The environment in which this allocation is refused, and the pipe that reports it."""
         reads, writes = os.pipe()
         environment = {**os.environ, "LD_PRELOAD": self.refuse, "ROOMS_REFUSE": str(number), "ROOMS_TELL": str(writes)}
         return environment, reads, writes
@@ -77,11 +77,11 @@ def expect(is_so, what, ran):
 
 def expect_ample(ran, what, is_ample):
     """A run that was refused nothing answers as with ample memory: it ends the count, and may not end it early."""
-    expect(ran.is_refused or is_ample, f"{what}, where none was refused", ran)
+    expect(ran.is_refused or is_ample, f"{what}, though none was refused", ran)
 
 
 def bytes_of(office):
-    """The bytes of an office's file and of the log beside it."""
+    """The bytes of an office's file and of the log next to it."""
     paths = [Path(f"{office}{end}") for end in ENDS]
     return [path.read_bytes() if path.exists() else b"" for path in paths]
 
@@ -93,7 +93,7 @@ class Kept:
         self.bytes, self.before, self.after = bytes_of(before), content_of(before), content_of(after)
 
     def of(self, office):
-        """The rows of a copy. Where its bytes are those before the line they are not read again."""
+        """The rows of a copy. If its bytes are those before the line, they are not read again."""
         return self.before if bytes_of(office) == self.bytes else content_of(office)
 
 
@@ -108,7 +108,7 @@ def rehearsals(program, script):
 
     fronts = [said(lines[:length]) for length in range(len(lines) + 1)]
     assert UNAVAILABLE not in fronts[-1], fronts[-1]
-    # what is said where one line is answered `unavailable`, and so does not count: then the status is 3
+    # what is printed if one line is answered `unavailable`, and so does not count: then the status is 3
     others = {fronts[i] + UNAVAILABLE + said(lines[:i] + lines[i + 1:])[len(fronts[i]):] for i in range(len(lines))}
 
     def attempt(number):

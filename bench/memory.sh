@@ -1,10 +1,10 @@
 #!/usr/bin/env bash
-# Refuses memory to the program, and to the calls of its desk that the tests of `fault_tests` make: each scenario is run with its
-# first allocation refused, then with its second, and so on until a run takes no more. Each answer has to be the one of ample
-# memory after the commands that were accepted so far, or `unavailable` in the form of its line or call, and the file has to hold
-# the office before the line or the one after it, the tables of a desk that after the accepted commands. Tells how many
-# allocations were refused. It needs a C compiler, for the few lines that refuse (bench/refuse.c), and glibc. It takes some twenty
-# minutes of four processors; how many runs go side by side may be given.
+# Refuses memory to the program, and to the calls of its desk that the tests of `fault_tests` make: each scenario is run with
+# its first allocation refused, then with its second, and so on until a run takes no more. Each answer has to be the one of
+# ample memory after the commands that were accepted so far, or `unavailable` in the form of its line or call, and the file
+# has to hold the office before the line or the one after it, the tables of a desk that after the accepted commands. Prints
+# how many allocations were refused. It needs a C compiler, for the few lines that refuse (bench/refuse.c), and glibc. It
+# takes some twenty minutes of four processors; the number of parallel runs may be given.
 #
 #     bench/memory.sh 4
 set -euo pipefail

@@ -1,4 +1,4 @@
-"""A large office of version 1 is migrated, and grades come in; bench/migrate.sh says what is compared and timed."""
+"""Migrates a large office of version 1, and imports grades; bench/migrate.sh says what is compared and timed."""
 
 import sys
 import tempfile
@@ -35,7 +35,7 @@ def rows_of_office():
 
 
 def took(what, kind, ran, answer):
-    """Tells what a line took that has to be answered so, within its time of a processor."""
+    """Prints what a line took, which has to get this answer within its time of a processor."""
     assert (ran.text, ran.status) == (answer + "\n", 0), ran
     tell(what, ran)
     assert ran.processor < MOST_SECONDS[kind], f"{what} took more than {MOST_SECONDS[kind]} s of a processor"

@@ -1,6 +1,6 @@
 # Sourced by the scripts that run the program: goes to the top of the repository, and sets `program` to the
 # path of the program. ROOMS may name one that is built already; without it the program is proved and built
-# where that has to be. Python keeps nothing beside the scripts, so that the repository stays as it is.
+# if necessary. Python keeps nothing next to the scripts, so that the repository stays as it is.
 export PYTHONDONTWRITEBYTECODE=1
 program=${ROOMS:+$(realpath -e -- "$ROOMS")}
 cd "$(dirname "${BASH_SOURCE[0]}")/.."

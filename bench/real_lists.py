@@ -80,7 +80,7 @@ def check(what, ran, answer):
 
 
 def try_maker(program, folder, maker):
-    """A year's lists, all made in this way, come in, and go out as they were."""
+    """A year's lists, all made in this way, are imported, and exported as they were."""
     office = Office(program, folder / f"{maker.__name__}.db")
     for kind, rows in (("rooms", ROOMS), ("people", PEOPLE), ("choices", CHOICES)):
         path = folder / f"{kind}.csv"
@@ -158,7 +158,7 @@ NUMBERS = {"BadRecord": 15, "LimitReached": 13}
 
 
 def told(office):
-    """All that the program tells of the office, but keys."""
+    """All that the program says of the office, but keys."""
     exports = [office.export(kind) for kind in ("rooms", "people", "moves")]
     return exports, [office.run("do", "me", row[2]).text for row in PEOPLE], office.run("do", "round").text
 
@@ -175,7 +175,7 @@ def make_known(program, folder):
 
 
 def try_bad(program, folder):
-    """What can't come in is answered by its name, changes nothing, and leaves its label free."""
+    """A list that cannot be imported gets the answer of its name, changes nothing, and leaves its label free."""
     office = make_known(program, folder)
     before = told(office)
     path = folder / "bad.csv"

@@ -1,7 +1,8 @@
 #!/usr/bin/env bash
-# Sends requests to `rooms serve`, one after the other, from residents of an office of 2,000 people and rooms in a file: by turns a
-# list that is handed in and a look at what is on record. Each answer is compared with what has to come, and in the end the file
-# with all that was handed in. Prints requests a second, and for each kind the median and the 99th percentile of one's own time.
+# Sends requests to `rooms serve`, one after the other, from residents of an office of 2,000 people and rooms in a file: by
+# turns a list that is handed in and a look at what is on record. Each answer is compared with the expected one, and in the
+# end the file with all that was handed in. Prints requests a second, and for each kind the median and the 99th percentile of
+# one's own time.
 #
 #     bench/residents.sh 10000
 set -euo pipefail

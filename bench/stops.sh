@@ -1,9 +1,9 @@
 #!/usr/bin/env bash
-# Stops one of the two files of an office at each of its calls in turn, while an office is made, a small year and a year of leavers are
-# told a command at a time, lists come in, and an office of an earlier version is migrated or one in the documented order is adopted;
-# whatever is then left of the files is opened again (the tests `stops` of `fault_tests`). Tells how many stops there were, how many
-# offices were looked at, and how many of these were already the office after a command that had no answer; the last line has the
-# sums. It proves the tests first, which takes some minutes.
+# Stops one of the two files of an office at each of its calls in turn, while an office is made, a small year and a year of
+# leavers are carried out a command at a time, lists are imported, and an office of an earlier version is migrated or one in
+# the documented order is adopted; whatever is then left of the files is opened again (the tests `stops` of `fault_tests`).
+# Prints how many stops there were, how many offices were checked, and how many of these were already the office after a
+# command that had no answer; the last line has the sums. It proves the tests first, which takes some minutes.
 #
 #     bench/stops.sh
 set -euo pipefail

@@ -1,7 +1,7 @@
 #!/usr/bin/env bash
 # A whole small year over an office in a file, one line of the program after the other, and what SQLite's own
 # shell then finds in the file (Debian: apt-get install sqlite3). Prints all of it, and ends with a status
-# that is not 0 where it is another than examples/files.out. With the word `print` nothing is compared.
+# that is not 0 if it differs from examples/files.out. With the word `print` nothing is compared.
 #
 #     examples/files.sh
 #
@@ -17,7 +17,7 @@ folder=$(mktemp -d)
 trap 'rm -rf "$folder"' EXIT
 office=$folder/office.db
 
-# Runs the program, tells which line it was, and its status where that is not 0.
+# Runs the program, prints which line it was, and its status if that is not 0.
 rooms() {
     echo "> rooms $*"
     "$program" "$@" || echo "(status $?)"

@@ -1,7 +1,6 @@
 #!/usr/bin/env bash
-# A year that goes by lists: rooms, people, grades and choices come in as CSV, and what came of it goes out. Prints
-# all of it, and ends with a status that is not 0 where it is another than examples/lists.out. With the word
-# `print` nothing is compared.
+# A year by lists: imports rooms, people, grades and choices as CSV, and exports the outcome. Prints all of it, and
+# ends with a status that is not 0 if it differs from examples/lists.out. With the word `print` nothing is compared.
 #
 #     examples/lists.sh
 #
@@ -12,7 +11,7 @@ here=$(CDPATH='' cd -- "$(dirname -- "$0")" && pwd)
 folder=$(mktemp -d)
 trap 'rm -rf "$folder"' EXIT
 
-# Runs the program, tells which line it was, and its status where that is not 0.
+# Runs the program, prints which line it was, and its status if that is not 0.
 rooms() {
     echo "> rooms $*"
     "$program" "$@" || echo "(status $?)"

@@ -1,4 +1,4 @@
-"""Runs a page of documentation: its lines of `./rooms` and `curl`, and its Python, compared with the answers beside them."""
+"""Runs a page of documentation: its lines of `./rooms` and `curl`, and its Python, compared with the answers next to them."""
 
 import re
 import select
@@ -14,7 +14,7 @@ LONGEST = 60
 
 
 def blocks(page):
-    """The blocks of code of a page, each with the word that stands behind its fence."""
+    """The blocks of code of a page, each with the word after its fence."""
     return [(word, text.splitlines()) for word, text in re.findall(r"(?m)^```(\w*)\n(.*?)^```$", page, re.S)]
 
 
@@ -48,13 +48,13 @@ class Run:
         return subprocess.run(words, cwd=self.folder, check=True, capture_output=True, text=True, timeout=LONGEST).stdout
 
     def compare(self, lines):
-        """What was printed is what stands on the page."""
+        """What was printed is what the page says."""
         if self.printed.splitlines() != lines:
             sys.exit(f"printed {self.printed!r}, and the page has {lines!r}")
         self.compared += 1
 
     def end_server(self):
-        """The server has met all its connections, and ends by itself."""
+        """The server has served all its connections, and ends by itself."""
         if self.server:
             server, self.server = self.server, None
             told, _ = server.communicate(timeout=20)

@@ -16,7 +16,7 @@ Attempt = Callable[[Program, Path, Path, Changed], None]
 
 JOURNALS = ("journal_mode delete", "journal_mode wal")
 
-# No offices, whose rows stand in a log alone.
+# No offices, whose rows are in a log alone.
 IN_A_LOG: dict[str, tuple[Rows, str]] = {
     "a round too many": ({**OFFICES["idle"].rows, "round": [(1, 3, 10000, "idle")]}, NOT_AN_OFFICE),
     "no row of the round": ({**OFFICES["empty"].rows, "round": []}, NOT_AN_OFFICE),
@@ -45,7 +45,7 @@ def change(file: Path, changed: Changed) -> None:
 
 
 def refused(program: Program, file: Path, answer: str, log_may_change: bool = False) -> None:
-    """Each line is answered so, and the file stays as it was, and what stands beside it."""
+    """Each line gets this answer, and the file and the files next to it stay as they were."""
     with left_alone(file.parent, log_may_change):
         program.answers(file, "do round", answer)
         program.answers(file, "export people", answer)
@@ -96,6 +96,6 @@ def try_all(program: Program) -> int:
     """All changes. Gives how many cases held a surprise."""
     return (try_changes(program, "a law", "laws broken, each refused", LAWS)
             + try_changes(program, "a constraint", "references and checks broken, each refused", BROKEN)
-            + try_changes(program, "a version", "other versions, each told", VERSIONS)
+            + try_changes(program, "a version", "other versions, each reported", VERSIONS)
             + try_logs(program)
             + try_changes(program, "no law", "rows at the edge of the laws, each taken", LAWFUL, try_lawful))

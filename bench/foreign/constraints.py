@@ -1,4 +1,4 @@
-"""Offices in which sqlite3, told not to look, has broken a reference or a check of the documented tables, or stated a version."""
+"""Offices in which sqlite3, with its checks off, broke a reference or a check of the documented tables, or stated a version."""
 
 from foreign.laws import GREATEST, Changes, each, plain
 from foreign.program import UNAVAILABLE
@@ -23,7 +23,7 @@ BROKEN: Changes = {
 
 
 def version(office: str, number: int, *more: str) -> Changes:
-    """Another version, which is told first, whatever else stands there."""
+    """Another version, which is reported first, whatever else is there."""
     return plain(office, f"version {number}" + " and an unknown phase" * bool(more), f"UPDATE round SET version = {number}", *more,
                  answer=f"refused 22 OtherVersion {number}")
 

@@ -27,7 +27,7 @@ def without(name: str) -> tuple[str, ...]:
 
 
 def answer_without(name: str) -> str:
-    """Where nothing has the name of the round, it is no office. Without the last table the tables are those of version 2, which
+    """If nothing has the name of the round, it is no office. Without the last table the tables are those of version 2, which
     the row does not say. Else the order is none that is known."""
     return NOT_AN_OFFICE if name in ("round", NAMES[-1]) else UNAVAILABLE
 

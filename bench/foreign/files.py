@@ -148,7 +148,7 @@ def held_by(made: Callable[[Program, Path, Rows], None], *statements: str) -> Ca
 
 
 def open_once(file: Path) -> None:
-    """Opens the file once, with SQLite's shell where there is one, and else with Python's sqlite3."""
+    """Opens the file once, with SQLite's shell if there is one, and else with Python's sqlite3."""
     if shutil.which("sqlite3"):
         done = subprocess.run(["sqlite3", str(file), ".tables"], capture_output=True, text=True, check=False)
         expect(done.returncode == 0 and "choice" in done.stdout, f"sqlite3 says: {done.stdout}{done.stderr}")
@@ -158,7 +158,7 @@ def open_once(file: Path) -> None:
 
 
 def a_hot_journal(program: Program, folder: Path) -> None:
-    """A writer was killed when parts of its transaction stood in the file: sqlite3 has to put them back."""
+    """A writer was killed when parts of its transaction were in the file: sqlite3 has to undo them."""
     file, journal = folder / "office.db", folder / "office.db-journal"
     MADE(program, file, OFFICE.rows)
     before = file.read_bytes()
@@ -206,8 +206,8 @@ def by_nobody(program: Program, folder: Path) -> Program:
 
 
 def not_permitted(mode: int, folder_mode: int = 0o777) -> Case:
-    """The user may not read the file, not write it, or make no log beside it; where all may, it is an office. Its tables stand in the
-    documented order, so that the line that takes it writes it."""
+    """The user may not read the file, not write it, or make no log next to it; once all may, it is an office. Its tables are in
+    the documented order, so that the line that accepts it writes it."""
 
     def attempt(program: Program, folder: Path) -> None:
         file, other = folder / "office.db", by_nobody(program, folder)
@@ -223,7 +223,7 @@ def not_permitted(mode: int, folder_mode: int = 0o777) -> Case:
 
 
 def not_migrated(order: str) -> Case:
-    """An office of an earlier version that the user may read alone; where all may write, it is migrated."""
+    """An office of an earlier version that the user may only read; once all may write, it is migrated."""
 
     def attempt(program: Program, folder: Path) -> None:
         file, other = folder / "office.db", by_nobody(program, folder)

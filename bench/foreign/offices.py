@@ -1,4 +1,4 @@
-"""Lawful offices as rows, and what the program has to tell of each, all written by hand."""
+"""Lawful offices as rows, and what the program has to answer about each, all written by hand."""
 
 from dataclasses import dataclass
 

@@ -16,7 +16,7 @@ class Surprise(Exception):
 
 
 def expect(holds: bool, what: str) -> None:
-    """Ends the case where this does not hold."""
+    """Ends the case if this does not hold."""
     if not holds:
         raise Surprise(what)
 
@@ -63,7 +63,7 @@ def is_log(name: str) -> bool:
 
 @contextmanager
 def left_alone(folder: Path, log_may_change: bool = False) -> Iterator[None]:
-    """In the end each file of the folder has its bytes, and beside them stand at most logs in which nothing is written. A log
+    """In the end each file of the folder has its bytes, and besides them there are at most logs without content. A log
     that a killed writer left may be recovered."""
     before = content_of(folder)
     yield

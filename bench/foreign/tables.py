@@ -77,7 +77,7 @@ def by_pragmas(*pragmas: str) -> Way:
 
 
 def in_own_order(_: Program, file: Path, rows: Rows) -> None:
-    """The tables stand as the program makes them, and sqlite3 makes them."""
+    """The tables are as the program makes them, and sqlite3 makes them."""
     with opened(file) as database:
         declare(database, *OWN_ORDER)
         fill(database, rows)
@@ -139,7 +139,7 @@ def begin_large(database: sqlite3.Connection) -> sqlite3.Connection:
 
 
 def killed_with_a_log(_: Program, file: Path, rows: Rows) -> None:
-    """All rows stand in the log alone, and behind them what a killed writer had not committed."""
+    """All rows are in the log alone, and after them what a killed writer had not committed."""
 
     log = Path(f"{file}-wal")
 
@@ -155,7 +155,7 @@ def killed_with_a_log(_: Program, file: Path, rows: Rows) -> None:
         return database
 
     killed_while(work, file)
-    expect(log.stat().st_size > file.stat().st_size, "the rows do not stand in the log")
+    expect(log.stat().st_size > file.stat().st_size, "the rows are not in the log")
 
 
 WAYS: dict[str, Way] = {
@@ -188,7 +188,7 @@ def rows_in(file: Path) -> Rows:
 
 
 def expect_rows(file: Path, rows: Rows) -> None:
-    """In the file stand these rows and no others, in any order."""
+    """The file has these rows and no others, in any order."""
     found = rows_in(file)
     for table, due in rows.items():
         expect(sorted(found[table], key=repr) == sorted(due, key=repr), f"{table} has {found[table][:20]}, and not {due[:20]}")

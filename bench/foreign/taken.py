@@ -1,4 +1,4 @@
-"""Lawful offices that sqlite3 wrote: each is taken, told as its rows are, and carries out a command."""
+"""Lawful offices that sqlite3 wrote: each is accepted, answers as its rows are, and carries out a command."""
 
 import tempfile
 from pathlib import Path

@@ -48,7 +48,7 @@ def text(job: Job, name: str) -> str:
 
 
 def seen_in(job: Job) -> str | None:
-    """Where the sender saw the office, if that is said."""
+    """In which state the sender saw the office, if the request says so."""
     return text(job, "seen") if job.get("seen") is not None else None
 
 
@@ -75,7 +75,7 @@ def participants(rows: Rows) -> int:
 
 
 def has_label(rows: Rows, label: str) -> bool:
-    """Whether a list came in under this label."""
+    """Whether a list was imported under this label."""
     return any(label == taken for taken, *_ in rows["lists"])
 
 
@@ -134,7 +134,7 @@ class Asks:
         try:
             record = importlib.import_module("record")
         except ImportError as fault:
-            raise Fault("the program of the public record (record.py) is not installed beside the keeper") from fault
+            raise Fault("the program of the public record (record.py) is not installed next to the keeper") from fault
         with self.copies.copied() as copy:
             try:
                 body = record.record(copy, self.journal.seeds())
@@ -146,7 +146,7 @@ class Asks:
     # --- changing
 
     def do_lines(self, job: Job) -> Job:
-        """Lines that change the office. Of several all come to stand, or none."""
+        """Lines that change the office. Of several, all take effect or none."""
         lines = lines_of(job)
         if any("\n" in line for line in lines):
             return only(NOT_UNDERSTOOD)
@@ -193,7 +193,7 @@ class Asks:
     # --- copies
 
     def backup(self, job: Job) -> Job:
-        """Keeps a copy of the office, beside the running server."""
+        """Keeps a copy of the office while the server runs."""
         name = self.backups.keep(ASKED_FOR, f"asked for by {job['who']}")
         self.journal.note(who=job["who"], line="backup", answer=name)
         return {"name": name}
@@ -203,7 +203,7 @@ class Asks:
         return {"backups": self.backups.listed()}
 
     def put_back(self, job: Job) -> Job:
-        """Puts a kept copy in the office's place. The present office is copied before, also where it is damaged.
+        """Puts a kept copy in the office's place. The present office is copied before, even if it is damaged.
 
         A copy from before an upgrade of the program is brought to the program's version.
         """

@@ -6,7 +6,7 @@ Sonmez, House Allocation with Existing Tenants, Journal of Economic Theory 88, 1
 
     In each step everybody who remains asks for the best room on their list that is left, and else for their own
     room or, without one, for no room. A room comes from its tenant as long as the tenant remains, and else from
-    the first person in the drawn order who remains. So each person points to one person, and some stand in
+    the first person in the drawn order who remains. So each person points to one person, and some are in
     circles. Everybody in a circle gets the room that they ask for, and leaves with it, until nobody remains.
 
 The drawn order goes by the grade, a smaller one first, and then by the drawn word. Somebody who leaves the college has
@@ -49,7 +49,7 @@ class Facts(NamedTuple):
 
 
 class Audit:  # pylint: disable=too-many-instance-attributes  # others read what it found
-    """The results of a round by the definition (`got`), beside those that were recorded (`result`).
+    """The results of a round by the definition (`got`), next to those that were recorded (`result`).
 
     The rows are `rooms` (code, shut, ..), `people` (identifier, name, home, withdrawn, ..), `choices` (the list of each
     identifier), `words` (identifier, word) and `results` (identifier, room). None is no home, or no room. There may be
@@ -81,10 +81,10 @@ class Audit:  # pylint: disable=too-many-instance-attributes  # others read what
         return self.grade.get(person, 0), self.word.get(person, "").lower(), person
 
     def cause(self, person: str, room: str) -> str:
-        """Why a room on the list does not count, or nothing where it counts."""
+        """Why a room on the list does not count, or nothing if it counts."""
         listed, home = self.handed_in[person], self.home[person]
         if home in listed and listed.index(home) <= listed.index(room):
-            return f"it is {person}'s own room" if room == home else "it stands behind the own room"
+            return f"it is {person}'s own room" if room == home else "it comes after the own room"
         if room in self.kept:
             return f"{self.kept[room]}, who lives there, has withdrawn"
         return "" if room in self.rooms else "it is out of use"
@@ -126,7 +126,7 @@ class Audit:  # pylint: disable=too-many-instance-attributes  # others read what
         return wishes[:rank] + ([home] if home and rank > len(wishes) else [])
 
     def faults(self) -> list[str]:
-        """All that is wrong, as sentences; none where the results are right."""
+        """All that is wrong, as sentences; none if the results are right."""
         said = [f"{person} has {what}" for person in sorted({*self.home, *self.word, *self.result})
                 for what, holds in (("no word", person not in self.word), ("no result", person not in self.result),
                                     ("a word or a result, and takes no part", person not in self.home)) if holds]
@@ -219,7 +219,7 @@ class Audit:  # pylint: disable=too-many-instance-attributes  # others read what
 
 
 def in_circles(points: dict[str, str]) -> list[str]:
-    """Those who stand in a circle, where each person points to one person."""
+    """The people who are in a circle, if each person points to one person."""
     inside: list[str] = []
     seen: set[str] = set()
     for person in points:
@@ -233,7 +233,7 @@ def in_circles(points: dict[str, str]) -> list[str]:
 
 
 def circle_in(points: dict[str, list[str]]) -> list[str]:
-    """A circle, where each person points to several; nobody where there is none."""
+    """A circle, if each person points to several; nobody if there is none."""
     inside = set(points)
     while ends := {person for person in inside if not inside.intersection(points[person])}:
         inside -= ends  # who points to nobody inside is in no circle
@@ -281,14 +281,14 @@ class Unreadable(Exception):
 
 
 def new(rows: dict[str, Any], name: str) -> dict[str, Any]:
-    """The rows, where this name is not among them yet."""
+    """The rows, if this name is not among them yet."""
     if name in rows:
         raise ValueError
     return rows
 
 
 GRADES = set("0123456789")
-# The order in which the lines of a record stand. Rounds that were opened and cancelled may stand before them.
+# The order of the lines of a record. Rounds that were opened and cancelled may come before them.
 LINES = ["room", "person", "home", "grade", "open", "cancel", "choose", "withdraw", "going", "shut", "close", "draw",
          "run", "publish", "round", "order", "results"]
 

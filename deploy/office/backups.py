@@ -2,7 +2,7 @@
 taken back.
 
 Each is a folder below `backups` with the time of the copy as its name. In it are `rooms.db`, which is the whole
-office in one file, and `why`, a line of JSON that says why the copy was taken. Where the office was damaged, the
+office in one file, and `why`, a line of JSON that says why the copy was taken. If the office was damaged, the
 copy has file and log as they were.
 """
 
@@ -50,7 +50,7 @@ class Backups:
                               {"kind": kind, "why": why, "whole": False})
 
     def store(self, files: list[Path], entry: dict[str, Any]) -> str:
-        """Writes a copy to the disk. Where that fails nothing of it stays."""
+        """Writes a copy to the disk. If that fails, nothing of it remains."""
         part = Path(tempfile.mkdtemp(dir=self.folder, prefix=".part-"))
         try:
             for one in files:
@@ -68,7 +68,7 @@ class Backups:
         return name
 
     def free_name(self) -> str:
-        """The time as a name, with a number behind it where there are copies of this second: names are in order."""
+        """The time as a name, followed by a number if there are copies of this second: names are in order."""
         while True:
             now = datetime.datetime.now(datetime.timezone.utc).strftime("%Y%m%dT%H%M%SZ")
             same = [name for name in self.names() if name.startswith(now)]
@@ -130,11 +130,11 @@ class Backups:
 def blank(label: str, file: Path) -> None:
     """Empties the kept bytes of a list, in a copy of the office.
 
-    The program keeps the bytes of each list that came in, to know the list again: names, keys and homes of people who
-    may have left. This puts the word `blanked` in their place, and writes the copy anew, so that nothing of them is
-    left between its rows. The cost: the program does not know the list again. The label stays taken, and each further
-    import under it is answered `refused 14 ListDiffers`, also of the list that came in. The bytes are not left empty,
-    since an empty list would then be answered as the one that came in.
+    The program keeps the bytes of each imported list, to recognise the list: names, keys and homes of people who may
+    have left. This puts the word `blanked` in their place, and writes the copy anew, so that nothing of them is left
+    between its rows. The cost: the program no longer recognises the list. The label stays taken, and the program
+    answers each further import under it `refused 14 ListDiffers`, even one of the imported list. The bytes are not
+    left empty, since the program would then answer an empty list as it answered the imported one.
     """
     with contextlib.closing(sqlite3.connect(file)) as database:
         database.execute("PRAGMA secure_delete = ON")
@@ -146,7 +146,7 @@ def blank(label: str, file: Path) -> None:
 
 
 def without_names(file: Path) -> bytes:
-    """A copy of the office that can be given away: no keys, no names, and no lists as they came in."""
+    """A copy of the office that can be given away: no keys, no names, and no imported lists."""
     with contextlib.closing(sqlite3.connect(file)) as database:
         database.execute("PRAGMA secure_delete = ON")
         with database:

@@ -1,10 +1,10 @@
-"""Copies of the office's file beside the running server, and how a file takes the office's place.
+"""Copies the office's file while the server runs, and puts a file in the office's place.
 
-SQLite cannot read beside the server, which holds the file; but file and log can be copied beside it. A copy is the
-office of one moment where meanwhile neither the file nor the head of its log has changed. For the server only adds
-to the log, until it has copied the log into the file (then the file's time changes) and begins the log anew (then
-the log's head changes). Whatever the copy has of a line that was being added is cut off at its end, fails its
-checksum, and is passed over. Copying takes no locks, so the server does not notice.
+SQLite cannot read the file while the server holds it; but file and log can be copied meanwhile. A copy is the office
+of one moment if neither the file nor the head of its log has changed in between. For the server only adds to the log,
+until it has copied the log into the file (then the file's time changes) and begins the log anew (then the log's head
+changes). If the server was adding a line, the copy has a part of it at its end. That part fails its checksum, and the
+program ignores it. Copying takes no locks, so the server does not notice.
 
 This needs a file system with times in nanoseconds, so none of another machine: /var/lib/rooms is to be on a disk of
 this one.

@@ -1,7 +1,7 @@
 """The hand: the one thread that owns `rooms serve`, and works on the office's file between two servings.
 
 Changes wait in a queue. The server is stopped once for all that wait, and started again after them. The hand works
-in the main thread: what it starts ends with this thread, also where the keeper is killed.
+in the main thread: what it starts ends with this thread, even if the keeper is killed.
 """
 
 import queue
@@ -20,7 +20,7 @@ from rows import View, stamp
 from settings import Fault
 
 FIRST_PAUSE, LONGEST_PAUSE = 0.2, 5.0  # seconds before a server is started again that has ended by itself
-LIVED = 2.0                            # a server that ran for so long did serve: the pause begins anew
+LIVED = 2.0                            # a server that ran for so long has worked: the pause begins anew
 REFUSED = (1, 2)                       # statuses of a server that another start does not help
 
 
@@ -34,11 +34,11 @@ class Change:  # pylint: disable=too-many-instance-attributes  # what is asked f
     who: str
     line: str                                   # as the journal has it
     carry_out: CarryOut                         # on a copy, or on the office's file
-    whole: bool = False                         # on a copy, which then takes the file's place: all stands or nothing
+    whole: bool = False                         # on a copy, which then replaces the file: all takes effect or nothing
     kind: str = ""                              # the kind of the copy that is kept before, or none
     why: str = ""
-    damaged: bool = False                       # also where the office is damaged
-    seen: str | None = None                     # where its sender saw the office
+    damaged: bool = False                       # even if the office is damaged
+    seen: str | None = None                     # the state in which its sender saw the office
     copy: str | None = None                     # the name of the copy that was kept before
     answers: list[Answer] = field(default_factory=list)
     took: int = 0                               # milliseconds
@@ -66,7 +66,7 @@ class Server:
         return status
 
     def stop(self) -> None:
-        """Ends it, at once where it does not end by itself."""
+        """Ends it; kills it if it does not end within five seconds."""
         self.process.terminate()
         if not self.ended.wait(5):
             self.process.kill()
@@ -81,7 +81,7 @@ class Ended:
     status: int
 
 
-class Hand:  # pylint: disable=too-many-instance-attributes  # the parts of the office, and where its server is
+class Hand:  # pylint: disable=too-many-instance-attributes  # the parts of the office, and its server
     """Owns the server, and carries out one change after the other."""
 
     def __init__(self, office: Office) -> None:
@@ -160,21 +160,21 @@ class Hand:  # pylint: disable=too-many-instance-attributes  # the parts of the 
         """One change, if its sender still waits for it."""
         if not change.wanted.acquire(blocking=False):
             return
-        # Until it is made its answers are those of the copy on which it was tried: where nobody knows what went wrong,
+        # Until it is made, its answers are those of the copy on which it was tried. If nobody knows what went wrong,
         # its sender must not get them.
-        change.fault = "the keeper failed at this line. Look whether it stands."
+        change.fault = "the keeper failed at this line. Look whether it took effect."
         try:
             self.make(change)
             change.fault = ""
         except Fault as fault:
             change.fault = str(fault)
         except (OSError, sqlite3.Error) as fault:
-            change.fault = f"the disk or the memory did not serve ({fault}). Look whether this stands."
+            change.fault = f"the disk or the memory did not serve ({fault}). Look whether this took effect."
         finally:
             change.done.set()
 
     def make(self, change: Change) -> None:
-        """Makes a change, if the office is where its sender saw it, with the copy before it and the journal."""
+        """Makes a change, if the office is as its sender saw it, with the copy before it and the journal."""
         began = time.monotonic()
         self.copies.finish()
         if change.seen is not None and change.seen != (now := stamp(self.view.rows(still=True))):
@@ -233,14 +233,14 @@ class Hand:  # pylint: disable=too-many-instance-attributes  # the parts of the 
         self.pause = min(2 * self.pause, LONGEST_PAUSE)
 
     def stop(self) -> None:
-        """Stops the server: what it has answered stands."""
+        """Stops the server: what it has answered remains in effect."""
         self.due = None
         if self.server:
             self.server.stop()
             self.server = None
 
     def take_note(self, ended: Ended) -> None:
-        """Sees to a server that has ended by itself. One that refuses the file would do so again, until a change."""
+        """Handles a server that has ended by itself. One that refuses the file would do so again, until a change."""
         if ended.server is not self.server:
             return
         served = time.monotonic() - ended.server.began > LIVED

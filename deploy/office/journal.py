@@ -1,7 +1,7 @@
 """The journal: who changed what, when, and with what answer. It never has a key, nor the name of a person.
 
 Each entry is a line of JSON, and on the disk before the keeper goes on. A change has two: one before it begins,
-with `n`, `at`, `who` and `line` (and `copy`, where the office was copied first), and one after it has ended, with
+with `n`, `at`, `who` and `line` (and `copy`, if the office was copied first), and one after it has ended, with
 the same `n`, `answer`, `status` and `ms`.
 """
 
@@ -42,7 +42,7 @@ def masked_line(line: str) -> str:
 
 
 def masked_note(text: str) -> str:
-    """A note as the journal has it. A seed stands in it as it is: it is public."""
+    """A note as the journal has it. It has a seed as it is: a seed is public."""
     seed = SEED.match(text)
     return seed[0] + masked(text[seed.end():]) if seed else masked(text)
 
@@ -56,7 +56,7 @@ class Journal:
         self.late: list[dict[str, Any]] = []  # ends of changes that could not be written down yet
 
     def note(self, **values: Any) -> None:
-        """Adds an entry, which is on the disk afterwards. Where that fails the journal is as it was."""
+        """Adds an entry, which is on the disk afterwards. If that fails, the journal is as it was."""
         with self.lock:
             self.add([*self.late, {"at": now(), **values}])
             self.late.clear()
@@ -88,7 +88,7 @@ class Journal:
         return number
 
     def end(self, number: str, answer: str, status: int, milliseconds: int) -> None:
-        """Notes how a change ended. It has happened: where it cannot be noted now, the next entry brings it along."""
+        """Notes how a change ended. It has happened: if it cannot be noted now, it is noted with the next entry."""
         values = {"n": number, "answer": masked(answer[:ANSWER]).strip(), "status": status, "ms": milliseconds}
         try:
             self.note(**values)
@@ -96,7 +96,7 @@ class Journal:
             self.late.append({"at": now(), **values})
 
     def entries(self) -> Iterator[dict[str, Any]]:
-        """The entries at the end of the journal. What is cut off is passed over."""
+        """The entries at the end of the journal. An entry that is cut off is skipped."""
         try:
             with open(self.path, "rb") as held:
                 held.seek(max(0, os.fstat(held.fileno()).st_size - TAIL))
@@ -122,7 +122,7 @@ class Journal:
             if "n" in entry and "line" in entry and entry["n"] not in ended:
                 with contextlib.suppress(Fault, OSError):
                     self.note(n=entry["n"], status=3,
-                              answer="not known: the keeper was ended meanwhile. Look whether the line stands.")
+                              answer="not known: the keeper was ended meanwhile. Look whether the line took effect.")
 
 
 def now() -> str:

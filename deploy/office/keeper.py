@@ -7,8 +7,8 @@ What would be accepted waits for its turn; then the server is stopped, the line 
 started again (hand.py). Before a line that cannot be taken back the office is copied (backups.py). Each change is
 in the journal before it begins and after it has ended (journal.py).
 
-A request is one line of JSON on a connection of its own, and so is its answer. Whoever may open the socket may act
-for the office.
+A request is one line of JSON on a connection of its own, and so is its answer. Everybody who may open the socket may
+act for the office.
 """
 
 import contextlib
@@ -67,7 +67,7 @@ class Talk(socketserver.StreamRequestHandler):
             self.wfile.write(json.dumps(answer).encode() + b"\n")
 
     def answer(self) -> dict[str, Any]:
-        """The answer to the request, with the name of whoever sent it."""
+        """The answer to the request, with the name of its sender."""
         job = json.loads(self.rfile.readline(LONGEST_REQUEST))
         if not isinstance(job, dict):
             raise Fault("not understood: a request is an object")

@@ -9,7 +9,7 @@ LIKE_A_KEY = re.compile(r"[A-Za-z0-9]{16,}")
 # What only reads is asked of a copy. Every other line may change the office.
 READS = frozenset({"rooms", "people", "round", "order", "results", "moves", "whatif", "me"})
 
-# Lines that no other line takes back, with the reason. `choose` is one where it replaces a list (`reason_to_copy`).
+# Lines that no other line takes back, with the reason. `choose` is one if it replaces a list (`reason_to_copy`).
 LASTING = {
     "close": "the round does not become open again",
     "cancel": "all lists and withdrawals are forgotten",
@@ -17,13 +17,13 @@ LASTING = {
     "run": "the rooms are given; only `cancel` leads on from a mistake, and forgets all lists",
     "publish": "the residents see their results, and `cancel` is refused from then on",
     "settle": "homes change, and words, order, lists and results are deleted",
-    "shut": "whoever lives in the room loses it, and `reopen` does not give it back",
+    "shut": "the person who lives in the room loses it, and `reopen` does not give it back",
     "withdraw": "a withdrawal cannot be undone within the round",
     "going": "that somebody leaves the college cannot be undone within the round",
-    "leave": "where the person lived is forgotten",
-    "remove": "the person's key stands nowhere else",
+    "leave": "the office forgets where the person lived",
+    "remove": "the person's key is nowhere else",
 }
-REPLACED = "the list that it replaces stands nowhere else"
+REPLACED = "the list that it replaces is nowhere else"
 MANY = "a list or a bundle of lines is not taken back as a whole"
 
 

@@ -1,8 +1,8 @@
 """Runs the program `rooms`, and gives its answers.
 
 The program takes a key only as a word of its command line, and every account of the machine can read the command
-lines of all processes. So no key is ever such a word here: on a copy of the office a stand-in takes the key's
-place, and the key the stand-in's place afterwards (`add_person`, `ask_me`).
+lines of all processes. So no key is ever such a word here: on a copy of the office a stand-in replaces the key,
+and afterwards the key replaces the stand-in (`add_person`, `ask_me`).
 """
 
 import contextlib
@@ -45,13 +45,13 @@ def is_of_earlier_version(answer: Answer) -> bool:
 
 
 def bound(*words: str) -> list[str]:
-    """A command line that ends with the thread that starts it. Where the keeper was killed before the system knew that,
+    """A command line that ends with the thread that starts it. If the keeper was killed before the system knew that,
     the shell has another parent, and does nothing."""
     return ["setpriv", "--pdeathsig", "KILL", "sh", "-c", '[ "$PPID" = "$0" ] && exec "$@"', str(os.getpid()), *words]
 
 
 def change_key(old: str, new: str, copy: Path) -> None:
-    """Changes the key of whoever has it, in a copy."""
+    """Changes this key into another one, in a copy."""
     with contextlib.closing(sqlite3.connect(copy)) as database:
         with database:
             database.execute("UPDATE person SET passkey = ? WHERE passkey = ?", (new, old))
@@ -93,22 +93,22 @@ class Program:
         try:
             done = subprocess.run(line, stdin=subprocess.DEVNULL, capture_output=True, timeout=limit, check=False)
         except subprocess.TimeoutExpired as fault:
-            why = f"the program did not end within {limit:g} seconds, and was ended. Look whether the line stands."
+            why = f"the program did not end within {limit:g} seconds, and was ended. Look whether the line took effect."
             raise Fault(why) from fault
         return Answer((done.stdout + done.stderr).decode("utf-8", "replace"), done.returncode)
 
     def tell(self, line: str, file: Path) -> Answer:
-        """Tells one line to a file. A line with a word that may be a key is not understood, and never handed over."""
+        """Has a file answer one line. A line with a word that may be a key is not understood, and never handed over."""
         return NOT_UNDERSTOOD if shows_a_key(line) else self.hand_over(line, file)
 
     def hand_over(self, line: str, file: Path) -> Answer:
-        """Hands one line over as it is. No option gets through: all words stand behind `--`."""
+        """Hands one line over as it is. No option gets through: all words come after `--`."""
         if "\n" in line:
             return NOT_UNDERSTOOD
         return self.run("do", "--db", str(file), "--", *line.split(" "))
 
     def tell_all(self, lines: list[str], copy: Path) -> list[Answer]:
-        """Tells lines to a copy, up to the first that is not accepted. These may have keys."""
+        """Has a copy answer lines, up to the first that is not accepted. These may have keys."""
         with_key = {"person": self.add_person, "me": self.ask_me}
         answers: list[Answer] = []
         limit = self.settings.line_seconds
@@ -124,7 +124,7 @@ class Program:
         return answers
 
     def add_person(self, line: str, copy: Path) -> Answer:
-        """`person ID KEY NAME..` on a copy. The person comes in with a stand-in, which the key then replaces."""
+        """`person ID KEY NAME..` on a copy. The person is added with a stand-in, which the key then replaces."""
         words = line.split()
         if len(words) < 4 or shows_a_key(words[1]) or not KEY.fullmatch(words[2]):
             return NOT_UNDERSTOOD
@@ -148,7 +148,7 @@ class Program:
         return answer
 
     def bring_in(self, kind: str, label: str, body: bytes, file: Path) -> Answer:
-        """Brings a list in. The program reads it from a file in memory, which is gone afterwards."""
+        """Imports a list. The program reads it from a file in memory, which is gone afterwards."""
         with tempfile.NamedTemporaryFile(dir=self.settings.scratch) as held:
             held.write(body)
             held.flush()
@@ -172,5 +172,5 @@ class Program:
         return self.run("migrate", "--db", str(file))
 
     def look(self, file: Path) -> Answer:
-        """Whether the program takes a file as an office: it reads all of it, and tells how far the round has come."""
+        """Whether the program takes a file as an office: it reads all of it, and says how far the round is."""
         return self.tell("round", file)

@@ -3,7 +3,7 @@
 
 The record is the whole round as lines of a rehearsal, without names and keys: each person has the identifier as name,
 and a made-up key. `rooms rehearse < RECORD` gives the office's own results once more, on anybody's machine; audit.py
-checks them without the program. The office's own results stand in it as comments, which a rehearsal passes over.
+checks them without the program. The office's own results are in it as comments, which a rehearsal skips.
 
 A round has results from `run` until `settle`, so only then it can be recorded. FILE and its log are copied before they
 are read, and stay as they are. While a server has the file, take the record by `rooms-office record`.
@@ -25,7 +25,7 @@ from typing import NamedTuple
 from audit import seed_words
 
 VERSION = 3       # of the file: the tables that are read here
-ROUNDS = 40       # rounds before this one are opened and cancelled up to so many; beyond them the number is only told
+ROUNDS = 40       # earlier rounds are opened and cancelled, up to so many; beyond them a comment gives the number
 FORMS = {"room": "[A-Z0-9][A-Z0-9-]{0,7}", "person": "[A-Z0-9]{1,12}", "word": "[0-9a-f]{16}"}
 SEED = "[0-9a-fA-F]{64}"
 
@@ -49,7 +49,7 @@ class Person(NamedTuple):
     home: str | None
     withdrawn: bool
     going: bool = False   # whether the person leaves the college, and the room goes into the round
-    grade: int = 0        # a smaller grade stands earlier in the order
+    grade: int = 0        # a smaller grade is earlier in the order
 
     @property
     def takes_part(self) -> bool:
@@ -88,7 +88,7 @@ def opened(file: Path) -> Iterator[sqlite3.Connection]:
 
 
 def read_office(file: Path) -> Office:
-    """The round of an office's file. Columns are read by their names, so others may stand beside them."""
+    """The round of an office's file. Columns are read by their names, so there may be others."""
     with opened(file) as database:
         try:
             found = database.execute("SELECT version, number, phase FROM round").fetchall()
@@ -163,8 +163,8 @@ def register(office: Office) -> list[str]:
 def wishes(office: Office) -> list[str]:
     """What counted when the round was closed. Lists of people who take no part are left out: they did not count.
 
-    Lists come first, since nobody can list a room that is shut. Nobody lives in such a room: whoever did has no home in
-    the register. Of somebody who leaves the college and has lost the room so, the program takes no `going`; for the
+    Lists come first, since nobody can list a room that is shut. Nobody lives in such a room: a person who did has no
+    home in the register. If somebody who leaves the college has lost the room so, the program refuses `going`; for the
     results that is the same as to withdraw.
     """
     leaving = [person for person in office.people if person.going]
@@ -219,7 +219,7 @@ def main(words: list[str]) -> int:
     """Writes the record to standard output."""
     parser = argparse.ArgumentParser(prog="record.py", description="Writes the public record of a round.")
     parser.add_argument("file", type=Path, help="an office's file, with its log beside it")
-    parser.add_argument("--seed", help="the seed of the draw, which then stands in the record")
+    parser.add_argument("--seed", help="the seed of the draw, which the record then has")
     asked = parser.parse_args(words)
     try:
         if asked.seed and not re.fullmatch(SEED, asked.seed):

@@ -10,7 +10,7 @@ from copies import Copies, State
 
 Rows = dict[str, Any]
 
-# Each table that is shown as it stands.
+# Each table that is shown as it is.
 TABLES = {
     "rooms": "SELECT code, shut, id FROM room LEFT JOIN person ON home = code ORDER BY code",
     "people": "SELECT id, name, home, withdrawn FROM person ORDER BY id",
@@ -41,7 +41,7 @@ def rows_of(file: Path) -> Rows:
 
 
 def stamp(rows: Rows) -> str:
-    """Where the office is. A change whose sender saw it elsewhere is not made."""
+    """The state of the round. A change whose sender saw another one is not made."""
     return f"round {rows['number']} {rows['phase']}"
 
 

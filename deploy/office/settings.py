@@ -25,13 +25,13 @@ class Settings:  # pylint: disable=too-many-instance-attributes  # each is a set
     file: Path                # the office's file
     program: str              # the program `rooms`
     port: int                 # the port of `rooms serve` on 127.0.0.1
-    socket: Path              # the keeper's socket, where systemd does not open it
+    socket: Path              # the keeper's socket, if systemd does not open it
     scratch: Path             # a folder in memory for copies: they have everybody's key
     speakers: frozenset[str]  # accounts that may say for whom they act; every other account acts for itself
     line_seconds: float       # the longest time for the program and one line; HAProxy lets residents wait for 20
     turn_seconds: float       # the longest time that a change waits for its turn
     connections: int = 1_000_000  # `rooms serve` ends after so many, and is started again
-    stop_seconds: float = 5   # after so long a stop the server is started, also where more changes wait
+    stop_seconds: float = 5   # after so long a stop the server is started, even if more changes wait
     kept_backups: int = 30    # the copies that were asked for, as those of each night
     kept_before: int = 20     # the copies that were taken before lines, for each kind of line
 

@@ -1,5 +1,5 @@
 # shellcheck shell=bash
-# Sourced by the trials: what is tried, whether it came, and how much of it did not.
+# Sourced by the trials: prints what is tried and whether it succeeds, and counts the faults.
 faults=0
 
 # Tries a command again, ten times a second, until it succeeds, for so many seconds at most.
@@ -18,7 +18,7 @@ part() {
     echo "== $*"
 }
 
-# What is tried, and the command that has to succeed. What it prints is shown where it fails.
+# What is tried, and the command that has to succeed. If it fails, its output is shown.
 try() {
     local what="$1" said status=0
     shift

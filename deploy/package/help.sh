@@ -1,10 +1,10 @@
 # shellcheck shell=dash
-# Help for `rooms`: read by the launcher at the top of the repository and by /usr/bin/rooms. The program has no help of
-# its own. What stands here answers before it, or says on standard error what can be seen from outside after it has
-# answered `unavailable`. Standard output and status are always the program's.
+# Help for `rooms`: the launcher at the top of the repository and /usr/bin/rooms source this file. The program has no
+# help of its own. The functions here answer before it, or say on standard error what can be seen from outside after it
+# has answered `unavailable`. Standard output and status are always the program's.
 #
-# Whoever reads this file sets `help_folder`, where help.txt is, and `help_pages`, a line that says where the guides
-# are. It works in sh and bash, also under `set -euo pipefail`.
+# The script that sources this file sets `help_folder`, where help.txt is, and `help_pages`, a line that says where the
+# guides are. It works in sh and bash, also under `set -euo pipefail`.
 : "${help_folder:?}" "${help_pages:?}"
 
 say() {
@@ -27,9 +27,9 @@ print_help() {
     echo "$help_pages"
 }
 
-# Runs the program with the words after it. What it makes is for its user alone. Where nothing has to be explained
-# afterwards, it takes the place of this shell. `serve` is one of these: it is explained before, since it runs for
-# long.
+# Runs the program with the words after it. The files that it makes are for its user alone. If nothing has to be
+# explained afterwards, it replaces this shell (exec). `serve` is such a line: it is explained before, since it runs
+# for long.
 run_program() {
     local program="$1" status=0
     shift
@@ -56,8 +56,7 @@ run_program() {
     return "$status"
 }
 
-# Says what hinders a line, as far as it can be seen from outside. Where nothing can be seen this is said too, if
-# `aloud`.
+# Prints what prevents a line, as far as it can be seen from outside. With `aloud` it also says if it sees nothing.
 explain() {
     local how="$1" line="${2-}" file='' port='' path='' place=0 found=''
     shift
@@ -81,12 +80,12 @@ explain() {
     [ "$line" != import ] || [ -z "$path" ] || explain_list "$path"
     [ -z "$port" ] || explain_port "$port"
     if [ -z "$found" ] && [ "$how" = aloud ]; then
-        say "nothing can be seen from outside that hinders it; another program may have held the file for a moment"
-        say "look whether the line stands (\`rooms do --db FILE round\`), and tell it again"
+        say "no cause can be seen from outside; another program may have held the file for a moment"
+        say "look (\`rooms do --db FILE round\`, \`rooms\`, \`people\`), and repeat the line only if it had no effect"
     fi
 }
 
-# Something that hinders.
+# Prints a cause.
 hinders() {
     say "$*"
     found=yes
@@ -135,12 +134,12 @@ explain_office() {
     if [ -r "$file" ] && [ -s "$file" ] && [ "$(head -c 15 -- "$file" | tr -d '\0')" != "SQLite format 3" ]; then
         hinders "$file is no database: is another file meant?"
     fi
-    [ "$(stat -Lc %h -- "$file")" = 1 ] || hinders "$file has a second name (a hard link): take it away"
+    [ "$(stat -Lc %h -- "$file")" = 1 ] || hinders "$file has a second name (a hard link): remove that name"
     [ ! -e "$file-journal" ] || hinders "sqlite3 was stopped while it wrote: open $file once with sqlite3"
     explain_lock "$file"
 }
 
-# Who holds the file. Its lock tells the file's number, and no process; a process shows its open files to its own account
+# Who holds the file. Its lock has the file's number, and no process; a process shows its open files to its own account
 # and to root.
 explain_lock() {
     local number process account
@@ -155,7 +154,7 @@ explain_lock() {
     fi
 }
 
-# ", on a file system that is read only", where it is so.
+# Prints ", on a file system that is read only" if it is.
 read_only() {
     case ,$(findmnt -no OPTIONS --target "$1" 2>/dev/null), in
         *,ro,*) echo ", on a file system that is read only" ;;
@@ -185,7 +184,7 @@ explain_list() {
     fi
 }
 
-# A port on which a program listens, at 127.0.0.1 or at all addresses; or one that is kept for root.
+# A port on which a program listens, at 127.0.0.1 or at all addresses; or one that is reserved for root.
 explain_port() {
     local port="$1" sign user lowest=1024
     case $port in '' | *[!0-9]* | ??????*) return 0 ;; esac
@@ -199,12 +198,12 @@ explain_port() {
     [ "$port" -ge "$lowest" ] || [ "$(id -u)" -eq 0 ] || hinders "ports below $lowest are for root: take another one"
 }
 
-# "; is NAME meant?", where a file of the folder has nearly the name of the one that is missing.
+# Prints "; is NAME meant?" if a file of the folder has nearly the name of the one that is missing.
 near() {
     find "$1" -maxdepth 1 -type f ! -name '*-wal' ! -name '*-shm' ! -name '*-journal' -printf '%f\n' 2>/dev/null |
         head -n 500 | awk -v wanted="$(basename -- "$2")" '
             function least(a, b, c) { a = a < b ? a : b; return a < c ? a : c }
-            # How many letters have to be put in, taken out or changed.
+            # How many letters have to be inserted, removed or changed.
             function distance(a, b,    i, j, before, now) {
                 for (j = 0; j <= length(b); j++) before[j] = j
                 for (i = 1; i <= length(a); i++) {

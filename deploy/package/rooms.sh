@@ -1,6 +1,6 @@
 #!/bin/sh
-# /usr/bin/rooms: answers what is asked for help, and hands everything else to the proved program, rooms-program. Its
-# answers go out as they are; after `unavailable`, what can be seen from outside is said on standard error.
+# /usr/bin/rooms: prints help and version, and hands everything else to the proved program, rooms-program. It passes the
+# program's answers on unchanged; after `unavailable` it prints on standard error what can be seen from outside.
 help_folder=/usr/lib/rooms
 help_pages="Guides: /usr/share/doc/rooms. Lines, answers, lists, tables: man 5 rooms. By the keeper: man rooms-office."
 # shellcheck source=deploy/package/help.sh

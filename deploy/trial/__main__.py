@@ -1,4 +1,4 @@
-"""Tries all that stands round `rooms serve`, end to end: /usr/bin/python3 deploy/trial PROGRAM FOLDER.
+"""Tries all that is around `rooms serve`, end to end: /usr/bin/python3 deploy/trial PROGRAM FOLDER.
 
 The folder gets the photographs of both pages. It ends at the first thing that is not as it should be, and leaves
 nothing running. Debian: apt-get install haproxy chromium chromium-driver python3-selenium python3-bottle

@@ -1,4 +1,4 @@
-"""The keeper's own way to copy an office beside its server, for the trial."""
+"""The keeper's own way to copy an office while its server runs, for the trial."""
 
 import sys
 
@@ -6,7 +6,7 @@ from stand import OFFICE
 
 sys.path.append(str(OFFICE))
 
-# pylint: disable=wrong-import-position,wrong-import-order  # it stands in the folder of the line above
+# pylint: disable=wrong-import-position,wrong-import-order  # it is in the folder of the line above
 from copies import Copies
 from settings import Settings
 

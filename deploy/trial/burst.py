@@ -113,7 +113,7 @@ def on_record(stand, residents):
         # The server was stopped after it had recorded the list and before it had answered; the proxy sent it again.
         recorded = lists.get(person_of(resident.number), [])
         check(
-            f"{person_of(resident.number)} was told that the round is closed, and has the list handed in",
+            f"{person_of(resident.number)} read that the round is closed, and has the list handed in",
             resident.refused and recorded == choices_of(resident.number),
             recorded,
         )
@@ -153,13 +153,13 @@ def try_one(program, what):
         stand.start_proxy()
         residents = asyncio.run(burst(stand.port, lambda residents: what(stand, residents)))
         kept = handed_in(residents)
-        print(f"      {kept} lists were handed in, and {RESIDENTS - kept} residents were told that it is closed")
+        print(f"      {kept} lists were handed in, and {RESIDENTS - kept} residents read that it is closed")
         on_record(stand, residents)
         check("no log of the proxy has a key", "key0" not in stand.proxy_log())
 
 
 def try_burst(program):
-    """A burst beside each."""
+    """A burst during each."""
     for what in (close_round, lose_keeper):
         try_one(program, what)
 

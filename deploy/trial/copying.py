@@ -1,4 +1,4 @@
-"""Copies beside the running server: residents hand in lists while the keeper's copies are taken, and each copy has to
+"""Copies while the server runs: residents hand in lists while the keeper's copies are taken, and each copy has to
 be an office of one moment.
 
 Each resident hands in one list, turned round by some places. So a list in a copy that is none of these is torn.
@@ -93,7 +93,7 @@ def try_copying(program, length=SECONDS):
                     heads.add(copy.with_name(copy.name + "-wal").read_bytes()[:32])
                     torn += is_torn(copy)
         check(
-            f"{len(times)} copies beside {writers.sent} lists that were handed in: none is torn",
+            f"{len(times)} copies during {writers.sent} lists that were handed in: none is torn",
             torn == 0 and len(times) > length and writers.sent > 10 * length,
             (torn, len(times), writers.sent),
         )

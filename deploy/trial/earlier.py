@@ -101,7 +101,7 @@ def put_back_later(stand):
 
 
 def restore(stand, *words):
-    """Runs rooms-restore, and gives its status, what it printed, and what it said beside."""
+    """Runs rooms-restore, and returns its status, its output, and its standard error."""
     environment = {**stand.environment, "ROOMS_ACCOUNT": "root"}
     words = [PYTHON, str(DEPLOY / "rooms-restore"), *map(str, words)]
     done = subprocess.run(words, env=environment, capture_output=True, text=True, check=False)
@@ -171,7 +171,7 @@ def not_migrated(stand):
 
 
 def put_back_in_earlier(stand):
-    """Where the office's own file is of an earlier version, a copy of it can be put back too."""
+    """If the office's own file is of an earlier version, a copy of it can be put back too."""
     start_earlier(stand)
     name = stand.script("rooms-office", "backup").strip()
     told = stand.command("back", name)

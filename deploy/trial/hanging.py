@@ -33,7 +33,7 @@ def told_at(stand, *lines):
 
 
 def try_hanging(program):
-    """A program that hangs is ended after its time, and who waits too long for their turn is told."""
+    """A program that hangs is ended after its time, and a person who waits too long for their turn reads why."""
     with Stand(program, ROOMS_LINE_SECONDS="4", ROOMS_TURN_SECONDS="2") as stand:
         hanging = stand.folder / "hanging"
         hanging.write_text(HANGING.format(file=stand.file, program=stand.program), encoding="utf-8")
@@ -48,7 +48,7 @@ def try_hanging(program):
             answers,
         )
         took, answer = answers["room A"]
-        check("who waits too long is told", took < 3.5 and "took too long" in answer["fault"], answers)
+        check("a person who waits too long reads why", took < 3.5 and "took too long" in answer["fault"], answers)
         check("and who waits for a moment is served", answers["room B"][1].get("done"), answers)
         stand.until_listening(stand.server_port)
         server = stand.server()
@@ -56,7 +56,7 @@ def try_hanging(program):
         check("lines that take too long together are refused", told[0] == 3 and "make several files" in told[2], told)
         check("without a stop of the server", stand.server() == server)
         rooms = [row[0] for row in stand.ask(ask="view")["rooms"]]
-        check("the server is there again, and only what was answered stands", rooms == ["B"], rooms)
+        check("the server is there again, and only what was answered took effect", rooms == ["B"], rooms)
         check(
             "the journal says that the program was ended",
             "did not end within" in stand.script("rooms-office", "journal"),

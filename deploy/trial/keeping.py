@@ -1,5 +1,5 @@
-"""The keeper and the clerk's command: what is refused disturbs nobody, what is accepted is in the journal, lines in a
-bundle stand all or none, keys are seen nowhere, and there is a way back.
+"""The keeper and the clerk's command: what is refused disturbs nobody, what is accepted is in the journal, all lines in
+a bundle take effect or none, keys are seen nowhere, and there is a way back.
 
 This run alone, also over standin.py in place of the program: /usr/bin/python3 deploy/trial/keeping.py PROGRAM
 """
@@ -69,13 +69,13 @@ def quiet_lines(stand):
     stand.until_listening(stand.server_port)
     server, answer = stand.server(), stand.command("import", "rooms", "rooms-1", str(rooms))
     check("and again without a stop", answer[:2] == (0, "added 2\n") and stand.server() == server, answer)
-    check("with a word that nothing came in", "nothing came in now" in answer[2], answer)
+    check("with a note that nothing was imported", "nothing came in now" in answer[2], answer)
     answer = stand.command("import", "rooms", "rooms-2", "-", given="room\n\nH4\nH2\n")
     check("a bad list is refused", answer[:2] == (1, "refused 15 BadRecord 2 refusal 4\n"), answer)
-    check("and its row in the spreadsheet is told", "record 2 is row 4 of the list, H2\n" in answer[2], answer)
+    check("and its row in the spreadsheet is named", "record 2 is row 4 of the list, H2\n" in answer[2], answer)
     missing = stand.command("import", "rooms", "rooms-3", "/nowhere")
     check(
-        "a list that is not there is told",
+        "a list that is not there is named",
         missing[:2] == (3, "unavailable\n") and "No such file" in missing[2],
         missing,
     )
@@ -88,13 +88,13 @@ def hidden_keys(stand):
         check("a line with a key is not taken from the command line", told[0] == 2 and "do -" in told[2], told)
     with Watcher(KEY, OTHER) as watcher:
         check(
-            "a person comes in on standard input",
+            "a person is added by standard input",
             stand.script("rooms-office", "do", "-", given=f"person R9 {KEY} Ann Li\n") == "ok\n",
         )
         told = stand.command("do", "-", given=f"person R8 {KEY} Bea Ma\n")
         check("nobody else may have the key", told[:2] == (1, "refused 6 KeyInUse\n"), told)
         told = stand.script("rooms-office", "do", "-", given=f"me {KEY}\n")
-        check("the key's owner is told", told.startswith("person R9\nname Ann Li\n"), told)
+        check("the answer is about the key's owner", told.startswith("person R9\nname Ann Li\n"), told)
         told = stand.command("do", "-", given=f"me {OTHER}\n")
         check("and of a key of nobody that it is unknown", told[:2] == (1, "refused 2 UnknownPerson\n"), told)
         slips = f"person R8 {KEY.upper()} Bea", f"persn R8 {KEY} Bea", f"home R8 {KEY}", f"person {KEY} R8 Bea"
@@ -112,13 +112,13 @@ def hidden_keys(stand):
             f"{place.name} has no key and no name",
             not re.search(f"{KEY}|Ann Li", place.read_text(encoding="utf-8"), re.I),
         )
-    check("the journal says who came in", "person R9 (key) (name)  ->  ok" in stand.script("rooms-office", "journal"))
+    check("the journal says who was added", "person R9 (key) (name)  ->  ok" in stand.script("rooms-office", "journal"))
     left = list((stand.scratch / "copies").iterdir())
     check("no copy is left in memory", not left, left)
 
 
 def bundles(stand):
-    """Many lines stand all or none, under one stop."""
+    """All of many lines take effect or none, under one stop."""
     starts = stand.log("keeper").count("listening on")
     told = stand.command("lines", given="# three rooms\nroom L1\n\nroom L2\nrooms\nroom L3\n")
     check(
@@ -134,7 +134,7 @@ def bundles(stand):
         told[:2] == (1, "ok\nrefused 4 DuplicateRoom\n") and "line 2" in told[2],
         told,
     )
-    check("nothing of them stands", "L4" not in stand.office("rooms"))
+    check("none of them took effect", "L4" not in stand.office("rooms"))
     told = stand.command("lines", given=f"room L6\nperson R7 {OTHER} Cy Fu\nme {OTHER}\n")
     check(
         "lines with keys are taken among them",
@@ -150,9 +150,9 @@ def tried(stand):
     server, before = stand.server(), stand.ask(ask="view")
     told = stand.command("try", given="# a round\nopen\nclose\nclose\nopen\n")
     check("lines are tried", told[0] == 1 and re.fullmatch("round 1 open\nclosed \\d+\nrefused 1 .*\n", told[1]), told)
-    check("the one that is not accepted is told", "line 4 would not be accepted" in told[2], told)
+    check("the one that is not accepted is named", "line 4 would not be accepted" in told[2], told)
     check("nothing is changed", stand.ask(ask="view") == before and stand.server() == server)
-    check("there is no list to take out", stand.script("rooms-office", "export", "choices") == "person,choices\n")
+    check("there is no list to export", stand.script("rooms-office", "export", "choices") == "person,choices\n")
 
 
 def corrected(stand, is_program):
@@ -193,7 +193,7 @@ def ways_back(stand):
     check("the copies are listed with their reasons", f"before back {name}, by root" in listed, listed)
     told = stand.command("back", "20200101T000000Z")
     check(
-        "a copy that is not there is told", told[:2] == (3, "unavailable\n") and "there is no copy" in told[2], told
+        "a copy that is not there is named", told[:2] == (3, "unavailable\n") and "there is no copy" in told[2], told
     )
     answer = stand.ask(ask="back", name=name, seen="round 7 open")
     check("nobody goes back from where they are not", "has gone on" in answer["fault"], answer)
@@ -236,7 +236,7 @@ def blanked(stand):
         check(f"{body!r} under its label is another list", told[:2] == (1, "refused 14 ListDiffers\n"), told)
     check("the rooms are as before", stand.office("rooms") == rooms)
     told = stand.command("blank", "no-such")
-    check("a label that nobody gave is told", told[0] == 3 and "no list has come in" in told[2], told)
+    check("a label that nobody gave is named", told[0] == 3 and "no list has come in" in told[2], told)
 
 
 def erased(stand):
@@ -310,7 +310,7 @@ def nonsense(stand):
         if "fault" not in json.loads(answer or b"{}"):
             check(f"{request[:60]!r} is a fault", False, answer)
     alive = stand.keeper.poll() is None and stand.keeper.pid == keeper and stand.server() == server
-    check(f"{len(NONSENSE)} requests that are none are told so, and disturb nobody", alive)
+    check(f"{len(NONSENSE)} requests that are none are answered so, and disturb nobody", alive)
     check("and leave no trace in the log", "Traceback" not in stand.log("keeper"), stand.log("keeper"))
 
 

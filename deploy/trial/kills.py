@@ -1,7 +1,7 @@
 """The keeper is killed in the middle of each kind of line of a small year, and started again.
 
-Each time the office is as before the line or as after it, what was answered stands, what stands is in the journal,
-and no server is left over. This run alone, also over standin.py in place of the program: /usr/bin/python3
+Each time the office is as before the line or as after it, what was answered is in effect, what is in effect is in the
+journal, and no server is left over. This run alone, also over standin.py in place of the program: /usr/bin/python3
 deploy/trial/kills.py PROGRAM
 """
 
@@ -130,10 +130,10 @@ def kill_in(stand, job):
         answer = killed(stand, job, took * (number + 0.5) / KILLS)
         found = content(stand)
         if found not in (before, after) or accepted(answer) and found != after:
-            check(f"{job}: before or after it, and what was answered stands", False, (answer, found))
+            check(f"{job}: before or after it, and what was answered is in effect", False, (answer, found))
         if found != before:
             stood += 1
-            check("    what stands is in the journal", is_noted(stand, entries))
+            check("    what is in effect is in the journal", is_noted(stand, entries))
     if content(stand) != after:
         answer = stand.ask(**job)
         if not accepted(answer):
@@ -144,7 +144,7 @@ def kill_in(stand, job):
         else " ".join(str(job.get(key)) for key in ("ask", "kind", "label") if key in job)
     )
     check(
-        f"killed {KILLS} times within {1000 * took:.0f} ms of `{said}`: {stood} times it stood",
+        f"killed {KILLS} times within {1000 * took:.0f} ms of `{said}`: {stood} times it was in effect",
         content(stand) == after,
     )
 

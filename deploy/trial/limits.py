@@ -15,7 +15,7 @@ from pathlib import Path
 from stand import DEPLOY, HOST, Stand, check, key_of, unchecked
 
 FIELDS = f"Host: {HOST}\r\nRoom-Key: {key_of('T1')}\r\n"
-# So many requests may come in so many seconds. The proxy lets those of the ten seconds before fade, so that
+# So many requests are allowed in so many seconds. The proxy lets those of the ten seconds before fade, so that
 # it takes more to be over the rate for certain.
 LIMIT = 1500
 MORE = 700
@@ -38,7 +38,7 @@ def first_line(connection):
 
 
 def slow_ones(stand):
-    """Heads and bodies that do not come hold nobody up, and are let go."""
+    """Heads and bodies that do not come hold nobody up, and are dropped."""
     held = []
     for text in (
         "GET /me HTTP/1.1\r\nHost: rooms",
@@ -56,7 +56,7 @@ def slow_ones(stand):
             first_line(other) == "HTTP/1.1 200 OK" and time.monotonic() - began < 2,
         )
     slow = first_line(held[0]), first_line(held[-1])
-    check("they are let go after ten seconds", time.monotonic() - began < 15 and "200" not in "".join(slow), slow)
+    check("they are dropped after ten seconds", time.monotonic() - began < 15 and "200" not in "".join(slow), slow)
     for connection in held:
         connection.close()
 
@@ -135,7 +135,7 @@ def connections(stand):
 
 
 def key_in_address(stand):
-    """What stands behind `?` is not written down: some people write their key there."""
+    """What comes after `?` is not logged: some people write their key there."""
     with connected(stand) as connection:
         connection.sendall(f"GET /me?key={key_of('T1')} HTTP/1.1\r\nHost: {HOST}\r\n\r\n".encode())
         check("a key in the address is none", first_line(connection) == "HTTP/1.1 403 Forbidden")
@@ -214,7 +214,7 @@ def try_limits(program):
             stand.tell(line)
         stand.start()
         stand.start_proxy()
-        check("beside the server the program's line is unavailable", "unavailable" in beside(stand))
+        check("while the server runs the program's line is unavailable", "unavailable" in beside(stand))
         slow_ones(stand)
         sizes(stand)
         connections(stand)

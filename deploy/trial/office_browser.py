@@ -117,11 +117,11 @@ class Clerk:
         self.driver.get(self.base + path)
 
     def text(self):
-        """What stands on the page."""
+        """The text of the page."""
         return self.driver.find_element(By.TAG_NAME, "body").text
 
     def reads(self, *texts):
-        """Ends the trial unless all of this stands on the page."""
+        """Ends the trial unless all of this is on the page."""
         for text in texts:
             check(f"{self.driver.title}: {text}", text in self.text(), self.text()[:800])
 

@@ -194,7 +194,7 @@ def check_answer(number, path, status, fields, text):
 
 
 def try_lists(stand, page):
-    """Bad lists are told with what to do, and the residents' server is not stopped; lists stay in memory."""
+    """Bad lists are answered with what to do, and the residents' server is not stopped; lists stay in memory."""
     before, server = rows(stand), stand.server()
     lists = {
         "another header": (b"room;x\nA-1\n", "first line"),
@@ -213,7 +213,7 @@ def try_lists(stand, page):
         if status == 303:
             shown = page.get("/office/lists")[2]
         check(f"a list with {name} reads: {text}", text in shown, (status, shown[:1500]))
-    check("the server was not stopped, and nothing came in", stand.server() == server and rows(stand) == before)
+    check("the server was not stopped, and nothing was imported", stand.server() == server and rows(stand) == before)
     _, _, shown = page.form(
         "/office/lists", {"kind": "rooms", "label": "rows"}, files={"list": b"room\n\n\nZ-1\nz-2\n\nA-101\n"}
     )
@@ -246,7 +246,7 @@ def try_markup(stand, page):
 
 
 def try_two_clerks(stand, anna, bert):
-    """The older form of two is refused with the reason; changes at the same time all come to stand."""
+    """The older form of two is refused with the reason; changes at the same time all take effect."""
     bert.form("/office/step/open", page="/office/step/open")
     old = anna.hidden("/office/step/cancel")
     bert.form("/office/step/close", page="/office/step/close")
@@ -264,7 +264,7 @@ def try_two_clerks(stand, anna, bert):
     for thread in threads:
         thread.join()
     codes = {row[0] for row in rows(stand)["rooms"]}
-    check("12 changes at once by two clerks all stand", codes >= {code for _, _, code in forms}, codes)
+    check("12 changes at once by two clerks all take effect", codes >= {code for _, _, code in forms}, codes)
     bert.get("/office/")
     anna.form("/office/register", {"text": "T05"}, page="/office/register")
     check(
@@ -274,7 +274,7 @@ def try_two_clerks(stand, anna, bert):
 
 
 def try_burst(stand, page):
-    """All residents hand in at once while the clerk closes the round. What was answered stands."""
+    """All residents hand in at once while the clerk closes the round. What was answered is in effect."""
     page.form("/office/step/open", page="/office/step/open")
     answers, lists = {}, {person: ROOMS[number : number + 5] for number, person in enumerate(PEOPLE)}
 
@@ -291,7 +291,7 @@ def try_burst(stand, page):
     check("the clerk closes the round during a burst", rows(stand)["phase"] == "closed")
     statuses = [status for given in answers.values() for status in given]
     check(
-        f"{statuses.count(200)} lists came in, {statuses.count(409)} residents read that the round is closed",
+        f"{statuses.count(200)} lists were handed in, {statuses.count(409)} residents read that the round is closed",
         set(statuses) <= {200, 409} and all(kept.get(one) == lists[one] for one in PEOPLE if 200 in answers[one]),
         statuses,
     )

@@ -1,8 +1,8 @@
 """A year of 300 people, by the office's page alone: /usr/bin/python3 deploy/trial/office_page.py PROGRAM FOLDER.
 
-A clerk brings lists in, opens a round, residents hand lists in over HTTP with the keys of the printed slips, and the
+A clerk imports lists, opens a round, residents hand lists in over HTTP with the keys of the printed slips, and the
 clerk goes on to the day of moving, in headless Chromium without scripts. The folder gets the photographs. The record
-and the audit have to agree with what the page shows, and no key may stand in any log.
+and the audit have to agree with what the page shows, and no key may be in any log.
 """
 
 import csv
@@ -29,7 +29,7 @@ CLOSING = "Moving day is 1 October. Questions: office@example.org"
 
 
 def open_round(clerk, stand, college):
-    """The round opens, by keyboard alone; residents hand in; a list of choices comes in beside theirs."""
+    """The round opens, by keyboard alone; residents hand in; a list of choices is imported next to theirs."""
     clerk.visit("/office/")
     check("the Tab key leads to the next step", clerk.tab_to("Open the next round"))
     clerk.enter()
@@ -139,7 +139,7 @@ def draw_and_run(clerk, stand):
     check("the seed is that of sha256sum", sums in clerk.text().replace(" ", "").replace("\n", ""), sums)
     entries = stand.ask(ask="journal", last=3)["journal"]
     check(
-        "the seed stands in the journal before the draw",
+        "the seed is in the journal before the draw",
         any(entry.get("line", "").startswith(f"seed {sums}") for entry in entries),
         entries,
     )
@@ -170,7 +170,7 @@ def look_at_results(clerk, stand, page, college, seed):
     check("the export has what the office has", {row["person"]: row["new"] or None for row in rows} == results)
     listed = dict(row.values() for row in csv.DictReader(io.StringIO(page.get("/office/export/choices.csv")[2])))
     check(
-        "the lists go out as they came in", listed["R010"] == " ".join(college.choices["R010"]) and len(listed) == 261
+        "the lists are exported as they were imported", listed["R010"] == " ".join(college.choices["R010"]) and len(listed) == 261
     )
     person = next(one for one in results if results[one] and results[one] != homes[one])
     clerk.visit(f"/office/person/{person}")
@@ -289,8 +289,8 @@ def try_office_page(program, shots):
             print(f"      {len(clerk.seen)} pages looked at: width, names, contrast")
         journal = (stand.data / "journal").read_text(encoding="utf-8")
         logs = stand.proxy_log() + stand.log("page") + stand.log("keeper") + journal
-        check("no key stands in a log or in the journal", not any(key in logs for key in college.keys.values()))
-        check("what was searched for stands in no log", "zo" not in stand.proxy_log().lower().replace("/office/", ""))
+        check("no key is in a log or in the journal", not any(key in logs for key in college.keys.values()))
+        check("what was searched for is in no log", "zo" not in stand.proxy_log().lower().replace("/office/", ""))
         check("the page's log is empty", not stand.log("page").strip(), stand.log("page"))
 
 

@@ -1,4 +1,4 @@
-"""What a clerk does on the office's page before the round: lists come in, and the register is kept."""
+"""What a clerk does on the office's page before the round: lists are imported, and the register is kept."""
 
 import re
 
@@ -64,7 +64,7 @@ def keep_the_register(clerk, stand, college):
     clerk.put("text", "zoë")
     clerk.press("Search")
     clerk.shot("05-register")
-    check("what was searched for stands in no address", clerk.driver.current_url.endswith("/office/register"))
+    check("what was searched for is in no address", clerk.driver.current_url.endswith("/office/register"))
     tenant = next(person for person in college.people if person in college.homes)
     clerk.visit(f"/office/person/{tenant}")
     clerk.shot("06-person")
@@ -101,7 +101,7 @@ def correct(clerk, stand, college, person):
 
 
 def keep_the_rooms(clerk):
-    """All rooms, and the question before one goes out of use in which somebody lives."""
+    """All rooms, and the question before one is shut in which somebody lives."""
     clerk.visit("/office/rooms")
     clerk.shot("08-rooms")
     clerk.press("Out of use ...")

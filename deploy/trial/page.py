@@ -1,6 +1,6 @@
 """The portal page in headless Chromium, through the proxy, against the real server: a round as residents go through it.
 
-Faults that neither server nor proxy can be made to tell at will are put in place of the server's answer by the browser.
+For faults that neither server nor proxy can be made to report at will, the browser replaces the server's answer.
 """
 
 import json
@@ -54,7 +54,7 @@ FAULTY_FETCH = """
 
 
 def signing_in(page: Page) -> None:
-    """The key, and what is said of a wrong one."""
+    """The key, and what the page says of a wrong one."""
     page.width(*DESK)
     page.open()
     check("the focus starts in the key", page.focus() == "key", page.focus())
@@ -79,7 +79,7 @@ def list_by_keyboard(page: Page) -> None:
     """A list that is made by keys alone."""
     page.find("v")
     found = page.waits(lambda: page.offered()[-1:] == ["V"])
-    check("rooms are found by a part of what stands there", found, page.offered())
+    check("rooms are found by a part of what is there", found, page.offered())
     check("Tab leads to adding V", page.tab_to("Add room V"))
     page.keys(Keys.ENTER)
     is_added = page.codes() == ["V"]
@@ -111,7 +111,7 @@ def handing_in(page: Page) -> None:
     """The list goes to the server."""
     page.add("H1", "A-1")
     text = page.text("list")
-    check("what stands after the own room is explained", "your room" in text and "does not count" in text, text)
+    check("what comes after the own room is explained", "your room" in text and "does not count" in text, text)
     page.shot("2-list")
     page.script("document.getElementById('hand-in').focus();")
     page.keys(Keys.ENTER)
@@ -193,14 +193,14 @@ def server_away(page: Page, stand: Stand) -> None:
 
 
 def withdrawal(page: Page, stand: Stand) -> None:
-    """Residents who withdraw: one with a room, one without, and one whom the office takes out."""
+    """Residents who withdraw: one with a room, one without, and one whom the office withdraws."""
     page.click("withdraw")
     page.waits(lambda: page.focus() == "stay")
     page.keys(Keys.TAB, Keys.ENTER)
     gone = page.waits(lambda: "have withdrawn" in page.text("news"))
     check("withdrawn", gone and not page.element("edit").is_displayed(), page.text("news"))
     text = page.text("result")
-    check("and told what that means", text == "You have withdrawn: you keep room H1.", text)
+    check("and reads what that means", text == "You have withdrawn: you keep room H1.", text)
     check("and not that the list can be changed", "can change" not in page.text("facts"), page.text("facts"))
     page.shot("6-withdrawn")
     page.sign_out()
@@ -209,7 +209,7 @@ def withdrawal(page: Page, stand: Stand) -> None:
     page.sign_in("key000000000000m", "Max Mai")
     page.click("withdraw")
     page.waits(lambda: page.focus() == "stay")
-    check("who has no room is told that there will be none", "You get no room in it." in page.text("question-text"))
+    check("a resident without a room reads that there will be none", "You get no room in it." in page.text("question-text"))
     page.keys(Keys.ESCAPE)
     page.sign_out()
     page.sign_in("key00000000000t2", "Tom Tao")
@@ -228,7 +228,7 @@ def is_closed_to_leaver(page: Page) -> bool:
 
 
 def leaving(page: Page, stand: Stand) -> None:
-    """The office notes that a resident leaves the college, while a list that was begun stands on another device."""
+    """The office notes that a resident leaves the college, while a list that was begun is on another device."""
     page.sign_in(key_of("T3"), "Tea Tal")
     page.add("A-9")
     check("who takes part hands in", page.hand_in(), page.text("fault"))
@@ -240,11 +240,11 @@ def leaving(page: Page, stand: Stand) -> None:
         stand.office("going T3")
         page.click("ask-again")
         told = page.waits(lambda: "no, you leave the college" in page.text("facts"))
-        check("who leaves the college is told that they take no part", told, page.text("facts"))
+        check("a resident who leaves the college reads that they take no part", told, page.text("facts"))
         text = page.text("result")
         check("and what becomes of their room", text == "You leave the college: room H3 is given out in this round, "
               "and you move out at its end.", text)
-        check("and whom to tell if it is not so", "do not leave the college after all" in page.text("next"))
+        check("and to whom to turn if it is not so", "do not leave the college after all" in page.text("next"))
         check("no list of theirs counts", page.text("record") == "You leave the college, so no list counts.")
         check("and nothing can be changed", is_closed_to_leaver(page) and "can change" not in page.text("facts"))
         page.shot("14-leaves")
@@ -267,7 +267,7 @@ def left(page: Page) -> None:
     page.sign_out()
     page.sign_in(key_of("T3"), "Tea Tal")
     check("who has left has no room", "H3" not in page.text("facts") and page.text("result") == "", page.text("facts"))
-    check("and is told so", "no room at present" in page.text("next"), page.text("next"))
+    check("and reads so", "no room at present" in page.text("next"), page.text("next"))
 
 
 def closing_and_result(page: Page, stand: Stand) -> None:

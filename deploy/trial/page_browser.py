@@ -145,11 +145,11 @@ class Page(Browser):
         return False
 
     def is_told(self, part: str) -> bool:
-        """Whether a fault comes to be told with these words."""
+        """Whether the page comes to show a fault with these words."""
         return self.waits(lambda: part in self.text("fault"))
 
     def codes(self) -> list[str]:
-        """The list as it stands in the page."""
+        """The list as it is in the page."""
         return [e.get_attribute("data-code") or "" for e in self.elements("#list [data-act=remove]")]
 
     def offered(self) -> list[str]:
@@ -161,7 +161,7 @@ class Page(Browser):
         self.press_element(self.driver.find_element(By.CSS_SELECTOR, f'[data-act={act}][data-code="{code}"]'))
 
     def find(self, typed: str) -> None:
-        """Types into the search for rooms, in place of what stands there."""
+        """Types into the search for rooms, in place of what is there."""
         self.element("find").clear()
         self.element("find").send_keys(typed or " ", *([] if typed else [Keys.BACKSPACE]))
 
@@ -194,7 +194,7 @@ class Page(Browser):
             self.element("go").click()
 
     def kept(self) -> list[str]:
-        """What the tab keeps beside the language."""
+        """What the tab keeps besides the language."""
         return self.script("return Object.keys(sessionStorage).filter(name => name !== 'rooms-language');")
 
     def too_wide(self) -> list[Any]:

@@ -20,7 +20,7 @@ LOST_ANSWER = """
         window.fetch = real;
         throw new TypeError("lost");
     };"""
-# The server tells more of a person than the page knows of.
+# The server says more of a person than the page knows of.
 MORE_MEMBERS = """
     const real = window.fetch;
     window.fetch = async (path, options) => {
@@ -72,15 +72,15 @@ class Device:
 
 
 def rooms_found(page: Page) -> None:
-    """The order of rooms, what is said of them, and how they are found."""
+    """The order of rooms, what the page says of them, and how they are found."""
     page.find("")
-    check("rooms stand in the order in which people count",
+    check("rooms are in the order in which people count",
           page.offered() == [f"A-{n}" for n in range(1, 21)], page.offered())
     page.click("more")
     check("more rooms are shown when they are asked for, and the keyboard goes on there",
           len(page.offered()) == 40 and page.focus() == "Add room A-21", page.focus())
     about = page.text("rooms")
-    check("what the college says of a room stands beside it", "house North, floor 2, size 14 m²" in about, about)
+    check("what the college says of a room is next to it", "house North, floor 2, size 14 m²" in about, about)
     check("also with signs that CSV needs quotes for", 'house South; by the "Green", floor 0' in about, about)
     for typed, found in (
         ("north", ["A-1"]), ("occupied", ["H1", "H2", "H3"]), ("lived  H3", ["H3"]), ("a-45 free", ["A-45"]),
@@ -122,7 +122,7 @@ def drafts(page: Page) -> None:
     page.sign_in(key_of("N"), "Nia Ng")
     kept = page.script("return sessionStorage['rooms-draft'];")
     check("nobody else sees it", page.codes() == [] and "A-5" not in kept, kept)
-    check("who has no room is told what a list is for", "list every room that you would take" in page.text("promises"))
+    check("a resident without a room reads what a list is for", "list every room that you would take" in page.text("promises"))
     text = page.text("record")
     check("what it means to hand in nothing is said", "nothing yet, or" in text and "you get no room." in text, text)
     page.sign_out()
@@ -138,7 +138,7 @@ def drafts(page: Page) -> None:
     check("who signs out leaves nothing behind", is_out and page.kept() == [], page.kept())
     page.script("sessionStorage.setItem('rooms-draft', '{\"list\":');")
     page.sign_in(key_of("T3"), "Tea Tal")
-    check("a damaged draft is passed over", page.codes() == [], page.codes())
+    check("a damaged draft is ignored", page.codes() == [], page.codes())
 
 
 def changed_elsewhere(page: Page, stand: Stand) -> None:
@@ -207,7 +207,7 @@ def empty_list(page: Page, stand: Stand) -> None:
 def languages(page: Page, stand: Stand) -> None:
     """The switch, and what the browser asks for."""
     unequal = page.driver.execute_async_script(UNEQUAL_TEXTS)
-    check("each text stands there in each language, with the same values", unequal == [], unequal)
+    check("each text is there in each language, with the same values", unequal == [], unequal)
     page.enter_key("x")
     check("the language can be chosen by the keyboard", page.tab_to("Language"))
     page.keys("D")

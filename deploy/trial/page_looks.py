@@ -1,4 +1,4 @@
-"""The portal page as it looks: sizes, letters, schemes, contrast, what a screen reader is told, use by keys alone."""
+"""The portal page as it looks: sizes, letters, schemes, contrast, what a screen reader gets, use by keys alone."""
 
 from pathlib import Path
 from typing import Any
@@ -108,7 +108,7 @@ def sizes(page: Page, name: str, top: str = "round-heading") -> None:
 
 
 def contrast(page: Page, name: str) -> None:
-    """All texts and edges can be told from what lies behind, in both schemes."""
+    """All texts and edges stand out against what is behind them, in both schemes."""
     for scheme in ("light", "dark"):
         page.media(prefers_color_scheme=scheme)
         for kind, least in (("text", TEXT), ("edge", EDGE)):
@@ -120,7 +120,7 @@ def contrast(page: Page, name: str) -> None:
 
 
 def tree(page: Page, name: str, headings: list[int]) -> None:
-    """What a screen reader is told: each control has a name, the headings have these levels, and messages are live."""
+    """What a screen reader gets: each control has a name, the headings have these levels, and messages are live."""
     nodes = page.driver.execute_cdp_cmd("Accessibility.getFullAXTree", {})["nodes"]
 
     def value(node: dict[str, Any], member: str) -> Any:
@@ -157,12 +157,12 @@ def small_screen(page: Page) -> None:
     page.letters(200)
     top = page.script("return document.getElementById('hand-in').getBoundingClientRect().top"
                       " - document.getElementById('list').getBoundingClientRect().top;")
-    check("with large letters the button stands above the 40 rooms", top < 0, top)
+    check("with large letters the button is above the 40 rooms", top < 0, top)
     check("and nothing is covered", page.covered() == [], page.covered())
     page.letters(100)
-    check("keys are not told of where there are none", "Alt" not in page.text("list-hint"), page.text("list-hint"))
+    check("keys are not mentioned if there are none", "Alt" not in page.text("list-hint"), page.text("list-hint"))
     page.width(*DESK)
-    check("and are told of where there are", "Alt" in page.text("list-hint"), page.text("list-hint"))
+    check("and are mentioned if there are", "Alt" in page.text("list-hint"), page.text("list-hint"))
 
 
 def by_keys(page: Page) -> None:

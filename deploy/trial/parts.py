@@ -19,7 +19,7 @@ from stand import OFFICE, check
 
 sys.path.append(str(OFFICE))
 
-# pylint: disable=wrong-import-position,wrong-import-order  # they stand in the folder of the line above
+# pylint: disable=wrong-import-position,wrong-import-order  # they are in the folder of the line above
 from backups import ASKED_FOR, Backups
 from copies import Copies, make_whole
 from hand import Change, Hand
@@ -224,7 +224,7 @@ def keeping(settings):
     name = backups.keep("close", "before close, by anna")
     held = settings.backups / name
     check("a copy is one file and its reason", sorted(one.name for one in held.iterdir()) == ["rooms.db", "why"])
-    check("it has what stood in the log alone", rooms_of(held / "rooms.db") == ["OLD"])
+    check("it has what was in the log alone", rooms_of(held / "rooms.db") == ["OLD"])
     check(
         "it is listed with its reason", backups.listed() == [(name, backups.listed()[0][1], "before close, by anna")]
     )

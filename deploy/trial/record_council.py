@@ -1,4 +1,4 @@
-"""Runs docs/council.md as it stands there: record_council.py PROGRAM.
+"""Runs docs/council.md as it is: record_council.py PROGRAM.
 
 The record on the page has to be the one that an office writes after that year. Each block of commands is run in a
 folder of its own, which has the record and audit.py, and has to print what the block after it shows. With its own draw
@@ -72,7 +72,7 @@ def main(program: str) -> None:
             print(f"ok    {commands.splitlines()[-1]}")
     if len(text.splitlines()) >= LIMIT:
         sys.exit(f"the page has {len(text.splitlines())} lines")
-    print(f"docs/council.md: {len(blocks) // 2} blocks of commands, and the record, are as they stand there")
+    print(f"docs/council.md: {len(blocks) // 2} blocks of commands, and the record, are as on the page")
 
 
 if __name__ == "__main__":

@@ -90,7 +90,7 @@ class Drawing:  # pylint: disable=too-many-instance-attributes  # what a round i
         self.going.clear()
 
     def put_out_of_use(self, room: str) -> None:
-        """Shuts a room; whoever lives there has no home any more."""
+        """Shuts a room; the person who lives there has no home any more."""
         self.lines.append(f"shut {room}")
         self.shut.add(room)
         self.displaced |= {person for person, home in self.home.items() if home == room}
@@ -149,7 +149,7 @@ class Drawing:  # pylint: disable=too-many-instance-attributes  # what a round i
             self.lines.append(f"going {person}")
 
     def shut_one(self) -> None:
-        """A room goes out of use, lived in or not, wished for or not."""
+        """Shuts a room, lived in or not, wished for or not."""
         rooms = [room for room in self.rooms if room not in self.shut]
         if rooms:
             self.put_out_of_use(self.rng.choice(rooms))
@@ -162,7 +162,7 @@ class Drawing:  # pylint: disable=too-many-instance-attributes  # what a round i
             self.lines.append(f"reopen {room}")
 
     def newcomer(self) -> None:
-        """A person, or a room, comes in while the round is open."""
+        """Adds a person, or a room, while the round is open."""
         person, room = f"Z{len(self.lines)}", f"Z{len(self.lines)}"
         if self.rng.random() < 0.5 and len(self.people) < 2000:
             self.people.append(person)

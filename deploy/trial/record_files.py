@@ -8,7 +8,7 @@ import sys
 from collections.abc import Callable
 from pathlib import Path
 
-import record  # pylint: disable=wrong-import-order  # it stands in deploy/office, which the trial puts on the path
+import record  # pylint: disable=wrong-import-order  # it is in deploy/office, which the trial puts on the path
 from record_draws import Round
 from record_told import Told, Trial, told_of
 
@@ -44,11 +44,11 @@ def bring_in(trial: Trial, file: Path, register: list[str]) -> None:
         path = trial.folder / f"{kind}.csv"
         path.write_text("".join(f"{line}\n" for line in lines), encoding="utf-8")
         status, said = run(trial.program, "import", "--db", file, kind, f"{kind}-1", path)
-        trial.check(status == 0, f"{kind} come in", said)
+        trial.check(status == 0, f"{kind} are imported", said)
 
 
 def try_file(trial: Trial, drawn: Round) -> tuple[Told, str]:
-    """A round in a file of the program's own, before, while and after it has results; what is told, and the record."""
+    """A round in a file of the program's own, before, while and after it has results; what the program says, and the record."""
     file = trial.folder / "office.db"
     for end in ENDS:
         beside(file, end).unlink(missing_ok=True)
@@ -126,7 +126,7 @@ REFUSED: dict[str, tuple[Callable[[Path], None], str]] = {
     "a home that is no room": (changed("UPDATE person SET home = 'NONE' WHERE id = 'P1'"), "a home or a list"),
     "a word that is none": (changed("UPDATE word SET hex = 'close' WHERE person = 'P1'"), "for a word"),
     "a file cut off": (cut, "damaged"),
-    "no log beside it": (lambda file: beside(file, "-wal").unlink(), "its log is not beside it"),
+    "no log next to it": (lambda file: beside(file, "-wal").unlink(), "its log is not beside it"),
     "no file": (lambda file: file.unlink(), "cannot be read"),
     "a text": (replace, "is no office's file"),
 }
@@ -153,6 +153,6 @@ def try_refusals(trial: Trial) -> None:
         shutil.copyfile(beside(whole, end), beside(file, end))
     changed("ALTER TABLE person ADD COLUMN further TEXT")(file)
     changed("CREATE TABLE further(one TEXT)")(file)
-    trial.check(record.record(file) == text, "what stands beside the tables that are read does not matter")
+    trial.check(record.record(file) == text, "what is next to the tables that are read does not matter")
     status, said = run(sys.executable, "-B", COMMAND, whole, "--seed", f"{5:064x}")
     trial.check(status == 2 and "not those of this seed" in said, "a seed that is not the draw's", said)

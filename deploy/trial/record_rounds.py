@@ -12,7 +12,7 @@ from pathlib import Path
 sys.dont_write_bytecode = True  # the repository stays as it is
 sys.path.insert(0, str(Path(__file__).resolve().parent.parent / "office"))
 
-# pylint: disable=wrong-import-position,wrong-import-order  # some of these stand in the folder that was just named
+# pylint: disable=wrong-import-position,wrong-import-order  # some of these are in the folder that was just named
 import collections
 import contextlib
 import io
@@ -52,7 +52,7 @@ class Rounds(Trial):
         text = record.record(file_of(self.empty, told, self.folder / "drawn.db"), seeds_of(drawn))
         self.count(drawn, told)
         self.record(drawn, told, text)
-        self.counts["rounds told to a rehearsal"] += 1
+        self.counts["rounds rehearsed"] += 1
         if people > PEOPLE or self.rng.random() < 0.04:
             self.command(drawn, text)
 
@@ -106,7 +106,7 @@ class Rounds(Trial):
         told, text = try_file(self, drawn)
         self.count(drawn, told)
         self.record(drawn, told, text)
-        self.counts["rounds told to a file"] += 1
+        self.counts["rounds in a file"] += 1
 
     def count(self, drawn: Round, told: Told) -> None:
         """Counts what the drawn rounds had."""
@@ -158,7 +158,7 @@ class Rounds(Trial):
             lines = [line for line in differences if line.startswith(said)]
             self.check(len(lines) == 1 and why in lines[0], f"{kind}: {person} is named, and why", false, differences)
         self.check(len(differences) == len(made.changed), f"{kind}: nobody else is named", false, differences)
-        self.check(wrong.faults() == differences + broken, "all faults are told", false)
+        self.check(wrong.faults() == differences + broken, "all faults are named", false)
         if kind == "twice":
             self.check(any("given twice" in line for line in broken), "a room given twice", false, broken)
         self.counts[f"planted: {kind}"] += 1

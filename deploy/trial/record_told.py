@@ -12,7 +12,7 @@ from typing import NamedTuple
 
 from record_draws import Round, key_of
 
-MARK = "mark"  # no line of the program: its answer stands between two others
+MARK = "mark"  # no line of the program: its answer is between two others
 MARKED = "not understood\n"
 ASKED = 50  # up to so many people the program is asked what each of them sees
 

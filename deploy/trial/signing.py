@@ -1,4 +1,4 @@
-"""How clerks sign in at the proxy, and what of it comes to the office's page. A stub stands for the page, and tells
+"""How clerks sign in at the proxy, and what of it comes to the office's page. A stub replaces the page, and reports
 what it was sent.
 
 This run alone: /usr/bin/python3 deploy/trial/signing.py PROGRAM
@@ -67,7 +67,7 @@ def doors(stand):
     status, fields, text = asked(stand, "/office/person/T1?find=Tim", clerk="anna", X_Office_User="root")
     sent = json.loads(text)["fields"]
     check(
-        "the page is told the clerk's name by the proxy alone",
+        "the page gets the clerk's name from the proxy alone",
         status == 200 and sent["x-office-user"] == "anna",
         sent,
     )
@@ -88,7 +88,7 @@ def doors(stand):
 
 
 def over_ipv6(stand):
-    """Residents and clerks come in over IPv6 as well, and are told from others by their address."""
+    """Residents and clerks are served over IPv6 as well, and are distinguished by their address."""
     if not has_ipv6():
         print("      IPv6 was not tried: this machine has none")
         return

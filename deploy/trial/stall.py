@@ -1,9 +1,9 @@
 """The proxy's queue: residents ask one after the other, and the office does nothing.
 
 With more than one thread, HAProxy may put a request into the queue of a server that has become free a moment ago.
-Nothing takes it out again, and whoever comes later queues behind it, each for `timeout queue`. It takes a thread that
+Nothing takes it out again, and later requests queue behind it, each for `timeout queue`. It takes a thread that
 loses the processor after it has found the server busy, and before it has queued the request. This is rare, and less so
-where all threads share one processor with a busy program: so they do here. To see it happen, name the number of threads
+if all threads share one processor with a busy program: so they do here. To see it happen, name the number of threads
 that HAProxy is to have:
 
     /usr/bin/python3 deploy/trial/stall.py PROGRAM 4
@@ -30,7 +30,7 @@ BUSY = f"import time\nend = time.monotonic() + {SECONDS + 2 * STALLED}\nwhile ti
 
 
 def control_socket(stand):
-    """Where the proxy tells how it is."""
+    """Where the proxy reports its state."""
     return stand.folder / "control"
 
 
@@ -53,7 +53,7 @@ def threads_of(process):
 
 @contextlib.contextmanager
 def sharing_a_processor(process):
-    """Gives all threads of a process one processor, and a busy program beside them, which has an end of its own."""
+    """Gives all threads of a process one processor, and a busy program next to them, which has an end of its own."""
     one = {min(os.sched_getaffinity(0))}
     for thread in threads_of(process):
         os.sched_setaffinity(thread, one)
@@ -66,7 +66,7 @@ def sharing_a_processor(process):
 
 
 def find_stall(stand, residents):
-    """Waits for the answers. Where none has come for too long it gives what the proxy says, and else nothing."""
+    """Waits for the answers. If none has come for too long, it returns what the proxy says, and else nothing."""
     count, began = 0, time.monotonic()
     last = began
     while count < REQUESTS and time.monotonic() < began + SECONDS:

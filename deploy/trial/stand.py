@@ -1,5 +1,5 @@
-"""What the trial stands on: an office in a folder of its own, the keeper, HAProxy with the file of this repository,
-and the office's page where it is there.
+"""What the trial works on: an office in a folder of its own, the keeper, HAProxy with the file of this repository,
+and the office's page if it is there.
 
 Ports, paths, certificate and clerks are the trial's own. Whatever was started has ended when the `with` block does.
 """
@@ -307,7 +307,7 @@ class Stand:  # pylint: disable=too-many-instance-attributes,too-many-public-met
         return done.stdout
 
     def command(self, *words, given=""):
-        """Runs the clerk's command, and gives its status, what it printed, and what it said beside."""
+        """Runs the clerk's command, and returns its status, its output, and its standard error."""
         done = subprocess.run([PYTHON, OFFICE / "rooms-office", *words], env=self.environment, input=given.encode(),
                               capture_output=True, check=False)
         return done.returncode, done.stdout.decode(), done.stderr.decode()

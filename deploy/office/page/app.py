@@ -1,8 +1,8 @@
 """The frame of all pages: who asks, whether a form is this page's own, the headers, and what a clerk reads next.
 
-HAProxy stands before the page. It checks the clerk's password and names the clerk in the field X-Office-User; nobody
-else can open the page's socket. The page has no script: all is HTML and forms. Each form carries a token, and where the
-office was when the form was made.
+HAProxy is in front of the page. It checks the clerk's password and names the clerk in the field X-Office-User; nobody
+else can open the page's socket. The page has no script: all is HTML and forms. Each form carries a token, and the
+state of the round when the form was made.
 """
 
 import functools
@@ -133,7 +133,7 @@ def attempt(*lines: str) -> list[Answer]:
 
 
 def change(question: str, **fields: Any) -> bool:
-    """Changes the office, and tells the clerk what came of it. Whether all of it was carried out."""
+    """Changes the office, and shows the clerk the outcome. Returns whether all of it was carried out."""
     try:
         reply = ask(question, seen=field("seen"), **fields)
     except KeeperFault as fault:

@@ -10,7 +10,7 @@ csv.field_size_limit(1_000_000)
 
 
 class Record(NamedTuple):
-    """A record: its row in the spreadsheet, its fields, and the lines on which it stands."""
+    """A record: its row in the spreadsheet, its fields, and the lines that it takes."""
 
     row: int
     fields: list[str]

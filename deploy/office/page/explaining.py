@@ -13,7 +13,8 @@ from office_view import Office
 class Gone(NamedTuple):
     """A room of somebody's list that another person got: which choice it was, who got it, and when.
 
-    `tenant` is who lived there and let it go in an exchange; the person who got it, where it is their own room.
+    `tenant` is the person who lived there and gave it up in an exchange; if it is the own room of the person who got
+    it, that person.
     """
 
     room: str
@@ -59,7 +60,7 @@ LAST = LastAudit()
 
 
 def audit_program() -> Any | None:
-    """The program of the audit, where it is installed."""
+    """The program of the audit, if it is installed."""
     try:
         return importlib.import_module("audit")
     except ImportError:
@@ -67,7 +68,7 @@ def audit_program() -> Any | None:
 
 
 def audit_of(office: Office) -> Any | None:
-    """The audit of the office's results, where the program of the audit is installed."""
+    """The audit of the office's results, if the program of the audit is installed."""
     module = audit_program()
     return None if module is None else LAST.audit_of(module, office)
 
@@ -84,7 +85,7 @@ class Explainer:  # pylint: disable=too-few-public-methods  # what is worked out
                         if room in taken and audit.step[person] == taken[room]}
 
     def facts_of(self, ident: str) -> Facts | None:
-        """The facts of one person; nothing where the person takes no part."""
+        """The facts of one person; nothing if the person takes no part."""
         audit, office = self.audit, self.office
         if ident not in audit.got:
             return None
@@ -103,7 +104,7 @@ class Explainer:  # pylint: disable=too-few-public-methods  # what is worked out
 
 
 def explainer_of(office: Office) -> Explainer | None:
-    """What explains the office's results, where the program of the audit is installed."""
+    """What explains the office's results, if the program of the audit is installed."""
     audit = audit_of(office)
     return Explainer(audit, office) if audit else None
 

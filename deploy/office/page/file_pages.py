@@ -46,7 +46,7 @@ def own_export(office: Office, name: str) -> str | None:
             [ident, office.people[ident].name, office.people[ident].home or "", room or "", office.outcome(ident)]
             for ident, room in office.results.items()))
     if name == "choices":
-        # With the list of somebody who takes no part the whole list would not come in again.
+        # With the list of somebody who takes no part the whole list could not be imported again.
         lists = [(ident, office.choices[ident]) for ident in sorted(office.choices) if office.people[ident].takes_part]
         return csv_of(["person", "choices"], ([ident, " ".join(rooms)] for ident, rooms in lists))
     if name == "missing":
@@ -125,7 +125,7 @@ def ask_back(name: str) -> str:
     """Asks before the office goes back to a copy."""
     office = office_now()
     says = [f"The office becomes again what it was when the copy {name} was made. All that happened since then is "
-            "undone: lists that residents handed in, steps of the round, lists that came in.",
+            "undone: lists that residents handed in, steps of the round, imports.",
             "The keeper makes a copy of the present office first, so you can come back from this too.",
             "Tell the residents if they handed in lists after the copy: they have to hand them in again."]
     title = f"Go back to the copy {name}?"

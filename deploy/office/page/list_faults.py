@@ -23,7 +23,7 @@ class Fault(NamedTuple):
 
 
 class Findings(NamedTuple):
-    """The faults of single records, what stands against the list as a whole, and whether there may be more faults."""
+    """The faults of single records, what is wrong with the list as a whole, and whether there may be more faults."""
 
     faults: list[Fault]
     whole: Meaning | None

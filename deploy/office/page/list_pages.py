@@ -1,4 +1,4 @@
-"""Lists in: a list is tried on a copy, all its faults are shown, and it comes in once the clerk says so."""
+"""Imports: a list is tried on a copy, all its faults are shown, and it is imported once the clerk says so."""
 
 import base64
 import csv
@@ -32,13 +32,13 @@ def try_list(job: Job) -> Answer:
 
 @app.get("/office/lists")
 def lists() -> str:
-    """The forms for lists, and the lists that came in."""
+    """The forms for lists, and the imported lists."""
     return show("lists", office=office_now())
 
 
 @app.post("/office/lists")
 def look_at_list() -> str:
-    """Tries a list. Where it fits, it is held until the clerk says to bring it in."""
+    """Tries a list. If it fits, the page holds it until the clerk says to import it."""
     office, kind, label, body = office_now(), text_of("kind"), text_of("label"), upload_of("list")
     if kind not in plain.kinds(office.version) or not body:
         tell("bad", "Choose a list first.")
@@ -61,12 +61,12 @@ def look_at_list() -> str:
 
 
 def known_list(office: Office, job: Job) -> str:
-    """The page of a list that came in before: the program would answer as it did then, and change nothing."""
+    """The page of a list that was imported before: the program would answer as it did then, and change nothing."""
     return show("known", office=office, job=job, proposed=office.new_label(job.kind))
 
 
 def fitting_list(office: Office, job: Job, table: CsvList, made: list[tuple[str, str, str]]) -> str:
-    """The page of a list that fits: what it replaces, the slips with new keys, and whether to bring it in."""
+    """The page of a list that fits: what it replaces, the slips with new keys, and whether to import it."""
     replaced: dict[str, int] = {}
     if job.kind == "choices":
         for number, record in enumerate(table.records):
@@ -81,13 +81,13 @@ def fitting_list(office: Office, job: Job, table: CsvList, made: list[tuple[str,
 
 @app.post("/office/lists/bring")
 def bring_list() -> None:
-    """Brings in a list that was tried."""
+    """Imports a list that was tried."""
     name = text_of("held")
     job: Any = memory.held(clerk(), name)
     if not isinstance(job, Job):
-        tell("bad", "The page no longer holds this list. Nothing came in: send the list again.")
+        tell("bad", "The page no longer holds this list. Nothing was imported: send the list again.")
     elif office_now().has_label(job.label):
-        tell("bad", f"A list came in under the label {job.label} meanwhile. Send the list again under another label.")
+        tell("bad", f"A list was imported under the label {job.label} meanwhile. Send yours under another label.")
     elif change("import", **job.fields()):
         memory.let_go(name)
     go_to("/office/lists")
@@ -96,8 +96,8 @@ def bring_list() -> None:
 @app.get("/office/blank/<label>")
 def ask_blank(label: str) -> str:
     """Asks before the bytes of a kept list are deleted."""
-    says = [f"The office keeps the list {label} as it came in, with names, keys, homes or wishes. Blanking deletes "
-            "what stands in it. The register does not change, and the label stays taken.",
+    says = [f"The office keeps the list {label} as it was imported, with names, keys, homes or wishes. Blanking "
+            "deletes what is in it. The register does not change, and the label stays taken.",
             "You cannot take it back. Older copies still hold the list until they are deleted."]
     return put_question(office_now(), Question(f"Blank the list {label}?", says, "Yes: blank it", "/office/lists"))
 

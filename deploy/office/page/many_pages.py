@@ -9,7 +9,8 @@ from keeper_client import KeeperFault, answers_of
 from office_view import Office
 
 MOST_AT_ONCE = 300
-# People under one stop of the residents' server, which takes a second or two. Of a group all lines stand, or none.
+# People under one stop of the residents' server, which takes a second or two. All lines of a group take effect, or
+# none.
 GROUP = 15
 
 

@@ -30,7 +30,7 @@ class Room(NamedTuple):
 
 
 class KeptList(NamedTuple):
-    """A list that came in, and how many records it added."""
+    """An imported list, and how many records it added."""
 
     label: str
     kind: str
@@ -59,7 +59,7 @@ class Office:  # pylint: disable=too-many-instance-attributes  # each is a part 
 
     @property
     def stamp(self) -> str:
-        """Where the office is. A form carries it, and the keeper refuses a change that was meant for another moment."""
+        """The state of the round. A form carries it, and the keeper refuses a change that was meant for another one."""
         return f"round {self.number} {self.phase}"
 
     @property
@@ -93,7 +93,7 @@ class Office:  # pylint: disable=too-many-instance-attributes  # each is a part 
         return [person for person in self.participants if not self.choices.get(person.ident)]
 
     def has_label(self, label: str) -> bool:
-        """Whether a list came in under this label."""
+        """Whether a list was imported under this label."""
         return any(kept.label == label for kept in self.lists)
 
     def new_label(self, stem: str) -> str:
@@ -104,7 +104,7 @@ class Office:  # pylint: disable=too-many-instance-attributes  # each is a part 
         return f"{stem}-{number}"
 
     def choice_number(self, ident: str) -> int | None:
-        """Which room of the own list this person gets, from 1; nothing where they keep their room or get none."""
+        """Which room of the own list this person gets, from 1; nothing if they keep their room or get none."""
         room, wishes = self.results.get(ident), self.choices.get(ident, [])
         if room is None or room == self.people[ident].home or room not in wishes:
             return None

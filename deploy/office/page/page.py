@@ -9,7 +9,7 @@ import socket
 import sys
 from pathlib import Path
 
-# The audit stands beside the folder of the page.
+# The audit is next to the folder of the page.
 sys.path.insert(1, str(Path(__file__).resolve().parent.parent))
 
 # pylint: disable=wrong-import-position  # each module adds its pages to the app

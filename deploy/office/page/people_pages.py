@@ -16,7 +16,7 @@ IDENTIFIER = re.compile(r"[A-Z0-9]{1,12}")
 
 @app.get("/office/register")
 def register() -> str:
-    """The people whom the clerk last searched for. What was searched for stands in no address, and so in no log."""
+    """The people whom the clerk last searched for. What was searched for is in no address, and so in no log."""
     office, text = office_now(), memory.search(clerk())
     found = [person for person in office.people.values()
              if text.lower() in f"{person.ident} {person.name} {person.home or ''}".lower()]

@@ -4,7 +4,7 @@ from typing import NamedTuple
 
 
 class Phase(NamedTuple):
-    """Where a round is, and what comes next."""
+    """How far a round is, and what comes next."""
 
     title: str
     following: str
@@ -21,7 +21,7 @@ class Step(NamedTuple):
 
 
 class Kind(NamedTuple):
-    """A kind of list: its first line, what stands in its columns, and when it can come in."""
+    """A kind of list: its first line, what is in its columns, and when it can be imported."""
 
     header: str
     columns: str
@@ -60,7 +60,7 @@ PHASES = {
                        "moving, settle the round."),
 }
 
-# `cancel` stands last: it is never the step that comes next.
+# `cancel` is the last one: it is never the step that comes next.
 STEPS = {
     "open": Step(("idle",), "Open the next round",
                  "Residents can hand in lists from then on. Homes cannot change until the round is over.",
@@ -84,7 +84,7 @@ STEPS = {
                    "All lists, withdrawals, the order and the results of this round are deleted, and so is who leaves "
                    "the college. The number of the round stays used.",
                    "You cannot take it back. To bring lists of choices in again, send them under a new label: under "
-                   "the old label nothing comes in.", True),
+                   "the old label nothing is imported.", True),
 }
 CANCELLABLE = ("open", "closed", "drawn", "ran")
 COPY_FIRST = ("The keeper makes a copy of the office first. The page Copies brings you back to it; what happens after "
@@ -95,7 +95,7 @@ KINDS = {
     "rooms": Kind("room", "One room code a line.", REGISTER, 1),
     "people": Kind("person,name,key,home", "Identifier, name, key, and the room where the person lives, or nothing.",
                    REGISTER, 1),
-    "grades": Kind("person,grade", "Identifier, and a grade from 0 to 9. A smaller grade stands earlier in the order.",
+    "grades": Kind("person,grade", "Identifier, and a grade from 0 to 9. A smaller grade is earlier in the order.",
                    REGISTER, 2),
     "choices": Kind("person,choices", "Identifier, and the room codes, the best first, with one space between two.",
                     ("open",), 1),
@@ -121,7 +121,7 @@ REFUSALS = {
     12: Meaning("The number of words is not the number of participants.", "Draw again."),
     13: Meaning("A limit is reached: 2,000 rooms, 2,000 people, 200 lists, or 262,144 bytes in a list.",
                 "Split a long list in two."),
-    14: Meaning("Another list came in under this label.", "Choose another label."),
+    14: Meaning("Another list was imported under this label.", "Choose another label."),
     16: Meaning("This person takes no part in the round.", "Choose a participant."),
     17: Meaning("This round is not over, or there was no such round.", "Choose a round that is settled."),
     18: Meaning("This room is in use.", "There is nothing to bring back."),
@@ -196,10 +196,10 @@ def done(text: str) -> str:
 
 
 def meaning(text: str) -> Meaning:
-    """What an answer of the program says; the answer itself where it is no refusal."""
+    """What an answer of the program says; the answer itself if it is no refusal."""
     words = text.split()
     if not words or words[0] == "unavailable":
-        return Meaning("The file, the disk or the memory did not serve.",
+        return Meaning("The file, the disk or the memory failed.",
                        "Look whether the change was made. If it was not, try again; if it fails again, call the "
                        "administrator.")
     if text.startswith(("not understood", "rooms: not")):

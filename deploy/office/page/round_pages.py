@@ -1,4 +1,4 @@
-"""Where the round is, its steps, and the draw."""
+"""How far the round is, its steps, and the draw."""
 
 import hashlib
 import re
@@ -19,10 +19,10 @@ OF_TEXT = "SHA-256 of "
 SHORTEST_TEXT, LONGEST_TEXT = 8, 400
 # The journal masks what may be a key: 16 letters and digits in a row.
 LIKE_A_KEY = re.compile(r"[A-Za-z0-9]{16}")
-# What a clerk may want to take out before a step that deletes it.
+# What a clerk may want to export before a step that deletes it.
 BEFORE = {
     "settle": ("/office/record", "The public record, letters and plans"),
-    "cancel": ("/office/export/choices.csv", "The lists of choices of this round, as they can come in again"),
+    "cancel": ("/office/export/choices.csv", "The lists of choices of this round, ready to be imported again"),
 }
 
 
@@ -36,7 +36,7 @@ def without_slash() -> None:
 
 @app.get("/office/")
 def overview() -> str:
-    """Where the round is, what comes next, and who has handed in no list."""
+    """How far the round is, what comes next, and who has handed in no list."""
     return show("overview", office=office_now())
 
 
@@ -114,7 +114,7 @@ def seed_of(way: str, text: str) -> tuple[str, str] | str:
     if way == "seed":
         seed = "".join(text.split()).lower()
         if SEED.fullmatch(seed):
-            return seed, "entered as it stands"
+            return seed, "entered as it is"
         return f"A seed has 64 signs out of 0 to 9 and a to f. You entered {len(seed)} signs."
     if not SHORTEST_TEXT <= len(text) <= LONGEST_TEXT:
         return f"Enter {SHORTEST_TEXT} to {LONGEST_TEXT} signs: the throws of the dice, or the public number."
@@ -140,10 +140,10 @@ def note_seed() -> None:
 
 @app.post("/office/draw")
 def draw() -> None:
-    """Draws with a seed that stands in the journal."""
+    """Draws with a seed that is in the journal."""
     seed = text_of("seed")
     if seed not in [noted.seed for noted in noted_seeds(office_now())[0]]:
-        tell("bad", "This seed does not stand in the journal. Enter it first.")
+        tell("bad", "This seed is not in the journal. Enter it first.")
     else:
         change("draw", seed=seed)
     go_to("/office/draw")

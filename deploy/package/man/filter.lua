@@ -1,10 +1,10 @@
 -- For pandoc: makes a manual page of a page in Markdown. Code is bold, since a terminal has one kind of letters. A
--- table whose rows are longer than a line gets columns in proportion to what stands in them, and ragged lines. With
+-- table whose rows are longer than a line gets columns in proportion to what is in them, and ragged lines. With
 -- the metadata `name` the page begins with the section NAME, and its own title is dropped.
 
--- In letters: what pandoc takes for the width of a page, and what stands between two columns.
+-- In letters: what pandoc takes for the width of a page, and the space between two columns.
 local LINE, GAP = 70, 3
--- A longer word may be broken behind a comma.
+-- A longer word may be broken after a comma.
 local LONG = 40
 
 -- The length of the longest cell of each column, and of its longest word.
