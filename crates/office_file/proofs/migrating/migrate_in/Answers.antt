@@ -1,6 +1,18 @@
 use Rattle.std.proofs.Common.{inr}
 use Rattle.office_file.proofs.migrating.migrate_in.Goals as goal
 
+pub returns-in-Ok-migrate-clause-shows : goal.returns-in-Ok-migrate-clause-shows
+returns-in-Ok-migrate-clause-shows g c = record {
+  connection = c.in-Ok.connection;
+  opened = c.in-Ok.ensures.found;
+  laid = c.in-Ok-migrate.ensures.laid;
+  follows = c.in-Ok-migrate.ensures.follows;
+  cached = c.in-Ok-migrate.ensures.cached;
+  shows = c.in-Ok-migrate.ensures.shows;
+  taken = c.in-Ok-migrate.ensures.taken;
+  other = c.in-Ok-migrate.ensures.other;
+}
+
 pub returns-in-Err-migrate-clause-cause : goal.returns-in-Err-migrate-clause-cause
 returns-in-Err-migrate-clause-cause g c = inr (record {
   connection = c.in-Ok.connection;
