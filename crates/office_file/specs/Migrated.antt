@@ -8,7 +8,7 @@ use Rattle.office_file.specs.Access.{FileAccess}
 use Rattle.office_load.specs.Finding.{AreDeclared, AreWhole, names_round}
 use Rattle.office_load.specs.Layout.{layout_in}
 use Rattle.office_load.specs.FirstTables.{BeginsOffice, begins_office}
-use Rattle.office_migrate.specs.Causes.{AreRowsAsStated, StatesVersion, HoldsEarlierFirst}
+use Rattle.office_migrate.specs.Causes.{AreRowsAsStated, HoldsLayoutVersion, StatesVersion, HoldsEarlierFirst}
 use Rattle.office_migrate.specs.Names.{uses_missing_name}
 use Rattle.office_migrate.specs.Versions.{IsEarlierLayout, IsNotEarlier, IsOfVersion}
 use Rattle.office_store.specs.Desk.{DeskState, Shows}
@@ -56,15 +56,16 @@ module _ {S : Type 0} (g : Ghosts S) where
 
 module _ {F S : Type 0} (access : FileAccess F S) where
   -- The desk uses the database that was opened, which had exactly the tables of an earlier version. It caches an office, and
-  -- shows the one that the tables held. The disk did not return what was written if the row of table `round` holds a version
-  -- that is not an earlier one (`other`), or if the database begins with an office of an earlier version and the name of a table
-  -- that it lacks is taken (`taken`).
+  -- shows the one that the tables held. If the disk returned what was written, the row of table `round` held the version of the
+  -- tables (`stated`). The disk did not return what was written if that row holds a version that is not an earlier one (`other`),
+  -- or if the database begins with an office of an earlier version and the name of a table that it lacks is taken (`taken`).
   pub record OpensMigrated (files : F) (path : List ℕ) (desk : DeskState S) (files' : F) : Type 0 where
     pub connection : Held S
     pub opened : access.finds files path connection files'
     pub laid : IsEarlierLayout (layout_in (state access.base connection).now.schema)
     pub follows : Follows (state access.base connection) (state access.base desk.conn)
     pub cached : IsSome desk.cached
+    pub stated : HasCleanDisk (state access.base desk.conn) → HoldsLayoutVersion (state access.base connection).now
     pub shows : ShowsMigrated access.base connection desk
     pub taken : (layout : Layout) (office : Office) → HoldsEarlierFirst layout (state access.base connection).now office
         → IsTrue (uses_missing_name (version_of layout) (state access.base connection).now.schema)

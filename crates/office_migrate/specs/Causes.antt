@@ -1,5 +1,5 @@
 -- Why tables of an earlier version are not migrated.
-use Rattle.std.specs.Prelude.{◌≡◌, ◌⊎◌, ℕ, ℤ, pos, false, IsSome, IsTrue, take, ⊤}
+use Rattle.std.specs.Prelude.{◌≡◌, ◌⊎◌, ℕ, ℤ, pos, false, Some, IsSome, IsTrue, take, ⊤}
 use Rattle.sqlite_schema.specs.declared.schema.Schema.{Schema}
 use Rattle.sqlite.specs.Effect.{Database}
 use Rattle.office_state.specs.Office.Invariants.{IsLawful}
@@ -70,6 +70,12 @@ AreRowsAsStated db = (version : ℕ) → IsEarlier version → HoldsVersion db (
 abbrev pub AreNoEarlierRows : ℕ → Database → Type 0
 AreNoEarlierRows version db =
     (layout : Layout) → version_of layout ≡ version → (office : Office) → ¬ HoldsEarlierFirst layout db office
+
+-- If the first three tables are an office's, and the tables are in a layout, the row of table `round` holds the version of that
+-- layout.
+abbrev pub HoldsLayoutVersion : Database → Type 0
+HoldsLayoutVersion db =
+    BeginsOffice db.schema → (layout : Layout) → layout_in db.schema ≡ Some layout → HoldsVersion db (pos (version_of layout))
 
 -- Table `round` is where an office has it, and its row holds this version.
 abbrev pub StatesVersion : Database → ℤ → Type 0

@@ -13,7 +13,7 @@ ghost use Rattle.office_tables.specs.declared.layouts.Layout.{Layout as AnyLayou
 ghost use Rattle.office_load.specs.Finding.{AreDeclared, AreWhole, HoldsVersion, names_round};
 ghost use Rattle.office_load.specs.Layout.{layout_in};
 ghost use Rattle.office_load.specs.Reading.{OnlyReads};
-ghost use Rattle.office_migrate.specs.Causes.{HasCause, HoldsEarlier, IsAllowed, IsVersionFault};
+ghost use Rattle.office_migrate.specs.Causes.{HasCause, HoldsEarlier, HoldsLayoutVersion, IsAllowed, IsVersionFault};
 ghost use Rattle.office_migrate.specs.Causes.{AreRowsAsStated, MayReturn, StatesVersion, HoldsEarlierFirst};
 ghost use Rattle.office_load.specs.FirstTables.{BeginsOffice, begins_office};
 ghost use Rattle.office_migrate.specs.Names.{uses_missing_name, takes_name};
@@ -64,6 +64,8 @@ pub fn migrate<S: Alter>(alloc: Global, conn: &mut Connection<S>) -> Result<Offi
         → IsTrue (state S.Store conn.new).is_open) }
     ensures lawful { IfOk result IsLawful }
     ensures laid { OnOk result (IsEarlierLayout (layout_in (state S.Store conn.old).now.schema)) }
+    ensures stated { OnOk result (HasCleanDisk (state S.Store conn.new)
+        → HoldsLayoutVersion (state S.Store conn.old).now) }
     ensures migrated { IfOk result (λ office. HasCleanDisk (state S.Store conn.new)
         → AreDeclared (state S.Store conn.old).now.schema → (layout : AnyLayout)
         → layout_in (state S.Store conn.old).now.schema ≡ Some layout

@@ -53,6 +53,7 @@ module _ {F S : Type 0} (base : Ghosts S) (opens finds : Held S → Type 0) (fai
     laid = h.laid;
     follows = h.follows;
     cached = h.cached;
+    stated = h.stated;
     shows = h.shows;
     taken = h.taken;
     other = h.other;

@@ -9,7 +9,7 @@ ghost use Rattle.office_tables.specs.Tables.{HoldsOfficeIn};
 ghost use Rattle.office_tables.specs.declared.layouts.Layout.{Layout as AnyLayout};
 ghost use Rattle.office_load.specs.Finding.{AreDeclared, AreWhole, names_round};
 ghost use Rattle.office_load.specs.Layout.{layout_in};
-ghost use Rattle.office_migrate.specs.Causes.{AreRowsAsStated, HoldsEarlier, StatesVersion, HoldsEarlierFirst};
+ghost use Rattle.office_migrate.specs.Causes.{AreRowsAsStated, HoldsEarlier, HoldsLayoutVersion, StatesVersion, HoldsEarlierFirst};
 ghost use Rattle.office_load.specs.FirstTables.{BeginsOffice, begins_office};
 ghost use Rattle.office_migrate.specs.Names.{uses_missing_name};
 ghost use Rattle.office_migrate.specs.Versions.{IsEarlierLayout, IsNotEarlier, IsOfVersion};
@@ -43,6 +43,8 @@ impl<S: Alter> Desk<S> {
         ensures cached { IfOk result (λ desk. IsSome desk.cached) }
         ensures laid { OnOk result
             (IsEarlierLayout (layout_in (state S.Store connection).now.schema)) }
+        ensures stated { IfOk result (λ desk. HasCleanDisk (state S.Store desk.conn)
+            → HoldsLayoutVersion (state S.Store connection).now) }
         ensures shows { IfOk result (λ desk. HasCleanDisk (state S.Store desk.conn)
             → AreDeclared (state S.Store connection).now.schema → (layout : AnyLayout)
             → layout_in (state S.Store connection).now.schema ≡ Some layout

@@ -8,6 +8,7 @@ returns-in-Ok-migrate-clause-shows g c = record {
   laid = c.in-Ok-migrate.ensures.laid;
   follows = c.in-Ok-migrate.ensures.follows;
   cached = c.in-Ok-migrate.ensures.cached;
+  stated = c.in-Ok-migrate.ensures.stated;
   shows = c.in-Ok-migrate.ensures.shows;
   taken = c.in-Ok-migrate.ensures.taken;
   other = c.in-Ok-migrate.ensures.other;

@@ -8,7 +8,7 @@ use Rattle.office_rows.specs.Tables.{rows_at}
 use Rattle.office_tables.specs.Layouts.{schema_of, version_of}
 use Rattle.office_tables.specs.Tables.{HoldsOfficeIn}
 use Rattle.office_tables.proofs.statements.Steps.{intact_before}
-use Rattle.office_load.specs.Finding.{AreDeclared, AreWhole, names_round}
+use Rattle.office_load.specs.Finding.{AreDeclared, AreWhole, HoldsVersion, names_round}
 use Rattle.office_load.specs.FirstTables.{BeginsOffice, begins_office}
 use Rattle.office_load.specs.Layout.{layout_in}
 use Rattle.office_load.specs.Numbers.{IsLaidOut}
@@ -128,6 +128,18 @@ returns-in-Ok-Some-clause-migrated g c clean declared layout is wide =
       subst (λ l. IsWellFormed (rows_at (version_of l) office)) layouts done.1,
       done.2,
     )
+
+pub returns-in-Ok-Some-clause-stated : goal.returns-in-Ok-Some-clause-stated
+returns-in-Ok-Some-clause-stated g c clean first_tables layout is =
+    let start = state g.S.Store c.args.conn.now in
+    let one = state g.S.Store c.earlier_version.new.conn in
+    let two = state g.S.Store c.renewed_office.new.conn in
+    let at_one = intact_before one two c.renewed_office.ensures.follows
+    (clean, c.in-Ok-Some.ensures.is_open clean) in
+    let laid = ap layout_in (sym c.schema-3.ensures.value) ∙ sym c.of-declared.ensures.layout ∙ c.in-Some.is in
+    let same = ap version_of (same_some c.in-Some.layout layout (sym laid ∙ is)) in
+    let version : version_of c.in-Some.layout ≡ c.in_ok-version.version = cc in
+    subst (λ v. HoldsVersion start.now (pos v)) (sym version ∙ same) (c.in_ok-version.ensures.held at_one.0 first_tables)
 
 pub returns-in-Ok-Some-clause-accepts : goal.returns-in-Ok-Some-clause-accepts
 returns-in-Ok-Some-clause-accepts g c clean layout office h =
