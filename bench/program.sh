@@ -6,5 +6,5 @@ program=${ROOMS:+$(realpath -e -- "$ROOMS")}
 cd "$(dirname "${BASH_SOURCE[0]}")/.."
 if [ -z "$program" ]; then
     ./rooms rehearse </dev/null
-    program=$PWD/crates/office_cli/out/office_cli
+    program=$PWD/crates/rooms/out/rooms
 fi

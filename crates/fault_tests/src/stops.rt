@@ -74,7 +74,7 @@ fn creates_an_office_whole_or_not_at_all(rt: HostRuntime) -> Result<(), Fail> {
 
 #[test]
 fn stores_each_command_whole(rt: HostRuntime) -> Result<(), Fail> {
-    let story = small_year(rt.alloc()).expect(&rt, "no year is told");
+    let story = small_year(rt.alloc()).expect(&rt, "memory");
     let count = both_stopped(rt.alloc(), &story).expect(&rt, "a small year");
     assert!(rt; is_on_both_sides(count));
     print_count(&rt, "a small year", count)?;
@@ -83,7 +83,7 @@ fn stores_each_command_whole(rt: HostRuntime) -> Result<(), Fail> {
 
 #[test]
 fn stores_leavers_whole(rt: HostRuntime) -> Result<(), Fail> {
-    let story = year_of_leavers(rt.alloc()).expect(&rt, "no year is told");
+    let story = year_of_leavers(rt.alloc()).expect(&rt, "memory");
     let count = both_stopped(rt.alloc(), &story).expect(&rt, "a year of leavers");
     assert!(rt; is_on_both_sides(count));
     print_count(&rt, "a year of leavers", count)?;

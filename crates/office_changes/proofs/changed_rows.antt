@@ -3,4 +3,3 @@ pub mod Calls
 pub mod Carried
 pub mod Changes
 pub mod Entries
-pub mod Turns

@@ -55,7 +55,7 @@ pub fn read_people(alloc: Global, bytes: &[u8]) -> Result<Vec<PersonEntry>, List
     read_list(alloc, bytes)
 }
 
-/// Reads a list of choices and returns them in its order. A person may be on it more than once.
+/// Reads a list of choices and returns one entry for each record, in the order of the list. A person may occur twice.
 ///
 /// # Errors
 ///

@@ -1,16 +1,16 @@
-//! Tests of storing two batches of changes, of all kinds but `KeepList`, in a database in memory, with enough memory.
+//! A test that stores two batches of changes, of all kinds, in a database in memory, with enough memory.
 use crate::asserting::assert_same;
 use crate::building::{choices, text};
 use office_changes::store_changes;
 use office_core::{Change, Office, apply};
 use office_create::create;
-use room_types::{Grade, Move, Phase, Wave, Word};
+use room_types::{Grade, ListKind, Listing, Move, Phase, Wave, Word};
 use sqlite::{Connection, MemStore};
 use std::alloc::Global;
 use std::process::Abort;
 
 // Queries, and their counts after the changes.
-const STORED: [(&str, i64); 11] = [
+const STORED: [(&str, i64); 13] = [
     (
         "SELECT count(*) FROM room WHERE code = 'H1' AND shut = 1",
         1,
@@ -24,6 +24,11 @@ const STORED: [(&str, i64); 11] = [
     ("SELECT count(*) FROM word", 0),
     ("SELECT count(*) FROM result", 0),
     ("SELECT count(*) FROM going", 0),
+    ("SELECT count(*) FROM list", 1),
+    (
+        "SELECT count(*) FROM list WHERE label = 'h-1' AND kind = 'rooms' AND body = x'726F6F6D0A48310A'",
+        1,
+    ),
     ("SELECT count(*) FROM grade", 1),
     (
         "SELECT count(*) FROM grade WHERE person = 'T1' AND value = 9",
@@ -107,6 +112,12 @@ fn round_under_way(rt: &impl Abort, alloc: Global) -> Vec<Change> {
         graded(rt, alloc, "T2", 1),
         graded(rt, alloc, "T3", 1),
         graded(rt, alloc, "T3", 0),
+        Change::KeepList {
+            label: text(rt, alloc, "h-1"),
+            kind: ListKind::Rooms,
+            bytes: Listing::new(Vec::from_slice(alloc, b"room\nH1\n").expect(rt, "memory")),
+            count: 1,
+        },
         Change::PutRound {
             number: 1,
             phase: Phase::Opened,

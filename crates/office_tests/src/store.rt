@@ -1,7 +1,9 @@
 //! Tests of desks with enough memory.
 mod adopting;
+mod documented;
 mod exporting;
 mod importing;
+mod labels;
 mod leaving;
 mod migrating;
 

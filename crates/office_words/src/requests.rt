@@ -247,7 +247,8 @@ fn parse_what_if(alloc: Global, words: &[&str]) -> Result<Request, WordFault>
 
 // Returns the request if no words follow its first one.
 fn without_arguments(words: &[&str], request: Request) -> Result<Request, WordFault>
-    ensures understands { Understands (without_arguments request (map (λ word. word.now) words.now)) result }
+    ensures understands { Understands
+        (without_arguments request (map (λ word. word.now) words.now)) result }
     ensures memory { OutOfMemoryOnlyIf false result }
 {
     if words.is_empty() {

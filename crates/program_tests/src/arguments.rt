@@ -2,12 +2,9 @@
 use crate::asserting::assert_same;
 use crate::failing::FailingReader;
 use crate::stories::{Step, assert_line, run_steps};
+use office_cli::{Program, WordFault, carry_out, program, words_to_command};
 use office_core::{Command, Query};
-use office_program::carry_out::carry_out;
-use office_program::program::program;
-use office_program::usage::Program;
 use office_store::Request;
-use office_words::{WordFault, words_to_command};
 use room_types::Watched;
 use std::alloc::Global;
 use std::test::Fail;

@@ -136,7 +136,7 @@ const LONG_CSV: &str = "imports_long/list.csv";
 
 // A list has at most 262,144 bytes and 10,000 records, and a longer file counts as one of 262,145 bytes. The header has 5 bytes.
 // A record of one byte is an empty line and does not count.
-const LONG_LISTS: [Step<'_>; 14] = [
+const LONG_LISTS: [Step<'_>; 16] = [
     Step::Line(&["new", "--db", LONG], 0, "ok\n"),
     Step::WriteMany(LONG_CSV, "room\n", "A1\n", 10_001),
     Step::Line(
@@ -145,12 +145,14 @@ const LONG_LISTS: [Step<'_>; 14] = [
         "refused 15 BadRecord 10001 many\n",
     ),
     Step::WriteMany(LONG_CSV, "room\n", "\n", 262_144 - 5),
+    Step::Length(LONG_CSV, 262_144),
     Step::Line(
         &["import", "--db", LONG, "rooms", "w", LONG_CSV],
         0,
         "added 0\n",
     ),
     Step::WriteMany(LONG_CSV, "room\n", "\n", 262_145 - 5),
+    Step::Length(LONG_CSV, 262_145),
     Step::Line(
         &["import", "--db", LONG, "rooms", "x", LONG_CSV],
         1,

@@ -2,8 +2,8 @@
 use crate::asserting::same;
 use crate::failing::FailingWriter;
 use crate::scripts::rehearsed_at;
+use office_cli::at_desk::export_at;
 use office_lists::ExportKind;
-use office_program::at_desk::export_at;
 use office_store::{Desk, DeskFault};
 use room_types::Watched;
 use sqlite::MemStore;

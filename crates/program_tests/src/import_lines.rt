@@ -1,9 +1,7 @@
 //! Tests of the words of `rooms import`.
 use crate::asserting::same_of;
 use crate::stories::{Step, run_steps};
-use office_program::program::program;
-use office_program::usage::Program;
-use office_words::WordFault;
+use office_cli::{Program, WordFault, program};
 use room_types::ListKind;
 use std::alloc::Global;
 use std::test::Fail;

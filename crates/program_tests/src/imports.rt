@@ -2,7 +2,7 @@
 use crate::asserting::{assert_same, same};
 use crate::failing::{FailingReader, FailingWriter};
 use crate::stories::{Step, run_steps};
-use office_program::importing::{import_list, read_bytes};
+use office_cli::importing::{import_list, read_bytes};
 use office_store::Desk;
 use room_types::{Label, ListKind, Watched};
 use sqlite::MemStore;

@@ -2,7 +2,7 @@
 use crate::asserting::assert_same;
 use crate::scripts::assert_rehearsal;
 use crate::streams::{Stopped, rehearsed_by_bytes};
-use office_lines::Ending;
+use office_cli::Ending;
 use std::alloc::{AllocError, Global};
 use std::test::Fail;
 

@@ -1,8 +1,8 @@
 //! Tests of single lines at a desk in memory, which the program gets as its arguments.
 use crate::asserting::same_of;
 use crate::failing::FailingWriter;
+use office_cli::desk_faults::refuse_desk;
 use office_lines::do_line::{do_line, do_words};
-use office_program::desk_faults::refuse_desk;
 use office_store::{Desk, DeskFault};
 use room_types::Watched;
 use sqlite::MemStore;

@@ -1,8 +1,8 @@
 //! Tests of migrating a file with an office of the first version, by a run of the program and by a call of `migrate_file`.
 use crate::asserting::same;
 use crate::stories::{Step, execute, make_folder, run_steps};
+use office_cli::at_desk::do_at;
 use office_file::{FileDesk, close_file, migrate_file, on_file};
-use office_program::at_desk::do_at;
 use office_store::DeskFault;
 use room_types::Watched;
 use sqlite::Wary;

@@ -3,9 +3,9 @@
 ghost use Rattle.std.specs.Prelude.{◌≡◌, false, IfOk, ⊤};
 
 use crate::asserting::assert_same;
+use office_cli::carry_out::carry_out_from;
+use office_cli::lists::Lists;
 use office_file::{Closes, Files};
-use office_program::carry_out::carry_out_from;
-use office_program::lists::Lists;
 use office_store::Unavailable;
 use resident_server::{Listener, Ports};
 use room_types::Watched;

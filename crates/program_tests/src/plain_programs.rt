@@ -1,7 +1,7 @@
 //! Tests of rounds of 200 people with random lists, grades and leavers. The results and the moves are compared with those of
 //! plain programs that follow the definitions.
 use crate::scripts::rehearsed;
-use office_lines::Ending;
+use office_cli::Ending;
 use std::alloc::{AllocError, Global};
 use std::test::Fail;
 use trade_line::Problem;

@@ -1,7 +1,7 @@
 //! Scripts of all commands and queries with each refusal that a line can cause, and a test of the number of rounds.
 use crate::asserting::assert_same;
 use crate::scripts::rehearsed;
-use office_lines::Ending;
+use office_cli::Ending;
 use std::test::Fail;
 
 /// Commands and queries without grades and leavers.

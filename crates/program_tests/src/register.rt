@@ -1,6 +1,6 @@
 //! Scripts of the register and of a round until it is closed, and a test of the length of a list.
 use crate::scripts::assert_rehearsal;
-use office_lines::Ending;
+use office_cli::Ending;
 use std::alloc::Global;
 use std::test::Fail;
 

@@ -2,7 +2,7 @@
 use crate::asserting::same;
 use crate::at_desks::agrees_in_batch;
 use crate::scripts::rehearsed;
-use office_lines::Ending;
+use office_cli::Ending;
 use std::alloc::Global;
 use std::test::Fail;
 

@@ -1,7 +1,6 @@
 //! Rehearsals at desks in memory, and a test of the number of rooms.
 use crate::asserting::same;
-use office_lines::rehearse::rehearse;
-use office_lines::{Ending, Rehearsed};
+use office_cli::{Ending, Rehearsed, rehearse};
 use office_store::Desk;
 use room_types::Watched;
 use sqlite::MemStore;

@@ -1,7 +1,7 @@
 //! Tests of the random words that the program prints for a seed.
 use crate::stories::{Step, run_steps};
-use office_program::seeds::parse_seed;
-use office_program::word_lines::words_text;
+use office_cli::seeds::parse_seed;
+use office_cli::word_lines::words_text;
 use std::test::Fail;
 
 const ZEROS: &str = "0000000000000000000000000000000000000000000000000000000000000000";

@@ -1,8 +1,7 @@
 //! Tests of the words of `rooms serve`, and of runs that serve nobody.
 use crate::asserting::same_of;
 use crate::stories::{Step, assert_line, make_folder, run_steps};
-use office_program::program::program;
-use office_program::usage::Program;
+use office_cli::{Program, program};
 use std::alloc::Global;
 use std::fs;
 use std::net::{Ipv4Addr, SocketAddr, TcpListener};

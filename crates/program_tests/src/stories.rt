@@ -1,7 +1,7 @@
 //! Stories: tests in the form of tables of steps. Most steps run the program with some words and compare its status and its
 //! output.
 use crate::asserting::same_of;
-use office_program::carry_out::carry_out;
+use office_cli::carry_out;
 use room_types::Watched;
 use sqlite::Connection;
 use std::process::Abort;
@@ -27,6 +27,8 @@ pub enum Step<'a> {
     WriteMany(&'a str, &'a str, &'a str, usize),
     /// Executes these statements on the database in the file at this path.
     Execute(&'a str, &'a str),
+    /// Asserts that the file at this path has this number of bytes.
+    Length(&'a str, usize),
     /// Asserts that there is no file at this path.
     Absent(&'a str),
 }
@@ -62,6 +64,7 @@ fn run_step(test: &impl Abort, rt: &HostRuntime, step: &Step<'_>) -> Result<(), 
         Step::Write(path, bytes) => fs::write(rt, path, bytes)?,
         Step::WriteMany(path, prefix, part, count) => write_many(rt, path, prefix, part, count)?,
         Step::Execute(path, statements) => execute(rt, path, statements)?,
+        Step::Length(path, bytes) => same_of(test, &[path], &fs::read(rt, path)?.len(), &bytes),
         Step::Absent(path) => same_of(test, &[path], &fs::exists(rt, path)?, &false),
     }
     Ok(())

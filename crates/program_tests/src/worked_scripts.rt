@@ -9,7 +9,7 @@ use crate::scripts::{ROOMS, rehearsed, script_answers, script_lines};
 use crate::years::{
     CHAIN, DISPLACED_TENANT, LEAVER, NO_ROOM, NOBODY, ROUND_AFTER_ROUND, SWAP, WITHDRAWN_TENANT,
 };
-use office_lines::Ending;
+use office_cli::Ending;
 use std::alloc::Global;
 use std::test::Fail;
 

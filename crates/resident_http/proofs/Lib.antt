@@ -1,3 +1,3 @@
-mod http_requests
-mod http_routes
-mod json
+mod connections
+mod own_replies
+mod prepared_responses

@@ -1,3 +1,2 @@
 -- Definitions that only inner contracts, invariants and proofs use.
-pub mod Found
-pub mod RouteRows
+pub mod Prepared

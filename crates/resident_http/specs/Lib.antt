@@ -1,7 +1,6 @@
-pub mod Answers
-pub mod Asks
-pub mod Bodies
-pub mod Faults
-pub mod Fields
+pub mod Calls
+pub mod Connections
+pub mod DueResponses
 pub mod Inner
-pub mod Routes
+pub mod OwnReply
+pub mod Serving

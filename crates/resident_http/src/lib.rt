@@ -1,20 +1,16 @@
-//! Residents' requests over HTTP: parses the bytes of a connection, and builds the bytes of a response.
+//! Serves one resident: reads a request from a connection, lets the desk handle it, and writes the response.
 #![tactic(auto)]
 
-pub mod answer;
-pub mod ask;
-pub mod bodies;
-pub mod choices;
-pub mod faults;
-mod fields;
+mod answering;
+pub mod connection;
+mod delivery;
 pub mod laws;
-pub mod method;
-pub mod routes;
+mod prepared;
+mod responses;
+pub mod served;
+pub mod serving;
 
-pub use crate::answer::{HttpAnswer, UNAVAILABLE_RESPONSE, answer_bytes};
-pub use crate::ask::{AskState, read_ask};
-pub use crate::bodies::{choices_body, fault_body, rooms_body, standing_body, withdrawn_body};
-pub use crate::choices::choices_of_body;
-pub use crate::faults::fault_name;
-pub use crate::method::Method;
-pub use crate::routes::{Route, Routed, route_request};
+pub use crate::connection::{CONNECTION_LIMIT, serve_connection};
+pub use crate::served::Served;
+pub use crate::serving::{serve_one, serve_one_in_memory};
+pub use resident_requests::{AskState, HttpAnswer, answer_bytes, read_ask};

@@ -8,8 +8,8 @@ use Rattle.office_lines.specs.Printing.{Prints, PrintsUnavailable}
 use Rattle.office_store.specs.Desk.{DeskState, HandlesAt, Represents}
 use Rattle.office_store.specs.Requests.{Handles}
 use Rattle.office_tables.specs.Steps.{Follows}
-use Rattle.resident_desk.specs.Connections.{Connection, ServesConnection, connection_limit, connection_of}
-use Rattle.resident_desk.specs.declared.served.Served.{Served}
+use Rattle.resident_http.specs.Connections.{Connection, ServesConnection, connection_limit, connection_of}
+use Rattle.resident_http.specs.declared.served.Served.{Served}
 use Rattle.resident_server.specs.Network.{Network}
 use Rattle.resident_server.specs.Texts.{listening_text, served_text}
 use Rattle.resident_server.specs.Unused.{IsUnused}

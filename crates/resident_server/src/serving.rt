@@ -10,7 +10,7 @@ use crate::listener::{Listener, Ports};
 use office_lines::print::print;
 use office_store::{Desk, Unavailable};
 use office_texts::{ACCEPTED, UNAVAILABLE};
-use resident_desk::serve_one;
+use resident_http::serve_one;
 use room_types::Watched;
 use sqlite::Alter;
 use std::alloc::{AllocError, Global};

@@ -11,7 +11,7 @@ use crate::desk::failing::NarrowWriter;
 use http::StatusCode;
 use office_store::{Desk, Handler};
 use office_words::{ParsedLine, parse_line};
-use resident_desk::{Served, serve_one};
+use resident_http::{Served, serve_one};
 use room_types::Watched;
 use room_types::stream::Pair;
 use sqlite::MemStore;

@@ -19,7 +19,7 @@ pub type PersonId = Text<PersonIds>;
 /// The secret key by which the program knows a person's own requests. The office gives it out.
 pub type Key = Text<Keys>;
 
-/// The label of an imported list. The office imports a list once under its label.
+/// The label of an imported list. Each label names at most one list.
 pub type Label = Text<Labels>;
 
 /// A person's name, as it is printed.

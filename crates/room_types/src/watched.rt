@@ -51,7 +51,7 @@ impl<T> Watched<T> {
         }
     }
 
-    /// Returns whether a call failed, or a write took nothing of a buffer that was not empty.
+    /// Returns whether any call failed, or a write of a non-empty buffer wrote 0 bytes.
     pub fn failed(&self) -> bool
         ensures { result ≡ watched_failed self.now }
     {

@@ -75,7 +75,7 @@ pub fn shapes(alloc: Global) -> Result<Vec<Shape>, AllocError> {
 }
 
 impl Shape {
-    /// Makes the market of this shape, always the same.
+    /// Builds the market of this shape from a fixed seed.
     pub fn problem(&self, alloc: Global) -> Result<Problem, TradeFault> {
         match self.kind {
             Kind::AllTenants => self.drawn(alloc, 10),

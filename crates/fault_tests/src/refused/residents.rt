@@ -5,7 +5,7 @@ use crate::same::is_same_office;
 use http::StatusCode;
 use office_state::Office;
 use office_store::{Desk, Request};
-use resident_desk::{Served, serve_one};
+use resident_http::{Served, serve_one};
 use room_types::stream::Pair;
 use room_types::{OutOfMemory, Watched};
 use sqlite::MemStore;

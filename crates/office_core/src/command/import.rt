@@ -36,8 +36,8 @@ use std::alloc::Global;
 ///
 /// Under a known label, `ListDiffers` for another list. Else the first that applies of: `BadPhase` unless idle or open, for
 /// choices unless open; `LimitReached` at `LABEL_LIMIT` stored lists, and for more than `BYTE_LIMIT` bytes; `BadRecord` for the
-/// first bad record, and if there is none for the first record whose own command is refused. `OutOfMemory` if an allocation
-/// fails; never under a known label.
+/// first record that cannot be parsed; if all can, for the first whose own command the office refuses. `OutOfMemory` if an
+/// allocation fails; never under a known label.
 pub fn import(
     alloc: Global,
     office: &Office,

@@ -118,8 +118,8 @@ pub record GoesByWord (office : Office) : Type 0 where
   pub results : round_results office ≡ results_in office (people_by_word office)
 
 -- this holds whenever nobody has a grade
-abbrev pub GoesByWordAlone : Type 0
-GoesByWordAlone = (office : Office) → office.grades ≡ map.empty → GoesByWord office
+abbrev pub UngradedGoesByWord : Type 0
+UngradedGoesByWord = (office : Office) → office.grades ≡ map.empty → GoesByWord office
 
 -- two offices have the same round
 pub record HaveSameRound (one other : Office) : Type 0 where

@@ -9,7 +9,7 @@ ghost use Rattle.office_state.specs.Office.Invariants.{IsLawful};
 ghost use Rattle.office_state.specs.Office.{is_going, participants, recorded_result};
 ghost use Rattle.office_state.specs.Office.Phases.{has_results};
 ghost use Rattle.office_state.specs.Round.{is_participant, result_by, result_of, round_market, round_results};
-ghost use Rattle.office_state.specs.Round.Laws.{GoesByWordAlone, HaveSameEntries, HaveSameRound, IsWellTraded};
+ghost use Rattle.office_state.specs.Round.Laws.{UngradedGoesByWord, HaveSameEntries, HaveSameRound, IsWellTraded};
 ghost use Rattle.office_state.specs.Round.Settlement.{OnlyLeaversMoveOut};
 ghost use Rattle.office_state.specs.Puts.{with_all};
 ghost use Rattle.office_state.specs.Round.Lists.{IsStrategyproofFor, IsGroupStrategyproofFor, IsNonbossyFor, with_choices_of};
@@ -77,7 +77,7 @@ pub fn same_round()
 /// If nobody has a grade, the participants are ordered by their words alone, and by identifier where words are equal: people,
 /// problem and results are as if there were no grades.
 pub fn order_without_grades()
-    ensures { GoesByWordAlone }
+    ensures { UngradedGoesByWord }
 {}
 
 /// In a lawful office those who leave the college have no result. Once the rooms are traded, nobody else loses a room by the

@@ -15,7 +15,7 @@ use std::process::Abort;
 const ROOMS: &[u8] = b"room\nH1\nH2\n";
 
 // With a byte order mark, records that end as on Windows, quotes, and people without a home.
-const PEOPLE: &[u8] = b"\xEF\xBB\xBFperson,name,key,home\r\n\
+pub(super) const PEOPLE: &[u8] = b"\xEF\xBB\xBFperson,name,key,home\r\n\
     E1,Ann Ash,key00000000000e1,H1\r\n\
     E2,\"Bo, B.\",key00000000000e2,\r\n\
     E3,Cy Coy,key00000000000e3,\r\n";
@@ -23,12 +23,12 @@ const PEOPLE: &[u8] = b"\xEF\xBB\xBFperson,name,key,home\r\n\
 // E3 has two records.
 const GRADES: &[u8] = b"person,grade\nE3,1\nE1,4\nE3,2\n";
 
-const HEADER: &[u8] = b"person,name,key,home\n";
+pub(super) const HEADER: &[u8] = b"person,name,key,home\n";
 
-const NO_BYTES: &[u8] = b"";
+pub(super) const NO_BYTES: &[u8] = b"";
 
 // The third person is in the office already.
-const KNOWN_THIRD: &[u8] = b"person,name,key,home\n\
+pub(super) const KNOWN_THIRD: &[u8] = b"person,name,key,home\n\
     E4,Di Day,key00000000000e4,\n\
     E5,Ed Eel,key00000000000e5,H1\n\
     E1,Ann Ash,key00000000000e1,H1\n";
@@ -98,7 +98,7 @@ pub(super) fn responds_to_lists(
 }
 
 // A desk with two rooms, and with three people of whom one has a home.
-fn furnished(rt: &impl Abort, alloc: Global) -> Desk<MemStore> {
+pub(super) fn furnished(rt: &impl Abort, alloc: Global) -> Desk<MemStore> {
     let mut desk = new_desk(rt, alloc);
     responds_to_lists(
         rt,
@@ -369,88 +369,4 @@ fn refuses_people_over_the_limit(rt: HostRuntime) {
         ];
         responds(&rt, alloc, &mut desk, &requests, expected);
     }
-}
-
-// Runs the command and asserts that its answer is `done`. Then a known label still has its first answer, another list under it
-// differs, and a new list has the answer `late`.
-fn checks_labels(
-    rt: &impl Abort,
-    alloc: Global,
-    desk: &mut Desk<MemStore>,
-    command: Command,
-    done: &str,
-    late: &str,
-) {
-    responds(rt, alloc, desk, &[Request::Office(command)], done);
-    let known = [("p-1", PEOPLE), ("p-1", HEADER)];
-    let expected = "added 3\nrefused 14 ListDiffers\n";
-    responds_to_lists(rt, alloc, desk, ListKind::People, &known, expected);
-    let expected = "refused 14 ListDiffers\n";
-    responds_to_lists(
-        rt,
-        alloc,
-        desk,
-        ListKind::Rooms,
-        &[("p-1", PEOPLE)],
-        expected,
-    );
-    responds_to_lists(
-        rt,
-        alloc,
-        desk,
-        ListKind::People,
-        &[("p-2", KNOWN_THIRD)],
-        late,
-    );
-}
-
-// In each phase a known label has its first answer, another list under it differs, and a new list is refused.
-#[test]
-fn checks_labels_before_the_phase(rt: HostRuntime) {
-    let alloc = rt.alloc();
-    let words = vec![in alloc; Word::new(5), Word::new(6), Word::new(7)].expect(&rt, "memory");
-    let draw = Command::Draw {
-        words: Listing::new(words),
-    };
-    let mut desk = furnished(&rt, alloc);
-    let taken = "refused 15 BadRecord 2 refusal 8\n";
-    checks_labels(
-        &rt,
-        alloc,
-        &mut desk,
-        Command::OpenRound,
-        "round 1 open\n",
-        taken,
-    );
-    for (command, done, late) in [
-        (
-            Command::CloseRound,
-            "closed 3\n",
-            "refused 1 BadPhase closed\n",
-        ),
-        (draw, "drawn 3\n", "refused 1 BadPhase drawn\n"),
-        (Command::Run, "ran 3\n", "refused 1 BadPhase ran\n"),
-        (
-            Command::Publish,
-            "published 3\n",
-            "refused 1 BadPhase published\n",
-        ),
-    ] {
-        checks_labels(&rt, alloc, &mut desk, command, done, late);
-    }
-}
-
-// An office takes 200 labels. Once they are used up, known labels still have their answers.
-#[test]
-fn accepts_two_hundred_labels_and_no_more(rt: HostRuntime) {
-    let alloc = rt.alloc();
-    let mut desk = new_desk(&rt, alloc);
-    for number in 0..200u8 {
-        let label = format!(in alloc; "p-{number}").expect(&rt, "memory");
-        let lists = [(label.as_str(), HEADER)];
-        responds_to_lists(&rt, alloc, &mut desk, ListKind::People, &lists, "added 0\n");
-    }
-    let lists = [("p-200", HEADER), ("p-7", HEADER), ("p-200", NO_BYTES)];
-    let expected = "refused 13 LimitReached\nadded 0\nrefused 13 LimitReached\n";
-    responds_to_lists(&rt, alloc, &mut desk, ListKind::People, &lists, expected);
 }

@@ -5,7 +5,7 @@ use super::{
 };
 use crate::asserting::{assert_same, holds, same_at};
 use office_store::Desk;
-use resident_desk::{Served, serve_one_in_memory};
+use resident_http::{Served, serve_one_in_memory};
 use room_types::Watched;
 use room_types::stream::Pair;
 use sqlite::MemStore;

@@ -5,7 +5,7 @@ use super::{ANSWER, Exchange, REQUEST, WELL, drop_desk, open_round, served, serv
 use crate::asserting::{same, same_at};
 use http::StatusCode;
 use office_store::Desk;
-use resident_desk::Served;
+use resident_http::Served;
 use sqlite::MemStore;
 use std::alloc::Global;
 use std::io;

@@ -2,7 +2,7 @@
 use super::{ANSWER, REQUEST, WELL, drop_desk, open_round, read_whole};
 use crate::asserting::assert_same;
 use office_store::Desk;
-use resident_desk::{Served, serve_one};
+use resident_http::{Served, serve_one};
 use room_types::{Stream, Watched};
 use sqlite::MemStore;
 use std::alloc::Global;

@@ -1,15 +1,18 @@
 //! Tests of the bytes of responses, and of the bodies of requests.
 ghost use Rattle.std.specs.Prelude.{◌≡◌, true};
-ghost use Rattle.resident_http.specs.Faults.{names_fault};
+ghost use Rattle.resident_requests.specs.Faults.{names_fault};
 
 use crate::asserting::{assert_same, same};
 use http::StatusCode;
 use office_core::Standing;
-use resident_http::answer::{HttpAnswer, UNAVAILABLE_RESPONSE, answer_bytes};
-use resident_http::bodies::{choices_body, fault_body, rooms_body, standing_body, withdrawn_body};
-use resident_http::choices::choices_of_body;
-use resident_http::faults::fault_name;
-use resident_http::method::Method;
+use resident_http::{HttpAnswer, answer_bytes};
+use resident_requests::UNAVAILABLE_RESPONSE;
+use resident_requests::bodies::{
+    choices_body, fault_body, rooms_body, standing_body, withdrawn_body,
+};
+use resident_requests::choices::choices_of_body;
+use resident_requests::faults::fault_name;
+use resident_requests::method::Method;
 use room_types::{
     Choices, Grammar, Listing, OutOfMemory, Phase, RoomCode, RoomRow, State, Text, TypeFault,
 };

@@ -1,7 +1,8 @@
 //! Tests of parsing bytes: complete requests, and the first fault of others.
 use crate::asserting::{assert_same, same_at};
-use resident_http::ask::{AskState, HEAD_LIMIT, read_ask};
-use resident_http::choices::choices_of_body;
+use resident_http::{AskState, read_ask};
+use resident_requests::ask::HEAD_LIMIT;
+use resident_requests::choices::choices_of_body;
 use std::alloc::Global;
 use std::process::Abort;
 

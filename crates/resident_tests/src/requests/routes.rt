@@ -1,6 +1,6 @@
 //! Tests of routing.
 use crate::asserting::assert_same;
-use resident_http::routes::{Route, Routed, route_request};
+use resident_requests::routes::{Route, Routed, route_request};
 use std::alloc::Global;
 use std::process::Abort;
 

@@ -8,7 +8,7 @@ use Rattle.office_tables.proofs.statements.Steps.{inside_then, inside_none}
 use Rattle.office_changes.specs.Inner.Choosing.{with_choices}
 use Rattle.office_changes.proofs.alike_tables.WellFormed.{alike_tables-choice_well_formed}
 use Rattle.office_changes.proofs.choices.add_choices.Goals as goal
-use Rattle.office_changes.proofs.changed_rows.Turns.{next_of}
+use Rattle.office_tables.proofs.statements.Refilled.{next_of}
 
 pub loop-room-init : goal.loop-room-init
 loop-room-init g c = record {

@@ -7,7 +7,7 @@ use Rattle.office_rows.specs.Tables.{rows_of}
 use Rattle.office_tables.specs.Tables.{HoldsOffice}
 use Rattle.office_tables.proofs.statements.Steps.{inside_then, inside_none}
 use Rattle.office_changes.proofs.store.apply_changes.Goals as goal
-use Rattle.office_changes.proofs.changed_rows.Turns.{next_of}
+use Rattle.office_tables.proofs.statements.Refilled.{next_of}
 
 pub loop-change-init : goal.loop-change-init
 loop-change-init g c = record {

@@ -1,0 +1,53 @@
+-- Where lists are stored, and importing a list from there.
+use Rattle.std.specs.Prelude.{◌≡◌, ℕ, ◌≤◌, ◌⊎◌, false, List, Option}
+use Rattle.office_cli.specs.Importing.{ImportsFrom, list_limit}
+use Rattle.office_lines.specs.Printing.{PrintsUnavailable}
+use Rattle.office_store.specs.declared.requests.Answer.{Answer}
+use Rattle.office_store.specs.declared.requests.Request.{Request}
+use Rattle.room_types.specs.Streams.{Output}
+use Rattle.room_types.specs.Texts.{Text}
+use Rattle.room_types.specs.Watched.{StopsAtEnd, watched_ended, watched_failed, watched_wasted, watched_reads}
+use Rattle.room_types.specs.declared.kinds.ListKind.{ListKind}
+use Rattle.room_types.specs.declared.watched.Watched.{Watched}
+
+-- How a store of lists behaves. Opening a path returns a list or fails, and a list can be closed. Each of these is a
+-- relation between a state and the next. For a list's reader: the bytes that remain, where they are known.
+pub record ListAccess (L : Type 0) : Type 1 where
+  pub Reader : Type 0
+  pub opens : L → Text → Watched Reader → L → Type 0
+  pub fails : L → Text → L → Type 0
+  pub closes : L → Watched Reader → L → Type 0
+  pub remaining : Reader → Option (List ℕ)
+
+-- the store that the ghost members of the trait `Lists` define
+abbrev pub list_access_of : {L R : Type 0} → (L → Text → Watched R → L → Type 0) → (L → Text → L → Type 0) → (L → Watched R → L → Type 0)
+    → (R → Option (List ℕ)) → ListAccess L
+list_access_of {R = R} opens fails closes remaining = record { Reader = R; opens = opens; fails = fails; closes = closes; remaining = remaining }
+
+-- the reader before its first call
+pub record IsUnread {R : Type 0} (source : Watched R) : Type 0 where
+  pub failed : watched_failed source ≡ false
+  pub reads : watched_reads source ≡ 0
+  pub ended : watched_ended source ≡ false
+  pub wasted : watched_wasted source ≡ false
+
+module _ {H L : Type 0} (handles : H → Request → Answer → H → Type 0) (list_access : ListAccess L) where
+  -- The path was opened once, and its list imported. The number of reads is bounded, and none comes after a read failed or
+  -- found the end. The list is then closed as its import left it.
+  pub record ImportsOpened (lists : L) (old : H) (kind : ListKind) (label path : Text) (status : ℕ) (lists' : L) (new : H) (out out' : Output) : Type 0 where
+    pub source : Watched list_access.Reader
+    pub source' : Watched list_access.Reader
+    pub between : L
+    pub opened : list_access.opens lists path source between
+    pub unread : IsUnread source
+    pub few : watched_reads source' ≤ list_limit
+    pub no_wasted_read : StopsAtEnd source source'
+    pub imports : ImportsFrom handles list_access.remaining old kind label source source' status new out out'
+    pub closed : list_access.closes between source' lists'
+
+  -- The list at a path is imported and closed. Or the path could not be opened, and the handler gets no command. Nothing
+  -- else is opened or closed.
+  abbrev pub ImportsPath : L → H → ListKind → Text → Text → ℕ → L → H → Output → Output → Type 0
+  ImportsPath lists old kind label path status lists' new out out' =
+      ImportsOpened lists old kind label path status lists' new out out'
+      ⊎ (list_access.fails lists path lists' × (new ≡ old) × PrintsUnavailable status out out')

@@ -1,0 +1,140 @@
+-- The subcommands, and how the program's arguments determine one.
+use Rattle.std.specs.Prelude.{ℕ, Bool, true, false, List, [], ◌∷◌, Option, Some, None, codes, if◌then◌else◌, map, option_and_then, option_map}
+use Rattle.std.specs.Str.{bytes_eq}
+use Rattle.std.specs.Str.Parse.{digits_value, without_leading_plus}
+use Rattle.clap.specs.ValueTests.{is_unsigned_in}
+use Rattle.clap.specs.Words.{Kinds, Row, all_of, fault_of, first_of, one_of, subcommand_of}
+use Rattle.office_cli.specs.declared.usage.Program.{Program}
+use Rattle.office_cli.specs.declared.usage.Program.TheVariants as program
+use Rattle.office_cli.specs.Seeds.{parse_seed}
+use Rattle.office_cli.specs.Usage.{usage}
+use Rattle.office_lists.specs.declared.exports.ExportKind.{ExportKind}
+use Rattle.office_lists.specs.declared.exports.ExportKind.TheVariants.{Rooms, People, Moves, Grades}
+use Rattle.office_words.specs.Values.{in_grammar}
+use Rattle.room_types.specs.Grammars.{is_label}
+use Rattle.room_types.specs.Kinds.{kind_text}
+use Rattle.room_types.specs.Texts.{Text}
+use Rattle.room_types.specs.declared.kinds.ListKind.{ListKind}
+use Rattle.room_types.specs.declared.kinds.ListKind.TheVariants as list
+
+-- A subcommand with its arguments: make an office in the file at a path; let the office in such a file handle words as a
+-- line; rehearse; print a number of words of a seed; import a list of a kind under a label, from the file at the second
+-- path into the office in the first; export the office in a file; serve a number of connections on a port from it; migrate
+-- its tables.
+pub data Line : Type 0 where
+  makes : Text → Line
+  does : Text → List Text → Line
+  rehearses : Line
+  prints : List ℕ → ℕ → Line
+  imports : Text → ListKind → Text → Text → Line
+  exports : Text → ExportKind → Line
+  serves : Text → ℕ → ℕ → Line
+  migrates : Text → Line
+
+-- `Program` without places in memory
+abbrev pub line_of : Program → Line
+line_of (program.New path) = makes path.now
+line_of (program.Do path words) = does path.now (map (λ word. word.now) words.items)
+line_of program.Rehearse = rehearses
+line_of (program.Words seed count) = prints seed count
+line_of (program.Import path kind label list) = imports path.now kind label list.now
+line_of (program.Export path kind) = exports path.now kind
+line_of (program.Serve path port count) = serves path.now port count
+line_of (program.Migrate path) = migrates path.now
+
+-- The number of a decimal text, if it is within the bounds. The text is as `clap` specifies it: for an integer that is read
+-- with a sign, the rows hold it without its minus, if the bounds are not negative (`-0` is 0).
+abbrev pub number_between : ℕ → ℕ → Text → Option ℕ
+number_between low high text = if is_unsigned_in low high text then Some (digits_value 10 (without_leading_plus text)) else None
+
+-- the number of an argument, if it is within the bounds
+abbrev pub number_of : ℕ → ℕ → Text → List Row → Option ℕ
+number_of low high id rows = option_and_then (number_between low high) (one_of id rows)
+
+-- `new --db FILE`
+abbrev pub new_program : List Row → Option Line
+new_program rows = option_map makes (first_of (codes "db") rows)
+
+-- `do --db FILE WORD..`
+abbrev pub do_program : List Row → Option Line
+do_program rows = option_and_then (λ path. option_map (does path) (all_of (codes "word") rows)) (first_of (codes "db") rows)
+
+-- `words --seed HEX --count N`
+abbrev pub words_program : List Row → Option Line
+words_program rows = option_and_then (λ seed. option_map (prints seed) (number_of 0 2000 (codes "count") rows)) (option_and_then parse_seed (first_of (codes "seed") rows))
+
+-- the kind of list with this name
+abbrev pub list_kind_named : Text → Option ListKind
+list_kind_named name =
+    if bytes_eq name (kind_text list.Rooms) then Some list.Rooms
+    else if bytes_eq name (kind_text list.People) then Some list.People
+    else if bytes_eq name (kind_text list.Choices) then Some list.Choices
+    else if bytes_eq name (kind_text list.Grades) then Some list.Grades
+    else None
+
+-- the kind and the label of an import
+abbrev pub list_kind_given : List Row → Option ListKind
+list_kind_given rows = option_and_then list_kind_named (first_of (codes "kind") rows)
+
+abbrev pub label_given : List Row → Option Text
+label_given rows = option_and_then (in_grammar is_label) (first_of (codes "label") rows)
+
+-- `import --db FILE KIND LABEL PATH`
+abbrev pub import_program : List Row → Option Line
+import_program rows =
+    option_and_then (λ path. option_and_then (λ list. option_and_then (λ kind. option_map (λ label. imports path kind label list) (label_given rows))
+    (list_kind_given rows)) (first_of (codes "path") rows)) (first_of (codes "db") rows)
+
+-- the export with this name
+abbrev pub export_kind_named : Text → Option ExportKind
+export_kind_named name =
+    if bytes_eq name (codes "rooms") then Some Rooms
+    else if bytes_eq name (codes "people") then Some People
+    else if bytes_eq name (codes "moves") then Some Moves
+    else if bytes_eq name (codes "grades") then Some Grades
+    else None
+
+-- `export --db FILE KIND`
+abbrev pub export_program : List Row → Option Line
+export_program rows =
+    option_and_then (λ path. option_map (exports path) (option_and_then export_kind_named (first_of (codes "kind") rows)))
+    (first_of (codes "db") rows)
+
+-- `serve --db FILE --port N --count K`
+abbrev pub serve_program : List Row → Option Line
+serve_program rows = option_and_then (λ path. option_and_then (λ port. option_map (serves path port) (number_of 1 1000000 (codes "count") rows))
+    (number_of 1 65535 (codes "port") rows)) (first_of (codes "db") rows)
+
+-- `migrate --db FILE`
+abbrev pub migrate_program : List Row → Option Line
+migrate_program rows = option_map migrates (first_of (codes "db") rows)
+
+-- the line of a subcommand with its rows
+abbrev pub entered_line : Text × List Row → Option Line
+entered_line (name, rows) = if bytes_eq name (codes "new") then new_program rows
+    else if bytes_eq name (codes "do") then do_program rows
+    else if bytes_eq name (codes "rehearse") then Some rehearses
+    else if bytes_eq name (codes "words") then words_program rows
+    else if bytes_eq name (codes "import") then import_program rows
+    else if bytes_eq name (codes "export") then export_program rows
+    else if bytes_eq name (codes "serve") then serve_program rows
+    else if bytes_eq name (codes "migrate") then migrate_program rows
+    else None
+
+abbrev pub has_none : Kinds → Bool
+has_none [] = true
+has_none (kind ∷ kinds) = false
+
+-- `clap` finds no fault in the words
+unfoldable pub is_accepted : List Text → Bool
+is_accepted words = has_none (fault_of usage words)
+
+-- the subcommand and the rows that `clap` specifies for the words
+unfoldable pub entered : List Text → Option (Text × List Row)
+entered words = subcommand_of usage words
+
+-- the line of the words, if they are one; no words are `rehearse`
+abbrev pub program_of : List Text → Option Line
+program_of [] = Some rehearses
+program_of (word ∷ rest) =
+    if is_accepted (word ∷ rest) then option_and_then entered_line (entered (word ∷ rest)) else None

@@ -1,0 +1,230 @@
+//! Carries out the program's arguments over standard input, output and error.
+ghost use Rattle.std.specs.Prelude.{◌≤◌, map};
+ghost use Rattle.room_types.specs.Watched.{IsFresh, StopsAtEnd, StopsAtFailure, watched_reads};
+ghost use Rattle.room_types.specs.Streams.{input_of, output_of};
+ghost use Rattle.office_cli.specs.Doing.{CarriesOut, RehearsesAnew, Refuses};
+ghost use Rattle.office_file.specs.Access.{file_access};
+ghost use Rattle.office_cli.specs.ListAccess.{list_access_of};
+ghost use Rattle.resident_server.specs.Network.{network_of};
+ghost use Rattle.office_lines.specs.Lines.{read_limit};
+
+use crate::in_file::{
+    do_in_file, export_in_file, import_in_file, make_in_file, migrate_in_file, serve_in_file,
+};
+use crate::lists::{Lists, SystemLists};
+use crate::program::program;
+use crate::rehearsing::rehearse_in_memory;
+use crate::usage::Program;
+use crate::word_lines::words_text;
+use office_file::{Closes, Files, SystemFiles};
+use office_lines::print::{print, print_unavailable};
+use office_store::Desk;
+use office_texts::{ACCEPTED, NOT_UNDERSTOOD};
+use office_words::WordFault;
+use resident_server::{Listener, Loopback, Ports};
+use room_types::{Stream, Watched};
+use sqlite::{Alter, Connection, FileFrom, FileStore, Start, Wary};
+use sqlite_trees::store::Store;
+use std::alloc::Global;
+use std::fs::File;
+use std::io::{Read, Write};
+use std::net::{TcpListener, TcpStream};
+
+/// Carries out these words, the arguments after the program's name, and returns the exit status.
+pub fn carry_out<'a, R: Read, W: Write, E: Write>(
+    rt: &HostRuntime,
+    words: &'a [&'a str],
+    input: &mut Watched<R>,
+    output: &mut Watched<W>,
+    error: &mut Watched<E>,
+) -> u8
+    requires fresh_input { IsFresh input.old }
+    requires fresh_output { IsFresh output.old }
+    requires fresh_error { IsFresh error.old }
+    ensures few { watched_reads input.new ≤ read_limit }
+    ensures no_wasted_read { StopsAtEnd input.old input.new }
+    ensures no_wasted_write { StopsAtFailure output.old output.new }
+    ensures no_wasted_error { StopsAtFailure error.old error.new }
+    ensures carries_out { let list_access = list_access_of
+        ⟦<SystemLists<'static> as Lists>⟧.opens ⟦<SystemLists<'static> as Lists>⟧.fails
+        ⟦<SystemLists<'static> as Lists>⟧.closes ⟦<File as Read>⟧.remaining in
+        let access = file_access ⟦<FileStore<FileFrom<Wary>> as Store>⟧
+        ⟦<SystemFiles<'static, Wary> as Files<FileStore<FileFrom<Wary>>>>⟧.opens ⟦<SystemFiles<'static, Wary> as Files<FileStore<FileFrom<Wary>>>>⟧.finds
+        ⟦<SystemFiles<'static, Wary> as Files<FileStore<FileFrom<Wary>>>>⟧.fails ⟦<SystemFiles<'static, Wary> as Closes<Connection<FileStore<FileFrom<Wary>>>>>⟧.closes in
+        let network = network_of ⟦<TcpStream as Stream>⟧.reads ⟦<TcpStream as Stream>⟧.writes ⟦<TcpStream as Stream>⟧.flushes
+        ⟦<TcpStream as Read>⟧.remaining ⟦<TcpStream as Write>⟧.contents
+        ⟦<TcpListener as Listener>⟧.accepts ⟦<TcpListener as Listener>⟧.closes
+        ⟦<Loopback<'static> as Ports>⟧.listens ⟦<Loopback<'static> as Ports>⟧.fails ⟦<Loopback<'static> as Ports>⟧.stops in
+        (files : _) × (files' : _) × (lists : _) × (lists' : _) × (ports : _) × (ports' : _)
+        × CarriesOut access list_access network
+        (map (λ word. word.now) words.entry.now) files lists ports result files' lists' ports'
+        (input_of R.remaining input.old) (input_of R.remaining input.new)
+        (output_of W.contents output.old) (output_of W.contents output.new)
+        (output_of E.contents error.old) (output_of E.contents error.new) }
+{
+    carry_out_over(rt, words, Wary, input, output, error)
+}
+
+/// Carries out these words, the arguments after the program's name, over the system's files and ports, and returns the exit
+/// status. The contract holds whatever an office file and its log contain at first, which `start` stands for.
+pub fn carry_out_over<'a, S: Start, R: Read, W: Write, E: Write>(
+    rt: &HostRuntime,
+    words: &'a [&'a str],
+    start: S,
+    input: &mut Watched<R>,
+    output: &mut Watched<W>,
+    error: &mut Watched<E>,
+) -> u8
+    requires fresh_input { IsFresh input.old }
+    requires fresh_output { IsFresh output.old }
+    requires fresh_error { IsFresh error.old }
+    ensures few { watched_reads input.new ≤ read_limit }
+    ensures no_wasted_read { StopsAtEnd input.old input.new }
+    ensures no_wasted_write { StopsAtFailure output.old output.new }
+    ensures no_wasted_error { StopsAtFailure error.old error.new }
+    ensures carries_out { let list_access = list_access_of
+        ⟦<SystemLists<'static> as Lists>⟧.opens ⟦<SystemLists<'static> as Lists>⟧.fails
+        ⟦<SystemLists<'static> as Lists>⟧.closes ⟦<File as Read>⟧.remaining in
+        let access = file_access ⟦<FileStore<FileFrom<S>> as Store>⟧
+        ⟦<SystemFiles<'static, S> as Files<FileStore<FileFrom<S>>>>⟧.opens ⟦<SystemFiles<'static, S> as Files<FileStore<FileFrom<S>>>>⟧.finds
+        ⟦<SystemFiles<'static, S> as Files<FileStore<FileFrom<S>>>>⟧.fails ⟦<SystemFiles<'static, S> as Closes<Connection<FileStore<FileFrom<S>>>>>⟧.closes in
+        let network = network_of ⟦<TcpStream as Stream>⟧.reads ⟦<TcpStream as Stream>⟧.writes ⟦<TcpStream as Stream>⟧.flushes
+        ⟦<TcpStream as Read>⟧.remaining ⟦<TcpStream as Write>⟧.contents
+        ⟦<TcpListener as Listener>⟧.accepts ⟦<TcpListener as Listener>⟧.closes
+        ⟦<Loopback<'static> as Ports>⟧.listens ⟦<Loopback<'static> as Ports>⟧.fails ⟦<Loopback<'static> as Ports>⟧.stops in
+        (files : _) × (files' : _) × (lists : _) × (lists' : _) × (ports : _) × (ports' : _)
+        × CarriesOut access list_access network
+        (map (λ word. word.now) words.entry.now) files lists ports result files' lists' ports'
+        (input_of R.remaining input.old) (input_of R.remaining input.new)
+        (output_of W.contents output.old) (output_of W.contents output.new)
+        (output_of E.contents error.old) (output_of E.contents error.new) }
+{
+    let mut files = SystemFiles::new(rt, start);
+    let mut lists = SystemLists::new(rt);
+    let mut ports = Loopback::new(rt);
+    carry_out_from(
+        rt.alloc(),
+        words,
+        &mut files,
+        &mut lists,
+        &mut ports,
+        input,
+        output,
+        error,
+    )
+}
+
+/// Carries out these words, the arguments after the program's name, and returns the exit status, over any office files,
+/// lists and ports. A subcommand on an office file opens it once and closes it as its desk left it. Only `import` opens a
+/// list, once, and closes it as its import left it.
+pub fn carry_out_from<
+    'a,
+    B: Alter,
+    F: Files<B> + Closes<Connection<B>>,
+    L: Lists,
+    P: Ports,
+    R: Read,
+    W: Write,
+    E: Write,
+>(
+    alloc: Global,
+    words: &'a [&'a str],
+    files: &mut F,
+    lists: &mut L,
+    ports: &mut P,
+    input: &mut Watched<R>,
+    output: &mut Watched<W>,
+    error: &mut Watched<E>,
+) -> u8
+    requires fresh_input { IsFresh input.old }
+    requires fresh_output { IsFresh output.old }
+    requires fresh_error { IsFresh error.old }
+    ensures few { watched_reads input.new ≤ read_limit }
+    ensures no_wasted_read { StopsAtEnd input.old input.new }
+    ensures no_wasted_write { StopsAtFailure output.old output.new }
+    ensures no_wasted_error { StopsAtFailure error.old error.new }
+    ensures carries_out { let list_access = list_access_of L.opens L.fails L.closes L.List.remaining in
+        let access = file_access B.Store F.opens F.finds F.fails F.closes in
+        let network = network_of
+        P.Socket.Stream.reads P.Socket.Stream.writes P.Socket.Stream.flushes
+        P.Socket.Stream.remaining P.Socket.Stream.contents
+        P.Socket.accepts P.Socket.closes P.listens P.fails P.stops in
+        CarriesOut access list_access network
+        (map (λ word. word.now) words.entry.now)
+        files.old lists.old ports.old result files.new lists.new ports.new
+        (input_of R.remaining input.old) (input_of R.remaining input.new)
+        (output_of W.contents output.old) (output_of W.contents output.new)
+        (output_of E.contents error.old) (output_of E.contents error.new) }
+{
+    match program(alloc, words) {
+        Ok(Program::New { database }) => make_in_file(alloc, files, database, output),
+        Ok(Program::Do { database, words }) => do_in_file(alloc, files, database, &words, output),
+        Ok(Program::Rehearse) => rehearse_anew(alloc, input, output),
+        Ok(Program::Words { seed, count }) => match words_text(alloc, seed, count as usize) {
+            Ok(text) => print(output, text.as_str(), ACCEPTED),
+            Err(_) => refuse(WordFault::OutOfMemory, output, error),
+        },
+        Ok(
+            Program::Import {
+                database,
+                kind,
+                label,
+                list,
+            },
+        ) => import_in_file(alloc, files, database, lists, kind, label, list, output),
+        Ok(Program::Export { database, kind }) => {
+            export_in_file(alloc, files, database, kind, output)
+        }
+        Ok(
+            Program::Serve {
+                database,
+                port,
+                count,
+            },
+        ) => serve_in_file(alloc, files, database, ports, port, count, output),
+        Ok(Program::Migrate { database }) => migrate_in_file(alloc, files, database, output),
+        Err(fault) => refuse(fault, output, error),
+    }
+}
+
+// Rehearses at a new desk in memory. If an allocation for the desk fails, prints `unavailable`.
+fn rehearse_anew<R: Read, W: Write>(
+    alloc: Global,
+    input: &mut Watched<R>,
+    output: &mut Watched<W>,
+) -> u8
+    requires fresh_input { IsFresh input.old }
+    requires fresh_output { IsFresh output.old }
+    ensures few { watched_reads input.new ≤ read_limit }
+    ensures no_wasted_read { StopsAtEnd input.old input.new }
+    ensures no_wasted_write { StopsAtFailure output.old output.new }
+    ensures rehearses { RehearsesAnew result
+        (input_of R.remaining input.old) (input_of R.remaining input.new)
+        (output_of W.contents output.old) (output_of W.contents output.new) }
+{
+    match Desk::in_memory(alloc) {
+        Ok(mut desk) => rehearse_in_memory(alloc, &mut desk, input, output).status,
+        Err(_) => print_unavailable(output),
+    }
+}
+
+/// Reports that the arguments were not understood, on standard error, or that an allocation failed, on standard output.
+/// Returns the exit status.
+pub fn refuse<W: Write, E: Write>(
+    fault: WordFault,
+    output: &mut Watched<W>,
+    error: &mut Watched<E>,
+) -> u8
+    requires fresh_output { IsFresh output.old }
+    requires fresh_error { IsFresh error.old }
+    ensures no_wasted_write { StopsAtFailure output.old output.new }
+    ensures no_wasted_error { StopsAtFailure error.old error.new }
+    ensures refuses { Refuses fault result
+        (output_of W.contents output.old) (output_of W.contents output.new)
+        (output_of E.contents error.old) (output_of E.contents error.new) }
+{
+    match fault {
+        WordFault::NotUnderstood => print(error, "rooms: not understood\n", NOT_UNDERSTOOD),
+        WordFault::OutOfMemory => print_unavailable(output),
+    }
+}

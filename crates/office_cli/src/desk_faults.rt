@@ -1,0 +1,47 @@
+//! Printing why there is no desk.
+ghost use Rattle.std.specs.Prelude.{◌≡◌, IfOk, string_bytes};
+ghost use Rattle.room_types.specs.Streams.{output_of};
+ghost use Rattle.room_types.specs.Watched.{IsFresh, StopsAtFailure};
+ghost use Rattle.office_cli.specs.DeskFaults.{RefusesDesk, RefusesVersion, other_version_text};
+
+use office_lines::print::{print, print_unavailable};
+use office_store::DeskFault;
+use office_texts::REFUSED;
+use room_types::Watched;
+use std::alloc::{AllocError, Global};
+use std::io::Write;
+
+/// Prints why there is no desk, like a refusal of the office. Returns the exit status.
+pub fn refuse_desk<W: Write>(alloc: Global, fault: DeskFault, output: &mut Watched<W>) -> u8
+    requires fresh { IsFresh output.old }
+    ensures no_wasted_write { StopsAtFailure output.old output.new }
+    ensures refuses { RefusesDesk fault result (output_of W.contents output.old)
+        (output_of W.contents output.new) }
+{
+    match fault {
+        DeskFault::Unavailable => print_unavailable(output),
+        DeskFault::NotAnOffice => print(output, "refused 21 NotAnOffice\n", REFUSED),
+        DeskFault::OtherVersion(version) => refuse_version(alloc, version, output),
+        DeskFault::AlreadyThere => print(output, "refused 23 AlreadyThere\n", REFUSED),
+    }
+}
+
+// Prints that the tables are of another version, or `unavailable` if an allocation for the text fails.
+fn refuse_version<W: Write>(alloc: Global, version: i64, output: &mut Watched<W>) -> u8
+    requires fresh { IsFresh output.old }
+    ensures no_wasted_write { StopsAtFailure output.old output.new }
+    ensures refuses { RefusesVersion version result (output_of W.contents output.old)
+        (output_of W.contents output.new) }
+{
+    match other_version_text(alloc, version) {
+        Ok(line) => print(output, line.as_str(), REFUSED),
+        Err(_) => print_unavailable(output),
+    }
+}
+
+// The refusal of tables of another version.
+fn other_version_text(alloc: Global, version: i64) -> Result<String, AllocError>
+    ensures { IfOk result (λ line. string_bytes line ≡ other_version_text version) }
+{
+    format!(in alloc; "refused 22 OtherVersion {version}\n")
+}

@@ -1,0 +1,81 @@
+//! Importing a list: reads its bytes, passes them on as one command, and prints the answer.
+ghost use Rattle.std.specs.Prelude.{◌≤◌, IfOk, OnErr};
+ghost use Rattle.room_types.specs.Streams.{output_of};
+ghost use Rattle.room_types.specs.Watched.{IsFresh, StopsAtEnd, StopsAtFailure, watched_reads};
+ghost use Rattle.office_cli.specs.Importing.{CannotRead, ImportsFrom, ReadsList, list_limit};
+
+use office_core::Command;
+use office_lines::do_line::print_response;
+use office_lines::print::print_unavailable;
+use office_state::BYTE_LIMIT;
+use office_store::{Handler, Request, Unavailable};
+use office_texts::Response;
+use room_types::{Label, ListKind, Listing, Watched};
+use std::alloc::Global;
+use std::io::{Read, Write};
+
+/// The greatest number of bytes read from a list. A list may have one less, so a longer one is noticed.
+pub const LIST_LIMIT: usize = BYTE_LIMIT + 1;
+
+/// The greatest number of bytes that one read asks for.
+const CHUNK_LIMIT: usize = 4096;
+
+/// Reads a list, passes it to the handler to be imported under this label, and prints the answer. Returns the exit status
+/// of the answer, or 3 if the output or an allocation for the answer's text fails; the command has been handled even then.
+/// If the list can't be read, or an allocation for its bytes fails, prints `unavailable`, and the handler gets no command.
+pub fn import_list<H: Handler, R: Read, W: Write>(
+    alloc: Global,
+    handler: &mut H,
+    kind: ListKind,
+    label: Label,
+    source: &mut Watched<R>,
+    output: &mut Watched<W>,
+) -> u8
+    requires ready { H.is_ready handler.old }
+    requires fresh_source { IsFresh source.old }
+    requires fresh_output { IsFresh output.old }
+    ensures few { watched_reads source.new ≤ list_limit }
+    ensures no_wasted_read { StopsAtEnd source.old source.new }
+    ensures no_wasted_write { StopsAtFailure output.old output.new }
+    ensures imports { ImportsFrom H.handles R.remaining handler.old kind label source.old source.new
+        result handler.new (output_of W.contents output.old) (output_of W.contents output.new) }
+    ensures ready { H.is_ready handler.new }
+{
+    match read_bytes(alloc, source) {
+        Ok(bytes) => {
+            let bytes = Listing::new(bytes);
+            let request = Request::Office(Command::Import { label, kind, bytes });
+            let response = Response::Answered(handler.handle(alloc, &request));
+            print_response(alloc, &response, output)
+        }
+        Err(Unavailable) => print_unavailable(output),
+    }
+}
+
+/// Reads the bytes of a list to its end, but at most `LIST_LIMIT` of them.
+///
+/// # Errors
+///
+/// `Unavailable` if a read fails, or an allocation for the bytes read.
+pub fn read_bytes<R: Read>(alloc: Global, source: &mut Watched<R>) -> Result<Vec<u8>, Unavailable>
+    requires fresh { IsFresh source.old }
+    ensures reads { IfOk result (λ bytes. ReadsList R.remaining source.old source.new bytes.items) }
+    ensures cannot_read { OnErr result (CannotRead R.remaining source.old source.new) }
+    ensures few { watched_reads source.new ≤ list_limit }
+    ensures no_wasted_read { StopsAtEnd source.old source.new }
+{
+    let mut bytes = Vec::new(alloc);
+    let mut chunk = [0u8; CHUNK_LIMIT];
+    'reads: while bytes.len() < LIST_LIMIT {
+        let room = CHUNK_LIMIT.min(LIST_LIMIT - bytes.len());
+        match source.read(&mut chunk[..room]) {
+            Ok(0) => return Ok(bytes),
+            Ok(n) => match bytes.extend_from_slice(&chunk[..n]) {
+                Ok(()) => {}
+                Err(_) => return Err(Unavailable),
+            },
+            Err(_) => return Err(Unavailable),
+        }
+    }
+    Ok(bytes)
+}

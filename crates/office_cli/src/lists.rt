@@ -1,0 +1,72 @@
+//! Where lists are stored.
+ghost use Rattle.std.specs.Prelude.{⊤};
+
+use office_store::Unavailable;
+use room_types::Watched;
+use std::fs::File;
+use std::io::Read;
+
+/// A store of lists: opens a list by its path, and closes it. Each call is a relation between the states of the store;
+/// generic code can establish one only by making that call.
+pub trait Lists {
+    ghost use Rattle.std.specs.Prelude.{IfOk, OnErr, ⊤};
+    ghost use Rattle.office_cli.specs.ListAccess.{IsUnread};
+    ghost use Rattle.room_types.specs.Texts.{Text};
+    ghost use Rattle.room_types.specs.declared.watched.Watched.{Watched};
+
+    type List: Read + Drop;
+
+    /// Opening this path returned this list and led from the first state to the second.
+    ghost opens: { Self → Text → Watched Self.List → Self → Type 0 } = { λ _ _ _ _. ⊤ };
+
+    /// Opening this path failed and led from the first state to the second.
+    ghost fails: { Self → Text → Self → Type 0 } = { λ _ _ _. ⊤ };
+
+    /// Closing this list led from the first state to the second.
+    ghost closes: { Self → Watched Self.List → Self → Type 0 } = { λ _ _ _. ⊤ };
+
+    /// Opens the list at this path. It is `Watched` from the start, and not yet read.
+    ///
+    /// # Errors
+    ///
+    /// `Unavailable` if the path can't be opened.
+    fn open(&mut self, path: &str) -> Result<Watched<Self::List>, Unavailable>
+        ensures opened { IfOk result (λ list. opens self.old path.now list self.new) }
+        ensures unread { IfOk result IsUnread }
+        ensures failed { OnErr result (fails self.old path.now self.new) };
+
+    /// Closes a list.
+    fn close(&mut self, list: Watched<Self::List>)
+        ensures { closes self.old list self.new };
+}
+
+/// The system's files, about whose contents nothing is known. Only this type holds the runtime, so code that is generic in
+/// the lists can't reach others.
+#[derive(Drop)]
+pub struct SystemLists<'a> {
+    rt: &'a HostRuntime,
+}
+
+impl<'a> SystemLists<'a> {
+    /// The system's files, none of them open.
+    pub fn new(rt: &'a HostRuntime) -> Self {
+        SystemLists { rt }
+    }
+}
+
+impl<'a> Lists for SystemLists<'a> {
+    type List = File;
+
+    fn open(&mut self, path: &str) -> Result<Watched<File>, Unavailable> {
+        match File::open(self.rt, path) {
+            Ok(file) => Ok(Watched::new(file)),
+            Err(_) => Err(Unavailable),
+        }
+    }
+
+    fn close(&mut self, list: Watched<File>)
+        ensures { ⊤ }
+    {
+        drop(list);
+    }
+}

@@ -1,0 +1,21 @@
+//! The seed of a generator, in hexadecimal digits.
+ghost use Rattle.std.specs.Prelude.{◌≡◌};
+ghost use Rattle.office_cli.specs.Seeds.{parse_seed};
+
+use hex::FromHex;
+
+/// The number of bytes of a seed.
+pub const SEED_BYTES: usize = 32;
+
+/// A seed of the generator.
+pub type Seed = [u8; SEED_BYTES];
+
+/// Parses a seed of exactly 64 hexadecimal digits of either case, two for each byte in order.
+pub fn parse_seed(text: &str) -> Option<Seed>
+    ensures { result ≡ parse_seed text.now }
+{
+    match <Seed as FromHex>::from_hex(text) {
+        Ok(seed) => Some(seed),
+        Err(_) => None,
+    }
+}

@@ -1,3 +1,0 @@
-mod connections
-mod own_replies
-mod prepared_responses

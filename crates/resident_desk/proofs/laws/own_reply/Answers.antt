@@ -1,5 +1,0 @@
-use Rattle.resident_desk.proofs.own_replies.Replies.{replies_by_own_record}
-use Rattle.resident_desk.proofs.laws.own_reply.Goals as goal
-
-pub returns : goal.returns
-returns c = replies_by_own_record

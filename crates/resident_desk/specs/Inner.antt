@@ -1,2 +1,0 @@
--- Definitions that only inner contracts, invariants and proofs use.
-pub mod Prepared

@@ -1,6 +1,0 @@
-pub mod Calls
-pub mod Connections
-pub mod DueResponses
-pub mod Inner
-pub mod OwnReply
-pub mod Serving

@@ -1,7 +1,0 @@
-use Rattle.std.proofs.Common.{ap, ◌∙◌}
-use Rattle.serde_json.specs.Written.{has_float}
-use Rattle.resident_http.proofs.json.Floats.{no_float_in_choices}
-use Rattle.resident_http.proofs.bodies.choices_body.Goals as goal
-
-pub written_json-requires : goal.written_json-requires
-written_json-requires c = ap has_float c.in_ok-value.ensures ∙ no_float_in_choices c.args.choices.now

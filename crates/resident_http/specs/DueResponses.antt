@@ -1,0 +1,52 @@
+-- The responses that are due to a resident, given the desk's answer.
+use Rattle.std.specs.Prelude.{ℕ, List, codes}
+use Rattle.serde_json.specs.Written.{compact_text}
+use Rattle.room_types.specs.declared.fault.TypeFault.{TypeFault}
+use Rattle.room_types.specs.declared.fault.TypeFault.TheVariants as fault
+use Rattle.room_types.specs.declared.rows.RoomRow.{RoomRow}
+use Rattle.office_core.specs.declared.refusal.Refusal.{Refusal}
+use Rattle.office_core.specs.declared.refusal.Refusal.TheVariants as refusal
+use Rattle.office_core.specs.declared.reply.Standing.{Standing}
+use Rattle.office_store.specs.declared.requests.Answer.{Answer as DeskAnswer}
+use Rattle.office_store.specs.declared.requests.Answer.TheVariants as desk
+use Rattle.resident_requests.specs.Answers.{Answer}
+use Rattle.resident_requests.specs.Bodies.{rooms_data, standing_data}
+use Rattle.resident_requests.specs.Faults.{fault_answer, fault_name, success_answer}
+
+-- the error response for a status with a single error name
+abbrev pub status_fault : ℕ → Answer
+status_fault status = fault_answer status (fault_name status)
+
+-- the response if an allocation failed or the desk was unavailable
+abbrev pub unavailable_answer : Answer
+unavailable_answer = fault_answer 503 (codes "Unavailable")
+
+-- the response with a resident's own record
+abbrev pub standing_answer : Standing → Answer
+standing_answer standing = success_answer (compact_text (standing_data standing))
+
+-- the response with the rooms
+abbrev pub rooms_answer : List RoomRow → Answer
+rooms_answer rows = success_answer (compact_text (rooms_data rows))
+
+-- the response to a body that is not a preference list
+abbrev pub list_fault : TypeFault → Answer
+list_fault fault.BadValue = status_fault 400
+list_fault fault.OutOfMemory = unavailable_answer
+list_fault fault.TooManyChoices = fault_answer 422 (codes "TooManyChoices")
+list_fault (fault.RoomRepeated room) = fault_answer 422 (codes "RoomRepeated")
+
+-- The response to a resident's command that the office refuses. A command of theirs gets no other refusals.
+abbrev pub refusal_answer : Refusal → Answer
+refusal_answer (refusal.BadPhase phase) = fault_answer 409 (codes "BadPhase")
+refusal_answer refusal.Withdrawn = fault_answer 409 (codes "Withdrawn")
+refusal_answer refusal.Going = fault_answer 409 (codes "Going")
+refusal_answer (refusal.UnknownRoom room) = fault_answer 422 (codes "UnknownRoom")
+refusal_answer (refusal.RoomShut room) = fault_answer 422 (codes "RoomShut")
+refusal_answer _ = unavailable_answer
+
+-- the response to a resident's command, given the desk's answer and the body of the success response
+abbrev pub command_answer : List ℕ → DeskAnswer → Answer
+command_answer body (desk.Reply reply) = success_answer body
+command_answer body (desk.Refused cause) = refusal_answer cause
+command_answer body desk.Unavailable = unavailable_answer

@@ -1,0 +1,94 @@
+-- The response to a resident, and the desk's part in it (RFC 9110, section 15).
+use Rattle.std.specs.Prelude.{◌≡◌, ℕ, ◌⊎◌, List, Result, Ok, Err}
+use Rattle.serde_json.specs.Written.{compact_text}
+use Rattle.room_types.specs.Texts.{Text}
+use Rattle.room_types.specs.declared.fault.TypeFault.{TypeFault}
+use Rattle.room_types.specs.declared.rows.RoomRow.{RoomRow}
+use Rattle.office_core.specs.declared.command.Command.{Command}
+use Rattle.office_core.specs.declared.command.Command.TheVariants.{SetChoices, Withdraw}
+use Rattle.office_core.specs.declared.query.Query.TheVariants as query
+use Rattle.office_core.specs.declared.refusal.Refusal.TheVariants.{UnknownPerson}
+use Rattle.office_core.specs.declared.reply.Reply.TheVariants as reply
+use Rattle.office_core.specs.declared.reply.Standing.{Standing}
+use Rattle.office_store.specs.declared.requests.Answer.{Answer as DeskAnswer}
+use Rattle.office_store.specs.declared.requests.Answer.TheVariants as desk
+use Rattle.office_store.specs.declared.requests.Request.{Request}
+use Rattle.office_store.specs.declared.requests.Request.TheVariants as request
+use Rattle.resident_requests.specs.Answers.{Answer}
+use Rattle.resident_requests.specs.Asks.{Asked, Asks, ask, fault, more}
+use Rattle.resident_requests.specs.Bodies.{choices_data, choices_of_body, withdrawn_data}
+use Rattle.resident_requests.specs.Faults.{wrong_method_answer}
+use Rattle.resident_requests.specs.Routes.{Wanted, forbidden, unknown, wanted, wanted_of, wrong_method}
+use Rattle.resident_requests.specs.declared.routes.Route.{Route}
+use Rattle.resident_requests.specs.declared.routes.Route.TheVariants as route
+use Rattle.resident_http.specs.DueResponses.{command_answer, list_fault, status_fault, rooms_answer, standing_answer, unavailable_answer}
+
+-- The response is the one that is due, or 503 for a failed allocation.
+abbrev pub IsDue : Answer → Answer → Type 0
+IsDue due answer = (answer ≡ due) ⊎ (answer ≡ unavailable_answer)
+
+-- a response for which the desk is not asked
+abbrev pub RespondsDirectly : {H : Type 0} → Answer → H → Answer → H → Type 0
+RespondsDirectly due old answer new = IsDue due answer × (new ≡ old)
+
+module _ {H : Type 0} (handles : H → Request → DeskAnswer → H → Type 0) where
+  -- The desk handles the command, and its answer determines the response, which needs no more allocation. Or an allocation
+  -- failed before that: then the response is 503, and the desk was not asked.
+  abbrev pub Executes : Command → List ℕ → H → Answer → H → Type 0
+  Executes command success old answer new =
+      ((returned : DeskAnswer) × handles old (request.Office command) returned new × (answer ≡ command_answer success returned))
+      ⊎ ((answer ≡ unavailable_answer) × (new ≡ old))
+
+  -- a person withdraws
+  abbrev pub Withdraws : Text → H → Answer → H → Type 0
+  Withdraws person = Executes (Withdraw person) (compact_text withdrawn_data)
+
+  -- a person hands in a preference list, or a body that is not one
+  abbrev pub Records : Text → Result (List Text) TypeFault → H → Answer → H → Type 0
+  Records person (Ok choices) = Executes (SetChoices person choices) (compact_text (choices_data choices))
+  Records person (Err cause) = RespondsDirectly (list_fault cause)
+
+  -- The desk lists the rooms, or the response is 503.
+  abbrev pub ListsRooms : H → Answer → H → Type 0
+  ListsRooms old answer new =
+      (returned : DeskAnswer) × handles old (request.Ask query.Rooms) returned new
+      × (((rows : List RoomRow) × (returned ≡ desk.Reply (reply.Rooms rows)) × (answer ≡ rooms_answer rows))
+      ⊎ (answer ≡ unavailable_answer))
+
+  -- The owner of the key makes a request. The body matters only for a preference list.
+  abbrev pub Dispatches : Route → Standing → List ℕ → H → Answer → H → Type 0
+  Dispatches route.Standing standing body = RespondsDirectly (standing_answer standing)
+  Dispatches route.Rooms standing body = ListsRooms
+  Dispatches route.Withdrawal standing body = Withdraws standing.person
+  Dispatches route.Choices standing body = Records standing.person (choices_of_body body)
+
+  -- The desk has answered whose the key is, or that nobody has it; or it was unavailable, or an allocation failed.
+  abbrev pub Authorizes : Route → List ℕ → DeskAnswer → H → Answer → H → Type 0
+  Authorizes route body me old answer new =
+      ((standing : Standing) × (me ≡ desk.Reply (reply.Me standing)) × Dispatches route standing body old answer new)
+      ⊎ (((me ≡ desk.Refused UnknownPerson) × (answer ≡ status_fault 403) × (new ≡ old))
+      ⊎ ((answer ≡ unavailable_answer) × (new ≡ old)))
+
+  -- The desk is asked first whose the key is. Or an allocation failed before that.
+  abbrev pub Authenticates : Route → Text → List ℕ → H → Answer → H → Type 0
+  Authenticates route key body old answer new =
+      ((me : DeskAnswer) × (between : H) × handles old (request.Ask (query.Me key)) me between
+      × Authorizes route body me between answer new)
+      ⊎ ((answer ≡ unavailable_answer) × (new ≡ old))
+
+  -- the response, by what the path, the method and the key want
+  abbrev pub AnswersWanted : Wanted → List ℕ → H → Answer → H → Type 0
+  AnswersWanted unknown body = RespondsDirectly (status_fault 404)
+  AnswersWanted (wrong_method allow) body = RespondsDirectly (wrong_method_answer allow)
+  AnswersWanted forbidden body = RespondsDirectly (status_fault 403)
+  AnswersWanted (wanted route key) body = Authenticates route key body
+
+  -- the response to parsed bytes; if they need more, no more come
+  abbrev pub Answers : Asked → H → Answer → H → Type 0
+  Answers more = RespondsDirectly (status_fault 400)
+  Answers (ask method path key body used) = AnswersWanted (wanted_of method path key) body
+  Answers (fault status) = RespondsDirectly (status_fault status)
+
+  -- the response to the bytes of a connection, after which no more come
+  abbrev pub Serves : List ℕ → H → Answer → H → Type 0
+  Serves bytes old answer new = (asked : Asked) × Asks bytes asked × Answers asked old answer new

@@ -1,0 +1,263 @@
+//! Finds the response to a request: routes it, authenticates the resident, and asks the desk.
+ghost use Rattle.std.specs.Prelude.{◌≡◌, option_map};
+ghost use Rattle.resident_requests.specs.Asks.{HasEarlyStatus, seen};
+ghost use Rattle.resident_requests.specs.Bodies.{choices_of_body};
+ghost use Rattle.resident_requests.specs.Routes.{seen_wanted, wanted_of};
+ghost use Rattle.resident_http.specs.DueResponses.{list_fault, rooms_answer, standing_answer};
+ghost use Rattle.resident_http.specs.Inner.Prepared.{WithAnswer};
+ghost use Rattle.resident_http.specs.Serving.{Authenticates, Answers, AnswersWanted, Executes, Dispatches, Authorizes, IsDue};
+ghost use Rattle.resident_http.specs.Serving.{ListsRooms, Records, Withdraws};
+
+use crate::prepared::{
+    PreparedResponse, ResponseUnavailable, prepare_fault, prepare_success, prepare_wrong_method,
+    status_fault,
+};
+use crate::responses::CommandResponses;
+use http::StatusCode;
+use office_core::{Command, Query, Refusal, Reply, Standing};
+use office_store::{Answer, Handler, Request};
+use resident_requests::{
+    AskState, Route, Routed, choices_body, choices_of_body, rooms_body, route_request,
+    standing_body, withdrawn_body,
+};
+use room_types::{Key, Listing, PersonId, RoomRow, TypeFault};
+use std::alloc::Global;
+
+/// Returns the response to the parsed bytes of a connection. If they need more bytes, no more will come: the response is
+/// 400.
+pub fn answer_ask<H: Handler>(
+    alloc: Global,
+    handler: &mut H,
+    asked: &AskState<'_>,
+) -> Result<PreparedResponse, ResponseUnavailable>
+    requires ready { H.is_ready handler.old }
+    requires early { HasEarlyStatus (seen asked.now) }
+    ensures answers { WithAnswer result (λ answer.
+        Answers H.handles (seen asked.now) handler.old answer handler.new) }
+    ensures ready { H.is_ready handler.new }
+{
+    match asked {
+        AskState::More => status_fault(alloc, StatusCode::BAD_REQUEST),
+        AskState::Fault(status) => status_fault(alloc, *status),
+        AskState::Ask {
+            method,
+            path,
+            key,
+            body,
+            ..
+        } => answer_request(alloc, handler, method, path, *key, body),
+    }
+}
+
+// The response to a request. It reports an unknown path first, then a wrong method, then a missing key.
+fn answer_request<H: Handler>(
+    alloc: Global,
+    handler: &mut H,
+    method: &[u8],
+    path: &str,
+    key: Option<&str>,
+    body: &[u8],
+) -> Result<PreparedResponse, ResponseUnavailable>
+    requires ready { H.is_ready handler.old }
+    ensures answers { WithAnswer result (λ answer. AnswersWanted H.handles
+        (wanted_of method.now path.now (option_map (λ k. k.now) key.entry)) body.now
+        handler.old answer handler.new) }
+    ensures ready { H.is_ready handler.new }
+{
+    let routed = route_request(alloc, method, path, key)?;
+    answer_routed(alloc, handler, routed, body)
+}
+
+// The response to a routed request.
+fn answer_routed<H: Handler>(
+    alloc: Global,
+    handler: &mut H,
+    routed: Routed<'_>,
+    body: &[u8],
+) -> Result<PreparedResponse, ResponseUnavailable>
+    requires ready { H.is_ready handler.old }
+    ensures answers { WithAnswer result (λ answer. AnswersWanted H.handles
+        (seen_wanted routed.entry) body.now handler.old answer handler.new) }
+    ensures ready { H.is_ready handler.new }
+{
+    match routed {
+        Routed::Unknown => status_fault(alloc, StatusCode::NOT_FOUND),
+        Routed::WrongMethod { allow } => prepare_wrong_method(alloc, allow),
+        Routed::Forbidden => status_fault(alloc, StatusCode::FORBIDDEN),
+        Routed::To { route, key } => authenticate(alloc, handler, route, key, body),
+    }
+}
+
+// The response to a request with a key. Asks the desk first whose key it is.
+fn authenticate<H: Handler>(
+    alloc: Global,
+    handler: &mut H,
+    route: Route,
+    key: &str,
+    body: &[u8],
+) -> Result<PreparedResponse, ResponseUnavailable>
+    requires ready { H.is_ready handler.old }
+    ensures answers { WithAnswer result (λ answer.
+        Authenticates H.handles route key.now body.now handler.old answer handler.new) }
+    ensures ready { H.is_ready handler.new }
+{
+    // The key of a request is in its grammar, so only an allocation can fail.
+    let Ok(key) = Key::read(alloc, key) else {
+        return Err(ResponseUnavailable);
+    };
+    let me = handler.handle(alloc, &Request::Ask(Query::Me(key)));
+    authorize(alloc, handler, route, &me, body)
+}
+
+// The response after the desk's answer to whose the key is: 403 if it is nobody's.
+fn authorize<H: Handler>(
+    alloc: Global,
+    handler: &mut H,
+    route: Route,
+    me: &Answer,
+    body: &[u8],
+) -> Result<PreparedResponse, ResponseUnavailable>
+    requires ready { H.is_ready handler.old }
+    ensures answers { WithAnswer result (λ answer.
+        Authorizes H.handles route body.now me.now handler.old answer handler.new) }
+    ensures ready { H.is_ready handler.new }
+{
+    match me {
+        Answer::Reply(Reply::Me(standing)) => dispatch(alloc, handler, route, standing, body),
+        Answer::Refused(Refusal::UnknownPerson) => status_fault(alloc, StatusCode::FORBIDDEN),
+        _ => Err(ResponseUnavailable),
+    }
+}
+
+// The response to the owner of the key, by route.
+fn dispatch<H: Handler>(
+    alloc: Global,
+    handler: &mut H,
+    route: Route,
+    standing: &Standing,
+    body: &[u8],
+) -> Result<PreparedResponse, ResponseUnavailable>
+    requires ready { H.is_ready handler.old }
+    ensures answers { WithAnswer result (λ answer.
+        Dispatches H.handles route standing.now body.now handler.old answer handler.new) }
+    ensures ready { H.is_ready handler.new }
+{
+    match route {
+        Route::Standing => answer_standing(alloc, standing),
+        Route::Rooms => answer_rooms(alloc, handler),
+        Route::Withdrawal => withdraw(alloc, handler, &standing.person),
+        Route::Choices => record_choices(alloc, handler, &standing.person, body),
+    }
+}
+
+// The response with the person's own record.
+fn answer_standing(
+    alloc: Global,
+    standing: &Standing,
+) -> Result<PreparedResponse, ResponseUnavailable>
+    ensures { WithAnswer result (IsDue (standing_answer standing.now)) }
+{
+    prepare_success(alloc, standing_body(alloc, standing)?)
+}
+
+// The response with the rooms, which the desk lists.
+fn answer_rooms<H: Handler>(
+    alloc: Global,
+    handler: &mut H,
+) -> Result<PreparedResponse, ResponseUnavailable>
+    requires ready { H.is_ready handler.old }
+    ensures answers { WithAnswer result (λ answer.
+        ListsRooms H.handles handler.old answer handler.new) }
+    ensures ready { H.is_ready handler.new }
+{
+    match handler.handle(alloc, &Request::Ask(Query::Rooms)) {
+        Answer::Reply(Reply::Rooms(rows)) => prepare_rooms(alloc, rows.as_slice()),
+        _ => Err(ResponseUnavailable),
+    }
+}
+
+// The response with these rows.
+fn prepare_rooms(alloc: Global, rows: &[RoomRow]) -> Result<PreparedResponse, ResponseUnavailable>
+    ensures { WithAnswer result (IsDue (rooms_answer rows.now)) }
+{
+    prepare_success(alloc, rooms_body(alloc, rows)?)
+}
+
+// The response to a withdrawal from the round.
+fn withdraw<H: Handler>(
+    alloc: Global,
+    handler: &mut H,
+    person: &PersonId,
+) -> Result<PreparedResponse, ResponseUnavailable>
+    requires ready { H.is_ready handler.old }
+    ensures answers { WithAnswer result (λ answer.
+        Withdraws H.handles person.now handler.old answer handler.new) }
+    ensures ready { H.is_ready handler.new }
+{
+    let body = withdrawn_body(alloc)?;
+    let person = person.copy()?;
+    execute(alloc, handler, Command::Withdraw { person }, body)
+}
+
+// The response to a preference list.
+fn record_choices<H: Handler>(
+    alloc: Global,
+    handler: &mut H,
+    person: &PersonId,
+    body: &[u8],
+) -> Result<PreparedResponse, ResponseUnavailable>
+    requires ready { H.is_ready handler.old }
+    ensures answers { WithAnswer result (λ answer. Records H.handles person.now
+        (choices_of_body body.now) handler.old answer handler.new) }
+    ensures ready { H.is_ready handler.new }
+{
+    match choices_of_body(alloc, body) {
+        Ok(choices) => {
+            let returned = choices_body(alloc, choices.as_slice())?;
+            let person = person.copy()?;
+            execute(
+                alloc,
+                handler,
+                Command::SetChoices { person, choices },
+                returned,
+            )
+        }
+        Err(fault) => prepare_list_fault(alloc, &fault),
+    }
+}
+
+// The response to a body that is not a preference list.
+fn prepare_list_fault(
+    alloc: Global,
+    fault: &TypeFault,
+) -> Result<PreparedResponse, ResponseUnavailable>
+    ensures { WithAnswer result (IsDue (list_fault fault.now)) }
+{
+    match fault {
+        TypeFault::BadValue => status_fault(alloc, StatusCode::BAD_REQUEST),
+        TypeFault::OutOfMemory => Err(ResponseUnavailable),
+        TypeFault::TooManyChoices => {
+            prepare_fault(alloc, StatusCode::UNPROCESSABLE_ENTITY, "TooManyChoices")
+        }
+        TypeFault::RoomRepeated(_) => {
+            prepare_fault(alloc, StatusCode::UNPROCESSABLE_ENTITY, "RoomRepeated")
+        }
+    }
+}
+
+// Prepares every response that the command can get, passes it to the desk, and selects the response to the desk's answer.
+fn execute<H: Handler>(
+    alloc: Global,
+    handler: &mut H,
+    command: Command,
+    success: Listing<u8>,
+) -> Result<PreparedResponse, ResponseUnavailable>
+    requires ready { H.is_ready handler.old }
+    ensures answers { WithAnswer result (λ answer.
+        Executes H.handles command success handler.old answer handler.new) }
+    ensures ready { H.is_ready handler.new }
+{
+    let responses = CommandResponses::new(alloc, success)?;
+    let answer = handler.handle(alloc, &Request::Office(command));
+    responses.response_to(&answer)
+}

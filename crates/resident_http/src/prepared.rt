@@ -1,0 +1,85 @@
+//! Responses whose bytes are ready.
+ghost use Rattle.std.specs.Prelude.{◌≡◌, ◌==◌, IfOk, true, false};
+ghost use Rattle.resident_requests.specs.Faults.{fault_answer, has_one_name, names_fault};
+ghost use Rattle.resident_requests.specs.Faults.{success_answer, wrong_method_answer};
+ghost use Rattle.resident_http.specs.DueResponses.{status_fault};
+ghost use Rattle.resident_http.specs.Inner.Prepared.{IsPrepared};
+
+use http::StatusCode;
+use resident_requests::{HttpAnswer, Method, answer_bytes, fault_name};
+use room_types::{Listing, OutOfMemory};
+use std::alloc::Global;
+
+/// The bytes of a response, with its status.
+#[derive(Debug, Drop)]
+pub struct PreparedResponse {
+    pub status: StatusCode,
+    pub bytes: Vec<u8>,
+}
+
+/// An allocation failed, or the desk was unavailable: the constant 503 response takes the place of a prepared one.
+#[derive(Clone, Copy, Debug, PartialEq, Eq)]
+pub struct ResponseUnavailable;
+
+impl From<OutOfMemory> for ResponseUnavailable {
+    fn from(_error: OutOfMemory) -> ResponseUnavailable {
+        ResponseUnavailable
+    }
+}
+
+/// Prepares this response.
+fn prepare(alloc: Global, answer: HttpAnswer) -> Result<PreparedResponse, ResponseUnavailable>
+    ensures { IfOk result (λ response. IsPrepared response answer) }
+{
+    let bytes = answer_bytes(alloc, &answer)?;
+    Ok(PreparedResponse {
+        status: answer.status,
+        bytes,
+    })
+}
+
+/// Prepares the success response with this body.
+pub fn prepare_success(
+    alloc: Global,
+    body: Listing<u8>,
+) -> Result<PreparedResponse, ResponseUnavailable>
+    ensures { IfOk result (λ response. IsPrepared response (success_answer body)) }
+{
+    prepare(alloc, HttpAnswer::success(body))
+}
+
+/// Prepares the error response with this status and error name.
+pub fn prepare_fault(
+    alloc: Global,
+    status: StatusCode,
+    name: &str,
+) -> Result<PreparedResponse, ResponseUnavailable>
+    requires named { names_fault status name.now ≡ true }
+    ensures { IfOk result (λ response. IsPrepared response (fault_answer status name.now)) }
+{
+    let answer = HttpAnswer::fault(alloc, status, name)?;
+    prepare(alloc, answer)
+}
+
+/// Prepares the error response for a status with a single error name.
+pub fn status_fault(
+    alloc: Global,
+    status: StatusCode,
+) -> Result<PreparedResponse, ResponseUnavailable>
+    requires without_allow { (status == 405) ≡ false }
+    requires one { has_one_name status ≡ true }
+    ensures { IfOk result (λ response. IsPrepared response (status_fault status)) }
+{
+    prepare_fault(alloc, status, fault_name(status))
+}
+
+/// Prepares the response that names the method to use.
+pub fn prepare_wrong_method(
+    alloc: Global,
+    allow: Method,
+) -> Result<PreparedResponse, ResponseUnavailable>
+    ensures { IfOk result (λ response. IsPrepared response (wrong_method_answer allow)) }
+{
+    let answer = HttpAnswer::wrong_method(alloc, allow)?;
+    prepare(alloc, answer)
+}

@@ -1,0 +1,56 @@
+//! The responses that a command can get, prepared before the desk handles it.
+ghost use Rattle.resident_http.specs.DueResponses.{command_answer};
+ghost use Rattle.resident_http.specs.Inner.Prepared.{AreCommandResponses, WithAnswer};
+
+use crate::prepared::{PreparedResponse, ResponseUnavailable, prepare_fault, prepare_success};
+use http::StatusCode;
+use office_core::Refusal;
+use office_store::Answer;
+use room_types::Listing;
+use std::alloc::Global;
+
+/// A response for each answer that a resident's command can get. They are prepared before the desk handles the command, so
+/// that nothing has to be allocated once it has taken effect.
+#[derive(Drop)]
+pub struct CommandResponses {
+    pub success: PreparedResponse,
+    pub bad_phase: PreparedResponse,
+    pub withdrawn: PreparedResponse,
+    pub going: PreparedResponse,
+    pub unknown_room: PreparedResponse,
+    pub room_shut: PreparedResponse,
+}
+
+impl CommandResponses {
+    ghost use Rattle.std.specs.Prelude.{◌≡◌, ℕ, IfOk, List};
+
+    /// Prepares the responses, with this body for success.
+    pub fn new(alloc: Global, body: Listing<u8>) -> Result<CommandResponses, ResponseUnavailable>
+        ensures { IfOk result (λ responses. AreCommandResponses responses body) }
+    {
+        Ok(CommandResponses {
+            success: prepare_success(alloc, body)?,
+            bad_phase: prepare_fault(alloc, StatusCode::CONFLICT, "BadPhase")?,
+            withdrawn: prepare_fault(alloc, StatusCode::CONFLICT, "Withdrawn")?,
+            going: prepare_fault(alloc, StatusCode::CONFLICT, "Going")?,
+            unknown_room: prepare_fault(alloc, StatusCode::UNPROCESSABLE_ENTITY, "UnknownRoom")?,
+            room_shut: prepare_fault(alloc, StatusCode::UNPROCESSABLE_ENTITY, "RoomShut")?,
+        })
+    }
+
+    /// Returns the response to the desk's answer.
+    pub fn response_to(self, answer: &Answer) -> Result<PreparedResponse, ResponseUnavailable>
+        ensures { (body : List ℕ) → AreCommandResponses self body
+            → WithAnswer result (λ due. due ≡ command_answer body answer.now) }
+    {
+        match answer {
+            Answer::Reply(_) => Ok(self.success),
+            Answer::Refused(Refusal::BadPhase(_)) => Ok(self.bad_phase),
+            Answer::Refused(Refusal::Withdrawn) => Ok(self.withdrawn),
+            Answer::Refused(Refusal::Going) => Ok(self.going),
+            Answer::Refused(Refusal::UnknownRoom(_)) => Ok(self.unknown_room),
+            Answer::Refused(Refusal::RoomShut(_)) => Ok(self.room_shut),
+            Answer::Refused(_) | Answer::Unavailable => Err(ResponseUnavailable),
+        }
+    }
+}

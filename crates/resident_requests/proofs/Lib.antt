@@ -1,0 +1,3 @@
+mod http_requests
+mod http_routes
+mod json

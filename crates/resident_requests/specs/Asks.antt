@@ -1,0 +1,138 @@
+-- The request in the bytes of a connection: the head at their start (RFC 9112, sections 2 to 6) and the bytes after it.
+use Rattle.std.specs.Prelude.{◌≡◌, ⊤, ℕ, ◌+◌, ◌<◌, ◌≤◌, ◌⊎◌, Bool, true, false, ◌==◌, List, [], ◌∷◌, ◌++◌, length, take}
+use Rattle.std.specs.Prelude.{nat_lt, map, codes, if◌then◌else◌, Option, Some, None, Result, Ok, Err}
+use Rattle.std.specs.Option.{option_map}
+use Rattle.std.specs.List.{before_first, list_any}
+use Rattle.httparse.specs.Grammar.{RequestHead, print_request, ReadsRequest, HasNoRequest, MayBecomeRequest}
+use Rattle.httparse.specs.Spans.{name_and_value, RequestOverflows}
+use Rattle.room_types.specs.Grammars.{is_key}
+use Rattle.resident_requests.specs.Fields.{NamedValue, values_of, is_decimal, number_of}
+use Rattle.resident_requests.specs.declared.ask.AskState.{AskState}
+use Rattle.resident_requests.specs.declared.ask.AskState.TheVariants as state
+
+-- `AskState` without places in memory: more bytes are needed, a request, or a fault with its status
+pub data Asked : Type 0 where
+  more : Asked
+  ask : (method path : List ℕ) (key : Option (List ℕ)) (body : List ℕ) (used : ℕ) → Asked
+  fault : (status : ℕ) → Asked
+
+abbrev pub seen : AskState → Asked
+seen state.More = more
+seen (state.Ask method path key body used) = ask method.now path.now (option_map (λ k. k.now) key) body.now used
+seen (state.Fault status) = fault status
+
+-- the greatest number of bytes of a head
+abbrev pub head_limit : ℕ
+head_limit = 8192
+
+-- the greatest number of fields of a head
+abbrev pub field_limit : ℕ
+field_limit = 64
+
+-- the greatest number of bytes of a body
+abbrev pub body_limit : ℕ
+body_limit = 1024
+
+-- more than one `Host` field, or none in HTTP/1.1
+abbrev pub has_bad_host : ℕ → List (List ℕ) → Bool
+has_bad_host minor [] = minor == 1
+has_bad_host minor (host ∷ []) = false
+has_bad_host minor (host ∷ other ∷ hosts) = true
+
+-- there is at least one such field
+abbrev pub is_present : List (List ℕ) → Bool
+is_present [] = false
+is_present (value ∷ values) = true
+
+-- the key, if there is exactly one such field and its value is in the grammar of keys
+abbrev pub key_of : List (List ℕ) → Option (List ℕ)
+key_of [] = None
+key_of (value ∷ []) = if is_key value then Some value else None
+key_of (value ∷ other ∷ values) = None
+
+-- the length of the body, or the status of the fault
+abbrev pub body_length : List (List ℕ) → Result ℕ ℕ
+body_length [] = Ok 0
+body_length (value ∷ []) =
+    if is_decimal value then (if nat_lt body_limit (number_of value) then Err 413 else Ok (number_of value)) else Err 400
+body_length (value ∷ other ∷ values) = Err 400
+
+-- the target up to the first question mark
+abbrev pub path_of : List ℕ → List ℕ
+path_of target = before_first (λ byte. byte == 63) target
+
+-- the request with a body of this length, once the body is complete
+abbrev pub asked_with : List ℕ → List ℕ → Option (List ℕ) → ℕ → List ℕ → Result ℕ ℕ → Asked
+asked_with method path key len rest (Err status) = fault status
+asked_with method path key len rest (Ok n) =
+    if nat_lt (length rest) n then more else ask method path key (take n rest) (len + n)
+
+-- The request in a head of these parts, of length `len`, and the bytes after it. Of several faults, the first one counts.
+unfoldable pub asked_of : List ℕ → List ℕ → ℕ → List NamedValue → ℕ → List ℕ → Asked
+asked_of method target minor fields len rest =
+    if has_bad_host minor (values_of (codes "host") fields) then fault 400
+    else if is_present (values_of (codes "expect") fields) then fault 417
+    else if is_present (values_of (codes "transfer-encoding") fields) then fault 501
+    else asked_with method (path_of target)
+    (key_of (values_of (codes "room-key") fields)) len rest
+    (body_length (values_of (codes "content-length") fields))
+
+-- the same for a head of the grammar
+abbrev pub asked_by : RequestHead → List ℕ → Asked
+asked_by head rest =
+    asked_of head.method head.target head.minor (map name_and_value head.fields) (length (print_request head)) rest
+
+-- the bytes within which a head must end
+unfoldable pub window : List ℕ → List ℕ
+window bytes = take head_limit bytes
+
+-- The bytes are this head, which is within the limits, followed by the rest.
+pub record HasHead (bytes : List ℕ) (head : RequestHead) (rest : List ℕ) : Type 0 where
+  pub reads : ReadsRequest bytes head rest
+  pub short : length (print_request head) ≤ head_limit
+  pub few_fields : length head.fields ≤ field_limit
+
+-- The bytes are fewer than the head's limit and start with no complete head, but more bytes may complete one, or the bytes
+-- end within the target.
+pub record AwaitsHead (bytes : List ℕ) : Type 0 where
+  pub few : length bytes < head_limit
+  pub none : HasNoRequest bytes
+  pub can_come : MayBecomeRequest bytes
+
+-- Every head that the bytes can become has more than 64 fields, or the first 8,192 bytes contain no complete head.
+abbrev pub LacksHead : List ℕ → Type 0
+LacksHead bytes =
+    RequestOverflows field_limit (window bytes) ⊎ ((head_limit ≤ length bytes) × HasNoRequest (window bytes))
+
+-- What `read_ask` may return for these bytes: what their head and the bytes after it give; or `more`, while a head may
+-- still come; or 400, if every head that can come has too many fields, or there are 8,192 bytes without a complete head.
+abbrev pub Asks : List ℕ → Asked → Type 0
+Asks bytes asked =
+    ((head : RequestHead) × (rest : List ℕ) × HasHead bytes head rest × (asked ≡ asked_by head rest))
+    ⊎ (((asked ≡ more) × AwaitsHead bytes) ⊎ ((asked ≡ fault 400) × LacksHead bytes))
+
+-- more bytes are needed
+abbrev pub is_more : Asked → Bool
+is_more more = true
+is_more (ask method path key body used) = false
+is_more (fault status) = false
+
+-- it is a request
+abbrev pub is_request : Asked → Bool
+is_request more = false
+is_request (ask method path key body used) = true
+is_request (fault status) = false
+
+-- a status of a fault that is found before a request is complete
+abbrev pub is_early_status : ℕ → Bool
+is_early_status status = list_any (λ known. known == status) (400 ∷ 413 ∷ 417 ∷ 501 ∷ [])
+
+abbrev pub HasEarlyStatus : Asked → Type 0
+HasEarlyStatus more = ⊤
+HasEarlyStatus (ask method path key body used) = ⊤
+HasEarlyStatus (fault status) = is_early_status status ≡ true
+
+-- Every head that the bytes can become has too many fields, and there is such a head.
+pub record BeginsTooManyFields (bytes : List ℕ) : Type 0 where
+  pub too_many : RequestOverflows field_limit (window bytes)
+  pub some : (more : List ℕ) × (head : RequestHead) × (rest : List ℕ) × ReadsRequest (window bytes ++ more) head rest

@@ -1,0 +1,7 @@
+pub mod Answers
+pub mod Asks
+pub mod Bodies
+pub mod Faults
+pub mod Fields
+pub mod Inner
+pub mod Routes

@@ -1,0 +1,77 @@
+//! Success responses and error responses.
+ghost use Rattle.std.specs.Prelude.{◌≡◌, IfOk, true};
+ghost use Rattle.resident_requests.specs.Faults.{fault_answer, has_one_name, fault_name, names_fault};
+ghost use Rattle.resident_requests.specs.Faults.{success_answer, wrong_method_answer};
+
+use crate::answer::HttpAnswer;
+use crate::bodies::fault_body;
+use crate::method::Method;
+use http::StatusCode;
+use room_types::{Listing, OutOfMemory};
+use std::alloc::Global;
+
+impl HttpAnswer {
+    /// The response with status 200 and this body.
+    pub fn success(body: Listing<u8>) -> Self
+        ensures { result ≡ success_answer body }
+    {
+        HttpAnswer {
+            status: StatusCode::OK,
+            allow: None,
+            body,
+        }
+    }
+
+    /// Returns an error response, whose body contains the name of the error. The name has to be one of the status. 200 and
+    /// 405 have none: 200 is no error, and the response of 405 is `wrong_method`.
+    ///
+    /// # Errors
+    ///
+    /// `OutOfMemory` if an allocation for the body fails.
+    pub fn fault(alloc: Global, status: StatusCode, name: &str) -> Result<Self, OutOfMemory>
+        requires named { names_fault status name.now ≡ true }
+        ensures { IfOk result (λ answer. answer ≡ fault_answer status name.now) }
+    {
+        let body = fault_body(alloc, name)?;
+        Ok(HttpAnswer {
+            status,
+            allow: None,
+            body,
+        })
+    }
+
+    /// Returns the response to a wrong method, which names the method to use.
+    ///
+    /// # Errors
+    ///
+    /// `OutOfMemory` if an allocation for the body fails.
+    pub fn wrong_method(alloc: Global, allow: Method) -> Result<Self, OutOfMemory>
+        ensures { IfOk result (λ answer. answer ≡ wrong_method_answer allow) }
+    {
+        let body = fault_body(alloc, fault_name(StatusCode::METHOD_NOT_ALLOWED))?;
+        Ok(HttpAnswer {
+            status: StatusCode::METHOD_NOT_ALLOWED,
+            allow: Some(allow),
+            body,
+        })
+    }
+}
+
+/// Returns the error name of a status that has a single one, so neither 200, 409 nor 422.
+pub fn fault_name(status: StatusCode) -> &'static str
+    requires { has_one_name status ≡ true }
+    ensures { result.now ≡ fault_name status }
+{
+    match status.as_u16() {
+        400 => "BadRequest",
+        403 => "Forbidden",
+        404 => "NotFound",
+        405 => "MethodNotAllowed",
+        413 => "ContentTooLarge",
+        417 => "ExpectationFailed",
+        501 => "NotImplemented",
+        503 => "Unavailable",
+        // A status may be any number from 100 to 999, so the match needs this arm. The contract proves it unreachable.
+        _ => unreachable!(),
+    }
+}

@@ -1,0 +1,130 @@
+//! The paths of requests.
+ghost use Rattle.std.specs.Prelude.{◌≡◌, IfOk, option_map};
+ghost use Rattle.resident_requests.specs.Inner.RouteRows.{route_rows};
+ghost use Rattle.resident_requests.specs.Routes.{method_of, route_of, seen_wanted, wanted_of, with_method};
+
+use crate::method::Method;
+use matchit::{InsertError, Router};
+use room_types::OutOfMemory;
+use std::alloc::Global;
+
+/// The resource at a path.
+#[derive(Clone, Copy, Debug, PartialEq, Eq, Drop)]
+pub enum Route {
+    /// `/me/choices`: the resident's preference list.
+    Choices,
+    /// `/me/withdraw`: the resident's withdrawal from the round.
+    Withdrawal,
+    /// `/me`: the resident's own record.
+    Standing,
+    /// `/rooms`: the rooms and their states.
+    Rooms,
+}
+
+impl Route {
+    /// The only method that the path takes.
+    pub fn method(self) -> Method
+        ensures { result ≡ method_of self }
+    {
+        match self {
+            Route::Choices => Method::Put,
+            Route::Withdrawal => Method::Post,
+            Route::Standing | Route::Rooms => Method::Get,
+        }
+    }
+}
+
+/// The route and the key of a request, or why it has none.
+#[derive(Clone, Copy, Debug)]
+pub enum Routed<'b> {
+    /// There is no such path.
+    Unknown,
+    /// The path takes another method.
+    WrongMethod {
+        /// The method to use.
+        allow: Method,
+    },
+    /// The request has no valid key: no field `Room-Key`, several, or one whose value is not in the grammar of keys.
+    Forbidden,
+    /// The path has a route, and the request has a key.
+    To {
+        /// The route of the path.
+        route: Route,
+        /// The key, as written in the request.
+        key: &'b str,
+    },
+}
+
+/// Routes a request by its path, method and key. Reports an unknown path first, then a wrong method, then a missing key.
+///
+/// # Errors
+///
+/// `OutOfMemory` if an allocation for the router fails.
+pub fn route_request<'b>(
+    alloc: Global,
+    method: &[u8],
+    path: &str,
+    key: Option<&'b str>,
+) -> Result<Routed<'b>, OutOfMemory>
+    ensures { IfOk result (λ routed. seen_wanted routed
+        ≡ wanted_of method.now path.now (option_map (λ k. k.now) key.entry)) }
+{
+    let Some(route) = route_of(alloc, path)? else {
+        return Ok(Routed::Unknown);
+    };
+    Ok(with_method(method, key, route))
+}
+
+// Routes a request whose path is known.
+fn with_method<'b>(method: &[u8], key: Option<&'b str>, route: Route) -> Routed<'b>
+    ensures { seen_wanted result ≡ with_method method.now (option_map (λ k. k.now) key.entry) route }
+{
+    let allow = route.method();
+    if method != allow.as_str().as_bytes() {
+        return Routed::WrongMethod { allow };
+    }
+    match key {
+        Some(key) => Routed::To { route, key },
+        None => Routed::Forbidden,
+    }
+}
+
+// The route of the path.
+fn route_of(alloc: Global, path: &str) -> Result<Option<Route>, OutOfMemory>
+    ensures { IfOk result (λ route. route ≡ route_of path.now) }
+{
+    let router = router(alloc)?;
+    Ok(find(&router, path))
+}
+
+// The route that the router finds for the path.
+fn find(router: &Router<Route>, path: &str) -> Option<Route>
+    requires { router.now ≡ route_rows }
+    ensures { result ≡ route_of path.now }
+{
+    match router.at(path) {
+        Ok(found) => Some(*found.value),
+        Err(_) => None,
+    }
+}
+
+// The router of the paths. The paths differ and have no parameters, so only an allocation can fail.
+fn router(alloc: Global) -> Result<Router<Route>, OutOfMemory>
+    ensures { IfOk result (λ router. router ≡ route_rows) }
+{
+    match filled_router(alloc) {
+        Ok(router) => Ok(router),
+        Err(_) => Err(OutOfMemory {}),
+    }
+}
+
+fn filled_router(alloc: Global) -> Result<Router<Route>, InsertError>
+    ensures { IfOk result (λ router. router ≡ route_rows) }
+{
+    let mut router = Router::new(alloc);
+    router.insert("/me/choices", Route::Choices)?;
+    router.insert("/me/withdraw", Route::Withdrawal)?;
+    router.insert("/me", Route::Standing)?;
+    router.insert("/rooms", Route::Rooms)?;
+    Ok(router)
+}
