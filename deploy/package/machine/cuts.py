@@ -1,0 +1,125 @@
+"""cuts.py FOLDER CUTS WORD..: cuts the power of the machine of trial-power, and compares what its office has afterwards.
+
+WORD.. starts qemu, without its disk, its serial lines and what the kernel is given. The machine's office changes all the
+time (machine/changes.sh). After each cut it has to be the office after the last change that was answered, or after the
+one that had begun.
+"""
+
+import random
+import subprocess
+import sys
+import time
+from pathlib import Path
+from typing import NamedTuple
+
+START_SECONDS = 900  # an emulated machine is slow
+
+
+class Office(NamedTuple):
+    """What a machine prints of its office: its rooms, in order, and the list of the resident."""
+    rooms: tuple[str, ...]
+    wishes: str
+
+
+def after(change: int, office: Office, copy: Office) -> Office:
+    """The office after this change (see changes.sh). `copy` is the office of the last copy."""
+    added = {
+        0: [f"R{change}"],
+        2: [f"I{change}", f"J{change}"],
+        3: [f"K{change}", f"L{change}"],
+        6: [f"Z{change}"],
+    }
+    match change % 8:
+        case 1:
+            return office._replace(wishes="A-B")
+        case 4:
+            return office._replace(wishes="B")
+        case 7:
+            return copy
+        case kind:
+            return office._replace(rooms=tuple(sorted([*office.rooms, *added.get(kind, [])])))
+
+
+class Machine:
+    """A machine that runs, and the lines that it has printed."""
+
+    def __init__(self, folder: Path, words: list[str], first_change: int) -> None:
+        self.said = folder / "said"
+        self.said.write_text("")
+        given = f"root=/dev/vda rw console=ttyS0 quiet no_timer_check rooms.change={first_change}"
+        self.process = subprocess.Popen([
+            *words, "-append", given, "-drive", f"file={folder / 'disk'},format=raw,if=virtio,cache=writeback",
+            "-serial", f"file:{folder / 'console'}", "-serial", f"file:{self.said}"])
+
+    def lines(self) -> list[str]:
+        """The whole lines that it has printed."""
+        return [line.strip() for line in self.said.read_text().splitlines(keepends=True) if line.endswith("\n")]
+
+    def wait_for(self, word: str, seconds: float) -> str:
+        """Waits for a line that begins so."""
+        end = time.monotonic() + seconds
+        while time.monotonic() < end:
+            for line in self.lines():
+                if line.startswith("fault"):
+                    sys.exit(f"FAULT  {line}")
+                if line.startswith(word):
+                    return line
+            if self.process.poll() is not None:
+                sys.exit("FAULT  the machine ended")
+            time.sleep(0.2)
+        sys.exit(f"FAULT  no line `{word}` within {seconds} s; the last: {self.lines()[-1:]}")
+
+    def cut(self) -> None:
+        """Cuts its power: what it had not written to its disk is lost."""
+        self.process.kill()
+        self.process.wait()
+
+
+def office_of(line: str) -> tuple[Office, str]:
+    """Parses the line `office`: the office, and what sqlite3 says of its file."""
+    _, rooms, rest = line.split(" ", 2)
+    wishes, _, whole = rest.partition(" ")
+    return Office(tuple(sorted(rooms.split(","))), wishes), whole
+
+
+def main() -> None:
+    """Cuts the power of the machine, and starts it again, this many times."""
+    folder, cuts, words = Path(sys.argv[1]), int(sys.argv[2]), sys.argv[3:]
+    draw = random.Random(1)
+    change, answered = 0, 0
+    expected: list[Office] = []
+    copy = Office((), "")
+    for cut in range(cuts + 1):
+        machine = Machine(folder, words, change)
+        try:
+            office, whole = office_of(machine.wait_for("office ", START_SECONDS))
+            if cut == 0:
+                expected = [Office(("A", "B"), "")]
+            if whole != "ok":
+                sys.exit(f"FAULT  sqlite3 says of the file: {whole}")
+            if office not in expected:
+                sys.exit(f"FAULT  the office is {office}\n       and not one of {expected}")
+            which = ["after the last answer", "after the change that had begun"][expected.index(office)]
+            print(f"ok     start {cut}: the office {which if cut else 'is the new one'}; its file is whole", flush=True)
+            if cut == cuts:
+                break
+            machine.wait_for(f"done {change}", START_SECONDS)
+            time.sleep(draw.uniform(0, 40))
+        finally:
+            machine.cut()
+        lines = machine.lines()
+        ended = [int(line.split()[1]) for line in lines if line.startswith("done ")]
+        begun = [int(line.split()[1]) for line in lines if line.startswith("begin ")]
+        for number in ended:
+            copy = office if number % 8 == 5 else copy
+            office = after(number, office, copy)
+        answered += len(ended)
+        expected = [office, after(begun[-1], office, copy)]
+        print(f"       cut {cut + 1}: {len(ended)} changes answered, change {begun[-1]} had begun", flush=True)
+        # The next changes begin with a kind that needs no copy of before.
+        change = (begun[-1] // 8 + 1) * 8
+    print(f"       {answered} changes answered, {cuts} cuts")
+
+
+if __name__ == "__main__":
+    main()
