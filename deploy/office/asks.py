@@ -27,7 +27,7 @@ from pathlib import Path
 from typing import Any
 
 import lines as told
-from backups import ASKED_FOR, blank, without_names
+from backups import ASKED_FOR, blank
 from hand import CarryOut, Change, Hand
 from journal import masked, masked_line, masked_note
 from office import Office
@@ -92,7 +92,7 @@ class Asks:
         self.backups, self.journal = office.backups, office.journal
         self.known: dict[str, Callable[[Job], Job]] = {
             "view": self.view, "try": self.try_out, "do": self.do_lines, "draw": self.draw, "import": self.bring_in,
-            "export": self.export, "copy": self.copy, "record": self.record, "backup": self.backup,
+            "export": self.export, "record": self.record, "backup": self.backup,
             "backups": self.list_backups, "back": self.put_back, "blank": self.blank, "note": self.note,
             "journal": self.show_journal, "correct": self.correct,
         }
@@ -121,13 +121,6 @@ class Asks:
         """An export of a copy."""
         with self.copies.copied() as copy:
             return {"answers": [self.program.export(text(job, "kind"), copy)]}
-
-    def copy(self, job: Job) -> Job:
-        """The office without keys and names."""
-        with self.copies.copied() as copy:
-            body = without_names(copy)
-        self.journal.note(who=job["who"], line="a copy without keys and names was taken")
-        return {"body": base64.b64encode(body).decode()}
 
     def record(self, job: Job) -> Job:
         """The public record of the round."""

@@ -143,16 +143,3 @@ def blank(label: str, file: Path) -> None:
                 raise Fault(f"no list has come in under the label {label!r}")
         database.execute("VACUUM")
         database.execute("PRAGMA wal_checkpoint(TRUNCATE)")
-
-
-def without_names(file: Path) -> bytes:
-    """A copy of the office that can be given away: no keys, no names, and no imported lists."""
-    with contextlib.closing(sqlite3.connect(file)) as database:
-        database.execute("PRAGMA secure_delete = ON")
-        with database:
-            database.execute("UPDATE person SET passkey = 'nokey' || printf('%016d', rowid), name = id")
-            database.execute("DELETE FROM list")
-        database.execute("VACUUM")
-        database.execute("PRAGMA wal_checkpoint(TRUNCATE)")
-        database.execute("PRAGMA journal_mode = DELETE")
-    return file.read_bytes()

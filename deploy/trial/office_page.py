@@ -168,6 +168,9 @@ def look_at_results(clerk, stand, page, college, seed):
     first = sum(row["outcome"] == "choice 1" for row in rows)
     check("the picture counts as the export does", re.search(rf"^Choice 1 {first}\b", clerk.text(), re.M), first)
     check("the export has what the office has", {row["person"]: row["new"] or None for row in rows} == results)
+    order = [row["person"] for row in csv.DictReader(io.StringIO(page.get("/office/export/order.csv")[2]))]
+    printed = stand.ask(ask="try", lines=["order"])["answers"][0][0]
+    check("the order is exported as the office has it", order == [line.split()[2] for line in printed.splitlines()])
     listed = dict(row.values() for row in csv.DictReader(io.StringIO(page.get("/office/export/choices.csv")[2])))
     check(
         "the lists are exported as they were imported", listed["R010"] == " ".join(college.choices["R010"]) and len(listed) == 261

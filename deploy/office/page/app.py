@@ -132,6 +132,12 @@ def attempt(*lines: str) -> list[Answer]:
     return keeper_client.answers_of(ask("try", lines=list(lines)))
 
 
+def drawn_order() -> list[tuple[str, str, str, str]]:
+    """The drawn order: place, word, identifier, grade."""
+    rows = [line.split() for line in attempt("order")[0].text.splitlines()]
+    return [(place, word, ident, grade[-1] if grade else "0") for place, word, ident, *grade in rows]
+
+
 def change(question: str, **fields: Any) -> bool:
     """Changes the office, and shows the clerk the outcome. Returns whether all of it was carried out."""
     try:

@@ -10,7 +10,7 @@ import bottle  # type: ignore[import]  # Debian's bottle has no types
 
 import explaining
 import plain
-from app import HERE, app, ask, download, field, go_to, office_now, show, tell
+from app import HERE, app, ask, download, drawn_order, field, go_to, office_now, show, tell
 from keeper_client import answers_of
 from office_view import Office
 from questions import Question, put_question
@@ -49,6 +49,10 @@ def own_export(office: Office, name: str) -> str | None:
         # With the list of somebody who takes no part the whole list could not be imported again.
         lists = [(ident, office.choices[ident]) for ident in sorted(office.choices) if office.people[ident].takes_part]
         return csv_of(["person", "choices"], ([ident, " ".join(rooms)] for ident, rooms in lists))
+    if name == "order" and office.phase in plain.DRAWN:
+        return csv_of(["place", "person", "name", "grade", "word"], (
+            [place, ident, office.people[ident].name if ident in office.people else "", grade, word]
+            for place, word, ident, grade in drawn_order()))
     if name == "missing":
         people = office.without_list
         return csv_of(["person", "name", "home"], ([one.ident, one.name, one.home or ""] for one in people))

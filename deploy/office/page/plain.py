@@ -100,6 +100,9 @@ KINDS = {
     "choices": Kind("person,choices", "Identifier, and the room codes, the best first, with one space between two.",
                     ("open",), 1),
 }
+# The phases in which there is a drawn order.
+DRAWN = ("drawn", "ran", "published")
+
 EXPORTS = {"rooms": "Rooms", "people": "People, without keys", "grades": "Grades",
            "moves": "Moves of all settled rounds"}
 

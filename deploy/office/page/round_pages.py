@@ -7,7 +7,7 @@ import shlex
 from typing import Any, NamedTuple
 
 import plain
-from app import app, ask, attempt, change, field, go_to, office_now, show, tell, text_of
+from app import app, ask, change, drawn_order, field, go_to, office_now, show, tell, text_of
 from office_view import Office
 from questions import Question, put_question
 
@@ -100,9 +100,7 @@ def noted_seeds(office: Office) -> tuple[list[Noted], str]:
 def draw_page() -> str:
     """The forms for a seed, or the drawn order."""
     office = office_now()
-    order = []
-    if office.phase in ("drawn", "ran", "published"):
-        order = [line.split() for line in attempt("order")[0].text.splitlines()]
+    order = drawn_order() if office.phase in plain.DRAWN else []
     seeds, drawn = noted_seeds(office)
     return show("draw", office=office, order=order, seeds=seeds, drawn=drawn)
 

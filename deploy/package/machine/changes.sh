@@ -3,6 +3,8 @@
 # prints what the office has, and then changes it, a numbered change after another, until the power is cut. It prints
 # `begin N` before a change and `done N` once the change is answered. The first number is the word rooms.change=N of the
 # kernel's command line. machine/cuts.py reads what is printed and knows what each change does.
+#
+# shellcheck disable=SC1010 # `do` is a line of the program
 set -uo pipefail
 cd /trial || exit 1
 # shellcheck source=deploy/package/checks.sh
@@ -17,10 +19,10 @@ say() {
 
 # A command that has to succeed. Its output goes to the console.
 must() {
-    "$@" >/dev/ttyS0 2>&1 || { say "fault $*"; sleep infinity; }
+    "$@" >/dev/console 2>&1 || { say "fault $*"; sleep infinity; }
 }
 
-# The resident T1 hands in a list, to the server itself.
+# The resident T1 hands in a list, to the server itself, which may not have begun yet after a line of the office.
 hand_in() {
     [ "$(curl -s -o /dev/null -w '%{http_code}' --max-time 60 -X PUT -H "Room-Key: $key" -d "$1" \
         http://127.0.0.1:8080/me/choices)" = 200 ]
@@ -38,12 +40,18 @@ install_office() {
     must sync
 }
 
-# Rooms as A,B, then what T1 has on their list as A-B, and whether sqlite3 finds the file whole.
+# The resident's record.
+ask_me() {
+    curl -sf --max-time 60 -H "Room-Key: $key" http://127.0.0.1:8080/me
+}
+
+# Rooms as A,B, then what T1 has on their list as A-B, and whether sqlite3 finds the file and the last copy whole.
 print_office() {
     local rooms list part whole
     within 240 rooms-office export rooms || say "fault: no office"
+    within 240 ask_me || say "fault: no server"
     rooms=$(rooms-office export rooms | tail -n +2 | cut -d, -f1 | paste -sd,)
-    list=$(curl -s --max-time 60 -H "Room-Key: $key" http://127.0.0.1:8080/me | sed 's/.*"choices":\[\([^]]*\)\].*/\1/' |
+    list=$(ask_me | sed 's/.*"choices":\[\([^]]*\)\].*/\1/' |
         tr -d '"' | tr , -)
     must systemctl stop "${units[@]}"
     rm -f whole.db*
@@ -51,8 +59,12 @@ print_office() {
         [ ! -e "$part" ] || cp "$part" "whole.db${part#"$file"}"
     done
     whole=$(sqlite3 whole.db 'pragma integrity_check; pragma foreign_key_check' 2>&1 | xargs)
+    if [ -s copy ]; then
+        cp "/var/lib/rooms/backups/$(cat copy)/rooms.db" kept.db
+        [ "$(sqlite3 kept.db 'pragma integrity_check')" = ok ] || say "fault: the copy $(cat copy)"
+    fi
     must systemctl start "${units[@]}"
-    within 240 rooms-office export rooms || say "fault: no office"
+    within 240 ask_me || say "fault: no server"
     say "office $rooms $list $whole"
 }
 
@@ -61,13 +73,13 @@ change() {
     local n=$1
     case $((n % 8)) in
         0) rooms-office do room "R$n" ;;
-        1) hand_in '["A","B"]' ;;
+        1) within 240 hand_in '["A","B"]' ;;
         2) rooms-office import rooms "l-$n" - < <(printf 'room\nI%s\nJ%s\n' "$n" "$n") ;;
         3) rooms-office lines < <(printf 'room K%s\nroom L%s\n' "$n" "$n") ;;
-        4) hand_in '["B"]' ;;
-        5) rooms-office backup >/trial/copy && sync ;;
+        4) within 240 hand_in '["B"]' ;;
+        5) rooms-office backup >copy && sync copy ;;
         6) rooms-office do room "Z$n" ;;
-        7) rooms-office back "$(cat /trial/copy)" ;;
+        7) rooms-office back "$(cat copy)" ;;
     esac
 }
 

@@ -1,5 +1,7 @@
 # shellcheck shell=bash
 # Sourced by the trials in a virtual machine. They set `folder` and `root`, and source checks.sh first.
+#
+# shellcheck disable=SC2034,SC2054,SC2154 # they use `machine` and set `folder` and `root`; commas are qemu's
 
 # Debian's packages that the machine needs, besides what the package needs and recommends.
 around=(systemd-sysv linux-image-cloud-amd64 initramfs-tools dbus rsyslog iproute2 curl openssl procps
@@ -25,6 +27,7 @@ make_machine() {
             export DEBIAN_FRONTEND=noninteractive
             chroot "$root" apt-get -qq update
             exec chroot "$root" apt-get -qq -y --no-install-recommends install "$@"' sh "$folder/machine" "${around[@]}"
+        go_on_if_good
         touch "$folder/machine/made"
     fi
     rm -rf --one-file-system "$root"
