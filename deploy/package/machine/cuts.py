@@ -17,6 +17,7 @@ from pathlib import Path
 from typing import NamedTuple
 
 START_SECONDS = 900  # an emulated machine is slow
+KINDS = 8  # of changes, see changes.sh
 
 
 class Office(NamedTuple):
@@ -33,7 +34,7 @@ def after(change: int, office: Office, copy: Office) -> Office:
         3: [f"K{change}", f"L{change}"],
         6: [f"Z{change}"],
     }
-    match change % 8:
+    match change % KINDS:
         case 1:
             return office._replace(wishes="A-B")
         case 4:
@@ -91,45 +92,55 @@ def office_of(line: str) -> tuple[Office, str]:
     return Office(tuple(sorted(rooms.split(","))), wishes), whole
 
 
-def main() -> None:
-    """Cuts the power of the machine, and starts it again, this many times."""
-    signal.signal(signal.SIGTERM, lambda *_: sys.exit(143))
-    folder, cuts, words = Path(sys.argv[1]), int(sys.argv[2]), sys.argv[3:]
-    draw = random.Random(1)
-    change, answered = 0, 0
-    expected: list[Office] = []
-    copy = Office((), "")
-    for cut in range(cuts + 1):
-        machine = Machine(folder, words, change)
+class Cuts:
+    """The cuts of the power so far, and what the office may be after the last one."""
+
+    def __init__(self, folder: Path, words: list[str]) -> None:
+        self.folder, self.words, self.draw = folder, words, random.Random(1)
+        self.next_change, self.answered = 0, 0
+        self.expected = [Office(("A", "B"), "")]
+
+    def start(self, cut: int, is_last: bool) -> None:
+        """Starts the machine and looks at its office. Then it cuts the power, not after the last start."""
+        machine = Machine(self.folder, self.words, self.next_change)
         try:
             office, whole = office_of(machine.wait_for("office ", START_SECONDS))
-            if cut == 0:
-                expected = [Office(("A", "B"), "")]
             if whole != "ok":
                 sys.exit(f"FAULT  sqlite3 says of the file: {whole}")
-            if office not in expected:
-                sys.exit(f"FAULT  the office is {office}\n       and not one of {expected}")
-            which = ["after the last answer", "after the change that had begun"][expected.index(office)]
+            if office not in self.expected:
+                sys.exit(f"FAULT  the office is {office}\n       and not one of {self.expected}")
+            which = ["after the last answer", "after the change that had begun"][self.expected.index(office)]
             print(f"ok     start {cut}: the office {which if cut else 'is the new one'}; its file is whole", flush=True)
-            if cut == cuts:
-                break
-            machine.wait_for(f"begin {change + cut % 8}", START_SECONDS)
-            time.sleep(draw.uniform(0, 10))
+            if is_last:
+                return
+            machine.wait_for(f"begin {self.next_change + cut % KINDS}", START_SECONDS)
+            time.sleep(self.draw.uniform(0, 10))
         finally:
             machine.cut()
         machine.fail_at_faults()
-        lines = machine.lines()
+        self.note(cut, office, machine.lines())
+
+    def note(self, cut: int, office: Office, lines: list[str]) -> None:
+        """Notes what was answered and what had begun, from what the machine printed. `office` is that of its start."""
         ended = [int(line.split()[1]) for line in lines if line.startswith("done ")]
         begun = [int(line.split()[1]) for line in lines if line.startswith("begin ")]
+        copy = office
         for number in ended:
-            copy = office if number % 8 == 5 else copy
+            copy = office if number % KINDS == 5 else copy
             office = after(number, office, copy)
-        answered += len(ended)
-        expected = [office, *(after(number, office, copy) for number in begun if number not in ended)]
+        self.answered += len(ended)
+        self.expected = [office, *(after(number, office, copy) for number in begun if number not in ended)]
         print(f"       cut {cut + 1}: {len(ended)} changes answered; had begun: {begun[len(ended):]}", flush=True)
-        # The next changes begin with a kind that needs no copy of before.
-        change = (begun[-1] // 8 + 1) * 8
-    print(f"       {answered} changes answered, {cuts} cuts")
+        self.next_change = (begun[-1] // KINDS + 1) * KINDS
+
+
+def main() -> None:
+    """Cuts the power of the machine, and starts it again, this many times."""
+    signal.signal(signal.SIGTERM, lambda *_: sys.exit(143))
+    count, cuts = int(sys.argv[2]), Cuts(Path(sys.argv[1]), sys.argv[3:])
+    for cut in range(count + 1):
+        cuts.start(cut, cut == count)
+    print(f"       {cuts.answered} changes answered, {count} cuts")
 
 
 if __name__ == "__main__":
