@@ -28,7 +28,7 @@ pub enum ExportKind {
 /// # Errors
 ///
 /// `OutOfMemory` if an allocation fails.
-pub fn header_bytes(alloc: Global, kind: ExportKind) -> Result<Vec<u8>, OutOfMemory>
+pub fn head_bytes(alloc: Global, kind: ExportKind) -> Result<Vec<u8>, OutOfMemory>
     ensures { IfOk result (λ bytes. bytes.items ≡ record_bytes (header_of kind)) }
 {
     match kind {

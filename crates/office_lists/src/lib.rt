@@ -14,7 +14,7 @@ mod writing;
 
 pub use crate::entries::{ChoicesEntry, PersonEntry};
 pub use crate::exports::{
-    ExportKind, ExportRow, grade_row_bytes, header_bytes, move_row_bytes, person_row_bytes,
+    ExportKind, ExportRow, grade_row_bytes, head_bytes, move_row_bytes, person_row_bytes,
     room_row_bytes,
 };
 pub use crate::fault::{Cause, ListFault};

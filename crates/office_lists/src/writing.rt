@@ -7,7 +7,7 @@ ghost use Rattle.office_lists.specs.Exports.{AscendByRound, export, export_bytes
 ghost use Rattle.office_lists.specs.Exports.{grades_export, moves_export, people_export, rooms_export};
 ghost use Rattle.office_lists.specs.Writing.{StopsAfter, has_failed, sent_of};
 
-use crate::exports::{ExportKind, ExportRow, header_bytes};
+use crate::exports::{ExportKind, ExportRow, head_bytes};
 use room_types::send::send;
 use room_types::{GradeRow, Move, PersonRow, RoomRow, Watched};
 use std::alloc::Global;
@@ -153,7 +153,7 @@ fn write_list<R: ExportRow, W: Write>(
     ensures flushes { watched_flushes output.new ≡ watched_flushes output.old }
     ensures stops { StopsAtFailure output.old output.new }
 {
-    let Ok(head) = header_bytes(alloc, kind) else {
+    let Ok(head) = head_bytes(alloc, kind) else {
         return Err(WriteEnd::OutOfMemory { sent: 0 });
     };
     if let Err(part) = send(output, &head) {

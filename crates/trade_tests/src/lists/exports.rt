@@ -6,7 +6,7 @@ ghost use Rattle.room_types.specs.Ascending.{AscendsBy};
 use super::{gone, moved, person_row, room_row, text};
 use crate::asserting::assert_same;
 use office_lists::{
-    ExportKind, WriteEnd, grade_row_bytes, header_bytes, move_row_bytes, person_row_bytes,
+    ExportKind, WriteEnd, grade_row_bytes, head_bytes, move_row_bytes, person_row_bytes,
     read_grades, room_row_bytes, write_grades, write_moves, write_people, write_rooms,
 };
 use room_types::{Grade, GradeRow, Move, PersonRow, RoomRow, State, Watched, Wave};
@@ -35,7 +35,7 @@ fn exports_rooms_with_and_without_a_tenant(rt: HostRuntime) -> Result<(), Fail> 
     assert_same!(rt; write_rooms(alloc, &rows, &mut output), Ok(()));
     assert_same!(rt; output.flushes(), 0);
     assert_same!(rt; output.into_inner().as_slice(), ROOMS);
-    let mut text = header_bytes(alloc, ExportKind::Rooms)?;
+    let mut text = head_bytes(alloc, ExportKind::Rooms)?;
     for row in &rows {
         text.extend_from_slice(&room_row_bytes(alloc, row)?)?;
     }
@@ -50,7 +50,7 @@ fn exports_people_whose_names_need_quotes(rt: HostRuntime) -> Result<(), Fail> {
     let mut output = Watched::new(Vec::new(alloc));
     assert_same!(rt; write_people(alloc, &rows, &mut output), Ok(()));
     assert_same!(rt; output.into_inner().as_slice(), PEOPLE);
-    let mut text = header_bytes(alloc, ExportKind::People)?;
+    let mut text = head_bytes(alloc, ExportKind::People)?;
     for row in &rows {
         text.extend_from_slice(&person_row_bytes(alloc, row)?)?;
     }
@@ -65,7 +65,7 @@ fn exports_moves_of_two_rounds(rt: HostRuntime) -> Result<(), Fail> {
     let mut output = Watched::new(Vec::new(alloc));
     assert_same!(rt; write_moves(alloc, &rows, &mut output), Ok(()));
     assert_same!(rt; output.into_inner().as_slice(), MOVES);
-    let mut text = header_bytes(alloc, ExportKind::Moves)?;
+    let mut text = head_bytes(alloc, ExportKind::Moves)?;
     for row in &rows {
         text.extend_from_slice(&move_row_bytes(alloc, row)?)?;
     }
@@ -81,7 +81,7 @@ fn exports_grades_that_read_back(rt: HostRuntime) -> Result<(), Fail> {
     let mut output = Watched::new(Vec::new(alloc));
     assert_same!(rt; write_grades(alloc, &rows, &mut output), Ok(()));
     assert_same!(rt; output.into_inner().as_slice(), GRADES);
-    let mut text = header_bytes(alloc, ExportKind::Grades)?;
+    let mut text = head_bytes(alloc, ExportKind::Grades)?;
     for row in &rows {
         text.extend_from_slice(&grade_row_bytes(alloc, row)?)?;
     }
@@ -117,7 +117,7 @@ fn exports_only_the_header_without_rows(rt: HostRuntime) -> Result<(), Fail> {
         (ExportKind::Moves, b"round,wave,person,from,to\n".as_slice()),
         (ExportKind::Grades, b"person,grade\n".as_slice()),
     ] {
-        assert_same!(rt; header_bytes(alloc, kind)?.as_slice(), header);
+        assert_same!(rt; head_bytes(alloc, kind)?.as_slice(), header);
     }
     let mut output = Watched::new(Vec::new(alloc));
     assert!(rt; write_moves(alloc, &[], &mut output).is_ok());
