@@ -129,7 +129,7 @@ kill_things() {
     process=$(systemctl show -p MainPID --value rooms-keeper.service)
     kill -KILL "$process"
     try "the keeper is killed: residents are answered again" within 60 answers
-    like "their list is there" '*"choices":["H2","V"]*' "$(cat body)"
+    like "their list is there" '*"choices":\["H2","V"\]*' "$(cat body)"
     same "one server runs" 1 "$(pgrep -fc 'serve --db /var/lib/rooms/rooms.db')"
     kill -KILL "$(pgrep -fo 'serve --db /var/lib/rooms/rooms.db')"
     try "the server is killed: residents are answered again" within 60 answers
