@@ -3,7 +3,7 @@
 ghost use Rattle.std.specs.Prelude.{◌≡◌, false, IfOk, ⊤};
 
 use crate::asserting::assert_same;
-use office_cli::carry_out::carry_out_from;
+use office_cli::carrying_out::carry_out_from;
 use office_cli::lists::Lists;
 use office_file::{Closes, Files};
 use office_store::Unavailable;

@@ -3,8 +3,7 @@
 
 ghost use Rattle.std.specs.Prelude.{◌≡◌, ◌<◌, IfOk, OnErr, drop, length, map, string_bytes};
 
-use office_cli::carry_out::refuse;
-use office_cli::{WordFault, carry_out};
+use office_cli::{WordFault, carry_out, refuse};
 use room_types::Watched;
 use std::alloc::{AllocError, Global};
 use std::process::ExitCode;

@@ -5,7 +5,7 @@ use Rattle.office_cli.specs.Usage.{usage}
 use Rattle.office_words.specs.Understanding.{UnderstandsAs}
 use Rattle.office_cli.specs.Programs.{Line, line_of}
 use Rattle.office_cli.proofs.program_words.Parsed.{entered_is, fault_returned, line_entered, some_words, usage_is_free, usage_is_simple}
-use Rattle.office_cli.proofs.program.program.Goals as goal
+use Rattle.office_cli.proofs.arguments.program.Goals as goal
 
 pub returns-in-Some-clause-understands : goal.returns-in-Some-clause-understands
 returns-in-Some-clause-understands c =

@@ -1,6 +1,6 @@
 use Rattle.std.proofs.Common.{inl, inr, refl}
 use Rattle.office_state.specs.Office.{empty_office}
-use Rattle.office_cli.proofs.carry_out.rehearse_anew.Goals as goal
+use Rattle.office_cli.proofs.carrying_out.rehearse_anew.Goals as goal
 
 pub returns-in-Ok-clause-rehearses : goal.returns-in-Ok-clause-rehearses
 returns-in-Ok-clause-rehearses g c =

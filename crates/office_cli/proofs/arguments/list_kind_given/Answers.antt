@@ -3,7 +3,7 @@ use Rattle.std.specs.Prelude.{option_and_then}
 use Rattle.room_types.specs.Texts.{Text}
 use Rattle.office_cli.specs.Programs.{list_kind_named}
 use Rattle.office_cli.proofs.program_words.Kinds.{kind_is}
-use Rattle.office_cli.proofs.program.list_kind_given.Goals as goal
+use Rattle.office_cli.proofs.arguments.list_kind_given.Goals as goal
 
 pub returns : goal.returns
 returns c =

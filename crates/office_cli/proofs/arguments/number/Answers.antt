@@ -2,7 +2,7 @@ use Rattle.std.proofs.Common.{◌∙◌, sym, arith, Some, None}
 use Rattle.std.specs.Str.Parse.{ParsesUnsigned, ExplainsUnsignedError, HasUnsignedDigitsIfOk}
 use Rattle.clap.specs.Words.{found_of}
 use Rattle.office_cli.proofs.program_words.Numbers.{kept_in, kept_above, kept_below, number_given}
-use Rattle.office_cli.proofs.program.number.Goals as goal
+use Rattle.office_cli.proofs.arguments.number.Goals as goal
 
 pub returns-then-n-least-clause-given : goal.returns-then-n-least-clause-given
 returns-then-n-least-clause-given c =

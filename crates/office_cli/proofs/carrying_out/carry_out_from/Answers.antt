@@ -4,7 +4,7 @@ use Rattle.office_cli.proofs.done_lines.Done.{done_lines-done_in_file}
 use Rattle.office_cli.specs.Programs.{program_of}
 use Rattle.office_cli.specs.Programs.Line.{does}
 use Rattle.office_cli.specs.ListAccess.{list_access_of}
-use Rattle.office_cli.proofs.carry_out.carry_out_from.Goals as goal
+use Rattle.office_cli.proofs.carrying_out.carry_out_from.Goals as goal
 
 pub returns-in-Ok-Do-clause-carries_out : goal.returns-in-Ok-Do-clause-carries_out
 returns-in-Ok-Do-clause-carries_out g c =

@@ -8,11 +8,11 @@ ghost use Rattle.office_cli.specs.ListAccess.{list_access_of};
 ghost use Rattle.resident_server.specs.Network.{network_of};
 ghost use Rattle.office_lines.specs.Lines.{read_limit};
 
+use crate::arguments::program;
 use crate::in_file::{
     do_in_file, export_in_file, import_in_file, make_in_file, migrate_in_file, serve_in_file,
 };
 use crate::lists::{Lists, SystemLists};
-use crate::program::program;
 use crate::rehearsing::rehearse_in_memory;
 use crate::usage::Program;
 use crate::word_lines::words_text;
