@@ -108,13 +108,17 @@ def rate(stand):
 
 def connections(stand):
     """One address may not take all connections of the proxy."""
-    held = []
+    held, closed = [], 0
     for _ in range(OPEN + 50):
-        plain = socket.create_connection(("127.0.0.1", stand.port), 60, ("127.0.0.9", 0))
+        try:
+            plain = socket.create_connection(("127.0.0.1", stand.port), 60, ("127.0.0.9", 0))
+        except ConnectionResetError:
+            # The proxy may close a connection before the system has told that it is there.
+            closed += 1
+            continue
         plain.setblocking(False)
         held.append(plain)
     time.sleep(0.5)
-    closed = 0
     for plain in held:
         try:
             closed += plain.recv(1) == b""

@@ -1,6 +1,6 @@
 -- Lists that are tested element by element.
-use Rattle.std.proofs.Common.{◌≡◌, ◌≢◌, ◌<◌, ◌≤◌, ◌+◌, ℕ, suc, Bool, true, false, ◌&&◌, List, [], ◌∷◌, length, drop, map, get_or, refl, sym, ap, ap₂, ◌∙◌, subst, arith}
-use Rattle.std.proofs.lemmas.List.{drop_all, drop_more, get_or-map, length-map}
+use Rattle.std.proofs.Common.{◌≡◌, ◌≢◌, ◌<◌, ◌+◌, ℕ, suc, Bool, true, false, ◌&&◌, List, [], ◌∷◌, length, drop, map, get_or, refl, sym, ap, ap₂, ◌∙◌, arith}
+use Rattle.std.proofs.lemmas.List.{drop_more, get_or-map, length-map}
 use Rattle.office_load.specs.Layout.{pass_all}
 
 module _ {X Y : Type 0} (test : Y → X → Bool) where

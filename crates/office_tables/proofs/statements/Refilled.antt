@@ -10,7 +10,6 @@ use Rattle.sqlite.specs.State.{State, HasCleanDisk}
 use Rattle.office_state.specs.declared.office.Assigned.{Assigned}
 use Rattle.office_state.specs.declared.office.stored_import.StoredImport.{StoredImport}
 use Rattle.office_cells.specs.Columns as columns
-use Rattle.office_rows.specs.ReadsOffice.{AreRecordsOf}
 use Rattle.office_rows.specs.Tables.{Tables, own_version}
 use Rattle.office_rows.specs.declared.records.ChoiceRecord.{ChoiceRecord}
 use Rattle.office_rows.specs.declared.records.OfficeRecords.{OfficeRecords}

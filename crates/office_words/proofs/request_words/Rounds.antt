@@ -1,6 +1,5 @@
 -- The number of a round, as `parse` returns it.
-use Rattle.std.proofs.Common.{rules, tests, ◌≡◌, ℕ, ◌≤◌, ◌^◌, Bool, true, false, length, refl, arith, Result, Ok}
-use Rattle.std.specs.Prelude.{◌&&◌}
+use Rattle.std.proofs.Common.{rules, tests, ◌≡◌, ℕ, ◌≤◌, ◌^◌, true, length, refl, arith, Result, Ok}
 use Rattle.std.specs.Char.{is_ascii_digit}
 use Rattle.std.specs.Int.{is_in_range, IsInRange}
 use Rattle.std.specs.List.{list_all}

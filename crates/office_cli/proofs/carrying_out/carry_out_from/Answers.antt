@@ -1,5 +1,4 @@
 use Rattle.std.proofs.Common.{◌≡◌, Some, map}
-use Rattle.office_file.specs.Access.{file_access}
 use Rattle.office_cli.proofs.done_lines.Done.{done_lines-done_in_file}
 use Rattle.office_cli.specs.Programs.{program_of}
 use Rattle.office_cli.specs.Programs.Line.{does}

@@ -1,6 +1,5 @@
 use Rattle.std.proofs.Common.{sym, subst}
 use Rattle.sqlite.specs.Effect.{Database}
-use Rattle.sqlite.specs.Held.{state}
 use Rattle.office_load.proofs.found_offices.Versions.{same_some}
 use Rattle.office_tables.specs.Tables.{HoldsOffice}
 use Rattle.office_store.specs.Desk.{Represents}
