@@ -1,8 +1,8 @@
 //! Requests, and desks in memory that handle them.
 use office_core::Command;
+use office_lines::parse::{ParsedLine, parse_line};
 use office_state::Office;
 use office_store::{Answer, Desk, Handler, Request};
-use office_words::{ParsedLine, parse_line};
 use room_types::{Label, ListKind, Listing, OutOfMemory};
 use sqlite::MemStore;
 use std::alloc::Global;

@@ -1,26 +1,28 @@
--- Carrying out a subcommand at a desk, and what is printed if there is none.
+-- Performing an action at a desk, and what is printed for a desk that was made.
 use Rattle.std.specs.Prelude.{◌≡◌, ◌⊎◌, ◌<◌, ℕ, true, List, [], ◌∷◌, Result, Ok, Err, length, codes}
 use Rattle.sqlite.specs.Held.{state}
 use Rattle.sqlite.specs.State.{HasCleanDisk}
 use Rattle.sqlite_trees.specs.declared.store.Store.{Ghosts}
 use Rattle.office_cli.specs.DeskFaults.{RefusesDesk}
 use Rattle.office_cli.specs.ListAccess.{ImportsPath, ListAccess}
+use Rattle.office_cli.specs.Actions.{Action}
+use Rattle.office_cli.specs.Actions.Action.{does, imports, exports, serves}
 use Rattle.office_state.specs.declared.office.Office.{Office}
-use Rattle.office_export.specs.Ending.{PutsCount, PutsPrefix}
-use Rattle.office_export.specs.Exports.{exported}
+use Rattle.office_store.specs.exports.Ending.{PutsCount, PutsPrefix}
+use Rattle.office_store.specs.exports.Exports.{exported}
 use Rattle.office_lines.specs.Printing.{Prints}
 use Rattle.office_lines.specs.SingleLines.{DoesWords}
 use Rattle.office_lists.specs.Exports.{export_bytes, header_of}
 use Rattle.office_lists.specs.Records.{Record}
 use Rattle.office_lists.specs.declared.exports.ExportKind.{ExportKind}
-use Rattle.office_load.specs.Reading.{OnlyReads}
+use Rattle.office_db.specs.loading.Reading.{OnlyReads}
 use Rattle.office_store.specs.Desk.{DeskState, HandlesAt, Represents}
 use Rattle.office_store.specs.LawfulSteps.{HandlesLawfully}
 use Rattle.office_store.specs.declared.desk.faults.DeskFault.{DeskFault}
-use Rattle.office_tables.specs.Steps.{Follows}
-use Rattle.office_texts.specs.OutputLines.{line_of}
-use Rattle.resident_server.specs.Network.{Network}
-use Rattle.resident_server.specs.Serving.{ServesPort}
+use Rattle.office_schema.specs.tables.Steps.{Follows}
+use Rattle.office_lines.specs.render.OutputLines.{line_of}
+use Rattle.resident_http.specs.server.Network.{Network}
+use Rattle.resident_http.specs.server.Serving.{ServesPort}
 use Rattle.room_types.specs.Streams.{Output}
 use Rattle.room_types.specs.Texts.{Text}
 use Rattle.room_types.specs.declared.kinds.ListKind.{ListKind}
@@ -49,13 +51,6 @@ EndsExport kind status out out' =
     ((records : List Record) × Prints (export_bytes (header_of kind ∷ records)) 0 status out out')
     ⊎ ((status ≡ 3) × (out'.flushes ≡ out.flushes) × (sent : ℕ) × PutsCount out out' sent)
 
--- This was done at the desk that was found. Or none was found, and the reason is printed.
-abbrev pub DoneAt : {S : Type 0} → (DeskState S → DeskState S → Type 0) → Result (DeskState S) DeskFault → Result (DeskState S) DeskFault → ℕ → Output → Output → Type 0
-DoneAt IsDone (Ok old) (Ok new) status out out' = IsDone old new
-DoneAt IsDone (Err fault) (Err same) status out out' = (same ≡ fault) × RefusesDesk fault status out out'
-DoneAt IsDone (Ok old) (Err fault) status out out' = ⊥
-DoneAt IsDone (Err fault) (Ok new) status out out' = ⊥
-
 module _ {S : Type 0} (g : Ghosts S) where
   -- The desk handles the words as a line. If the disk returned what was written to it, the office that the desk represents
   -- handled them, and the desk represents the office after it.
@@ -82,20 +77,14 @@ module _ {S : Type 0} (g : Ghosts S) where
     pub done : HasCleanDisk (state g new.conn) → (office : Office) → Represents g old office
         → SendsExport (export_bytes (exported kind office)) status out out' × Represents g new office
 
-  -- the desk that was found handles the words, or the reason why there is none is printed
-  abbrev pub DoesAt : Result (DeskState S) DeskFault → Result (DeskState S) DeskFault → List Text → ℕ → Output → Output → Type 0
-  DoesAt found last words status out out' = DoneAt (λ old new. HandlesWords old new words status out out') found last status out out'
-
-  -- the desk that was found imports the list at a path, or the reason why there is none is printed
-  abbrev pub ImportsAt : {L : Type 0} → ListAccess L → L → Result (DeskState S) DeskFault → L → Result (DeskState S) DeskFault → ListKind → Text → Text → ℕ → Output → Output → Type 0
-  ImportsAt list_access lists found lists' last kind label path status out out' =
-      DoneAt (λ old new. ImportsDesk list_access lists old lists' new kind label path status out out') found last status out out'
-
-  -- the desk that was found writes the export, or the reason why there is none is printed
-  abbrev pub ExportsAt : Result (DeskState S) DeskFault → Result (DeskState S) DeskFault → ExportKind → ℕ → Output → Output → Type 0
-  ExportsAt found last kind status out out' = DoneAt (λ old new. ExportsDesk old new kind status out out') found last status out out'
-
-  -- the desk that was found serves residents, or the reason why there is none is printed
-  abbrev pub ServesAt : {P : Type 0} → Network P → P → Result (DeskState S) DeskFault → P → Result (DeskState S) DeskFault → ℕ → ℕ → ℕ → Output → Output → Type 0
-  ServesAt network ports found ports' last port count status out out' =
-      DoneAt (λ old new. ServesPort g network ports old ports' new port count status out out') found last status out out'
+  module _ {L P : Type 0} (list_access : ListAccess L) (network : Network P) where
+    -- The action is performed at the desk. Only an import opens a list, and only serving listens on a port.
+    abbrev pub Performs : Action → L → P → DeskState S → ℕ → L → P → DeskState S → Output → Output → Type 0
+    Performs (does words) lists ports old status lists' ports' new out out' =
+        HandlesWords old new words status out out' × (lists' ≡ lists) × (ports' ≡ ports)
+    Performs (imports kind label list) lists ports old status lists' ports' new out out' =
+        ImportsDesk list_access lists old lists' new kind label list status out out' × (ports' ≡ ports)
+    Performs (exports kind) lists ports old status lists' ports' new out out' =
+        ExportsDesk old new kind status out out' × (lists' ≡ lists) × (ports' ≡ ports)
+    Performs (serves port count) lists ports old status lists' ports' new out out' =
+        ServesPort g network ports old ports' new port count status out out' × (lists' ≡ lists)

@@ -4,18 +4,18 @@ use Rattle.office_state.specs.Office.{empty_office}
 use Rattle.office_state.specs.declared.office.Office.{Office}
 use Rattle.office_store.specs.LawfulSteps.{HandlesLawfully}
 use Rattle.office_lines.specs.declared.ending.Ending.{Ending}
-use Rattle.office_words.specs.declared.word_fault.WordFault.{WordFault}
-use Rattle.office_words.specs.declared.word_fault.WordFault.TheVariants.{NotUnderstood, OutOfMemory}
+use Rattle.office_lines.specs.declared.parse.word_fault.WordFault.{WordFault}
+use Rattle.office_lines.specs.declared.parse.word_fault.WordFault.TheVariants.{NotUnderstood, OutOfMemory}
 use Rattle.office_file.specs.Access.{FileAccess}
-use Rattle.office_cli.specs.InFile.{DoesInFile, ExportsInFile, ImportsInFile, MakesInFile, MigratesInFile, ServesInFile}
+use Rattle.office_cli.specs.InFile.{MakesInFile, MigratesInFile, PerformsInFile}
 use Rattle.office_cli.specs.Programs.{Line, program_of}
-use Rattle.office_cli.specs.Programs.Line.{makes, does, rehearses, prints, imports, exports, serves, migrates}
+use Rattle.office_cli.specs.Programs.Line.{makes, migrates, performs, rehearses, prints}
 use Rattle.office_cli.specs.ListAccess.{ListAccess}
 use Rattle.office_lines.specs.Rehearsals.{Rehearses}
-use Rattle.resident_server.specs.Network.{Network}
+use Rattle.resident_http.specs.server.Network.{Network}
 use Rattle.room_types.specs.Streams.{Input, Output}
 use Rattle.office_lines.specs.Printing.{Prints, PrintsUnavailable}
-use Rattle.office_texts.specs.OutputLines.{line_of}
+use Rattle.office_lines.specs.render.OutputLines.{line_of}
 use Rattle.office_cli.specs.WordLines.{words_text}
 use Rattle.room_types.specs.Texts.{Text}
 
@@ -39,29 +39,21 @@ module _ {F S L P : Type 0} (access : FileAccess F S) (list_access : ListAccess 
   abbrev pub DoesLine : Option Line → F → L → P → ℕ → F → L → P → Input → Input → Output → Output → Output → Output → Type 0
   DoesLine (Some (makes path)) files lists ports status files' lists' ports' input input' out out' error error' =
       MakesInFile access files path status files' out out' × (error' ≡ error) × (input' ≡ input) × (lists' ≡ lists) × (ports' ≡ ports)
-  DoesLine (Some (does path words)) files lists ports status files' lists' ports' input input' out out' error error' =
-      DoesInFile access files path words status files' out out' × (error' ≡ error) × (input' ≡ input) × (lists' ≡ lists) × (ports' ≡ ports)
+  DoesLine (Some (migrates path)) files lists ports status files' lists' ports' input input' out out' error error' =
+      MigratesInFile access files path status files' out out' × (error' ≡ error) × (input' ≡ input) × (lists' ≡ lists) × (ports' ≡ ports)
+  DoesLine (Some (performs path action)) files lists ports status files' lists' ports' input input' out out' error error' =
+      PerformsInFile access list_access network files path action lists ports status files' lists' ports' out out' × (error' ≡ error)
+      × (input' ≡ input)
   DoesLine (Some rehearses) files lists ports status files' lists' ports' input input' out out' error error' =
       RehearsesAnew status input input' out out' × (error' ≡ error) × (files' ≡ files) × (lists' ≡ lists) × (ports' ≡ ports)
   DoesLine (Some (prints seed count)) files lists ports status files' lists' ports' input input' out out' error error' =
       Prints (words_text seed count) 0 status out out' × (error' ≡ error) × (input' ≡ input) × (files' ≡ files) × (lists' ≡ lists)
       × (ports' ≡ ports)
-  DoesLine (Some (imports path kind label list)) files lists ports status files' lists' ports' input input' out out' error error' =
-      ImportsInFile access list_access files path lists kind label list status files' lists' out out' × (error' ≡ error) × (input' ≡ input)
-      × (ports' ≡ ports)
-  DoesLine (Some (exports path kind)) files lists ports status files' lists' ports' input input' out out' error error' =
-      ExportsInFile access files path kind status files' out out' × (error' ≡ error) × (input' ≡ input) × (lists' ≡ lists)
-      × (ports' ≡ ports)
-  DoesLine (Some (serves path port count)) files lists ports status files' lists' ports' input input' out out' error error' =
-      ServesInFile access network files path ports port count status files' ports' out out' × (error' ≡ error) × (input' ≡ input)
-      × (lists' ≡ lists)
-  DoesLine (Some (migrates path)) files lists ports status files' lists' ports' input input' out out' error error' =
-      MigratesInFile access files path status files' out out' × (error' ≡ error) × (input' ≡ input) × (lists' ≡ lists) × (ports' ≡ ports)
   DoesLine None files lists ports status files' lists' ports' input input' out out' error error' =
       Refuses NotUnderstood status out out' error error' × (input' ≡ input) × (files' ≡ files) × (lists' ≡ lists) × (ports' ≡ ports)
 
-  -- The subcommand of the arguments is carried out. Or an allocation for parsing them fails, which needs at least one
-  -- argument.
+  -- The subcommand of the arguments is carried out. Or an allocation for parsing them, or for the words of a draw, fails, which
+  -- needs at least one argument.
   abbrev pub CarriesOut : List Text → F → L → P → ℕ → F → L → P → Input → Input → Output → Output → Output → Output → Type 0
   CarriesOut words files lists ports status files' lists' ports' input input' out out' error error' =
       DoesLine (program_of words) files lists ports status files' lists' ports' input input' out out' error error'

@@ -1,25 +1,23 @@
 -- Carrying out a subcommand on an office file.
-use Rattle.std.specs.Prelude.{◌≡◌, ◌⊎◌, ℕ, List, [], ◌∷◌, Err, codes}
+use Rattle.std.specs.Prelude.{◌≡◌, ◌⊎◌, ℕ, [], ◌∷◌, Err, codes}
 use Rattle.sqlite.specs.Held.{state}
 use Rattle.sqlite.specs.State.{HasCleanDisk}
-use Rattle.office_cli.specs.AtDesk.{ExportsDesk, HandlesWords, ImportsDesk}
+use Rattle.office_cli.specs.AtDesk.{Performs}
 use Rattle.office_cli.specs.DeskFaults.{RefusesDesk}
 use Rattle.office_cli.specs.ListAccess.{ListAccess}
+use Rattle.office_cli.specs.Actions.{Action}
 use Rattle.office_state.specs.Office.{empty_office}
 use Rattle.office_file.specs.Adopted.{OpensFound, IsFileFault}
 use Rattle.office_file.specs.Access.{FileAccess}
 use Rattle.office_file.specs.Created.{OpensBlank, IsCreateFault}
 use Rattle.office_file.specs.Migrated.{OpensMigrated, IsMigrateFault}
 use Rattle.office_lines.specs.Printing.{Prints}
-use Rattle.office_lists.specs.declared.exports.ExportKind.{ExportKind}
 use Rattle.office_store.specs.Desk.{DeskState, Shows}
 use Rattle.office_store.specs.declared.desk.faults.DeskFault.{DeskFault}
-use Rattle.office_texts.specs.OutputLines.{line_of}
-use Rattle.resident_server.specs.Network.{Network}
-use Rattle.resident_server.specs.Serving.{ServesPort}
+use Rattle.office_lines.specs.render.OutputLines.{line_of}
+use Rattle.resident_http.specs.server.Network.{Network}
 use Rattle.room_types.specs.Streams.{Output}
 use Rattle.room_types.specs.Texts.{Text}
-use Rattle.room_types.specs.declared.kinds.ListKind.{ListKind}
 
 module _ {F S : Type 0} (access : FileAccess F S) where
   -- The file at the path was opened and declared nothing. The tables of the empty office were made, and `ok` is printed. If
@@ -64,29 +62,9 @@ module _ {F S : Type 0} (access : FileAccess F S) where
     pub done : IsDone desk last
     pub closed : access.closes between last.conn files'
 
-  -- this is done at the desk that was found, or the reason why there is none is printed
-  abbrev pub DoneInFile : (DeskState S → DeskState S → Type 0) → F → Text → ℕ → F → Output → Output → Type 0
-  DoneInFile IsDone files path status files' out out' =
-      AtFound IsDone files path files' ⊎ ((fault : DeskFault) × IsFileFault access files path (Err fault) files' × RefusesDesk fault status out out')
-
-  -- the office in the file handles the words as a line, or the reason why there is none is printed
-  abbrev pub DoesInFile : F → Text → List Text → ℕ → F → Output → Output → Type 0
-  DoesInFile files path words status files' out out' =
-      DoneInFile (λ desk last. HandlesWords access.base desk last words status out out') files path status files' out out'
-
-  -- The office in the file imports the list at a path. Or the reason why there is none is printed, and no list is opened.
-  abbrev pub ImportsInFile : {L : Type 0} → ListAccess L → F → Text → L → ListKind → Text → Text → ℕ → F → L → Output → Output → Type 0
-  ImportsInFile list_access files path lists kind label list status files' lists' out out' =
-      AtFound (λ desk last. ImportsDesk access.base list_access lists desk lists' last kind label list status out out') files path files'
-      ⊎ ((fault : DeskFault) × IsFileFault access files path (Err fault) files' × RefusesDesk fault status out out' × (lists' ≡ lists))
-
-  -- the office in the file is exported, or the reason why there is none is printed
-  abbrev pub ExportsInFile : F → Text → ExportKind → ℕ → F → Output → Output → Type 0
-  ExportsInFile files path kind status files' out out' =
-      DoneInFile (λ desk last. ExportsDesk access.base desk last kind status out out') files path status files' out out'
-
-  -- The office in the file serves residents. Or the reason why there is none is printed, and no port is listened on.
-  abbrev pub ServesInFile : {P : Type 0} → Network P → F → Text → P → ℕ → ℕ → ℕ → F → P → Output → Output → Type 0
-  ServesInFile network files path ports port count status files' ports' out out' =
-      AtFound (λ desk last. ServesPort access.base network ports desk ports' last port count status out out') files path files'
-      ⊎ ((fault : DeskFault) × IsFileFault access files path (Err fault) files' × RefusesDesk fault status out out' × (ports' ≡ ports))
+  -- The action is performed at the desk of the file's office. Or the reason why there is none is printed, no list is opened, and
+  -- no port is listened on.
+  abbrev pub PerformsInFile : {L P : Type 0} → ListAccess L → Network P → F → Text → Action → L → P → ℕ → F → L → P → Output → Output → Type 0
+  PerformsInFile list_access network files path action lists ports status files' lists' ports' out out' =
+      AtFound (λ desk last. Performs access.base list_access network action lists ports desk status lists' ports' last out out') files path files'
+      ⊎ ((fault : DeskFault) × IsFileFault access files path (Err fault) files' × RefusesDesk fault status out out' × (lists' ≡ lists) × (ports' ≡ ports))

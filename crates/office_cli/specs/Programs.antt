@@ -4,42 +4,39 @@ use Rattle.std.specs.Str.{bytes_eq}
 use Rattle.std.specs.Str.Parse.{digits_value, without_leading_plus}
 use Rattle.clap.specs.ValueTests.{is_unsigned_in}
 use Rattle.clap.specs.Words.{Kinds, Row, all_of, fault_of, first_of, one_of, subcommand_of}
+use Rattle.office_cli.specs.Actions.{Action}
+use Rattle.office_cli.specs.Actions.Action.{does, imports, exports, serves}
 use Rattle.office_cli.specs.declared.usage.Program.{Program}
 use Rattle.office_cli.specs.declared.usage.Program.TheVariants as program
 use Rattle.office_cli.specs.Seeds.{parse_seed}
 use Rattle.office_cli.specs.Usage.{usage}
 use Rattle.office_lists.specs.declared.exports.ExportKind.{ExportKind}
 use Rattle.office_lists.specs.declared.exports.ExportKind.TheVariants.{Rooms, People, Moves, Grades}
-use Rattle.office_words.specs.Values.{in_grammar}
+use Rattle.office_lines.specs.parse.Values.{in_grammar}
 use Rattle.room_types.specs.Grammars.{is_label}
 use Rattle.room_types.specs.Kinds.{kind_text}
 use Rattle.room_types.specs.Texts.{Text}
 use Rattle.room_types.specs.declared.kinds.ListKind.{ListKind}
 use Rattle.room_types.specs.declared.kinds.ListKind.TheVariants as list
 
--- A subcommand with its arguments: make an office in the file at a path; let the office in such a file handle words as a
--- line; rehearse; print a number of words of a seed; import a list of a kind under a label, from the file at the second
--- path into the office in the first; export the office in a file; serve a number of connections on a port from it; migrate
--- its tables.
+-- A subcommand with its arguments: make an office in the file at a path; migrate the tables of the one in such a file;
+-- perform an action at its desk; rehearse; print a number of words of a seed.
 pub data Line : Type 0 where
   makes : Text → Line
-  does : Text → List Text → Line
+  migrates : Text → Line
+  performs : Text → Action → Line
   rehearses : Line
   prints : List ℕ → ℕ → Line
-  imports : Text → ListKind → Text → Text → Line
-  exports : Text → ExportKind → Line
-  serves : Text → ℕ → ℕ → Line
-  migrates : Text → Line
 
 -- `Program` without places in memory
 abbrev pub line_of : Program → Line
 line_of (program.New path) = makes path.now
-line_of (program.Do path words) = does path.now (map (λ word. word.now) words.items)
+line_of (program.Do path words) = performs path.now (does (map (λ word. word.now) words.items))
 line_of program.Rehearse = rehearses
 line_of (program.Words seed count) = prints seed count
-line_of (program.Import path kind label list) = imports path.now kind label list.now
-line_of (program.Export path kind) = exports path.now kind
-line_of (program.Serve path port count) = serves path.now port count
+line_of (program.Import path kind label list) = performs path.now (imports kind label list.now)
+line_of (program.Export path kind) = performs path.now (exports kind)
+line_of (program.Serve path port count) = performs path.now (serves port count)
 line_of (program.Migrate path) = migrates path.now
 
 -- The number of a decimal text, if it is within the bounds. The text is as `clap` specifies it: for an integer that is read
@@ -57,7 +54,7 @@ new_program rows = option_map makes (first_of (codes "db") rows)
 
 -- `do --db FILE WORD..`
 abbrev pub do_program : List Row → Option Line
-do_program rows = option_and_then (λ path. option_map (does path) (all_of (codes "word") rows)) (first_of (codes "db") rows)
+do_program rows = option_and_then (λ path. option_map (λ words. performs path (does words)) (all_of (codes "word") rows)) (first_of (codes "db") rows)
 
 -- `words --seed HEX --count N`
 abbrev pub words_program : List Row → Option Line
@@ -82,7 +79,7 @@ label_given rows = option_and_then (in_grammar is_label) (first_of (codes "label
 -- `import --db FILE KIND LABEL PATH`
 abbrev pub import_program : List Row → Option Line
 import_program rows =
-    option_and_then (λ path. option_and_then (λ list. option_and_then (λ kind. option_map (λ label. imports path kind label list) (label_given rows))
+    option_and_then (λ path. option_and_then (λ list. option_and_then (λ kind. option_map (λ label. performs path (imports kind label list)) (label_given rows))
     (list_kind_given rows)) (first_of (codes "path") rows)) (first_of (codes "db") rows)
 
 -- the export with this name
@@ -97,12 +94,12 @@ export_kind_named name =
 -- `export --db FILE KIND`
 abbrev pub export_program : List Row → Option Line
 export_program rows =
-    option_and_then (λ path. option_map (exports path) (option_and_then export_kind_named (first_of (codes "kind") rows)))
+    option_and_then (λ path. option_map (λ kind. performs path (exports kind)) (option_and_then export_kind_named (first_of (codes "kind") rows)))
     (first_of (codes "db") rows)
 
 -- `serve --db FILE --port N --count K`
 abbrev pub serve_program : List Row → Option Line
-serve_program rows = option_and_then (λ path. option_and_then (λ port. option_map (serves path port) (number_of 1 1000000 (codes "count") rows))
+serve_program rows = option_and_then (λ path. option_and_then (λ port. option_map (λ count. performs path (serves port count)) (number_of 1 1000000 (codes "count") rows))
     (number_of 1 65535 (codes "port") rows)) (first_of (codes "db") rows)
 
 -- `migrate --db FILE`

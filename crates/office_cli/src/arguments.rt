@@ -3,19 +3,19 @@ ghost use Rattle.std.specs.Prelude.{◌≡◌, ◌≢◌, ◌<◌, ◌≤◌, If
 ghost use Rattle.clap.specs.Words.{all_of, first_of, found_of, kind_of, rows_of};
 ghost use Rattle.office_cli.specs.Programs.{do_program, entered_line, export_program, import_program, export_kind_named, label_given, line_of};
 ghost use Rattle.office_cli.specs.Programs.{list_kind_given, migrate_program, new_program, number_of, program_of, serve_program, words_program};
-ghost use Rattle.office_words.specs.Understanding.{Understands, UnderstandsAs};
+ghost use Rattle.office_lines.specs.parse.Understanding.{Understands, UnderstandsAs};
 
 use crate::seeds::parse_seed;
 use crate::usage::{CONNECTION_COUNT_LIMIT, PORT_LIMIT, Program, WORDS_LIMIT, rooms_command};
 use clap::error::ErrorKind;
 use clap::{ArgMatches, Error};
+use office_lines::parse::WordFault;
 use office_lists::ExportKind;
-use office_words::WordFault;
 use room_types::{Label, ListKind, TypeFault};
 use std::alloc::Global;
 
-/// Parses the arguments after the program's name. No words are the subcommand `rehearse`, which does not allocate. Returns
-/// `NotUnderstood` only if the words are not a subcommand, and `Ok` only if they are one.
+/// Parses the arguments after the program's name. Without arguments, returns the subcommand `rehearse` and does not
+/// allocate. Returns `NotUnderstood` only if the words are not a subcommand, and `Ok` only if they are one.
 pub fn program<'a>(alloc: Global, words: &'a [&'a str]) -> Result<Program<'a>, WordFault>
     ensures understands { UnderstandsAs line_of
         (program_of (map (λ word. word.now) words.entry.now)) result }
@@ -35,7 +35,7 @@ pub fn program<'a>(alloc: Global, words: &'a [&'a str]) -> Result<Program<'a>, W
     }
 }
 
-// The line of this subcommand with its matches.
+// Returns the subcommand with this name and these matches.
 fn entered_line<'a>(
     alloc: Global,
     name: &str,
@@ -57,7 +57,7 @@ fn entered_line<'a>(
     }
 }
 
-// Without a line, the words are not understood.
+// Returns the subcommand, or `NotUnderstood` if there is none.
 fn understood<'a>(line: Option<Program<'a>>) -> Result<Program<'a>, WordFault>
     ensures { UnderstandsAs line_of (option_map line_of line.entry) result }
 {
@@ -71,7 +71,7 @@ fn new_program<'a>(entries: &ArgMatches<'a>) -> Option<Program<'a>>
     Some(Program::New { database })
 }
 
-// Copies the words out of the matches, which allocates.
+// Copies the words out of the matches. This allocates.
 fn do_program<'a>(alloc: Global, entries: &ArgMatches<'a>) -> Result<Program<'a>, WordFault>
     ensures { UnderstandsAs line_of (do_program (rows_of (found_of entries.now))) result }
 {
@@ -93,7 +93,7 @@ fn words_program<'a>(entries: &ArgMatches<'a>) -> Option<Program<'a>>
     Some(Program::Words { seed, count })
 }
 
-// Copies the label out of the matches, which allocates.
+// Copies the label out of the matches. This allocates.
 fn import_program<'a>(alloc: Global, entries: &ArgMatches<'a>) -> Result<Program<'a>, WordFault>
     ensures { UnderstandsAs line_of (import_program (rows_of (found_of entries.now))) result }
 {
@@ -142,7 +142,7 @@ fn export_program<'a>(entries: &ArgMatches<'a>) -> Option<Program<'a>>
     Some(Program::Export { database, kind })
 }
 
-// The export with this name.
+// Returns the kind of export with this name.
 fn export_kind_named(name: &str) -> Option<ExportKind>
     ensures { result ≡ export_kind_named name.now }
 {
@@ -175,7 +175,7 @@ fn migrate_program<'a>(entries: &ArgMatches<'a>) -> Option<Program<'a>>
     Some(Program::Migrate { database })
 }
 
-// The text of the argument.
+// Returns the text of the argument.
 fn text<'a>(entries: &ArgMatches<'a>, id: &str) -> Option<&'a str>
     ensures { option_map (λ given. given.now) result ≡ first_of id.now
         (rows_of (found_of entries.now)) }
@@ -183,7 +183,7 @@ fn text<'a>(entries: &ArgMatches<'a>, id: &str) -> Option<&'a str>
     entries.get_str(id)
 }
 
-// The texts of the argument.
+// Returns the texts of the argument.
 fn texts<'m, 'a>(entries: &'m ArgMatches<'a>, id: &str) -> Option<&'m [&'a str]>
     ensures { option_map (λ given. map (λ word. word.now) given.now) result
         ≡ all_of id.now (rows_of (found_of entries.now)) }
@@ -191,7 +191,7 @@ fn texts<'m, 'a>(entries: &'m ArgMatches<'a>, id: &str) -> Option<&'m [&'a str]>
     entries.get_strs(id)
 }
 
-// The number of the argument, if it is from `least` to `most`.
+// Returns the number of the argument, if it is from `least` to `most`.
 fn number(entries: &ArgMatches, id: &str, least: u32, most: u32) -> Option<u32>
     ensures given { result ≡ number_of least most id.now (rows_of (found_of entries.now)) }
     ensures within { IfSome result (λ n. n ≤ most) }
@@ -207,7 +207,7 @@ fn number(entries: &ArgMatches, id: &str, least: u32, most: u32) -> Option<u32>
     }
 }
 
-// `OutOfMemory` if `clap` reports it; any other error means that the words are not understood.
+// Returns `OutOfMemory` if `clap` reports it, and `NotUnderstood` for any other error.
 fn fault_of(error: &Error) -> WordFault
     ensures misread { result ≡ WordFault.NotUnderstood → kind_of error.now ≢ ErrorKind.OutOfMemory }
     ensures refused { result ≡ WordFault.OutOfMemory → kind_of error.now ≡ ErrorKind.OutOfMemory }

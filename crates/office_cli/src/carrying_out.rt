@@ -5,23 +5,22 @@ ghost use Rattle.room_types.specs.Streams.{input_of, output_of};
 ghost use Rattle.office_cli.specs.Doing.{CarriesOut, RehearsesAnew, Refuses};
 ghost use Rattle.office_file.specs.Access.{file_access};
 ghost use Rattle.office_cli.specs.ListAccess.{list_access_of};
-ghost use Rattle.resident_server.specs.Network.{network_of};
+ghost use Rattle.resident_http.specs.server.Network.{network_of};
 ghost use Rattle.office_lines.specs.Lines.{read_limit};
 
+use crate::actions::Action;
 use crate::arguments::program;
-use crate::in_file::{
-    do_in_file, export_in_file, import_in_file, make_in_file, migrate_in_file, serve_in_file,
-};
+use crate::in_file::{make_in_file, migrate_in_file, with_office};
 use crate::lists::{Lists, SystemLists};
 use crate::rehearsing::rehearse_in_memory;
 use crate::usage::Program;
 use crate::word_lines::words_text;
 use office_file::{Closes, Files, SystemFiles};
+use office_lines::parse::WordFault;
 use office_lines::print::{print, print_unavailable};
+use office_lines::render::{ACCEPTED, NOT_UNDERSTOOD};
 use office_store::Desk;
-use office_texts::{ACCEPTED, NOT_UNDERSTOOD};
-use office_words::WordFault;
-use resident_server::{Listener, Loopback, Ports};
+use resident_http::server::{Listener, Loopback, Ports};
 use room_types::{Stream, Watched};
 use sqlite::{Alter, Connection, FileFrom, FileStore, Start, Wary};
 use sqlite_trees::store::Store;
@@ -65,8 +64,9 @@ pub fn carry_out<'a, R: Read, W: Write, E: Write>(
     carry_out_over(rt, words, Wary, input, output, error)
 }
 
-/// Carries out these words, the arguments after the program's name, over the system's files and ports, and returns the exit
-/// status. The contract holds whatever an office file and its log contain at first, which `start` stands for.
+/// Carries out these words, the arguments after the program's name, over the system's files and ports, and returns the
+/// exit status. `start` represents what an office file and its log contain at first. The contract holds for any such
+/// contents.
 pub fn carry_out_over<'a, S: Start, R: Read, W: Write, E: Write>(
     rt: &HostRuntime,
     words: &'a [&'a str],
@@ -114,9 +114,9 @@ pub fn carry_out_over<'a, S: Start, R: Read, W: Write, E: Write>(
     )
 }
 
-/// Carries out these words, the arguments after the program's name, and returns the exit status, over any office files,
-/// lists and ports. A subcommand on an office file opens it once and closes it as its desk left it. Only `import` opens a
-/// list, once, and closes it as its import left it.
+/// Carries out these words, the arguments after the program's name, over any office files, lists and ports, and returns
+/// the exit status. A subcommand on an office file opens the file once and closes it as the desk left it. Only `import`
+/// opens a list. It opens the list once and closes it as the import left it.
 pub fn carry_out_from<
     'a,
     B: Alter,
@@ -158,12 +158,11 @@ pub fn carry_out_from<
 {
     match program(alloc, words) {
         Ok(Program::New { database }) => make_in_file(alloc, files, database, output),
-        Ok(Program::Do { database, words }) => do_in_file(alloc, files, database, &words, output),
-        Ok(Program::Rehearse) => rehearse_anew(alloc, input, output),
-        Ok(Program::Words { seed, count }) => match words_text(alloc, seed, count as usize) {
-            Ok(text) => print(output, text.as_str(), ACCEPTED),
-            Err(_) => refuse(WordFault::OutOfMemory, output, error),
-        },
+        Ok(Program::Migrate { database }) => migrate_in_file(alloc, files, database, output),
+        Ok(Program::Do { database, words }) => {
+            let line = Action::Line(words);
+            with_office(alloc, files, database, line, lists, ports, output)
+        }
         Ok(
             Program::Import {
                 database,
@@ -171,9 +170,13 @@ pub fn carry_out_from<
                 label,
                 list,
             },
-        ) => import_in_file(alloc, files, database, lists, kind, label, list, output),
+        ) => {
+            let import = Action::Import { kind, label, list };
+            with_office(alloc, files, database, import, lists, ports, output)
+        }
         Ok(Program::Export { database, kind }) => {
-            export_in_file(alloc, files, database, kind, output)
+            let export = Action::Export(kind);
+            with_office(alloc, files, database, export, lists, ports, output)
         }
         Ok(
             Program::Serve {
@@ -181,8 +184,15 @@ pub fn carry_out_from<
                 port,
                 count,
             },
-        ) => serve_in_file(alloc, files, database, ports, port, count, output),
-        Ok(Program::Migrate { database }) => migrate_in_file(alloc, files, database, output),
+        ) => {
+            let serve = Action::Serve { port, count };
+            with_office(alloc, files, database, serve, lists, ports, output)
+        }
+        Ok(Program::Rehearse) => rehearse_anew(alloc, input, output),
+        Ok(Program::Words { seed, count }) => match words_text(alloc, seed, count as usize) {
+            Ok(text) => print(output, text.as_str(), ACCEPTED),
+            Err(_) => refuse(WordFault::OutOfMemory, output, error),
+        },
         Err(fault) => refuse(fault, output, error),
     }
 }
@@ -208,7 +218,7 @@ fn rehearse_anew<R: Read, W: Write>(
     }
 }
 
-/// Reports that the arguments were not understood, on standard error, or that an allocation failed, on standard output.
+/// Reports on standard error that the arguments were not understood, or on standard output that an allocation failed.
 /// Returns the exit status.
 pub fn refuse<W: Write, E: Write>(
     fault: WordFault,

@@ -1,15 +1,35 @@
-//! Printing why there is no desk.
+//! Printing that there is a desk, or why there is none.
 ghost use Rattle.std.specs.Prelude.{◌≡◌, IfOk, string_bytes};
 ghost use Rattle.room_types.specs.Streams.{output_of};
 ghost use Rattle.room_types.specs.Watched.{IsFresh, StopsAtFailure};
+ghost use Rattle.office_cli.specs.AtDesk.{PrintsMade};
 ghost use Rattle.office_cli.specs.DeskFaults.{RefusesDesk, RefusesVersion, other_version_text};
 
 use office_lines::print::{print, print_unavailable};
-use office_store::DeskFault;
-use office_texts::REFUSED;
+use office_lines::render::{ACCEPTED, REFUSED};
+use office_store::{Desk, DeskFault};
 use room_types::Watched;
+use sqlite::Alter;
 use std::alloc::{AllocError, Global};
 use std::io::Write;
+
+/// Prints `ok` if there is a desk over an office that was made or migrated, and otherwise why there is none. Returns the
+/// exit status.
+pub fn print_made<S: Alter, W: Write>(
+    alloc: Global,
+    made: &Result<Desk<S>, DeskFault>,
+    output: &mut Watched<W>,
+) -> u8
+    requires fresh_output { IsFresh output.old }
+    ensures no_wasted_write { StopsAtFailure output.old output.new }
+    ensures prints { PrintsMade made.now result (output_of W.contents output.old)
+        (output_of W.contents output.new) }
+{
+    match made {
+        Ok(_) => print(output, "ok\n", ACCEPTED),
+        Err(fault) => refuse_desk(alloc, *fault, output),
+    }
+}
 
 /// Prints why there is no desk, like a refusal of the office. Returns the exit status.
 pub fn refuse_desk<W: Write>(alloc: Global, fault: DeskFault, output: &mut Watched<W>) -> u8
@@ -39,7 +59,7 @@ fn refuse_version<W: Write>(alloc: Global, version: i64, output: &mut Watched<W>
     }
 }
 
-// The refusal of tables of another version.
+// Returns the line that refuses tables of another version.
 fn other_version_text(alloc: Global, version: i64) -> Result<String, AllocError>
     ensures { IfOk result (λ line. string_bytes line ≡ other_version_text version) }
 {

@@ -1,24 +1,55 @@
-//! Importing a list: reads its bytes, passes them on as one command, and prints the answer.
+//! Importing a list: opens it, reads its bytes, passes them on as one command, and prints the answer.
 ghost use Rattle.std.specs.Prelude.{◌≤◌, IfOk, OnErr};
 ghost use Rattle.room_types.specs.Streams.{output_of};
 ghost use Rattle.room_types.specs.Watched.{IsFresh, StopsAtEnd, StopsAtFailure, watched_reads};
+ghost use Rattle.office_cli.specs.AtDesk.{ImportsDesk};
 ghost use Rattle.office_cli.specs.Importing.{CannotRead, ImportsFrom, ReadsList, list_limit};
+ghost use Rattle.office_cli.specs.ListAccess.{list_access_of};
 
+use crate::lists::Lists;
 use office_core::Command;
 use office_lines::do_line::print_response;
 use office_lines::print::print_unavailable;
+use office_lines::render::Response;
 use office_state::BYTE_LIMIT;
-use office_store::{Handler, Request, Unavailable};
-use office_texts::Response;
+use office_store::{Desk, Handler, Request, Unavailable};
 use room_types::{Label, ListKind, Listing, Watched};
+use sqlite::Alter;
 use std::alloc::Global;
 use std::io::{Read, Write};
 
-/// The greatest number of bytes read from a list. A list may have one less, so a longer one is noticed.
+/// The greatest number of bytes read from a list: one more than a list may have, so that a longer list is noticed.
 pub const LIST_LIMIT: usize = BYTE_LIMIT + 1;
 
 /// The greatest number of bytes that one read asks for.
 const CHUNK_LIMIT: usize = 4096;
+
+/// Imports the list at the path `list` under this label, at this desk. Opens the list once, and closes it as its import left it.
+/// If it can't be opened or read, prints `unavailable`. Returns the exit status.
+pub fn import_at<S: Alter, L: Lists, W: Write>(
+    alloc: Global,
+    desk: &mut Desk<S>,
+    lists: &mut L,
+    kind: ListKind,
+    label: Label,
+    list: &str,
+    output: &mut Watched<W>,
+) -> u8
+    requires fresh_output { IsFresh output.old }
+    ensures no_wasted_write { StopsAtFailure output.old output.new }
+    ensures imports { let list_access = list_access_of L.opens L.fails L.closes L.List.remaining in
+        ImportsDesk S.Store list_access lists.old desk.old lists.new desk.new kind label list.now result
+        (output_of W.contents output.old) (output_of W.contents output.new) }
+{
+    match lists.open(list) {
+        Ok(mut source) => {
+            let status = import_list(alloc, desk, kind, label, &mut source, output);
+            lists.close(source);
+            status
+        }
+        Err(Unavailable) => print_unavailable(output),
+    }
+}
 
 /// Reads a list, passes it to the handler to be imported under this label, and prints the answer. Returns the exit status
 /// of the answer, or 3 if the output or an allocation for the answer's text fails; the command has been handled even then.
@@ -56,7 +87,7 @@ pub fn import_list<H: Handler, R: Read, W: Write>(
 ///
 /// # Errors
 ///
-/// `Unavailable` if a read fails, or an allocation for the bytes read.
+/// `Unavailable` if a read fails, or if an allocation for the bytes read fails.
 pub fn read_bytes<R: Read>(alloc: Global, source: &mut Watched<R>) -> Result<Vec<u8>, Unavailable>
     requires fresh { IsFresh source.old }
     ensures reads { IfOk result (λ bytes. ReadsList R.remaining source.old source.new bytes.items) }

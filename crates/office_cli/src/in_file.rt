@@ -1,20 +1,18 @@
-//! Carries out a subcommand on an office file: makes or migrates the office, or finds it there to handle a line, import a
-//! list, be exported or serve residents.
-ghost use Rattle.std.specs.Prelude.{map};
+//! Carries out a subcommand on an office file: makes or migrates the office, or performs an action at its desk.
 ghost use Rattle.room_types.specs.Streams.{output_of};
 ghost use Rattle.room_types.specs.Watched.{IsFresh, StopsAtFailure};
 ghost use Rattle.office_file.specs.Access.{file_access};
-ghost use Rattle.office_cli.specs.InFile.{DoesInFile, ExportsInFile, ImportsInFile, MakesInFile};
-ghost use Rattle.office_cli.specs.InFile.{MigratesInFile, ServesInFile};
+ghost use Rattle.office_cli.specs.Actions.{action_of};
+ghost use Rattle.office_cli.specs.InFile.{MakesInFile, MigratesInFile, PerformsInFile};
 ghost use Rattle.office_cli.specs.ListAccess.{list_access_of};
-ghost use Rattle.resident_server.specs.Network.{network_of};
+ghost use Rattle.resident_http.specs.server.Network.{network_of};
 
-use crate::at_desk::{do_at, export_at, import_at, print_made, serve_at};
+use crate::actions::{Action, perform};
+use crate::desk_faults::{print_made, refuse_desk};
 use crate::lists::Lists;
 use office_file::{Closes, Files, close, create_in, find_in, migrate_in};
-use office_lists::ExportKind;
-use resident_server::Ports;
-use room_types::{Label, ListKind, Watched};
+use resident_http::server::Ports;
+use room_types::Watched;
 use sqlite::{Alter, Connection};
 use std::alloc::Global;
 use std::io::Write;
@@ -59,99 +57,35 @@ pub fn migrate_in_file<B: Alter, F: Files<B> + Closes<Connection<B>>, W: Write>(
     status
 }
 
-/// Lets the office in the file at this path handle the words as a line, or prints why there is no office. Returns the exit
-/// status. Opens the file once, and closes it as its desk left it.
-pub fn do_in_file<B: Alter, F: Files<B> + Closes<Connection<B>>, W: Write>(
+/// Performs the action at the desk of the office in the file at this path, or prints why there is no office. Returns the exit
+/// status. Opens the file once, and closes it as its desk left it. If there is no office, opens no list and listens on no port.
+pub fn with_office<B: Alter, F: Files<B> + Closes<Connection<B>>, L: Lists, P: Ports, W: Write>(
     alloc: Global,
     files: &mut F,
     path: &str,
-    words: &[&str],
-    output: &mut Watched<W>,
-) -> u8
-    requires fresh_output { IsFresh output.old }
-    ensures no_wasted_write { StopsAtFailure output.old output.new }
-    ensures does { let access = file_access B.Store F.opens F.finds F.fails F.closes in
-        DoesInFile access files.old path.now (map (λ word. word.now) words.now) result files.new
-        (output_of W.contents output.old) (output_of W.contents output.new) }
-{
-    let mut found = find_in(alloc, files, path);
-    let status = do_at(alloc, &mut found, words, output);
-    close(files, found);
-    status
-}
-
-/// Imports the list at the path `list` under this label into the office in the file at this path, or prints why there is no
-/// office. Returns the exit status. Opens the office's file once, and closes it as its desk left it. If there is an office,
-/// opens the list once, and closes it as its import left it.
-pub fn import_in_file<B: Alter, F: Files<B> + Closes<Connection<B>>, L: Lists, W: Write>(
-    alloc: Global,
-    files: &mut F,
-    path: &str,
+    action: Action,
     lists: &mut L,
-    kind: ListKind,
-    label: Label,
-    list: &str,
-    output: &mut Watched<W>,
-) -> u8
-    requires fresh_output { IsFresh output.old }
-    ensures no_wasted_write { StopsAtFailure output.old output.new }
-    ensures imports { let list_access = list_access_of L.opens L.fails L.closes L.List.remaining in
-        let access = file_access B.Store F.opens F.finds F.fails F.closes in
-        ImportsInFile access list_access files.old path.now lists.old kind label list.now result
-        files.new lists.new
-        (output_of W.contents output.old) (output_of W.contents output.new) }
-{
-    let mut found = find_in(alloc, files, path);
-    let status = import_at(alloc, &mut found, lists, kind, label, list, output);
-    close(files, found);
-    status
-}
-
-/// Writes an export of the office in the file at this path, or prints why there is no office. Returns the exit status.
-/// Opens the file once, and closes it as its desk left it.
-pub fn export_in_file<B: Alter, F: Files<B> + Closes<Connection<B>>, W: Write>(
-    alloc: Global,
-    files: &mut F,
-    path: &str,
-    kind: ExportKind,
-    output: &mut Watched<W>,
-) -> u8
-    requires fresh_output { IsFresh output.old }
-    ensures no_wasted_write { StopsAtFailure output.old output.new }
-    ensures exports { let access = file_access B.Store F.opens F.finds F.fails F.closes in
-        ExportsInFile access files.old path.now kind result files.new
-        (output_of W.contents output.old) (output_of W.contents output.new) }
-{
-    let mut found = find_in(alloc, files, path);
-    let status = export_at(alloc, &mut found, kind, output);
-    close(files, found);
-    status
-}
-
-/// Serves `count` connections of residents on this port with the office in the file at this path, or prints why there is no
-/// office. Returns the exit status. Opens the file once, and closes it as its desk left it.
-pub fn serve_in_file<B: Alter, F: Files<B> + Closes<Connection<B>>, P: Ports, W: Write>(
-    alloc: Global,
-    files: &mut F,
-    path: &str,
     ports: &mut P,
-    port: u16,
-    count: u32,
     output: &mut Watched<W>,
 ) -> u8
     requires fresh_output { IsFresh output.old }
     ensures no_wasted_write { StopsAtFailure output.old output.new }
-    ensures serves { let access = file_access B.Store F.opens F.finds F.fails F.closes in
+    ensures performs { let access = file_access B.Store F.opens F.finds F.fails F.closes in
+        let list_access = list_access_of L.opens L.fails L.closes L.List.remaining in
         let network = network_of
         P.Socket.Stream.reads P.Socket.Stream.writes P.Socket.Stream.flushes
         P.Socket.Stream.remaining P.Socket.Stream.contents
         P.Socket.accepts P.Socket.closes P.listens P.fails P.stops in
-        ServesInFile access network files.old path.now ports.old port count result
-        files.new ports.new
+        PerformsInFile access list_access network files.old path.now (action_of action.entry) lists.old ports.old
+        result files.new lists.new ports.new
         (output_of W.contents output.old) (output_of W.contents output.new) }
 {
-    let mut found = find_in(alloc, files, path);
-    let status = serve_at(alloc, &mut found, ports, port, count, output);
-    close(files, found);
-    status
+    match find_in(alloc, files, path) {
+        Ok(mut desk) => {
+            let status = perform(alloc, &mut desk, action, lists, ports, output);
+            close(files, Ok(desk));
+            status
+        }
+        Err(fault) => refuse_desk(alloc, fault, output),
+    }
 }

@@ -6,8 +6,8 @@ use room_types::Watched;
 use std::fs::File;
 use std::io::Read;
 
-/// A store of lists: opens a list by its path, and closes it. Each call is a relation between the states of the store;
-/// generic code can establish one only by making that call.
+/// A store of lists: opens a list by its path, and closes it. The contract of each call is a relation between the
+/// states of the store before and after it. Generic code can establish that relation only by making the call.
 pub trait Lists {
     ghost use Rattle.std.specs.Prelude.{IfOk, OnErr, ⊤};
     ghost use Rattle.office_cli.specs.ListAccess.{IsUnread};
@@ -40,15 +40,15 @@ pub trait Lists {
         ensures { closes self.old list self.new };
 }
 
-/// The system's files, about whose contents nothing is known. Only this type holds the runtime, so code that is generic in
-/// the lists can't reach others.
+/// The files of the system. The contracts do not say what they contain. Only this type holds the runtime, so code that
+/// is generic in the lists can't reach other files.
 #[derive(Drop)]
 pub struct SystemLists<'a> {
     rt: &'a HostRuntime,
 }
 
 impl<'a> SystemLists<'a> {
-    /// The system's files, none of them open.
+    /// Returns the files of the system, with none open.
     pub fn new(rt: &'a HostRuntime) -> Self {
         SystemLists { rt }
     }

@@ -8,7 +8,7 @@ ghost use Rattle.office_lines.specs.Rehearsals.{Rehearses};
 ghost use Rattle.office_state.specs.declared.office.Office.{Office as AnyOffice};
 ghost use Rattle.office_store.specs.Desk.{HandlesAt, Shows, Represents};
 ghost use Rattle.office_store.specs.LawfulSteps.{HandlesLawfully};
-ghost use Rattle.office_tables.specs.Steps.{Follows};
+ghost use Rattle.office_schema.specs.tables.Steps.{Follows};
 ghost use Rattle.room_types.specs.Streams.{input_of, output_of};
 ghost use Rattle.room_types.specs.Watched.{IsFresh, StopsAtEnd, StopsAtFailure, watched_reads};
 
@@ -48,8 +48,8 @@ pub fn rehearse<S: Alter, R: Read, W: Write>(
     rehearse_with(alloc, desk, input, output)
 }
 
-/// The same over a database in memory, which needs no premise about a disk: the responses are those of the office that the
-/// desk shows, and the desk shows the office after the lines that were handled.
+/// Does what `rehearse` does, over a database in memory. This needs no premise about a disk: the responses are those of
+/// the office that the desk shows, and the desk then shows the office after the lines that were handled.
 pub fn rehearse_in_memory<R: Read, W: Write>(
     alloc: Global,
     desk: &mut Desk<MemStore>,

@@ -64,7 +64,7 @@ pub const PORT_LIMIT: u32 = 65_535;
 /// The greatest number of connections that are served.
 pub const CONNECTION_COUNT_LIMIT: u32 = 1_000_000;
 
-/// The program with its subcommands.
+/// Returns the program with its subcommands.
 pub fn rooms_command<'a>(alloc: Global) -> Result<Command<'a>, AllocError>
     ensures { IfOk result (λ command. app_of command ≡ usage) }
 {
@@ -194,7 +194,7 @@ fn number<'a>(alloc: Global, name: &'a str, least: u32, most: u32) -> Arg<'a>
     option(alloc, name).value_parser(clap::value_parser!(u32).range(numbers))
 }
 
-// The program without its subcommands: one is required, and there is no help.
+// Returns the program without its subcommands. One subcommand is required, and there is no help.
 fn plain_command<'a>(alloc: Global) -> Command<'a>
     ensures { IsCommand plain_usage result }
 {

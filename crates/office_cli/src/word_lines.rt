@@ -10,7 +10,7 @@ use rand_core::SeedableRng;
 use room_types::{OutOfMemory, Word};
 use std::alloc::Global;
 
-/// Returns the first `count` words of the generator with this seed, one on a line. With a count of 0 it does not fail.
+/// Returns the first `count` words of the generator with this seed, one on each line. Never fails if `count` is 0.
 pub fn words_text(alloc: Global, seed: Seed, count: usize) -> Result<String, OutOfMemory>
     ensures text { IfOk result (λ text. string_bytes text ≡ words_text seed count) }
     ensures memory { OnErr result (0 < count) }
@@ -27,7 +27,7 @@ fn words_of_seed(alloc: Global, seed: Seed, count: usize) -> Result<Vec<Word>, O
     words_from(alloc, &mut generator, count)
 }
 
-// Each word on a line.
+// Returns the words, one on each line.
 fn lines_of(alloc: Global, words: &[Word]) -> Result<String, OutOfMemory>
     ensures text { IfOk result (λ text. string_bytes text ≡ flat_map word_line words.now) }
     ensures memory { OnErr result (0 < length words.now) }

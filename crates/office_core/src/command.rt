@@ -79,7 +79,8 @@ pub enum Command {
     Run,
     /// Shows each participant the result.
     Publish,
-    /// Moves each participant whose home changes to the new room, moves out those who leave the college, and ends the round.
+    /// Moves each participant with a new room into that room, moves out those who leave the college, and ends the
+    /// round.
     Settle,
     /// Cancels the round.
     Cancel,
@@ -94,7 +95,7 @@ pub enum Command {
         person: PersonId,
         grade: Grade,
     },
-    /// Records that a person leaves the college after the round, which gives away the person's room.
+    /// Records that a person leaves the college after the round and gives away the room.
     Going {
         person: PersonId,
     },

@@ -18,8 +18,8 @@ pub enum Query {
     Rooms,
     /// The people by identifier.
     People,
-    /// The last round's number and the phase, how many people there are, how many have withdrawn, and how many leave the
-    /// college.
+    /// The number of the last round, the phase, and three counts: all people, those who have withdrawn, and those who
+    /// leave the college.
     Round,
     /// The participants in the drawn order, with their lottery numbers and grades.
     Order,
@@ -27,7 +27,7 @@ pub enum Query {
     Results,
     /// The moves of the round of this number.
     Moves(u16),
-    /// What the person of this key sees.
+    /// What the owner of this key sees.
     Me(Key),
     /// What another list would give a participant.
     WhatIf(PersonId, Choices),

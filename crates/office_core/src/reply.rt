@@ -81,7 +81,8 @@ pub enum Reply {
     Rooms(Listing<RoomRow>),
     /// The people, by identifier.
     People(Listing<PersonRow>),
-    /// The last round, how many people there are, how many of them have withdrawn, and how many leave the college.
+    /// The number of the last round, the phase, and three counts: all people, those who have withdrawn, and those who
+    /// leave the college.
     Round {
         number: u16,
         phase: Phase,
@@ -95,7 +96,7 @@ pub enum Reply {
     Results(Listing<ResultRow>),
     /// The moves of a round, by identifier.
     Moves(Listing<Move>),
-    /// What the person of a key sees.
+    /// What the owner of a key sees.
     Me(Standing),
     /// The room that the other list would give; `None` for no room.
     WouldGet(Option<RoomCode>),

@@ -2,13 +2,13 @@
 use Rattle.std.specs.Prelude.{◌≡◌, ◌≢◌, ◌⊎◌, ℕ, List, IfErr, Result}
 use Rattle.sqlite.specs.Held.{Held, state}
 use Rattle.sqlite_trees.specs.declared.store.Store.{Ghosts}
-use Rattle.office_create.specs.Names.{NameIsTaken}
+use Rattle.office_db.specs.creation.Names.{NameIsTaken}
 use Rattle.office_file.specs.Access.{FileAccess}
 use Rattle.office_store.specs.Desk.{DeskState}
 use Rattle.office_store.specs.declared.desk.faults.DeskFault.{DeskFault}
 use Rattle.office_store.specs.declared.desk.faults.DeskFault.TheVariants.{AlreadyThere, Unavailable}
-use Rattle.office_tables.specs.Schema.{no_schema}
-use Rattle.office_tables.specs.Steps.{Follows, IsIntact}
+use Rattle.office_schema.specs.tables.Schema.{no_schema}
+use Rattle.office_schema.specs.tables.Steps.{Follows, IsIntact}
 
 module _ {S : Type 0} (g : Ghosts S) where
   -- The database of a connection is refused with this fault, and leaves the other connection. The fault is `AlreadyThere` if

@@ -5,20 +5,20 @@ use Rattle.sqlite.specs.State.{HasCleanDisk}
 use Rattle.sqlite_trees.specs.declared.store.Store.{Ghosts}
 use Rattle.office_state.specs.declared.office.Office.{Office}
 use Rattle.office_file.specs.Access.{FileAccess}
-use Rattle.office_load.specs.Finding.{AreDeclared, AreWhole, names_round}
-use Rattle.office_load.specs.Layout.{layout_in}
-use Rattle.office_load.specs.FirstTables.{BeginsOffice, begins_office}
-use Rattle.office_migrate.specs.Causes.{AreRowsAsStated, HoldsLayoutVersion, StatesVersion, HoldsEarlierFirst}
-use Rattle.office_migrate.specs.Names.{uses_missing_name}
-use Rattle.office_migrate.specs.Versions.{IsEarlierLayout, IsNotEarlier, IsOfVersion}
+use Rattle.office_db.specs.loading.Finding.{AreDeclared, AreWhole, names_round}
+use Rattle.office_db.specs.loading.Layout.{layout_in}
+use Rattle.office_db.specs.loading.FirstTables.{BeginsOffice, begins_office}
+use Rattle.office_db.specs.migration.Causes.{AreRowsAsStated, HoldsLayoutVersion, StatesVersion, HoldsEarlierFirst}
+use Rattle.office_db.specs.migration.Names.{uses_missing_name}
+use Rattle.office_db.specs.migration.Versions.{IsEarlierLayout, IsNotEarlier, IsOfVersion}
 use Rattle.office_store.specs.Desk.{DeskState, Shows}
 use Rattle.office_store.specs.Migrating.{IsFaultOfMigration, MayNotMigrate, MayReturnFault}
 use Rattle.office_store.specs.declared.desk.faults.DeskFault.{DeskFault}
 use Rattle.office_store.specs.declared.desk.faults.DeskFault.TheVariants.{AlreadyThere, NotAnOffice, OtherVersion, Unavailable}
-use Rattle.office_tables.specs.Layouts.{version_of}
-use Rattle.office_tables.specs.Steps.{Follows, IsIntact}
-use Rattle.office_tables.specs.Tables.{HoldsOfficeIn}
-use Rattle.office_tables.specs.declared.layouts.Layout.{Layout}
+use Rattle.office_schema.specs.tables.Layouts.{version_of}
+use Rattle.office_schema.specs.tables.Steps.{Follows, IsIntact}
+use Rattle.office_schema.specs.tables.Tables.{HoldsOfficeIn}
+use Rattle.office_schema.specs.declared.tables.layouts.Layout.{Layout}
 
 module _ {S : Type 0} (g : Ghosts S) where
   -- The database of the connection held the rows of an office of an earlier version, and the desk shows that office, if the

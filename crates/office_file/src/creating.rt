@@ -12,14 +12,14 @@ use office_store::{Desk, DeskFault, Unavailable};
 use sqlite::{Alter, Connection};
 use std::alloc::Global;
 
-/// Opens the file at this path, and creates a desk that makes the tables of the empty office in it. Opens the file once.
-/// Creates a missing file.
+/// Opens the file at this path, creates the tables of the empty office in it, and returns a desk over that office.
+/// Opens the file once. Creates a missing file.
 ///
 /// # Errors
 ///
-/// `AlreadyThere` if and only if a table, an index, a view or a trigger of the opened database has one of the ten names.
-/// `Unavailable` otherwise: the file was not opened, it has other tables, the disk failed, or memory ran out. The opened
-/// connection is then closed, with its tables unchanged.
+/// `AlreadyThere` if and only if a table, an index, a view or a trigger of the opened database has one of the ten
+/// names. `Unavailable` otherwise: the file was not opened, it has other tables, the disk failed, or memory ran out. On
+/// an error the opened connection is closed, with its tables unchanged.
 pub fn create_in<B: Alter, F: Files<B> + Closes<Connection<B>>>(
     alloc: Global,
     files: &mut F,

@@ -1,4 +1,4 @@
-//! Where files of offices are.
+//! Places with files of offices.
 ghost use Rattle.std.specs.Prelude.{⊤};
 ghost use Rattle.sqlite_wal.specs.Files.{image_at};
 ghost use Rattle.office_file.specs.Files.{IsOpenedOver};
@@ -7,17 +7,19 @@ use crate::opening::{FileConnection, open_file, open_present_file};
 use office_store::Unavailable;
 use sqlite::{Alter, Connection, FileFrom, FileStore, Start};
 
-/// A place with files of offices: each is opened by its path, as a database over the store `B`. Each call is a relation between
-/// the states of the place. Generic code can establish one only by that call.
+/// A place with files of offices: each is opened by its path, as a database over the store `B`. The contract of each
+/// call is a relation between the states of the place before and after it. Generic code can establish that relation
+/// only by making the call.
 pub trait Files<B: Alter> {
     ghost use Rattle.std.specs.Prelude.{◌≡◌, false, List, ℕ, IfOk, OnErr, ⊤};
     ghost use Rattle.sqlite.specs.Held.{Held};
 
-    /// Opening the file of this path, which was created if it was missing, gave this connection and led from the old state to
-    /// the new one.
+    /// Opening the file of this path, which was created if it was missing, returned this connection and led from the
+    /// old state to the new one.
     ghost opens: { Self → List ℕ → Held B → Self → Type 0 } = { λ _ _ _ _. ⊤ };
 
-    /// Opening the file of this path, which was there, gave this connection and led from the old state to the new one.
+    /// Opening the file of this path, which was there, returned this connection and led from the old state to the new
+    /// one.
     ghost finds: { Self → List ℕ → Held B → Self → Type 0 } = { λ _ _ _ _. ⊤ };
 
     /// Opening the file of this path failed and led from the old state to the new one.
@@ -56,22 +58,23 @@ pub trait Closes<C> {
         ensures { closes self.old connection self.new };
 }
 
-/// The files of the system, of which one is opened. That file and its log held what `S` represents. Which file a path names is
-/// not known. Only this type has the runtime, so code that is generic in the files cannot reach any other.
+/// The files of the system, of which only one can be opened. That file and its log held what `S` represents. The
+/// contracts do not say which file a path names. Only this type has the runtime, so code that is generic in the files
+/// cannot reach any other.
 #[derive(Drop)]
 pub struct SystemFiles<'a, S: Start> {
     opening: Option<(&'a HostRuntime, S)>,
 }
 
 impl<'a, S: Start> SystemFiles<'a, S> {
-    /// Creates the files of the system, of which none is opened yet.
+    /// Returns the files of the system, of which none is opened yet.
     pub fn new(rt: &'a HostRuntime, start: S) -> Self {
         SystemFiles {
             opening: Some((rt, start)),
         }
     }
 
-    // Creates the files of the system, of which none can be opened: for closing alone.
+    // Returns the files of the system, of which none can be opened: for closing alone.
     pub(crate) fn unopened() -> Self {
         SystemFiles { opening: None }
     }

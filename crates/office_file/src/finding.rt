@@ -8,14 +8,15 @@ use office_store::{Desk, DeskFault, Unavailable};
 use sqlite::{Alter, Connection};
 use std::alloc::Global;
 
-/// Opens a desk over the office that the file at this path holds. Its tables have to be those of the version of this program,
-/// in this program's order or in the documented one. Opens the file once. Does not create a missing file.
+/// Opens a desk over the office that the file at this path holds. The tables must be those of the version of this
+/// program, in this program's order or in the documented one. Opens the file once. Does not create a missing file.
 ///
 /// # Errors
 ///
 /// `NotAnOffice` and `OtherVersion` only for the database that was opened, as `Desk::adopt` returns them. `Unavailable`
-/// otherwise: the file was not opened, its schema is not exactly the tables of an office and the row of table `round` holds no
-/// other version, the disk failed, or memory ran out. The opened connection is then closed, with its tables unchanged.
+/// otherwise: the file was not opened, its schema is not exactly the tables of an office and no other version was read
+/// from the row of table `round`, the disk failed, or memory ran out. On an error the opened connection is closed, with
+/// its tables unchanged.
 pub fn find_in<B: Alter, F: Files<B> + Closes<Connection<B>>>(
     alloc: Global,
     files: &mut F,

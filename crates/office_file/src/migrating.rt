@@ -13,9 +13,9 @@ use std::alloc::Global;
 ///
 /// # Errors
 ///
-/// `NotAnOffice`, `OtherVersion` and `AlreadyThere` only for the database that was opened, as `Desk::migrate` returns them.
-/// `Unavailable` otherwise: the file was not opened, its schema is not the tables of an office, the disk failed, or memory ran
-/// out. The opened connection is then closed, with its tables unchanged.
+/// `NotAnOffice`, `OtherVersion` and `AlreadyThere` only for the database that was opened, as `Desk::migrate` returns
+/// them. `Unavailable` otherwise: the file was not opened, its schema is not the tables of an office, the disk failed,
+/// or memory ran out. On an error the opened connection is closed, with its tables unchanged.
 pub fn migrate_in<B: Alter, F: Files<B> + Closes<Connection<B>>>(
     alloc: Global,
     files: &mut F,

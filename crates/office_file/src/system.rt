@@ -85,7 +85,7 @@ pub fn find_over<S: Start>(rt: &HostRuntime, path: &str, start: S) -> Result<Fil
     find_in(rt.alloc(), &mut files, path)
 }
 
-/// Opens a desk over the office of an earlier version that the file at this path holds, and makes its tables anew in the
+/// Opens a desk over the office of an earlier version that the file at this path holds, and recreates its tables in the
 /// version of this program. Does not create a missing file.
 ///
 /// # Errors

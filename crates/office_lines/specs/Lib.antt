@@ -4,3 +4,5 @@ pub mod Rehearsals
 pub mod Runs
 pub mod Printing
 pub mod SingleLines
+pub mod parse
+pub mod render

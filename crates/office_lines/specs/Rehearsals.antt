@@ -6,7 +6,7 @@ use Rattle.std.specs.Io.KnownBytes.{Consumes, IsAtEnd}
 use Rattle.room_types.specs.Watched.{counted}
 use Rattle.office_store.specs.declared.requests.Answer.{Answer}
 use Rattle.office_store.specs.declared.requests.Request.{Request}
-use Rattle.office_texts.specs.declared.response.Response.{Response}
+use Rattle.office_lines.specs.declared.render.response.Response.{Response}
 use Rattle.office_lines.specs.declared.ending.Ending.{Ending}
 use Rattle.office_lines.specs.declared.ending.Ending.TheVariants.{Ended, ReadFault, WriteFault, NoMemory}
 use Rattle.office_lines.specs.Lines.{is_short, line_limit, chunk_limit, read_limit, init, lines_of, ended_lines, last_part}

@@ -4,12 +4,12 @@ use Rattle.std.specs.List.{flat_map}
 use Rattle.office_store.specs.declared.requests.Request.{Request}
 use Rattle.office_store.specs.declared.requests.Answer.{Answer}
 use Rattle.office_store.specs.declared.requests.Answer.TheVariants.{Unavailable}
-use Rattle.office_words.specs.declared.parsing.ParsedLine.{ParsedLine}
-use Rattle.office_words.specs.declared.parsing.ParsedLine.TheVariants.{Ignored, Valid, Invalid}
-use Rattle.office_texts.specs.declared.response.Response.{Response}
-use Rattle.office_texts.specs.declared.response.Response.TheVariants.{Nothing, Answered, NotUnderstood}
-use Rattle.office_words.specs.Parsing.{begins_request, parsed_line}
-use Rattle.office_texts.specs.Texts.{is_constant, text_of, exit_status}
+use Rattle.office_lines.specs.declared.parse.line.ParsedLine.{ParsedLine}
+use Rattle.office_lines.specs.declared.parse.line.ParsedLine.TheVariants.{Ignored, Valid, Invalid}
+use Rattle.office_lines.specs.declared.render.response.Response.{Response}
+use Rattle.office_lines.specs.declared.render.response.Response.TheVariants.{Nothing, Answered, NotUnderstood}
+use Rattle.office_lines.specs.parse.Parsing.{begins_request, parsed_line}
+use Rattle.office_lines.specs.render.Texts.{is_constant, text_of, exit_status}
 
 module _ {H : Type 0} (handles : H → Request → Answer → H → Type 0) where
   -- `Answers old parsed begins response new`: in state `old`, a handler may give this response to a line parsed so, and be in

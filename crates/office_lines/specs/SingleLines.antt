@@ -3,13 +3,13 @@ use Rattle.std.specs.Prelude.{◌≡◌, ℕ, Bool, ◌<◌, ◌⊎◌, true, fa
 use Rattle.std.specs.List.{list_any}
 use Rattle.office_store.specs.declared.requests.Answer.{Answer}
 use Rattle.office_store.specs.declared.requests.Request.{Request}
-use Rattle.office_texts.specs.declared.response.Response.{Response}
-use Rattle.office_texts.specs.declared.response.Response.TheVariants.{NotUnderstood}
+use Rattle.office_lines.specs.declared.render.response.Response.{Response}
+use Rattle.office_lines.specs.declared.render.response.Response.TheVariants.{NotUnderstood}
 use Rattle.office_lines.specs.Lines.{is_line_end, is_short}
 use Rattle.office_lines.specs.Runs.{Step}
 use Rattle.office_lines.specs.Printing.{Prints, PrintsUnavailable}
-use Rattle.office_texts.specs.Texts.{is_constant, exit_status, text_of}
-use Rattle.office_words.specs.Values.{joined}
+use Rattle.office_lines.specs.render.Texts.{is_constant, exit_status, text_of}
+use Rattle.office_lines.specs.parse.Values.{joined}
 use Rattle.room_types.specs.Streams.{Output}
 use Rattle.room_types.specs.Texts.{Text}
 

@@ -3,19 +3,19 @@ ghost use Rattle.std.specs.Prelude.{◌≡◌, map};
 ghost use Rattle.room_types.specs.Streams.{output_of};
 ghost use Rattle.room_types.specs.Watched.{IsFresh, StopsAtFailure};
 ghost use Rattle.office_lines.specs.SingleLines.{DoesText, DoesWords, PrintsResponse, has_newline};
-ghost use Rattle.office_texts.specs.Texts.{ResponseAscends};
+ghost use Rattle.office_lines.specs.render.Texts.{ResponseAscends};
 
 use crate::handling::handle_line;
 use crate::limits::LINE_LIMIT;
 use crate::print::{print, print_unavailable};
+use crate::render::{NOT_UNDERSTOOD, Response, UNAVAILABLE, exit_status, text_of};
 use office_store::Handler;
-use office_texts::{NOT_UNDERSTOOD, Response, UNAVAILABLE, exit_status, text_of};
 use room_types::Watched;
 use std::alloc::Global;
 use std::io::Write;
 
-/// Handles the words, joined by single spaces, as one line, and prints its response. Returns the exit status. Joining two
-/// or more words allocates; if that fails, it prints `unavailable` and handles nothing.
+/// Handles the words, joined by single spaces, as one line, and prints its response. Returns the exit status. Joining
+/// two or more words allocates; if the allocation fails, prints `unavailable` and handles nothing.
 pub fn do_words<H: Handler, W: Write>(
     alloc: Global,
     handler: &mut H,
@@ -65,7 +65,7 @@ pub fn do_line<H: Handler, W: Write>(
     print_response(alloc, &response, output)
 }
 
-// Whether the text contains a line feed.
+// Returns whether the text contains a line feed.
 fn has_newline(text: &[u8]) -> bool
     ensures { result ≡ has_newline text.now }
 {

@@ -16,7 +16,7 @@ pub enum Ending {
 /// The exit status of a rehearsal, and how it ended.
 #[derive(Clone, Copy, Debug, PartialEq, Eq)]
 pub struct Rehearsed {
-    /// The greatest status of the lines, 0 if there are none; 3 on every ending but `Ended`.
+    /// The greatest status of the lines, or 0 without lines, if the ending is `Ended`; otherwise 3.
     pub status: u8,
     pub ending: Ending,
 }

@@ -1,10 +1,10 @@
 //! Handling one line.
 ghost use Rattle.office_lines.specs.Runs.{Step};
-ghost use Rattle.office_texts.specs.Texts.{ResponseAscends};
+ghost use Rattle.office_lines.specs.render.Texts.{ResponseAscends};
 
+use crate::parse::{ParsedLine, parse_line};
+use crate::render::Response;
 use office_store::{Answer, Handler};
-use office_texts::Response;
-use office_words::{ParsedLine, parse_line};
 use std::alloc::Global;
 
 /// Parses a line, passes its request, if any, to the handler, and returns the response. If parsing runs out of memory, the

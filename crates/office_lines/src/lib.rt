@@ -5,8 +5,10 @@ pub mod do_line;
 pub mod ending;
 pub mod handling;
 pub mod limits;
+pub mod parse;
 pub mod print;
 pub mod rehearse;
+pub mod render;
 mod session;
 
 pub use crate::ending::{Ending, Rehearsed};

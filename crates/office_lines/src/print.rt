@@ -3,7 +3,7 @@ ghost use Rattle.room_types.specs.Streams.{output_of};
 ghost use Rattle.room_types.specs.Watched.{StopsAtFailure};
 ghost use Rattle.office_lines.specs.Printing.{Prints, PrintsUnavailable};
 
-use office_texts::UNAVAILABLE;
+use crate::render::UNAVAILABLE;
 use room_types::Watched;
 use room_types::send::send;
 use std::io::Write;

@@ -10,17 +10,17 @@ ghost use Rattle.office_lines.specs.Inner.Sessions.{InputHandled, Stopped, OnlyW
 
 use crate::ending::{Ending, Rehearsed};
 use crate::limits::{CHUNK_LIMIT, READ_LIMIT};
+use crate::render::UNAVAILABLE;
 use crate::session::Session;
 use office_store::Handler;
-use office_texts::UNAVAILABLE;
 use room_types::Watched;
 use std::alloc::Global;
 use std::io::{Read, Write};
 
-/// Handles each line of the input and writes the responses, which it flushes at the end of the input. Requests that were
-/// handled take effect whatever the ending. Besides what the handler allocates, it allocates only for one line, its request
-/// and its response. It handles all lines of a chunk before it reads the next. It does not use the input or the output
-/// again after a failure, nor the input after its end.
+/// Handles each line of the input and writes the responses. Flushes the output at the end of the input. Requests that
+/// were handled take effect whatever the ending. Besides what the handler allocates, it allocates only for one line,
+/// its request and its response. It handles all lines of a chunk before it reads the next. It does not use the input or
+/// the output again after a failure, nor the input after its end.
 pub fn rehearse<H: Handler, R: Read, W: Write>(
     alloc: Global,
     handler: &mut H,

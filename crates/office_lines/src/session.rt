@@ -5,8 +5,8 @@ ghost use Rattle.office_lines.specs.Lines.{line_limit};
 use crate::ending::Ending;
 use crate::handling::handle_line;
 use crate::limits::LINE_LIMIT;
+use crate::render::{exit_status, text_of};
 use office_store::Handler;
-use office_texts::{exit_status, text_of};
 use room_types::Watched;
 use room_types::send::send;
 use std::alloc::Global;
@@ -27,7 +27,7 @@ impl Session {
     ghost use Rattle.room_types.specs.Watched.{watched_failed, watched_flushes, watched_pending, counted, StopsAtFailure};
     ghost use Rattle.office_lines.specs.Inner.Sessions.{Answered, Broken, Finished, Handled, Halted, OnlyWhereFailed, Unfinished, state};
 
-    /// A session before any input.
+    /// Creates the session before any input.
     pub fn new(alloc: Global) -> Self
         ensures line { result.partial_line.items ≡ [] }
         ensures sent { result.sent ≡ 0 }
@@ -140,7 +140,7 @@ impl Session {
         Ok(())
     }
 
-    // Handles the line that the end of the input ends, unless it is empty.
+    // Handles the last line, which no line feed ended, unless it is empty.
     fn answer_rest<H: Handler, W: Write>(
         &mut self,
         alloc: Global,
@@ -166,7 +166,7 @@ impl Session {
         self.answer_line(alloc, handler, output)
     }
 
-    /// Handles the line that the end of the input ends, unless it is empty, and flushes the output.
+    /// Handles the last line, which no line feed ended, unless it is empty. Then flushes the output.
     pub fn finish<H: Handler, W: Write>(
         &mut self,
         alloc: Global,

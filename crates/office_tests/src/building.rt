@@ -1,7 +1,7 @@
 //! Values and requests as tests write them. A text that is not a value ends the test.
 use office_core::{Command, Office};
+use office_lines::parse::{ParsedLine, parse_line};
 use office_store::{Answer, Desk, Request};
-use office_words::{ParsedLine, parse_line};
 use room_types::{Choices, Grammar, Phase, RoomCode, Text};
 use sqlite::MemStore;
 use std::alloc::Global;

@@ -1,9 +1,9 @@
 //! A test that stores two batches of changes, of all kinds, in a database in memory, with enough memory.
 use crate::asserting::assert_same;
 use crate::building::{choices, text};
-use office_changes::store_changes;
 use office_core::{Change, Office, apply};
-use office_create::create;
+use office_db::changes::store_changes;
+use office_db::creation::create;
 use room_types::{Grade, ListKind, Listing, Move, Phase, Wave, Word};
 use sqlite::{Connection, MemStore};
 use std::alloc::Global;

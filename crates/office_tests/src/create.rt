@@ -1,17 +1,19 @@
 //! Tests of creating an office, and of each statement over its tables, with enough memory.
 use crate::asserting::assert_same;
 use crate::building::text;
-use office_create::{CreateFault, create};
-use office_tables::choices::{add_choice, drop_choices};
-use office_tables::going::add_going;
-use office_tables::grades::{add_grade, drop_grade};
-use office_tables::moves::add_move;
-use office_tables::people::{add_person, clear_withdrawn, drop_person, set_home, set_withdrawn};
-use office_tables::results::add_result;
-use office_tables::rooms::{add_room, set_shut};
-use office_tables::round_tables::clear_round_tables;
-use office_tables::rounds::set_round;
-use office_tables::words::add_word;
+use office_db::creation::{CreateFault, create};
+use office_schema::tables::choices::{add_choice, drop_choices};
+use office_schema::tables::going::add_going;
+use office_schema::tables::grades::{add_grade, drop_grade};
+use office_schema::tables::moves::add_move;
+use office_schema::tables::people::{
+    add_person, clear_withdrawn, drop_person, set_home, set_withdrawn,
+};
+use office_schema::tables::results::add_result;
+use office_schema::tables::rooms::{add_room, set_shut};
+use office_schema::tables::round_tables::clear_round_tables;
+use office_schema::tables::rounds::set_round;
+use office_schema::tables::words::add_word;
 use room_types::{Grade, Move, PersonId, Phase, RoomCode, Wave, Word};
 use sqlite::{Connection, Error, MemStore, Transaction};
 use std::alloc::Global;

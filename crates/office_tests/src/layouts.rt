@@ -1,5 +1,5 @@
 //! The documented statements that create the tables of an office, and the orders in which such tables are created.
-use office_tables::layouts::Layout;
+use office_schema::tables::layouts::Layout;
 use sqlite::{Connection, MemStore};
 use std::alloc::Global;
 use std::process::Abort;

@@ -1,8 +1,8 @@
 //! Tests of loading rows that the documented statements wrote, in each order of tables, and of rows that are no office's.
 use crate::layouts::tables_made;
 use office_core::Office;
-use office_load::held;
-use office_tables::layouts::Layout;
+use office_db::loading::held;
+use office_schema::tables::layouts::Layout;
 use room_types::Phase;
 use sqlite::{Connection, MemStore};
 use std::alloc::Global;

@@ -1,6 +1,6 @@
 //! Tests of each reader once, with enough memory, on rows that are not in order.
 use crate::building::{optional, text};
-use office_rows::{
+use office_schema::rows::{
     ChoiceRecord, OfficeRecords, PersonRecord, RoundRecord, read_choices, read_keys, read_moves,
     read_office, read_people, read_round, read_table,
 };

@@ -3,9 +3,9 @@ ghost use Rattle.std.specs.Prelude.{All, IfOk};
 ghost use Rattle.office_store.specs.Requests.{AnswerAscends};
 
 use crate::scripts::{rehearsed, rehearsed_at};
+use office_lines::parse::{ParsedLine, parse_line};
+use office_lines::render::{refusal_text, reply_text};
 use office_store::{Answer, Desk, Request};
-use office_texts::{refusal_text, reply_text};
-use office_words::{ParsedLine, parse_line};
 use room_types::OutOfMemory;
 use sqlite::MemStore;
 use std::alloc::{AllocError, Global};

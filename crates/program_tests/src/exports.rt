@@ -2,9 +2,9 @@
 use crate::asserting::same;
 use crate::failing::FailingWriter;
 use crate::scripts::rehearsed_at;
-use office_cli::at_desk::export_at;
+use office_cli::exporting::export_at;
 use office_lists::ExportKind;
-use office_store::{Desk, DeskFault};
+use office_store::Desk;
 use room_types::Watched;
 use sqlite::MemStore;
 use std::alloc::Global;
@@ -69,44 +69,42 @@ const EXPORTS: [(&[&str], &[(ExportKind, &str)]); 4] = [
 ];
 
 // A new desk in memory after these lines.
-fn desk_after(alloc: Global, texts: &[&str]) -> Result<Desk<MemStore>, DeskFault> {
-    let Ok(mut desk) = Desk::in_memory(alloc) else {
-        return Err(DeskFault::Unavailable);
-    };
+fn desk_after(alloc: Global, texts: &[&str]) -> Result<Desk<MemStore>, Fail> {
+    let mut desk = Desk::in_memory(alloc)?;
     for text in texts {
         rehearsed_at(alloc, &mut desk, text.as_bytes());
     }
     Ok(desk)
 }
 
-// Asserts the status and the output of an export.
+// Asserts the output of an export, and the status 0.
 fn assert_export(
     test: &impl Abort,
     alloc: Global,
-    found: &mut Result<Desk<MemStore>, DeskFault>,
+    desk: &mut Desk<MemStore>,
     kind: ExportKind,
-    wanted: (u8, &str),
+    wanted: &str,
 ) {
     let mut output = Watched::new(Vec::new(alloc));
-    let status = export_at(alloc, found, kind, &mut output);
-    let (wanted_status, text) = wanted;
+    let status = export_at(alloc, desk, kind, &mut output);
     same(
         test,
         &(status, output.into_inner().as_slice()),
-        &(wanted_status, text.as_bytes()),
-        text,
+        &(0, wanted.as_bytes()),
+        wanted,
     );
 }
 
 #[test]
-fn exports_moves_rooms_people_and_grades(rt: HostRuntime) {
+fn exports_moves_rooms_people_and_grades(rt: HostRuntime) -> Result<(), Fail> {
     let alloc = rt.alloc();
     for (texts, wanted) in EXPORTS {
-        let mut found = desk_after(alloc, texts);
+        let mut desk = desk_after(alloc, texts)?;
         for (kind, text) in wanted {
-            assert_export(&rt, alloc, &mut found, *kind, (0, text));
+            assert_export(&rt, alloc, &mut desk, *kind, text);
         }
     }
+    Ok(())
 }
 
 // Exports the rooms to a writer that takes `room` bytes and whose flush fails unless `flushes`. Asserts that the status is 3 and
@@ -114,7 +112,7 @@ fn exports_moves_rooms_people_and_grades(rt: HostRuntime) {
 fn assert_cut_off(
     test: &impl Abort,
     alloc: Global,
-    found: &mut Result<Desk<MemStore>, DeskFault>,
+    desk: &mut Desk<MemStore>,
     room: usize,
     flushes: bool,
     written: &str,
@@ -125,7 +123,7 @@ fn assert_cut_off(
         room,
         flushes,
     });
-    let status = export_at(alloc, found, ExportKind::Rooms, &mut output);
+    let status = export_at(alloc, desk, ExportKind::Rooms, &mut output);
     same(
         test,
         &(status, output.into_inner().written.as_slice()),
@@ -136,17 +134,11 @@ fn assert_cut_off(
 
 // Nothing is written after an export that is cut off.
 #[test]
-fn fails_if_an_export_is_cut_off(rt: HostRuntime) {
+fn fails_if_an_export_is_cut_off(rt: HostRuntime) -> Result<(), Fail> {
     let alloc = rt.alloc();
-    let mut found = desk_after(alloc, &["room H1\nroom H2\n"]);
-    assert_cut_off(&rt, alloc, &mut found, 20, true, "room,state,tenant\nH1");
+    let mut desk = desk_after(alloc, &["room H1\nroom H2\n"])?;
+    assert_cut_off(&rt, alloc, &mut desk, 20, true, "room,state,tenant\nH1");
     let all = "room,state,tenant\nH1,free,\nH2,free,\n";
-    assert_cut_off(&rt, alloc, &mut found, usize::MAX, false, all);
-}
-
-#[test]
-fn reports_that_there_is_no_office_to_export(rt: HostRuntime) {
-    let mut found = Err(DeskFault::NotAnOffice);
-    let wanted = (1, "refused 21 NotAnOffice\n");
-    assert_export(&rt, rt.alloc(), &mut found, ExportKind::Rooms, wanted);
+    assert_cut_off(&rt, alloc, &mut desk, usize::MAX, false, all);
+    Ok(())
 }

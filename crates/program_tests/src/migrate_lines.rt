@@ -1,8 +1,9 @@
 //! Tests of migrating a file with an office of the first version, by a run of the program and by a call of `migrate_file`.
 use crate::asserting::same;
 use crate::stories::{Step, execute, make_folder, run_steps};
-use office_cli::at_desk::do_at;
+use office_cli::desk_faults::refuse_desk;
 use office_file::{FileDesk, close_file, migrate_file, on_file};
+use office_lines::do_line::do_words;
 use office_store::DeskFault;
 use room_types::Watched;
 use sqlite::Wary;
@@ -96,7 +97,10 @@ fn printed_at(
     let mut text = Vec::new(alloc);
     for line in lines {
         let mut output = Watched::new(Vec::new(alloc));
-        do_at(alloc, &mut opened, &[*line], &mut output);
+        match &mut opened {
+            Ok(desk) => do_words(alloc, desk, &[*line], &mut output),
+            Err(fault) => refuse_desk(alloc, *fault, &mut output),
+        };
         text.extend_from_slice(output.into_inner().as_slice())
             .expect(rt, "memory");
     }

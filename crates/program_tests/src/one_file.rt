@@ -7,7 +7,7 @@ use office_cli::carrying_out::carry_out_from;
 use office_cli::lists::Lists;
 use office_file::{Closes, Files};
 use office_store::Unavailable;
-use resident_server::{Listener, Ports};
+use resident_http::server::{Listener, Ports};
 use room_types::Watched;
 use room_types::stream::Pair;
 use sqlite::{Connection, MemStore};

@@ -4,3 +4,4 @@ pub mod DueResponses
 pub mod Inner
 pub mod OwnReply
 pub mod Serving
+pub mod server

@@ -23,8 +23,8 @@ use resident_requests::{
 use room_types::{Key, Listing, PersonId, RoomRow, TypeFault};
 use std::alloc::Global;
 
-/// Returns the response to the parsed bytes of a connection. If they need more bytes, no more will come: the response is
-/// 400.
+/// Returns the response to the parsed bytes of a connection. No more bytes will come: if the request is incomplete, the
+/// response is 400.
 pub fn answer_ask<H: Handler>(
     alloc: Global,
     handler: &mut H,
@@ -49,7 +49,8 @@ pub fn answer_ask<H: Handler>(
     }
 }
 
-// The response to a request. It reports an unknown path first, then a wrong method, then a missing key.
+// Returns the response to a request. Reports an unknown path before a wrong method, and a wrong method before a missing
+// key.
 fn answer_request<H: Handler>(
     alloc: Global,
     handler: &mut H,
@@ -68,7 +69,7 @@ fn answer_request<H: Handler>(
     answer_routed(alloc, handler, routed, body)
 }
 
-// The response to a routed request.
+// Returns the response to a routed request.
 fn answer_routed<H: Handler>(
     alloc: Global,
     handler: &mut H,
@@ -88,7 +89,7 @@ fn answer_routed<H: Handler>(
     }
 }
 
-// The response to a request with a key. Asks the desk first whose key it is.
+// Returns the response to a request with a key. First asks the desk who owns the key.
 fn authenticate<H: Handler>(
     alloc: Global,
     handler: &mut H,
@@ -109,7 +110,7 @@ fn authenticate<H: Handler>(
     authorize(alloc, handler, route, &me, body)
 }
 
-// The response after the desk's answer to whose the key is: 403 if it is nobody's.
+// Returns the response, given the desk's answer to who owns the key: 403 if nobody does.
 fn authorize<H: Handler>(
     alloc: Global,
     handler: &mut H,
@@ -129,7 +130,7 @@ fn authorize<H: Handler>(
     }
 }
 
-// The response to the owner of the key, by route.
+// Returns the response to the owner of the key, by route.
 fn dispatch<H: Handler>(
     alloc: Global,
     handler: &mut H,
@@ -150,7 +151,7 @@ fn dispatch<H: Handler>(
     }
 }
 
-// The response with the person's own record.
+// Returns the response with the person's own record.
 fn answer_standing(
     alloc: Global,
     standing: &Standing,
@@ -160,7 +161,7 @@ fn answer_standing(
     prepare_success(alloc, standing_body(alloc, standing)?)
 }
 
-// The response with the rooms, which the desk lists.
+// Returns the response with the rooms, which the desk lists.
 fn answer_rooms<H: Handler>(
     alloc: Global,
     handler: &mut H,
@@ -176,14 +177,14 @@ fn answer_rooms<H: Handler>(
     }
 }
 
-// The response with these rows.
+// Returns the response with these rows.
 fn prepare_rooms(alloc: Global, rows: &[RoomRow]) -> Result<PreparedResponse, ResponseUnavailable>
     ensures { WithAnswer result (IsDue (rooms_answer rows.now)) }
 {
     prepare_success(alloc, rooms_body(alloc, rows)?)
 }
 
-// The response to a withdrawal from the round.
+// Lets the desk withdraw the person from the round, and returns the response.
 fn withdraw<H: Handler>(
     alloc: Global,
     handler: &mut H,
@@ -199,7 +200,7 @@ fn withdraw<H: Handler>(
     execute(alloc, handler, Command::Withdraw { person }, body)
 }
 
-// The response to a preference list.
+// Parses a preference list, lets the desk record it, and returns the response.
 fn record_choices<H: Handler>(
     alloc: Global,
     handler: &mut H,
@@ -226,7 +227,7 @@ fn record_choices<H: Handler>(
     }
 }
 
-// The response to a body that is not a preference list.
+// Returns the response to a body that is not a preference list.
 fn prepare_list_fault(
     alloc: Global,
     fault: &TypeFault,

@@ -20,10 +20,10 @@ use std::alloc::Global;
 /// The greatest number of bytes read from a connection: the longest head and the longest body.
 pub const CONNECTION_LIMIT: usize = 9_216;
 
-/// Reads one request from the stream, passes it to the handler, and writes the response, with one flush after it. Reads
-/// until the request is complete or refused, or the stream ends, into the rest of a fixed buffer, without allocating. If an
+/// Reads one request from the stream, passes it to the handler, writes the response, and flushes once. Reads into the
+/// rest of a fixed buffer, without allocating, until the request is complete or refused, or the stream ends. If an
 /// allocation for the response fails, the response is 503, and no command was handled. Does not use the stream after a
-/// failure, nor read after its end. The stream sees only these reads, these writes and this flush.
+/// failure, nor read after its end. Uses the stream only for these reads, these writes and this flush.
 pub fn serve_connection<H: Handler, T: Stream>(
     alloc: Global,
     handler: &mut H,
@@ -57,7 +57,7 @@ pub fn serve_connection<H: Handler, T: Stream>(
     }
 }
 
-// Writes the response to the parsed bytes. If they need more bytes, no more will come.
+// Writes the response to the parsed bytes. No more bytes will come, even if the request is incomplete.
 fn respond<H: Handler, T: Stream>(
     alloc: Global,
     handler: &mut H,

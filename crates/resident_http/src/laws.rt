@@ -2,8 +2,8 @@
 ghost use Rattle.resident_http.specs.OwnReply.{KeepsWhereUnavailable, RepliesByOwnRecord};
 
 /// A response depends only on the rooms, which of them are occupied, the round and its phase, who owns the key of the
-/// request, and what is recorded of that person: the result only once it is published, and never the grade. Two offices
-/// that agree on these serve the same responses to any bytes.
+/// request, and what is recorded about that person: the result only once it is published, and never the grade. Two
+/// offices that agree on these serve the same responses to any bytes.
 pub fn own_reply()
     ensures { RepliesByOwnRecord }
 {}

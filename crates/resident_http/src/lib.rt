@@ -8,6 +8,7 @@ pub mod laws;
 mod prepared;
 mod responses;
 pub mod served;
+pub mod server;
 pub mod serving;
 
 pub use crate::connection::{CONNECTION_LIMIT, serve_connection};

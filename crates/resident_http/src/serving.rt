@@ -6,7 +6,7 @@ ghost use Rattle.sqlite.specs.Steps.{over_memory};
 ghost use Rattle.office_state.specs.declared.office.Office.{Office as AnyOffice};
 ghost use Rattle.office_store.specs.Desk.{HandlesAt, Shows, Represents};
 ghost use Rattle.office_store.specs.Requests.{Handles};
-ghost use Rattle.office_tables.specs.Steps.{Follows};
+ghost use Rattle.office_schema.specs.tables.Steps.{Follows};
 ghost use Rattle.room_types.specs.Watched.{IsFresh, StopsAtEnd, watched_reads};
 ghost use Rattle.resident_http.specs.Connections.{ServesConnection, connection_limit, connection_of};
 
@@ -17,9 +17,10 @@ use room_types::{Stream, Watched};
 use sqlite::{Alter, MemStore};
 use std::alloc::Global;
 
-/// Serves one resident: reads one request, lets the desk handle it, and writes the response, as `serve_connection` does. If the
-/// disk returned what was written to it, the response is one that the office represented by the desk serves to the bytes
-/// read, and the desk represents the office after it, even if the response could not be written.
+/// Serves one resident: reads one request, lets the desk handle it, and writes the response, as `serve_connection`
+/// does. If the disk returned what was written to it, the response is one that the office represented by the desk
+/// serves to the bytes read. The desk then represents the office after this request, even if the response could not be
+/// written.
 pub fn serve_one<S: Alter, T: Stream>(
     alloc: Global,
     desk: &mut Desk<S>,
@@ -42,8 +43,8 @@ pub fn serve_one<S: Alter, T: Stream>(
     serve_connection(alloc, desk, stream)
 }
 
-/// The same over a database in memory, which needs no premise about a disk: the response is one that the office shown by
-/// the desk serves to the bytes read, and the desk shows the office after it.
+/// Does what `serve_one` does, over a database in memory. This needs no premise about a disk: the response is one that
+/// the office shown by the desk serves to the bytes read, and the desk then shows the office after this request.
 pub fn serve_one_in_memory<T: Stream>(
     alloc: Global,
     desk: &mut Desk<MemStore>,

@@ -5,7 +5,7 @@ use crate::asserting::assert_same;
 use crate::desk::{drop_desk, read_whole};
 use office_lines::do_line::do_line;
 use office_store::Desk;
-use resident_server::{Listener, serve_listener};
+use resident_http::server::{Listener, serve_listener};
 use room_types::Watched;
 use room_types::stream::Pair;
 use sqlite::MemStore;

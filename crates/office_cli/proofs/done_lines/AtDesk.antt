@@ -5,21 +5,21 @@ use Rattle.std.proofs.lemmas.List.{take_all}
 use Rattle.sqlite.specs.Held.{state}
 use Rattle.sqlite.specs.State.{HasCleanDisk}
 use Rattle.sqlite_trees.specs.declared.store.Store.{Ghosts}
-use Rattle.office_export.specs.Ending.{PutsPrefix, StopsWithin, has_failed, sent_of}
-use Rattle.office_export.specs.declared.ending.ExportEnd.{ExportEnd}
-use Rattle.office_export.specs.declared.ending.ExportEnd.TheVariants.{Fault, Unavailable}
+use Rattle.office_store.specs.exports.Ending.{PutsPrefix, StopsWithin, has_failed, sent_of}
+use Rattle.office_store.specs.declared.exports.ending.ExportEnd.{ExportEnd}
+use Rattle.office_store.specs.declared.exports.ending.ExportEnd.TheVariants.{Fault, Unavailable}
 use Rattle.office_cli.specs.AtDesk.{EndsEarly, HandlesWords, ImportsDesk}
 use Rattle.office_cli.specs.Importing.{ImportsFrom, import_request}
 use Rattle.office_cli.specs.ListAccess.{ImportsOpened, ListAccess}
-use Rattle.office_lines.proofs.handled.Steps.{handled-words_shown}
+use Rattle.office_lines.proofs.handled.Steps.{words_shown}
 use Rattle.office_lines.specs.Printing.{Prints, PrintsUnavailable}
 use Rattle.office_lines.specs.SingleLines.{DoesWords}
-use Rattle.office_store.proofs.desks.Runs.{desks-step_represented}
+use Rattle.office_store.proofs.desks.Runs.{step_represented}
 use Rattle.office_store.specs.Desk.{DeskState, HandlesAt, Represents}
 use Rattle.office_store.specs.LawfulSteps.{HandlesLawfully}
 use Rattle.office_state.specs.declared.office.Office.{Office}
-use Rattle.office_tables.proofs.statements.Steps.{follows-refl}
-use Rattle.office_tables.specs.Steps.{Follows}
+use Rattle.office_schema.proofs.statements.Steps.{follows-refl}
+use Rattle.office_schema.specs.tables.Steps.{Follows}
 use Rattle.room_types.proofs.watched_bytes.Streams.{Puts-kept}
 use Rattle.room_types.specs.Streams.{Output, Puts}
 use Rattle.room_types.specs.Texts.{Text}
@@ -28,42 +28,42 @@ use Rattle.room_types.specs.declared.watched.Watched.{Watched}
 
 module _ {S : Type 0} (g : Ghosts S) where
   -- the state of the database connection after the words follows the one before
-  done_lines-words_follow : (old new : DeskState S) (words : List Text) (status : ℕ) (out out' : Output) → DoesWords (HandlesAt g) old words status new out out'
+  words_follow : (old new : DeskState S) (words : List Text) (status : ℕ) (out out' : Output) → DoesWords (HandlesAt g) old words status new out out'
       → Follows (state g old.conn) (state g new.conn)
-  done_lines-words_follow old new words status out out' handled =
-      (handled-words_shown {K = Unit {0}} (HandlesAt g) (λ _ _ _ _. Unit {0}) (λ desk _. Follows (state g old.conn) (state g desk.conn)) old new
+  words_follow old new words status out out' handled =
+      (words_shown {K = Unit {0}} (HandlesAt g) (λ _ _ _ _. Unit {0}) (λ desk _. Follows (state g old.conn) (state g desk.conn)) old new
       (λ request answer h k s. (tt, tt, h.follows)) words status out out' handled tt (follows-refl (state g old.conn))).2
 
   pub handles_words : (old new : DeskState S) (words : List Text) (status : ℕ) (out out' : Output) → DoesWords (HandlesAt g) old words status new out out'
       → HandlesWords g old new words status out out'
   handles_words old new words status out out' handled = record {
-    follows = done_lines-words_follow old new words status out out' handled;
+    follows = words_follow old new words status out out' handled;
     handled = handled;
     done = λ clean office represents.
-        handled-words_shown (HandlesAt g) HandlesLawfully (Represents g) old new (λ request answer h. desks-step_represented g old new request answer h clean) words status out out' handled office represents;
+        words_shown (HandlesAt g) HandlesLawfully (Represents g) old new (λ request answer h. step_represented g old new request answer h clean) words status out out' handled office represents;
   }
 
   -- the state of the database connection after an import follows the one before
-  done_lines-list_follows : {R : Type 0} (remaining : R → Option (List ℕ)) (old new : DeskState S) (kind : ListKind) (label : Text) (source source' : Watched R) (status : ℕ) (out out' : Output)
+  list_follows : {R : Type 0} (remaining : R → Option (List ℕ)) (old new : DeskState S) (kind : ListKind) (label : Text) (source source' : Watched R) (status : ℕ) (out out' : Output)
       → ImportsFrom (HandlesAt g) remaining old kind label source source' status new out out' → Follows (state g old.conn) (state g new.conn)
-  done_lines-list_follows remaining old new kind label source source' status out out' (inl h) = h.2.1.follows
-  done_lines-list_follows remaining old new kind label source source' status out out' (inr h) =
+  list_follows remaining old new kind label source source' status out out' (inl h) = h.2.1.follows
+  list_follows remaining old new kind label source source' status out out' (inr h) =
       subst (λ desk. Follows (state g old.conn) (state g desk.conn)) (sym h.0) (follows-refl (state g old.conn))
 
   list_represented : {R : Type 0} (remaining : R → Option (List ℕ)) (old new : DeskState S) (kind : ListKind) (label : Text) (source source' : Watched R) (status : ℕ) (out out' : Output)
       → ImportsFrom (HandlesAt g) remaining old kind label source source' status new out out' → HasCleanDisk (state g new.conn) → (office : Office) → Represents g old office
       → (next : Office) × ImportsFrom HandlesLawfully remaining office kind label source source' status next out out' × Represents g new next
   list_represented remaining old new kind label source source' status out out' (inl h) clean office represents =
-      let step = desks-step_represented g old new (import_request kind label h.0) h.2.0 h.2.1 clean office represents in
+      let step = step_represented g old new (import_request kind label h.0) h.2.0 h.2.1 clean office represents in
       (step.0, inl (h.0, h.1, (h.2.0, step.1, h.2.2)), step.2)
   list_represented remaining old new kind label source source' status out out' (inr h) clean office represents =
       (office, inr (refl, h.1, h.2), subst (λ desk. Represents g desk office) (sym h.0) represents)
 
   -- a list that was opened is imported at the desk
-  pub done_lines-opened_list : {L : Type 0} (list_access : ListAccess L) (lists : L) (old : DeskState S) (lists' : L) (new : DeskState S) (kind : ListKind) (label path : Text) (status : ℕ) (out out' : Output)
+  pub opened_list : {L : Type 0} (list_access : ListAccess L) (lists : L) (old : DeskState S) (lists' : L) (new : DeskState S) (kind : ListKind) (label path : Text) (status : ℕ) (out out' : Output)
       → ImportsOpened (HandlesAt g) list_access lists old kind label path status lists' new out out' → ImportsDesk g list_access lists old lists' new kind label path status out out'
-  done_lines-opened_list list_access lists old lists' new kind label path status out out' h = record {
-    follows = done_lines-list_follows list_access.remaining old new kind label h.source h.source' status out out' h.imports;
+  opened_list list_access lists old lists' new kind label path status out out' h = record {
+    follows = list_follows list_access.remaining old new kind label h.source h.source' status out out' h.imports;
     handled = inl h;
     done = λ clean office represents.
         let accepted = list_represented list_access.remaining old new kind label h.source h.source' status out out' h.imports clean office represents in (
@@ -84,9 +84,9 @@ module _ {S : Type 0} (g : Ghosts S) where
   }
 
   -- no list was opened
-  pub done_lines-no_list : {L : Type 0} (list_access : ListAccess L) (lists lists' : L) (desk : DeskState S) (kind : ListKind) (label path : Text) (status : ℕ) (out out' : Output)
+  pub no_list : {L : Type 0} (list_access : ListAccess L) (lists lists' : L) (desk : DeskState S) (kind : ListKind) (label path : Text) (status : ℕ) (out out' : Output)
       → list_access.fails lists path lists' → PrintsUnavailable status out out' → ImportsDesk g list_access lists desk lists' desk kind label path status out out'
-  done_lines-no_list list_access lists lists' desk kind label path status out out' fails prints = record {
+  no_list list_access lists lists' desk kind label path status out out' fails prints = record {
     follows = follows-refl (state g desk.conn);
     handled = inr (fails, refl, prints);
     done = λ clean office represents. (office, inr (fails, refl, prints), represents);

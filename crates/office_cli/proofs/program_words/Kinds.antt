@@ -16,11 +16,11 @@ differs name other apart = go (bytes_eq name other) refl
     go true e = absurd (apart ((bytes_eq-Decides name other).0 e))
     go false e = e
 
-program_words-named : (kind : ListKind) → list_kind_named (kind_text kind) ≡ Some kind
-program_words-named Rooms = refl
-program_words-named People = refl
-program_words-named Choices = refl
-program_words-named Grades = refl
+named : (kind : ListKind) → list_kind_named (kind_text kind) ≡ Some kind
+named Rooms = refl
+named People = refl
+named Choices = refl
+named Grades = refl
 
 unnamed : (name : Text) → ((kind : ListKind) → name ≡ kind_text kind → ⊥) → list_kind_named name ≡ None
 unnamed name other =
@@ -34,5 +34,5 @@ unnamed name other =
 -- `ListKind::named` returns the kind that `list_kind_named` defines
 pub kind_is : (name : Text) (read : Option ListKind) → MatchOption read ((kind : ListKind) → name ≡ kind_text kind → ⊥) (λ kind. name ≡ kind_text kind)
     → read ≡ list_kind_named name
-kind_is name (Some kind) is = sym (ap list_kind_named is ∙ program_words-named kind)
+kind_is name (Some kind) is = sym (ap list_kind_named is ∙ named kind)
 kind_is name None other = sym (unnamed name other)

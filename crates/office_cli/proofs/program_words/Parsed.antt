@@ -12,9 +12,9 @@ use Rattle.clap.specs.Words.{is_simple_and_free}
 use Rattle.clap.proofs.OnLiterals.{clap_on_literals}
 use Rattle.office_cli.specs.Usage.{usage}
 use Rattle.office_cli.specs.Programs.{entered, entered_line, is_accepted, line_of, program_of}
-use Rattle.office_words.specs.Understanding.{UnderstandsAs}
-use Rattle.office_words.specs.declared.word_fault.WordFault.{WordFault}
-use Rattle.office_words.specs.declared.word_fault.WordFault.TheVariants.{NotUnderstood, OutOfMemory}
+use Rattle.office_lines.specs.parse.Understanding.{UnderstandsAs}
+use Rattle.office_lines.specs.declared.parse.word_fault.WordFault.{WordFault}
+use Rattle.office_lines.specs.declared.parse.word_fault.WordFault.TheVariants.{NotUnderstood, OutOfMemory}
 
 -- `clap` specifies the matches and the faults of this usage
 pub usage_is_simple : is_simple usage ≡ true

@@ -10,7 +10,7 @@ use office_state::{Change, Office};
 use room_types::Phase;
 use std::alloc::Global;
 
-/// Returns the decision on `close`: the lists become final, and the reply counts the participants.
+/// Decides to make the lists final. The reply counts the participants.
 ///
 /// # Errors
 ///

@@ -32,15 +32,16 @@ use crate::refusal::Refusal;
 use office_state::Office;
 use std::alloc::Global;
 
-/// Decides a command. Changes nothing by itself: applying the changes of the decision in their order, each by `apply`, carries
-/// the command out and preserves the invariants of the office.
+/// Decides a command. Changes nothing by itself: to carry the command out, apply the changes of the decision in order,
+/// each with `apply`. This preserves the invariants of the office.
 ///
 /// # Errors
 ///
-/// The first refusal that applies: `BadPhase` in another phase, and then those that the command's own function lists; only
-/// `Import` checks its label before the phase. `OutOfMemory`, only if memory is needed: for the code in `UnknownRoom` or
-/// `RoomShut`, for a list that is read before `BadRecord`, or for the changes of a command that is not refused. A `Withdraw` or a
-/// `Going` that is repeated, and an `Import` of a list that is stored already, have no changes and never fail with `OutOfMemory`.
+/// The first refusal that applies: `BadPhase` if the phase does not allow the command, then the refusals that the
+/// command's own function lists. Only `Import` checks its label before the phase. `OutOfMemory` only where memory is
+/// needed: to copy the code into `UnknownRoom` or `RoomShut`, to read a list before `BadRecord` can be found, or for
+/// the changes of a command that is not refused. A repeated `Withdraw` or `Going`, and an `Import` of a list that is
+/// already stored, have no changes and never fail with `OutOfMemory`.
 pub fn decide(alloc: Global, office: &Office, command: &Command) -> Result<Decision, Refusal>
     requires { IsLawful office.now }
     ensures decides { IsDecided (checks office.now command.now) (reply_to office.now command.now)

@@ -10,7 +10,7 @@ use office_state::{Change, Office};
 use room_types::PersonId;
 use std::alloc::Global;
 
-/// Decides to record that a person leaves the college after the round, which gives away the person's room. A repeat changes
+/// Decides to record that a person leaves the college after the round and gives away the room. A repeat changes
 /// nothing.
 ///
 /// # Errors

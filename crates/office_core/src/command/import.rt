@@ -27,17 +27,18 @@ use office_state::{BYTE_LIMIT, Change, LABEL_LIMIT, Office, StoredImport};
 use room_types::{Label, ListKind, Listing, Phase};
 use std::alloc::Global;
 
-/// Decides to import a list. If the list is already stored under its label, the reply is that of the first import, in any phase,
-/// and the records are not read again.
+/// Decides to import a list. If the list is already stored under its label, the reply in any phase is that of the first
+/// import, and the records are not read again.
 ///
-/// Takes n log n steps in the records of the list, the people and the rooms, and reads the bytes once.
+/// Takes O(n log n) steps, where n is the number of records, people and rooms together, and reads the bytes once.
 ///
 /// # Errors
 ///
-/// Under a known label, `ListDiffers` for another list. Else the first that applies of: `BadPhase` unless idle or open, for
-/// choices unless open; `LimitReached` at `LABEL_LIMIT` stored lists, and for more than `BYTE_LIMIT` bytes; `BadRecord` for the
-/// first record that cannot be parsed; if all can, for the first whose own command the office refuses. `OutOfMemory` if an
-/// allocation fails; never under a known label.
+/// `ListDiffers` if a different list is stored under the label. Under a new label, the first that applies of:
+/// `BadPhase` unless idle or open, and for choices unless open; `LimitReached` at `LABEL_LIMIT` stored lists, and for
+/// more than `BYTE_LIMIT` bytes; `BadRecord` for the first record that cannot be parsed; if every record can be parsed,
+/// `BadRecord` for the first whose own command the office refuses. `OutOfMemory` if an allocation fails; never if a
+/// list is stored under the label.
 pub fn import(
     alloc: Global,
     office: &Office,

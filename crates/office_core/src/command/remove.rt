@@ -10,7 +10,7 @@ use office_state::{Change, Office};
 use room_types::PersonId;
 use std::alloc::Global;
 
-/// Decides to remove a person who has no home, with the person's grade. Recorded moves remain.
+/// Decides to remove a person who has no home, and that person's grade. Recorded moves remain.
 ///
 /// # Errors
 ///

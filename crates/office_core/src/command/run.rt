@@ -16,8 +16,8 @@ use room_types::rows::copy_optional;
 use room_types::{OutOfMemory, Phase, Table};
 use std::alloc::Global;
 
-/// Decides the exchange: each participant's result is the room of top trading cycles in the round's problem (Abdulkadiroglu and
-/// Sönmez 1999).
+/// Decides the exchange: each participant's result is the room that top trading cycles assign to them in the round's
+/// problem (Abdulkadiroglu and Sönmez 1999).
 ///
 /// # Errors
 ///

@@ -18,9 +18,10 @@ use room_types::rows::copy_optional;
 use room_types::{Move, OutOfMemory, Phase, Wave};
 use std::alloc::Global;
 
-/// Decides the day of moving and ends the round. Those who leave the college move out, and those who swap leave their rooms.
-/// Then everybody arrives in the new room, wave by wave, and the moves are recorded. The home of each person who moves changes
-/// once, or twice if the person leaves the college or swaps.
+/// Decides to carry out the moves of the round, to record them, and to end the round. First those who leave the college
+/// move out, and those who swap leave their rooms. Then everybody arrives in the new room, wave by wave, and the moves
+/// are recorded. For each person who moves, the changes set the home once, or twice if the person leaves the college or
+/// swaps.
 ///
 /// # Errors
 ///
@@ -100,7 +101,7 @@ fn push_first_out(changes: &mut Vec<Change>, moves: &[Move]) -> Result<(), OutOf
     push_swaps(changes, moves)
 }
 
-// Appends a change by which each person who moves into no room leaves.
+// Appends, for each person who moves into no room, a change by which that person leaves the old room.
 #[tactic(auto, using(crate::proofs::settlements::Recorded::settlements_departures_more))]
 fn push_departures(changes: &mut Vec<Change>, moves: &[Move]) -> Result<(), OutOfMemory>
     ensures { OnOk result (changes.new.items ≡ changes.old.items
@@ -115,7 +116,7 @@ fn push_departures(changes: &mut Vec<Change>, moves: &[Move]) -> Result<(), OutO
     Ok(())
 }
 
-// Appends a change by which each person who swaps leaves.
+// Appends, for each person who swaps, a change by which that person leaves the old room.
 #[tactic(auto, using(crate::proofs::settlements::Recorded::settlements_swaps_more))]
 fn push_swaps(changes: &mut Vec<Change>, moves: &[Move]) -> Result<(), OutOfMemory>
     ensures { OnOk result (changes.new.items ≡ changes.old.items
@@ -130,7 +131,7 @@ fn push_swaps(changes: &mut Vec<Change>, moves: &[Move]) -> Result<(), OutOfMemo
     Ok(())
 }
 
-// Appends a change by which each person arrives in the new room, in the given order.
+// Appends, for each move in the given order, a change by which its person arrives in the new room.
 fn push_arrivals(changes: &mut Vec<Change>, moves: &[&Move]) -> Result<(), OutOfMemory>
     ensures { OnOk result (changes.new.items ≡ changes.old.items
         ++ map_list arriving (map_list (λ moved. moved.now) moves.now)) }
@@ -143,7 +144,7 @@ fn push_arrivals(changes: &mut Vec<Change>, moves: &[&Move]) -> Result<(), OutOf
     Ok(())
 }
 
-// Appends a change that records each move.
+// Appends, for each move, a change that records it.
 fn push_records(changes: &mut Vec<Change>, moves: &[Move]) -> Result<(), OutOfMemory>
     ensures { OnOk result (changes.new.items ≡ changes.old.items
         ++ map_list (λ (move : Move). Change.AddMove move) moves.now) }

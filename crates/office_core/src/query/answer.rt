@@ -19,16 +19,18 @@ use crate::reply::Reply;
 use office_state::Office;
 use std::alloc::Global;
 
-/// Answers a query. Changes nothing. By the recorded list, the room that another list would give is never ranked above the
-/// result. Rows of rooms ascend by code, and rows of people and of results by identifier.
+/// Answers a query. Changes nothing. For `WhatIf`, the reply is the room that another list would give; the recorded
+/// list never ranks that room above the result. Rows of rooms ascend by code, and rows of people and of results by
+/// identifier.
 ///
 /// # Errors
 ///
-/// `BadPhase` for `Order` before the draw, and for `Results` and `WhatIf` before the run; `NoSuchRound` for the moves of a round
-/// that is not over; `UnknownPerson` for a key or an identifier that nobody has; `NotInRound` for `WhatIf` of somebody who has
-/// withdrawn or leaves the college; `UnknownRoom` or `RoomShut` for the first room on the list of `WhatIf` that is not known or
-/// is shut. `OutOfMemory`, only for the code in a refusal and for replies that need memory: all but that of `Round`, and those
-/// of `Rooms`, `People`, `Order`, `Results` and `Moves` that have no rows.
+/// `BadPhase` for `Order` before the draw, and for `Results` and `WhatIf` before the run; `NoSuchRound` for the moves
+/// of a round that is not over; `UnknownPerson` for a key or an identifier that nobody has; `NotInRound` for `WhatIf`
+/// of somebody who has withdrawn or leaves the college; for `WhatIf`, `UnknownRoom` or `RoomShut` for the first room on
+/// its list that is unknown or shut. `OutOfMemory` only for the code in a refusal, and for a reply that needs memory.
+/// Every reply needs memory except that of `Round`, and those of `Rooms`, `People`, `Order`, `Results` and `Moves` that
+/// have no rows.
 pub fn answer(alloc: Global, office: &Office, query: &Query) -> Result<Reply, Refusal>
     requires { IsLawful office.now }
     ensures returned { IsAnswered (returned office.now query.now) result }

@@ -15,7 +15,7 @@ use std::alloc::Global;
 ///
 /// # Errors
 ///
-/// `UnknownPerson` if nobody has the key; `OutOfMemory` only if somebody has.
+/// `UnknownPerson` if nobody has the key. Otherwise, `OutOfMemory` if an allocation fails.
 pub fn me(alloc: Global, office: &Office, key: &Key) -> Result<Reply, Refusal>
     ensures { IsAnswered (returned office.now key.now) result }
 {

@@ -15,7 +15,8 @@ use std::alloc::Global;
 ///
 /// # Errors
 ///
-/// `BadPhase` unless lottery numbers are drawn; `OutOfMemory` only if they are and there are participants.
+/// `BadPhase` unless lottery numbers are drawn. Otherwise, `OutOfMemory` if an allocation fails; never without
+/// participants.
 #[tactic(auto, using(crate::proofs::reply_rows::Listings::reply_rows_some_ordered))]
 pub fn order(alloc: Global, office: &Office) -> Result<Reply, Refusal>
     ensures { IsAnswered (returned office.now) result }

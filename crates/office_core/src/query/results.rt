@@ -16,7 +16,8 @@ use std::alloc::Global;
 ///
 /// # Errors
 ///
-/// `BadPhase` before the round has run. `OutOfMemory` if an allocation fails; without results none is made.
+/// `BadPhase` before the round has run. `OutOfMemory` if an allocation fails. Without results, the call does not
+/// allocate.
 pub fn results(alloc: Global, office: &Office) -> Result<Reply, Refusal>
     ensures { IsAnswered (returned office.now) result }
 {

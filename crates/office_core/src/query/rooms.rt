@@ -9,7 +9,8 @@ use office_state::{Office, copy_found};
 use room_types::{Listing, PersonId, RoomRow, State};
 use std::alloc::Global;
 
-/// Returns the rooms by code, each with its state and tenant. Takes n log n steps in the rooms and the people.
+/// Returns the rooms by code, each with its state and tenant. Takes O(n log n) steps, where n is the number of rooms
+/// and people together.
 ///
 /// # Errors
 ///

@@ -14,14 +14,14 @@ use office_state::round::result_by;
 use room_types::{Choices, PersonId};
 use std::alloc::Global;
 
-/// Returns the room that a participant would get with this list if the order and all other lists stayed the same. By the
-/// recorded list, that room never ranks above the result.
+/// Returns the room that a participant would get with this list if the order and all other lists stayed the same. The
+/// recorded list never ranks that room above the result.
 ///
 /// # Errors
 ///
-/// The first that applies of: `BadPhase` unless the round has run; `UnknownPerson`; `NotInRound`; `UnknownRoom` or `RoomShut` for
-/// the first room that is not known or is shut. `OutOfMemory` if an allocation fails, but never in place of a refusal that
-/// names no room.
+/// The first that applies of: `BadPhase` unless the round has run; `UnknownPerson`; `NotInRound`; `UnknownRoom` or
+/// `RoomShut` for the first room on the list that is unknown or shut. `OutOfMemory` if an allocation fails; it never
+/// takes the place of `BadPhase`, `UnknownPerson` or `NotInRound`.
 pub fn what_if(
     alloc: Global,
     office: &Office,

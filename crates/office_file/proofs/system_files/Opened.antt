@@ -17,18 +17,18 @@ module _ {F S : Type 0} (base : Ghosts S) (opens finds : Held S → Type 0) (fai
   abbrev system : FileAccess ⊤ S
   system = file_access base (λ _ _ connection _. opens connection) (λ _ _ connection _. finds connection) (λ _ _ _. ⊤) (λ _ _ _. ⊤)
 
-  pub system_files-begins_blank : (made : Result (DeskState S) DeskFault) → IfOk made (λ desk. OpensBlank place files path desk files') → IfOk made (λ desk. OpensBlank system tt path desk tt)
-  system_files-begins_blank (Ok desk) h = record { connection = h.connection; opened = h.opened; blank = h.blank; follows = h.follows }
-  system_files-begins_blank (Err fault) h = tt
+  pub begins_blank : (made : Result (DeskState S) DeskFault) → IfOk made (λ desk. OpensBlank place files path desk files') → IfOk made (λ desk. OpensBlank system tt path desk tt)
+  begins_blank (Ok desk) h = record { connection = h.connection; opened = h.opened; blank = h.blank; follows = h.follows }
+  begins_blank (Err fault) h = tt
 
-  pub system_files-create_fault : (made : Result (DeskState S) DeskFault) → IsCreateFault place files path made files' → IsCreateFault system tt path made tt
-  system_files-create_fault (Ok desk) h = tt
-  system_files-create_fault (Err fault) (inl h) = inl (h.0, tt)
-  system_files-create_fault (Err fault) (inr h) =
+  pub create_fault : (made : Result (DeskState S) DeskFault) → IsCreateFault place files path made files' → IsCreateFault system tt path made tt
+  create_fault (Ok desk) h = tt
+  create_fault (Err fault) (inl h) = inl (h.0, tt)
+  create_fault (Err fault) (inr h) =
       inr (record { connection = h.connection; between = tt; opened = h.opened; refused = h.refused; refuses = h.refuses; closed = tt })
 
-  pub system_files-begins_found : (found : Result (DeskState S) DeskFault) → IfOk found (λ desk. OpensFound place files path desk files') → IfOk found (λ desk. OpensFound system tt path desk tt)
-  system_files-begins_found (Ok desk) h = record {
+  pub begins_found : (found : Result (DeskState S) DeskFault) → IfOk found (λ desk. OpensFound place files path desk files') → IfOk found (λ desk. OpensFound system tt path desk tt)
+  begins_found (Ok desk) h = record {
     connection = h.connection;
     opened = h.opened;
     laid = h.laid;
@@ -38,16 +38,16 @@ module _ {F S : Type 0} (base : Ghosts S) (opens finds : Held S → Type 0) (fai
     unchanged = h.unchanged;
     other = h.other;
   }
-  system_files-begins_found (Err fault) h = tt
+  begins_found (Err fault) h = tt
 
-  pub system_files-file_fault : (found : Result (DeskState S) DeskFault) → IsFileFault place files path found files' → IsFileFault system tt path found tt
-  system_files-file_fault (Ok desk) h = tt
-  system_files-file_fault (Err fault) (inl h) = inl (h.0, tt)
-  system_files-file_fault (Err fault) (inr h) =
+  pub file_fault : (found : Result (DeskState S) DeskFault) → IsFileFault place files path found files' → IsFileFault system tt path found tt
+  file_fault (Ok desk) h = tt
+  file_fault (Err fault) (inl h) = inl (h.0, tt)
+  file_fault (Err fault) (inr h) =
       inr (record { connection = h.connection; between = tt; opened = h.opened; refused = h.refused; refuses = h.refuses; closed = tt })
 
-  pub system_files-begins_migrated : (found : Result (DeskState S) DeskFault) → IfOk found (λ desk. OpensMigrated place files path desk files') → IfOk found (λ desk. OpensMigrated system tt path desk tt)
-  system_files-begins_migrated (Ok desk) h = record {
+  pub begins_migrated : (found : Result (DeskState S) DeskFault) → IfOk found (λ desk. OpensMigrated place files path desk files') → IfOk found (λ desk. OpensMigrated system tt path desk tt)
+  begins_migrated (Ok desk) h = record {
     connection = h.connection;
     opened = h.opened;
     laid = h.laid;
@@ -58,10 +58,10 @@ module _ {F S : Type 0} (base : Ghosts S) (opens finds : Held S → Type 0) (fai
     taken = h.taken;
     other = h.other;
   }
-  system_files-begins_migrated (Err fault) h = tt
+  begins_migrated (Err fault) h = tt
 
-  pub system_files-migrate_fault : (found : Result (DeskState S) DeskFault) → IsMigrateFault place files path found files' → IsMigrateFault system tt path found tt
-  system_files-migrate_fault (Ok desk) h = tt
-  system_files-migrate_fault (Err fault) (inl h) = inl (h.0, tt)
-  system_files-migrate_fault (Err fault) (inr h) =
+  pub migrate_fault : (found : Result (DeskState S) DeskFault) → IsMigrateFault place files path found files' → IsMigrateFault system tt path found tt
+  migrate_fault (Ok desk) h = tt
+  migrate_fault (Err fault) (inl h) = inl (h.0, tt)
+  migrate_fault (Err fault) (inr h) =
       inr (record { connection = h.connection; between = tt; opened = h.opened; refused = h.refused; refuses = h.refuses; closed = tt })

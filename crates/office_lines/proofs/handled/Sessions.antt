@@ -15,11 +15,11 @@ use Rattle.office_lines.specs.declared.ending.Ending.TheVariants.{Ended, ReadFau
 use Rattle.office_lines.specs.Lines.{is_short, line_limit, chunk_limit, read_limit, unended}
 use Rattle.room_types.specs.Streams.{Input, Output}
 use Rattle.room_types.specs.Watched.{counted}
-use Rattle.office_texts.specs.Texts.{text_of}
+use Rattle.office_lines.specs.render.Texts.{text_of}
 use Rattle.office_lines.specs.Runs.{texts_of, greatest_status}
 use Rattle.office_lines.specs.Inner.Sessions.{ended_from, partial_from, State, Handled, Suits, Halted, Answered, Broken, Finished, Unfinished, InputHandled, Stopped, OnlyWhereFailed}
 use Rattle.office_lines.proofs.handled.Lines.{ended_from-append, partial_from-append}
-use Rattle.office_lines.proofs.rehearsals.Runs.{rehearsals-Run-append, greatest_status-append, texts_of-append, texts_of-init-le, texts_of-init-append-le, texts_of-init-append, last_is_made-append}
+use Rattle.office_lines.proofs.rehearsals.Runs.{Run-append, greatest_status-append, texts_of-append, texts_of-init-le, texts_of-init-append-le, texts_of-init-append, last_is_made-append}
 use Rattle.room_types.proofs.watched_bytes.Streams.{Puts-nil, Puts-trans, Puts-kept}
 
 -- there is at most one more read than bytes, if each earlier read returned at least one byte
@@ -56,8 +56,8 @@ OnlyWhereFailed-since (NoMemory n) a b c p q = q ∙ p
 
 module _ {H : Type 0} (handles : H → Request → Answer → H → Type 0) where
   -- handling no bytes
-  pub handled-Handled-nil : (s : State H) → Handled handles s s []
-  handled-Handled-nil s = record {
+  pub Handled-nil : (s : State H) → Handled handles s s []
+  Handled-nil s = record {
     answers = [];
     partial_line = refl;
     short = refl;
@@ -70,8 +70,8 @@ module _ {H : Type 0} (handles : H → Request → Answer → H → Type 0) wher
   }
 
   -- handling bytes, then more bytes
-  pub handled-Handled-append : (s t u : State H) (xs ys : List ℕ) → Handled handles s t xs → Handled handles t u ys → Handled handles s u (xs ++ ys)
-  handled-Handled-append s t u xs ys p q =
+  pub Handled-append : (s t u : State H) (xs ys : List ℕ) → Handled handles s t xs → Handled handles t u ys → Handled handles s u (xs ++ ys)
+  Handled-append s t u xs ys p q =
       let more : ended_from t.partial_line ys ≡ ended_from (partial_from s.partial_line xs) ys = ap (λ b. ended_from b ys) p.partial_line in
       let ended : ended_from s.partial_line (xs ++ ys) ≡ ended_from s.partial_line xs ++ ended_from t.partial_line ys =
       ended_from-append s.partial_line xs ys ∙ ap (λ l. ended_from s.partial_line xs ++ l) (sym more) in
@@ -80,7 +80,7 @@ module _ {H : Type 0} (handles : H → Request → Answer → H → Type 0) wher
         answers = p.answers ++ q.answers;
         partial_line = q.partial_line ∙ ap (λ b. partial_from b ys) p.partial_line ∙ sym (partial_from-append s.partial_line xs ys);
         short = ap (list_all is_short) ended ∙ list_all-append is_short (ended_from s.partial_line xs) (ended_from t.partial_line ys) ∙ and_from _ _ p.short q.short;
-        run = rw ended (rehearsals-Run-append handles s.handler t.handler u.handler _ _ _ _ p.run q.run);
+        run = rw ended (Run-append handles s.handler t.handler u.handler _ _ _ _ p.run q.run);
         written = rw texts (Puts-trans s.out t.out u.out _ _ p.written q.written);
         flushes = q.flushes ∙ p.flushes;
         failed = q.failed ∙ p.failed;
@@ -89,8 +89,8 @@ module _ {H : Type 0} (handles : H → Request → Answer → H → Type 0) wher
       }
 
   -- bytes that follow a stop change nothing
-  pub handled-Halted-more : (s : State H) (e : Ending) (o : H) (out : Output) (xs ys : List ℕ) → Halted handles s e o out xs → Halted handles s e o out (xs ++ ys)
-  handled-Halted-more s e o out xs ys h = record {
+  pub Halted-more : (s : State H) (e : Ending) (o : H) (out : Output) (xs ys : List ℕ) → Halted handles s e o out xs → Halted handles s e o out (xs ++ ys)
+  Halted-more s e o out xs ys h = record {
     handled = h.handled;
     rest = h.rest ++ ys;
     answers = h.answers;
@@ -108,8 +108,8 @@ module _ {H : Type 0} (handles : H → Request → Answer → H → Type 0) wher
   }
 
   -- a stop after bytes that were handled
-  pub handled-Handled-Halted : (s t : State H) (e : Ending) (o : H) (out : Output) (xs ys : List ℕ) → Handled handles s t xs → Halted handles t e o out ys → Halted handles s e o out (xs ++ ys)
-  handled-Handled-Halted s t e o out xs ys p q =
+  pub Handled-Halted : (s t : State H) (e : Ending) (o : H) (out : Output) (xs ys : List ℕ) → Handled handles s t xs → Halted handles t e o out ys → Halted handles s e o out (xs ++ ys)
+  Handled-Halted s t e o out xs ys p q =
       let more : ended_from t.partial_line q.handled ≡ ended_from (partial_from s.partial_line xs) q.handled = ap (λ b. ended_from b q.handled) p.partial_line in
       let ended : ended_from s.partial_line (xs ++ q.handled) ≡ ended_from s.partial_line xs ++ ended_from t.partial_line q.handled =
       ended_from-append s.partial_line xs q.handled ∙ ap (λ l. ended_from s.partial_line xs ++ l) (sym more) in
@@ -126,7 +126,7 @@ module _ {H : Type 0} (handles : H → Request → Answer → H → Type 0) wher
         cut = ap (λ l. xs ++ l) q.cut ∙ sym (append_assoc xs q.handled q.rest);
         some = omega (arith, q.some, length-append xs q.handled);
         short = ap (list_all is_short) ended ∙ list_all-append is_short (ended_from s.partial_line xs) (ended_from t.partial_line q.handled) ∙ and_from _ _ p.short q.short;
-        run = rw ended (rehearsals-Run-append handles s.handler t.handler o _ _ _ _ p.run q.run);
+        run = rw ended (Run-append handles s.handler t.handler o _ _ _ _ p.run q.run);
         written = rw (texts, take-append-add first (texts_of q.answers) q.sent) (Puts-trans s.out t.out out _ _ p.written q.written);
         unflushed = q.unflushed ∙ p.flushes;
         all = omega (arith, q.all, ap length texts, length-append first (texts_of q.answers));
@@ -155,9 +155,9 @@ module _ {H : Type 0} (handles : H → Request → Answer → H → Type 0) wher
       })
 
   -- a line feed after a short line whose response was not written completely
-  pub handled-newline_halted : (s : State H) (o : H) (out : Output) (b : ℕ) (ending : Ending) → b ≡ 10 → length s.partial_line ≤ line_limit
+  pub newline_halted : (s : State H) (o : H) (out : Output) (b : ℕ) (ending : Ending) → b ≡ 10 → length s.partial_line ≤ line_limit
       → Broken handles s ending o out → Halted handles s ending o out (b ∷ [])
-  handled-newline_halted s o out b ending e short h =
+  newline_halted s o out b ending e short h =
       let text : texts_of (h.response ∷ []) ≡ text_of h.response = append-nil (text_of h.response) in
       subst (λ (n : ℕ). Halted handles s ending o out (n ∷ [])) (sym e) (record {
         handled = 10 ∷ [];
@@ -193,8 +193,8 @@ module _ {H : Type 0} (handles : H → Request → Answer → H → Type 0) wher
   }
 
   -- a byte that makes the line too long
-  pub handled-too_long : (s : State H) (b : ℕ) → eqb b 10 ≡ false → length s.partial_line ≡ line_limit → Halted handles s ReadFault s.handler s.out (b ∷ [])
-  handled-too_long s b e long = record {
+  pub too_long : (s : State H) (b : ℕ) → eqb b 10 ≡ false → length s.partial_line ≡ line_limit → Halted handles s ReadFault s.handler s.out (b ∷ [])
+  too_long s b e long = record {
     handled = b ∷ [];
     rest = [];
     answers = [];
@@ -236,8 +236,8 @@ module _ {H : Type 0} (handles : H → Request → Answer → H → Type 0) wher
   -- ---- the last line
 
   -- the response to the last line was written
-  pub handled-Finished-answered : (s t : State H) → 0 < length s.partial_line → Answered handles s t → Finished handles s t s.out.flushes
-  handled-Finished-answered s t some h =
+  pub Finished-answered : (s t : State H) → 0 < length s.partial_line → Answered handles s t → Finished handles s t s.out.flushes
+  Finished-answered s t some h =
       let text : texts_of (h.response ∷ []) ≡ text_of h.response = append-nil (text_of h.response) in
       record {
         answers = h.response ∷ [];
@@ -251,9 +251,9 @@ module _ {H : Type 0} (handles : H → Request → Answer → H → Type 0) wher
       }
 
   -- the response to the last line was not written completely
-  pub handled-Unfinished-broken : (s : State H) (o : H) (out : Output) (ending : Ending) → 0 < length s.partial_line → length s.partial_line ≤ line_limit
+  pub Unfinished-broken : (s : State H) (o : H) (out : Output) (ending : Ending) → 0 < length s.partial_line → length s.partial_line ≤ line_limit
       → Broken handles s ending o out → Unfinished handles s ending o out
-  handled-Unfinished-broken s o out ending some short h =
+  Unfinished-broken s o out ending some short h =
       let text : texts_of (h.response ∷ []) ≡ text_of h.response = append-nil (text_of h.response) in
       record {
         answers = h.response ∷ [];
@@ -269,10 +269,10 @@ module _ {H : Type 0} (handles : H → Request → Answer → H → Type 0) wher
       }
 
   -- the final flush failed
-  pub handled-Finished-unflushed : (s t : State H) (out : Output) → length s.partial_line ≤ line_limit
+  pub Finished-unflushed : (s t : State H) (out : Output) → length s.partial_line ≤ line_limit
       → Finished handles s t s.out.flushes → Keeps t.out.contents out.contents → out.taken ≡ t.out.taken → out.flushes ≡ counted t.out.flushes 1
       → Unfinished handles s (WriteFault t.sent) t.handler out
-  handled-Finished-unflushed s t out short h k taken once = record {
+  Finished-unflushed s t out short h k taken once = record {
     answers = h.answers;
     sent = length (texts_of h.answers);
     unsent = 0;
@@ -288,50 +288,50 @@ module _ {H : Type 0} (handles : H → Request → Answer → H → Type 0) wher
   -- ---- reading
 
   -- nothing was read
-  pub handled-InputHandled-nil : (s : State H) (u : Option (List ℕ)) → InputHandled handles s s u u
-  handled-InputHandled-nil s u = record { bytes = []; read = Consumes-nil u; handled = handled-Handled-nil s }
+  pub InputHandled-nil : (s : State H) (u : Option (List ℕ)) → InputHandled handles s s u u
+  InputHandled-nil s u = record { bytes = []; read = Consumes-nil u; handled = Handled-nil s }
 
   -- one more chunk was read and handled
-  pub handled-InputHandled-more : (s t v : State H) (u u' u'' : Option (List ℕ)) (chunk : List ℕ) → InputHandled handles s t u u' → Consumes u' u'' chunk → Handled handles t v chunk
+  pub InputHandled-more : (s t v : State H) (u u' u'' : Option (List ℕ)) (chunk : List ℕ) → InputHandled handles s t u u' → Consumes u' u'' chunk → Handled handles t v chunk
       → InputHandled handles s v u u''
-  handled-InputHandled-more s t v u u' u'' chunk h c k = record {
+  InputHandled-more s t v u u' u'' chunk h c k = record {
     bytes = h.bytes ++ chunk;
     read = Consumes-trans _ _ _ _ _ h.read c;
-    handled = handled-Handled-append s t v _ _ h.handled k;
+    handled = Handled-append s t v _ _ h.handled k;
   }
 
   -- if each read so far returned a byte and the next one does too, the bytes still outnumber the reads
-  pub handled-InputHandled-longer : (s t v : State H) (u u' u'' : Option (List ℕ)) (chunk : List ℕ) (h : InputHandled handles s t u u') (c : Consumes u' u'' chunk)
+  pub InputHandled-longer : (s t v : State H) (u u' u'' : Option (List ℕ)) (chunk : List ℕ) (h : InputHandled handles s t u u') (c : Consumes u' u'' chunk)
       (k : Handled handles t v chunk) (n : ℕ)
-      → n ≤ length h.bytes → 0 < length chunk → n + 1 ≤ length (handled-InputHandled-more s t v u u' u'' chunk h c k).bytes
-  unfolding handled-InputHandled-more
-  handled-InputHandled-longer s t v u u' u'' chunk h c k n each some =
+      → n ≤ length h.bytes → 0 < length chunk → n + 1 ≤ length (InputHandled-more s t v u u' u'' chunk h c k).bytes
+  unfolding InputHandled-more
+  InputHandled-longer s t v u u' u'' chunk h c k n each some =
       let longer : n + 1 ≤ length (h.bytes ++ chunk) = omega (arith, each, some, length-append h.bytes chunk) in longer
 
   -- a read returned no bytes
-  pub handled-InputHandled-end : (s t : State H) (u u' u'' : Option (List ℕ)) (reads : ℕ) (h : InputHandled handles s t u u') → Consumes u' u'' []
+  pub InputHandled-end : (s t : State H) (u u' u'' : Option (List ℕ)) (reads : ℕ) (h : InputHandled handles s t u u') → Consumes u' u'' []
       → reads ≤ length h.bytes + 1 → (k : InputHandled handles s t u u'') × (reads ≤ length k.bytes + 1)
-  handled-InputHandled-end s t u u' u'' reads h c each =
+  InputHandled-end s t u u' u'' reads h c each =
       (record { bytes = h.bytes; read = subst (Consumes u u'') (append-nil h.bytes) (Consumes-trans _ _ _ _ _ h.read c); handled = h.handled }, each)
 
   -- the rehearsal stopped within a chunk
-  pub handled-Stopped-halted : (s t : State H) (e : Ending) (o : H) (out : Output) (u : Option (List ℕ)) (i i' : Input) (chunk : List ℕ)
+  pub Stopped-halted : (s t : State H) (e : Ending) (o : H) (out : Output) (u : Option (List ℕ)) (i i' : Input) (chunk : List ℕ)
       (h : InputHandled handles s t i.remaining u) → Consumes u i'.remaining chunk → Halted handles t e o out chunk → length chunk ≤ chunk_limit
       → i'.reads ≤ length h.bytes + 1 → i'.failed ≡ i.failed → Stopped handles s e o out i i'
-  unfolding handled-Handled-Halted
-  handled-Stopped-halted s t e o out u i i' chunk h c k within reads w =
+  unfolding Handled-Halted
+  Stopped-halted s t e o out u i i' chunk h c k within reads w =
       let near : length k.rest < chunk_limit = omega (arith, within, ap length k.cut, length-append k.handled k.rest, k.some) in
       record {
         bytes = h.bytes ++ chunk;
         read = Consumes-trans _ _ _ _ _ h.read c;
         reads = omega (arith, reads, length-append h.bytes chunk);
-        why = inl (handled-Handled-Halted s t e o out _ _ h.handled k, near, w);
+        why = inl (Handled-Halted s t e o out _ _ h.handled k, near, w);
       }
 
   -- a read failed
-  pub handled-Stopped-failed : (s t : State H) (i i' : Input) (u : Option (List ℕ)) (h : InputHandled handles s t i.remaining u) → Keeps u i'.remaining
+  pub Stopped-failed : (s t : State H) (i i' : Input) (u : Option (List ℕ)) (h : InputHandled handles s t i.remaining u) → Keeps u i'.remaining
       → i'.reads ≤ length h.bytes + 1 → length t.partial_line ≤ line_limit → i'.failed ≡ true → Stopped handles s ReadFault t.handler t.out i i'
-  handled-Stopped-failed s t i i' u h k reads begun failed = record {
+  Stopped-failed s t i i' u h k reads begun failed = record {
     bytes = h.bytes;
     read = Consumes-kept _ _ _ _ h.read k;
     reads = reads;
@@ -339,9 +339,9 @@ module _ {H : Type 0} (handles : H → Request → Answer → H → Type 0) wher
   }
 
   -- no more bytes can be read
-  pub handled-Stopped-cut : (s t : State H) (i i' : Input) (h : InputHandled handles s t i.remaining i'.remaining) → i'.reads ≤ length h.bytes + 1
+  pub Stopped-cut : (s t : State H) (i i' : Input) (h : InputHandled handles s t i.remaining i'.remaining) → i'.reads ≤ length h.bytes + 1
       → length t.partial_line ≤ line_limit → (i'.failed ≡ true) ⊎ ((read_limit ≤ i'.reads) × (read_limit ≤ length h.bytes)) → Stopped handles s ReadFault t.handler t.out i i'
-  handled-Stopped-cut s t i i' h reads begun cause = record {
+  Stopped-cut s t i i' h reads begun cause = record {
     bytes = h.bytes;
     read = h.read;
     reads = reads;

@@ -17,7 +17,7 @@ use Rattle.office_lines.specs.Runs.{texts_of, greatest_status}
 use Rattle.office_lines.specs.Rehearsals.{WholeInput, PartOfInput, WholeLines, NeedsMemory, Rehearses}
 use Rattle.office_lines.specs.Inner.Sessions.{ended_from, partial_from, State, Handled, Halted, Finished, Unfinished, InputHandled, Stopped, Cut, OnlyWhereFailed}
 use Rattle.office_lines.proofs.handled.Lines.{ended_lines-is, last_part-is}
-use Rattle.office_lines.proofs.rehearsals.Runs.{rehearsals-Run-append, greatest_status-append, texts_of-append, texts_of-init-append-le, texts_of-init-append, last_is_made-append}
+use Rattle.office_lines.proofs.rehearsals.Runs.{Run-append, greatest_status-append, texts_of-append, texts_of-init-append-le, texts_of-init-append, last_is_made-append}
 use Rattle.office_lines.proofs.handled.Sessions.{short_unended}
 use Rattle.room_types.proofs.watched_bytes.Streams.{Puts-trans}
 
@@ -37,23 +37,23 @@ lines_of-is : (bs : List ℕ) → lines_of bs ≡ ended_from [] bs ++ unended (p
 lines_of-is bs = ap (λ l. l ++ unended (last_part bs)) (ended_lines-is bs) ∙ ap (λ p. ended_from [] bs ++ unended p) (last_part-is bs)
 
 module _ {H : Type 0} (handles : H → Request → Answer → H → Type 0) where
-  pub rehearsals-InputHandled-started : (o : H) (out : Output) (s t : State H) (u u' : Option (List ℕ)) (reads : ℕ) → s ≡ start o out
+  pub InputHandled-started : (o : H) (out : Output) (s t : State H) (u u' : Option (List ℕ)) (reads : ℕ) → s ≡ start o out
       → (h : InputHandled handles s t u u') × (reads ≤ length h.bytes + 1) → (h : InputHandled handles (start o out) t u u') × (reads ≤ length h.bytes + 1)
-  rehearsals-InputHandled-started o out s t u u' reads e h = subst (λ (z : State H). (k : InputHandled handles z t u u') × (reads ≤ length k.bytes + 1)) e h
+  InputHandled-started o out s t u u' reads e h = subst (λ (z : State H). (k : InputHandled handles z t u u') × (reads ≤ length k.bytes + 1)) e h
 
-  pub rehearsals-Stopped-started : (o o' : H) (out out' : Output) (s : State H) (ending : Ending) (i i' : Input) → s ≡ start o out
+  pub Stopped-started : (o o' : H) (out out' : Output) (s : State H) (ending : Ending) (i i' : Input) → s ≡ start o out
       → Stopped handles s ending o' out' i i' → Stopped handles (start o out) ending o' out' i i'
-  rehearsals-Stopped-started o o' out out' s ending i i' e h = subst (λ (z : State H). Stopped handles z ending o' out' i i') e h
+  Stopped-started o o' out out' s ending i i' e h = subst (λ (z : State H). Stopped handles z ending o' out' i i') e h
 
   -- all lines are the ended ones and the unfinished one
-  rehearsals-lines_of-handled : (o : H) (out : Output) (t : State H) (bs : List ℕ) → Handled handles (start o out) t bs → lines_of bs ≡ ended_from [] bs ++ unended t.partial_line
-  rehearsals-lines_of-handled o out t bs h = lines_of-is bs ∙ ap (λ b. ended_from [] bs ++ unended b) (sym h.partial_line)
+  lines_of-handled : (o : H) (out : Output) (t : State H) (bs : List ℕ) → Handled handles (start o out) t bs → lines_of bs ≡ ended_from [] bs ++ unended t.partial_line
+  lines_of-handled o out t bs h = lines_of-is bs ∙ ap (λ b. ended_from [] bs ++ unended b) (sym h.partial_line)
 
-  pub rehearsals-WholeInput-finished : (o : H) (out : Output) (i i' : Input) (t v : State H) (h : InputHandled handles (start o out) t i.remaining i'.remaining) → IsAtEnd i'.remaining
+  pub WholeInput-finished : (o : H) (out : Output) (i i' : Input) (t v : State H) (h : InputHandled handles (start o out) t i.remaining i'.remaining) → IsAtEnd i'.remaining
       → i'.reads ≤ length h.bytes + 1 → length t.partial_line ≤ line_limit → Finished handles t v (counted t.out.flushes 1) → v.out.pending ≡ false
       → i'.failed ≡ false → out.failed ≡ false → WholeInput handles o v.handler i i' out v.out v.status
-  rehearsals-WholeInput-finished o out i i' t v h end each short f pending reads writes =
-      let lines = rehearsals-lines_of-handled o out t h.bytes h.handled in
+  WholeInput-finished o out i i' t v h end each short f pending reads writes =
+      let lines = lines_of-handled o out t h.bytes h.handled in
       let answers = h.handled.answers in
       record {
         bytes = h.bytes;
@@ -62,7 +62,7 @@ module _ {H : Type 0} (handles : H → Request → Answer → H → Type 0) wher
         reads = each;
         end = end;
         short = ap (list_all is_short) lines ∙ list_all-append is_short (ended_from [] h.bytes) (unended t.partial_line) ∙ and_from _ _ h.handled.short (short_unended t.partial_line short);
-        run = rw lines (rehearsals-Run-append handles o t.handler v.handler _ _ _ _ h.handled.run f.run);
+        run = rw lines (Run-append handles o t.handler v.handler _ _ _ _ h.handled.run f.run);
         written = rw (texts_of-append answers f.answers) (Puts-trans out t.out v.out _ _ h.handled.written f.written);
         flushed = f.flushed ∙ ap (λ n. counted n 1) h.handled.flushes;
         none_pending = pending;
@@ -72,10 +72,10 @@ module _ {H : Type 0} (handles : H → Request → Answer → H → Type 0) wher
       }
 
   -- the last line was not finished
-  rehearsals-part_unfinished : (o o' : H) (out out' : Output) (i i' : Input) (t : State H) (ending : Ending) (n : ℕ) (h : InputHandled handles (start o out) t i.remaining i'.remaining)
+  part_unfinished : (o o' : H) (out out' : Output) (i i' : Input) (t : State H) (ending : Ending) (n : ℕ) (h : InputHandled handles (start o out) t i.remaining i'.remaining)
       → i'.reads ≤ length h.bytes + 1 → IsAtEnd i'.remaining → (f : Unfinished handles t ending o' out') → n ≡ t.sent + f.sent → PartOfInput handles o o' i i' out out' n
-  rehearsals-part_unfinished o o' out out' i i' t ending n h each end f e =
-      let lines = rehearsals-lines_of-handled o out t h.bytes h.handled in
+  part_unfinished o o' out out' i i' t ending n h each end f e =
+      let lines = lines_of-handled o out t h.bytes h.handled in
       let answers = h.handled.answers in
       let texts = texts_of-append answers f.answers in
       let count : length (texts_of answers) + f.sent ≡ n = omega (arith, h.handled.sent, e) in
@@ -89,7 +89,7 @@ module _ {H : Type 0} (handles : H → Request → Answer → H → Type 0) wher
         near = omega arith;
         cut = inr (end, refl, refl);
         short = ap (list_all is_short) lines ∙ list_all-append is_short (ended_from [] h.bytes) (unended t.partial_line) ∙ and_from _ _ h.handled.short f.short;
-        run = rw lines (rehearsals-Run-append handles o t.handler o' _ _ _ _ h.handled.run f.run);
+        run = rw lines (Run-append handles o t.handler o' _ _ _ _ h.handled.run f.run);
         written = rw (texts, ← count, take-append-add (texts_of answers) (texts_of f.answers) f.sent) (Puts-trans out t.out out' _ _ h.handled.written f.written);
         whole = omega (arith, texts_of-init-append-le answers f.answers, f.whole, count);
         within = omega (arith, ap length texts, length-append (texts_of answers) (texts_of f.answers), f.all, count);
@@ -108,8 +108,8 @@ module _ {H : Type 0} (handles : H → Request → Answer → H → Type 0) wher
   -- out of memory for the text of the last response
   NeedsMemory-unfinished : (o o' : H) (out out' : Output) (i i' : Input) (t : State H) (n m : ℕ) (h : InputHandled handles (start o out) t i.remaining i'.remaining)
       (each : i'.reads ≤ length h.bytes + 1) (end : IsAtEnd i'.remaining) (f : Unfinished handles t (NoMemory m) o' out') (e : n ≡ t.sent + f.sent)
-      → let part = rehearsals-part_unfinished o o' out out' i i' t (NoMemory m) n h each end f e in NeedsMemory part.handled part.lines part.answers n
-  unfolding rehearsals-part_unfinished
+      → let part = part_unfinished o o' out out' i i' t (NoMemory m) n h each end f e in NeedsMemory part.handled part.lines part.answers n
+  unfolding part_unfinished
   NeedsMemory-unfinished o o' out out' i i' t n m h each end f e =
       let answers = h.handled.answers in
       let count : n ≡ length (texts_of answers) + f.sent = omega (arith, h.handled.sent, e) in
@@ -123,19 +123,19 @@ module _ {H : Type 0} (handles : H → Request → Answer → H → Type 0) wher
         | inr k ↦ absurd (omega (arith, k.1))
       ]
 
-  pub rehearsals-Rehearses-unfinished : (o o' : H) (out out' : Output) (i i' : Input) (t : State H) (ending : Ending)
+  pub Rehearses-unfinished : (o o' : H) (out out' : Output) (i i' : Input) (t : State H) (ending : Ending)
       (h : InputHandled handles (start o out) t i.remaining i'.remaining) → i'.reads ≤ length h.bytes + 1 → IsAtEnd i'.remaining → Unfinished handles t ending o' out' → OnlyWhereFailed ending t.out.failed out'.failed
       → i'.failed ≡ false → out.failed ≡ false → Rehearses handles ending 3 o o' i i' out out'
-  rehearsals-Rehearses-unfinished o o' out out' i i' t Ended h each end f w r s = absurd f.suits
-  rehearsals-Rehearses-unfinished o o' out out' i i' t ReadFault h each end f w r s = let long = f.suits.1 in absurd (omega (arith, long))
-  rehearsals-Rehearses-unfinished o o' out out' i i' t (WriteFault n) h each end f w r s = (refl, r, w, rehearsals-part_unfinished o o' out out' i i' t (WriteFault n) n h each end f f.suits)
-  rehearsals-Rehearses-unfinished o o' out out' i i' t (NoMemory n) h each end f w r s =
-      (refl, r, w ∙ h.handled.failed ∙ s, rehearsals-part_unfinished o o' out out' i i' t (NoMemory n) n h each end f f.suits.0, NeedsMemory-unfinished o o' out out' i i' t n n h each end f f.suits.0)
+  Rehearses-unfinished o o' out out' i i' t Ended h each end f w r s = absurd f.suits
+  Rehearses-unfinished o o' out out' i i' t ReadFault h each end f w r s = let long = f.suits.1 in absurd (omega (arith, long))
+  Rehearses-unfinished o o' out out' i i' t (WriteFault n) h each end f w r s = (refl, r, w, part_unfinished o o' out out' i i' t (WriteFault n) n h each end f f.suits)
+  Rehearses-unfinished o o' out out' i i' t (NoMemory n) h each end f w r s =
+      (refl, r, w ∙ h.handled.failed ∙ s, part_unfinished o o' out out' i i' t (NoMemory n) n h each end f f.suits.0, NeedsMemory-unfinished o o' out out' i i' t n n h each end f f.suits.0)
 
-  rehearsals-part_halted : (o o' : H) (out out' : Output) (i i' : Input) (ending : Ending) (n : ℕ) (bytes : List ℕ) → Consumes i.remaining i'.remaining bytes
+  part_halted : (o o' : H) (out out' : Output) (i i' : Input) (ending : Ending) (n : ℕ) (bytes : List ℕ) → Consumes i.remaining i'.remaining bytes
       → i'.reads ≤ length bytes + 1 → (f : Halted handles (start o out) ending o' out' bytes) → length f.rest < chunk_limit → n ≡ 0 + f.sent
       → PartOfInput handles o o' i i' out out' n
-  rehearsals-part_halted o o' out out' i i' ending n bytes r each f near e = record {
+  part_halted o o' out out' i i' ending n bytes r each f near e = record {
     handled = f.handled;
     ahead = f.rest;
     lines = ended_from [] f.handled;
@@ -155,8 +155,8 @@ module _ {H : Type 0} (handles : H → Request → Answer → H → Type 0) wher
   -- out of memory within a chunk
   NeedsMemory-halted : (o o' : H) (out out' : Output) (i i' : Input) (n m : ℕ) (bytes : List ℕ) (r : Consumes i.remaining i'.remaining bytes)
       (each : i'.reads ≤ length bytes + 1) (f : Halted handles (start o out) (NoMemory m) o' out' bytes) (near : length f.rest < chunk_limit) (e : n ≡ 0 + f.sent)
-      → let part = rehearsals-part_halted o o' out out' i i' (NoMemory m) n bytes r each f near e in NeedsMemory part.handled part.lines part.answers n
-  unfolding rehearsals-part_halted
+      → let part = part_halted o o' out out' i i' (NoMemory m) n bytes r each f near e in NeedsMemory part.handled part.lines part.answers n
+  unfolding part_halted
   NeedsMemory-halted o o' out out' i i' n m bytes r each f near e =
       let begun : length (last_part f.handled) ≡ length (partial_from [] f.handled) = ap length (last_part-is f.handled) in
       elim f.suits.1 [
@@ -164,9 +164,9 @@ module _ {H : Type 0} (handles : H → Request → Answer → H → Type 0) wher
         | inr k ↦ inr (omega (arith, e, k.0, f.all), sym (ended_lines-is f.handled), omega (arith, begun, k.1), omega (arith, begun, k.2))
       ]
 
-  rehearsals-whole_halted : (o o' : H) (out out' : Output) (i i' : Input) (bytes : List ℕ) → Consumes i.remaining i'.remaining bytes → i'.reads ≤ length bytes + 1
+  whole_halted : (o o' : H) (out out' : Output) (i i' : Input) (bytes : List ℕ) → Consumes i.remaining i'.remaining bytes → i'.reads ≤ length bytes + 1
       → (f : Halted handles (start o out) ReadFault o' out' bytes) → length f.rest < chunk_limit → i'.failed ≡ false → WholeLines handles o o' i i' out out'
-  rehearsals-whole_halted o o' out out' i i' bytes r each f near w =
+  whole_halted o o' out out' i i' bytes r each f near w =
       let all : take f.sent (texts_of f.answers) ≡ texts_of f.answers = take_all f.sent (texts_of f.answers) (omega (arith, f.all, f.suits.0)) in
       record {
         handled = f.handled;
@@ -182,9 +182,9 @@ module _ {H : Type 0} (handles : H → Request → Answer → H → Type 0) wher
         cause = inl (rw (last_part-is f.handled) f.suits.1, w);
       }
 
-  rehearsals-whole_cut : (o o' : H) (out out' : Output) (i i' : Input) (bytes : List ℕ) → Consumes i.remaining i'.remaining bytes → i'.reads ≤ length bytes + 1
+  whole_cut : (o o' : H) (out out' : Output) (i i' : Input) (bytes : List ℕ) → Consumes i.remaining i'.remaining bytes → i'.reads ≤ length bytes + 1
       → (f : Cut handles (start o out) o' out' bytes i') → WholeLines handles o o' i i' out out'
-  rehearsals-whole_cut o o' out out' i i' bytes r each f = record {
+  whole_cut o o' out out' i i' bytes r each f = record {
     handled = bytes;
     unhandled = [];
     answers = f.handled.answers;
@@ -200,20 +200,20 @@ module _ {H : Type 0} (handles : H → Request → Answer → H → Type 0) wher
         inr (refl, omega (arith, begun, f.begun), f.cause);
   }
 
-  pub rehearsals-Rehearses-stopped : (o o' : H) (out out' : Output) (i i' : Input) (ending : Ending) → Stopped handles (start o out) ending o' out' i i' → OnlyWhereFailed ending out.failed out'.failed
+  pub Rehearses-stopped : (o o' : H) (out out' : Output) (i i' : Input) (ending : Ending) → Stopped handles (start o out) ending o' out' i i' → OnlyWhereFailed ending out.failed out'.failed
       → i.failed ≡ false → out.failed ≡ false → Rehearses handles ending 3 o o' i i' out out'
-  rehearsals-Rehearses-stopped o o' out out' i i' Ended h w r s = elim h.why [ inl f ↦ absurd f.0.suits | inr f ↦ absurd (let e = f.0 in cc) ]
-  rehearsals-Rehearses-stopped o o' out out' i i' ReadFault h w r s =
-      (refl, w ∙ s, elim h.why [ inl f ↦ rehearsals-whole_halted o o' out out' i i' h.bytes h.read h.reads f.0 f.1 (f.2 ∙ r) | inr f ↦ rehearsals-whole_cut o o' out out' i i' h.bytes h.read h.reads f.1 ])
-  rehearsals-Rehearses-stopped o o' out out' i i' (WriteFault n) h w r s =
-      elim h.why [ inl f ↦ (refl, f.2 ∙ r, w, rehearsals-part_halted o o' out out' i i' (WriteFault n) n h.bytes h.read h.reads f.0 f.1 f.0.suits) | inr f ↦ absurd (let e = f.0 in cc) ]
-  rehearsals-Rehearses-stopped o o' out out' i i' (NoMemory n) h w r s =
+  Rehearses-stopped o o' out out' i i' Ended h w r s = elim h.why [ inl f ↦ absurd f.0.suits | inr f ↦ absurd (let e = f.0 in cc) ]
+  Rehearses-stopped o o' out out' i i' ReadFault h w r s =
+      (refl, w ∙ s, elim h.why [ inl f ↦ whole_halted o o' out out' i i' h.bytes h.read h.reads f.0 f.1 (f.2 ∙ r) | inr f ↦ whole_cut o o' out out' i i' h.bytes h.read h.reads f.1 ])
+  Rehearses-stopped o o' out out' i i' (WriteFault n) h w r s =
+      elim h.why [ inl f ↦ (refl, f.2 ∙ r, w, part_halted o o' out out' i i' (WriteFault n) n h.bytes h.read h.reads f.0 f.1 f.0.suits) | inr f ↦ absurd (let e = f.0 in cc) ]
+  Rehearses-stopped o o' out out' i i' (NoMemory n) h w r s =
       elim h.why [
         | inl f ↦ (
           refl,
           f.2 ∙ r,
           w ∙ s,
-          rehearsals-part_halted o o' out out' i i' (NoMemory n) n h.bytes h.read h.reads f.0 f.1 f.0.suits.0,
+          part_halted o o' out out' i i' (NoMemory n) n h.bytes h.read h.reads f.0 f.1 f.0.suits.0,
           NeedsMemory-halted o o' out out' i i' n n h.bytes h.read h.reads f.0 f.1 f.0.suits.0,
         )
         | inr f ↦ absurd (let e = f.0 in cc)

@@ -3,33 +3,33 @@ use Rattle.std.proofs.Common.{◌≡◌, ◌≤◌, ◌<◌, ◌+◌, ℕ, Bool,
 use Rattle.std.proofs.lemmas.List.Concat.{flat_map-append}
 use Rattle.office_store.specs.declared.requests.Answer.{Answer}
 use Rattle.office_store.specs.declared.requests.Request.{Request}
-use Rattle.office_texts.specs.declared.response.Response.{Response}
-use Rattle.office_texts.specs.Texts.{text_of, exit_status}
+use Rattle.office_lines.specs.declared.render.response.Response.{Response}
+use Rattle.office_lines.specs.render.Texts.{text_of, exit_status}
 use Rattle.office_lines.specs.Lines.{init}
-use Rattle.office_words.specs.Parsing.{begins_request, is_ignored, parsed_line}
-use Rattle.office_words.specs.declared.parsing.ParsedLine.{ParsedLine}
-use Rattle.office_words.specs.declared.parsing.ParsedLine.TheVariants.{Ignored, Valid, Invalid}
-use Rattle.office_texts.specs.declared.response.Response.TheVariants.{Answered}
+use Rattle.office_lines.specs.parse.Parsing.{begins_request, is_ignored, parsed_line}
+use Rattle.office_lines.specs.declared.parse.line.ParsedLine.{ParsedLine}
+use Rattle.office_lines.specs.declared.parse.line.ParsedLine.TheVariants.{Ignored, Valid, Invalid}
+use Rattle.office_lines.specs.declared.render.response.Response.TheVariants.{Answered}
 use Rattle.office_store.specs.declared.requests.Answer.TheVariants.{Unavailable}
 use Rattle.office_lines.specs.Runs.{Answers, Run, Step, texts_of, last_is_made, greatest_status}
 
 module _ {H : Type 0} (handles : H → Request → Answer → H → Type 0) where
-  rehearsals-answers_unavailable : (o : H) (parsed : ParsedLine) (begins : Bool) → is_ignored parsed ≡ false → begins ≡ true
+  answers_unavailable : (o : H) (parsed : ParsedLine) (begins : Bool) → is_ignored parsed ≡ false → begins ≡ true
       → Answers handles o parsed begins (Answered Unavailable) o
-  rehearsals-answers_unavailable o Ignored begins h e = absurd (cc)
-  rehearsals-answers_unavailable o (Valid request) begins h e = inr (refl, refl)
-  rehearsals-answers_unavailable o Invalid begins h e = (inr (e, refl), refl)
+  answers_unavailable o Ignored begins h e = absurd (cc)
+  answers_unavailable o (Valid request) begins h e = inr (refl, refl)
+  answers_unavailable o Invalid begins h e = (inr (e, refl), refl)
 
   -- out of memory while parsing a line
-  pub rehearsals-Step-unavailable : (o : H) (line : List ℕ) → is_ignored (parsed_line line) ≡ false → begins_request line ≡ true
+  pub Step-unavailable : (o : H) (line : List ℕ) → is_ignored (parsed_line line) ≡ false → begins_request line ≡ true
       → Step handles o line (Answered Unavailable) o
-  rehearsals-Step-unavailable o line h e = rehearsals-answers_unavailable o (parsed_line line) (begins_request line) h e
+  Step-unavailable o line h e = answers_unavailable o (parsed_line line) (begins_request line) h e
 
-  pub rehearsals-Run-append : (o m n : H) (xs ys : List (List ℕ)) (rs ss : List Response) → Run handles o xs rs m → Run handles m ys ss n → Run handles o (xs ++ ys) (rs ++ ss) n
-  rehearsals-Run-append o m n [] ys [] ss p q = subst (λ z. Run handles z ys ss n) p q
-  rehearsals-Run-append o m n (x ∷ xs) ys (r ∷ rs) ss p q = (p.0, p.1, rehearsals-Run-append p.0 m n xs ys rs ss p.2 q)
-  rehearsals-Run-append o m n [] ys (r ∷ rs) ss p q = absurd p
-  rehearsals-Run-append o m n (x ∷ xs) ys [] ss p q = absurd p
+  pub Run-append : (o m n : H) (xs ys : List (List ℕ)) (rs ss : List Response) → Run handles o xs rs m → Run handles m ys ss n → Run handles o (xs ++ ys) (rs ++ ss) n
+  Run-append o m n [] ys [] ss p q = subst (λ z. Run handles z ys ss n) p q
+  Run-append o m n (x ∷ xs) ys (r ∷ rs) ss p q = (p.0, p.1, Run-append p.0 m n xs ys rs ss p.2 q)
+  Run-append o m n [] ys (r ∷ rs) ss p q = absurd p
+  Run-append o m n (x ∷ xs) ys [] ss p q = absurd p
 
 pub greatest_status-append : (rs ss : List Response) → greatest_status (rs ++ ss) ≡ max (greatest_status rs) (greatest_status ss)
 greatest_status-append [] ss = omega arith

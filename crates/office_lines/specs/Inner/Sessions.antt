@@ -2,7 +2,7 @@
 use Rattle.std.specs.Prelude.{◌≡◌, ℕ, ◌+◌, ◌-◌, ◌<◌, ◌≤◌, ◌⊎◌, Bool, true, not, max, List, [], ◌∷◌, ◌++◌, length, take, Option, if◌then◌else◌}
 use Rattle.std.specs.List.{list_all}
 use Rattle.std.specs.Io.KnownBytes.{Consumes}
-use Rattle.office_texts.specs.declared.response.Response.{Response}
+use Rattle.office_lines.specs.declared.render.response.Response.{Response}
 use Rattle.office_lines.specs.declared.ending.Ending.{Ending}
 use Rattle.office_lines.specs.declared.ending.Ending.TheVariants.{Ended, ReadFault, WriteFault, NoMemory}
 use Rattle.office_lines.specs.declared.session.Session.{Session}
@@ -11,7 +11,7 @@ use Rattle.office_store.specs.declared.requests.Request.{Request}
 use Rattle.office_lines.specs.Lines.{is_short, is_line_end, line_limit, chunk_limit, read_limit, init, unended}
 use Rattle.room_types.specs.Streams.{Input, Output, Puts}
 use Rattle.room_types.specs.Watched.{counted}
-use Rattle.office_texts.specs.Texts.{is_constant, text_of, exit_status}
+use Rattle.office_lines.specs.render.Texts.{is_constant, text_of, exit_status}
 use Rattle.office_lines.specs.Runs.{Run, Step, texts_of, last_is_made, greatest_status}
 
 -- the lines that the bytes end, continuing an unfinished line

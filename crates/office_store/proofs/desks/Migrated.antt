@@ -7,15 +7,15 @@ use Rattle.sqlite.specs.Effect.{Database}
 use Rattle.sqlite.specs.Held.{Held, state}
 use Rattle.office_state.specs.Office.Invariants.{IsLawful}
 use Rattle.office_state.specs.declared.office.Office.{Office}
-use Rattle.office_cells.specs.Columns.{round_shown}
-use Rattle.office_cells.specs.Forms.{IsRoundRow}
-use Rattle.office_cells.specs.WellFormed.{IsWellFormed}
-use Rattle.office_rows.specs.Tables.{own_version, rows_at, rows_of}
-use Rattle.office_tables.specs.Steps.{IsIntact}
-use Rattle.office_tables.specs.Tables.{HoldsOffice}
-use Rattle.office_migrate.specs.Causes.{HasCause, IsAllowed, MayReturn}
-use Rattle.office_migrate.specs.declared.migrating.MigrateFault.{MigrateFault}
-use Rattle.office_migrate.specs.declared.migrating.MigrateFault.TheVariants as migrate
+use Rattle.office_schema.specs.cells.Columns.{round_shown}
+use Rattle.office_schema.specs.cells.Forms.{IsRoundRow}
+use Rattle.office_schema.specs.cells.WellFormed.{IsWellFormed}
+use Rattle.office_schema.specs.rows.Tables.{own_version, rows_at, rows_of}
+use Rattle.office_schema.specs.tables.Steps.{IsIntact}
+use Rattle.office_schema.specs.tables.Tables.{HoldsOffice}
+use Rattle.office_db.specs.migration.Causes.{HasCause, IsAllowed, MayReturn}
+use Rattle.office_db.specs.declared.migration.migrating.MigrateFault.{MigrateFault}
+use Rattle.office_db.specs.declared.migration.migrating.MigrateFault.TheVariants as migrate
 use Rattle.office_store.specs.Desk.{Shows}
 use Rattle.office_store.specs.Migrating.{IsFaultOfMigration, MayNotMigrate, MayReturnFault, migrating_fault}
 use Rattle.office_store.specs.declared.desk.faults.DeskFault.TheVariants.{AlreadyThere}

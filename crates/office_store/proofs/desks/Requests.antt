@@ -13,14 +13,14 @@ use Rattle.office_core.specs.Command.Decision.{IsDecision}
 use Rattle.office_core.specs.declared.command.Command.{Command}
 use Rattle.office_core.specs.declared.command.decision.Decision.{Decision}
 use Rattle.office_core.specs.declared.reply.Reply.{Reply as CoreReply}
-use Rattle.office_cells.specs.WellFormed.{IsWellFormed}
-use Rattle.office_rows.specs.Tables.{rows_of}
-use Rattle.office_tables.specs.Steps.{Follows, IsIntact}
-use Rattle.office_tables.specs.Tables.{HoldsOffice}
-use Rattle.office_tables.proofs.statements.Steps.{follows-refl, follows_then}
-use Rattle.office_changes.specs.StoresChanges.{StoresChanges}
-use Rattle.office_load.specs.Reading.{OnlyReads}
-use Rattle.office_load.proofs.found_offices.Following.{found_offices_reads_then}
+use Rattle.office_schema.specs.cells.WellFormed.{IsWellFormed}
+use Rattle.office_schema.specs.rows.Tables.{rows_of}
+use Rattle.office_schema.specs.tables.Steps.{Follows, IsIntact}
+use Rattle.office_schema.specs.tables.Tables.{HoldsOffice}
+use Rattle.office_schema.proofs.statements.Steps.{follows-refl, follows_then}
+use Rattle.office_db.specs.changes.StoresChanges.{StoresChanges}
+use Rattle.office_db.specs.loading.Reading.{OnlyReads}
+use Rattle.office_db.proofs.found_offices.Following.{reads_then}
 use Rattle.office_store.proofs.desks.Certain.{false_is_not_true}
 use Rattle.office_store.specs.Caching.{changes_allocate}
 use Rattle.office_store.specs.Desk.{DeskState, HandlesAt, IsAnsweredBy, UpdatesCache, Shows, Represents}
@@ -128,16 +128,16 @@ reads-refl a = record { follows = follows-refl a; same = λ intact. refl }
 
 module _ {S : Type 0} (g : Ghosts S) where
   -- A desk represents the office that it shows. While the connection is open, it shows the office that it represents.
-  pub desks-represents_if_shown : (desk : DeskState S) (office : Office) → Shows g desk office → Represents g desk office
-  desks-represents_if_shown desk office shows = record {
+  pub represents_if_shown : (desk : DeskState S) (office : Office) → Shows g desk office → Represents g desk office
+  represents_if_shown desk office shows = record {
     tables = λ is_open. shows.tables;
     well_formed = shows.well_formed;
     lawful = shows.lawful;
     cached = shows.cached;
   }
 
-  pub desks-shows_if_open : (desk : DeskState S) (office : Office) → IsTrue (state g desk.conn).is_open → Represents g desk office → Shows g desk office
-  desks-shows_if_open desk office is_open represents = record {
+  pub shows_if_open : (desk : DeskState S) (office : Office) → IsTrue (state g desk.conn).is_open → Represents g desk office → Shows g desk office
+  shows_if_open desk office is_open represents = record {
     is_open = is_open;
     tables = represents.tables is_open;
     well_formed = represents.well_formed;
@@ -146,34 +146,34 @@ module _ {S : Type 0} (g : Ghosts S) where
   }
 
   -- The office that the desk represents is the cached one.
-  desks-cached_is : (desk : DeskState S) (cached office : Office) → desk.cached ≡ Some cached → Represents g desk office → cached ≡ office
-  desks-cached_is desk cached office is represents = subst (λ k. IfSome k (λ o. o ≡ office)) is represents.cached
+  cached_is : (desk : DeskState S) (cached office : Office) → desk.cached ≡ Some cached → Represents g desk office → cached ≡ office
+  cached_is desk cached office is represents = subst (λ k. IfSome k (λ o. o ≡ office)) is represents.cached
 
   -- The tables are unchanged while the connection is open.
-  pub desks-held_still : (old new : Held S) (cached : Option Office) (office : Office) → HasCleanDisk (state g new) → Follows (state g old) (state g new)
+  pub held_still : (old new : Held S) (cached : Option Office) (office : Office) → HasCleanDisk (state g new) → Follows (state g old) (state g new)
       → (IsIntact (state g new) → (state g new).now ≡ (state g old).now)
       → Represents g (record { conn = old; cached = cached }) office → IsTrue (state g new).is_open → HoldsOffice (state g new).now office
-  desks-held_still old new cached office clean follows same represents is_open =
+  held_still old new cached office clean follows same represents is_open =
       let held = represents.tables (follows.was_open clean is_open) in
       subst (λ db. HoldsOffice db office) (sym (same (clean, is_open))) held
 
   -- So is the office that the desk represents.
-  pub desks-represents_still : (old new : Held S) (cached : Option Office) (office : Office) → HasCleanDisk (state g new) → Follows (state g old) (state g new)
+  pub represents_still : (old new : Held S) (cached : Option Office) (office : Office) → HasCleanDisk (state g new) → Follows (state g old) (state g new)
       → (IsIntact (state g new) → (state g new).now ≡ (state g old).now)
       → Represents g (record { conn = old; cached = cached }) office → Represents g (record { conn = new; cached = cached }) office
-  desks-represents_still old new cached office clean follows same represents = record {
-    tables = desks-held_still old new cached office clean follows same represents;
+  represents_still old new cached office clean follows same represents = record {
+    tables = held_still old new cached office clean follows same represents;
     well_formed = represents.well_formed;
     lawful = represents.lawful;
     cached = represents.cached;
   }
 
   -- Nothing is changed.
-  pub desks-unavailable_keeps_desk : (old new : DeskState S) (request : Request) → OnlyReads (state g old.conn) (state g new.conn)
+  pub unavailable_keeps_desk : (old new : DeskState S) (request : Request) → OnlyReads (state g old.conn) (state g new.conn)
       → IfSome old.cached (λ office. UpdatesCache office request Unavailable new.cached)
       → IfSome old.cached (λ office. changes_nothing office request ≡ true → new.conn ≡ old.conn)
       → (HasCleanDisk (state g new.conn) → (office : Office) → Represents g old office → Represents g new office) → HandlesAt g old request Unavailable new
-  desks-unavailable_keeps_desk old new request reads keeps untouched still = record {
+  unavailable_keeps_desk old new request reads keeps untouched still = record {
     follows = reads.follows;
     returned = inr (refl, reads);
     keeps = keeps;
@@ -182,16 +182,16 @@ module _ {S : Type 0} (g : Ghosts S) where
   }
 
   -- the same, where no office was cached
-  pub desks-unavailable_uncached : (old new : DeskState S) (request : Request) → old.cached ≡ None → OnlyReads (state g old.conn) (state g new.conn)
+  pub unavailable_uncached : (old new : DeskState S) (request : Request) → old.cached ≡ None → OnlyReads (state g old.conn) (state g new.conn)
       → (HasCleanDisk (state g new.conn) → (office : Office) → Represents g old office → Represents g new office) → HandlesAt g old request Unavailable new
-  desks-unavailable_uncached old new request none reads still =
-      desks-unavailable_keeps_desk old new request reads (nothing_cached old.cached (λ office. UpdatesCache office request Unavailable new.cached) none)
+  unavailable_uncached old new request none reads still =
+      unavailable_keeps_desk old new request reads (nothing_cached old.cached (λ office. UpdatesCache office request Unavailable new.cached) none)
       (nothing_cached old.cached (λ office. changes_nothing office request ≡ true → new.conn ≡ old.conn) none) still
 
   -- an answer of the cached office, if nothing is stored
-  pub desks-cached_office_answers : (desk : DeskState S) (cached : Office) (request : Request) (answer : Answer) → desk.cached ≡ Some cached → IsLawful cached → Handles cached request answer cached
+  pub cached_office_answers : (desk : DeskState S) (cached : Office) (request : Request) (answer : Answer) → desk.cached ≡ Some cached → IsLawful cached → Handles cached request answer cached
       → (is_certain cached request ≡ true → answer ≡ answer_to cached request) → ¬ IsStored cached request answer → HandlesAt g desk request answer desk
-  desks-cached_office_answers desk cached request answer is lawful handled certain none =
+  cached_office_answers desk cached request answer is lawful handled certain none =
       let keeps = stays_cached cached request answer handled certain in
       record {
         follows = follows-refl (state g desk.conn);
@@ -202,7 +202,7 @@ module _ {S : Type 0} (g : Ghosts S) where
                 record {
                   lawful = lawful;
                   was_cached = subst (λ k. IfSome k (λ o. o ≡ cached)) (sym is) refl;
-                  represented = λ clean represented represents. desks-cached_is desk cached represented is represents;
+                  represented = λ clean represented represents. cached_is desk cached represented is represents;
                   answers = done.0;
                   keeps = subst (λ k. UpdatesCache cached request answer k) (sym is) keeps;
                   reads = λ unstored. reads-refl (state g desk.conn);
@@ -213,34 +213,34 @@ module _ {S : Type 0} (g : Ghosts S) where
         ];
         keeps = subst (λ k. IfSome k (λ office. UpdatesCache office request answer k)) (sym is) keeps;
         untouched = subst (λ k. IfSome k (λ o. changes_nothing o request ≡ true → desk.conn ≡ desk.conn)) (sym is) (λ nothing. refl);
-        steps = λ clean office represents. (office, subst (λ o. Handles o request answer o) (desks-cached_is desk cached office is represents) handled, represents);
+        steps = λ clean office represents. (office, subst (λ o. Handles o request answer o) (cached_is desk cached office is represents) handled, represents);
       }
 
   -- the office that answers, after a read that leaves the desk representing the same office
-  desks-answered_after : (old mid new : DeskState S) (request : Request) (answer : Answer) (office : Office) → OnlyReads (state g old.conn) (state g mid.conn) → IfSome old.cached (λ cached. mid.cached ≡ Some cached)
+  answered_after : (old mid new : DeskState S) (request : Request) (answer : Answer) (office : Office) → OnlyReads (state g old.conn) (state g mid.conn) → IfSome old.cached (λ cached. mid.cached ≡ Some cached)
       → (HasCleanDisk (state g new.conn) → (represented : Office) → Represents g old represented → Represents g mid represented)
       → IsAnsweredBy g mid request answer new office → IsAnsweredBy g old request answer new office
-  desks-answered_after old mid new request answer office reads cached still by = record {
+  answered_after old mid new request answer office reads cached still by = record {
     lawful = by.lawful;
     was_cached = was_cached_after old.cached mid.cached office cached by.was_cached;
     represented = λ clean represented represents. by.represented clean represented (still clean represented represents);
     answers = by.answers;
     keeps = by.keeps;
-    reads = λ unstored. found_offices_reads_then _ _ _ reads (by.reads unstored);
+    reads = λ unstored. reads_then _ _ _ reads (by.reads unstored);
     stored = by.stored;
   }
 
   -- the same for a whole request
-  pub desks-handles_after : (old mid new : DeskState S) (request : Request) (answer : Answer) → OnlyReads (state g old.conn) (state g mid.conn) → IfSome old.cached (λ cached. mid.cached ≡ Some cached)
+  pub handles_after : (old mid new : DeskState S) (request : Request) (answer : Answer) → OnlyReads (state g old.conn) (state g mid.conn) → IfSome old.cached (λ cached. mid.cached ≡ Some cached)
       → IfSome old.cached (λ cached. mid.conn ≡ old.conn)
       → (HasCleanDisk (state g mid.conn) → (office : Office) → Represents g old office → Represents g mid office) → HandlesAt g mid request answer new → HandlesAt g old request answer new
-  desks-handles_after old mid new request answer reads cached same still h =
+  handles_after old mid new request answer reads cached same still h =
       let still_represents : HasCleanDisk (state g new.conn) → (office : Office) → Represents g old office → Represents g mid office = λ clean. still (h.follows.clean clean) in
       record {
         follows = follows_then _ _ _ reads.follows h.follows;
         returned = elim h.returned [
-          | inl some ↦ inl (some.0, desks-answered_after old mid new request answer some.0 reads cached still_represents some.1)
-          | inr none ↦ inr (none.0, found_offices_reads_then _ _ _ reads none.1)
+          | inl some ↦ inl (some.0, answered_after old mid new request answer some.0 reads cached still_represents some.1)
+          | inr none ↦ inr (none.0, reads_then _ _ _ reads none.1)
         ];
         keeps = keeps_after old.cached mid.cached request answer new.cached cached h.keeps;
         untouched =
@@ -250,7 +250,7 @@ module _ {S : Type 0} (g : Ghosts S) where
       }
 
   -- a command whose changes are stored: they are in the tables, and in the cached office, if any
-  pub desks-carried_out : (old new : Held S) (cached : Office) (command : Command) (decision : Decision) (changes : List Change) (taken after : Option Office)
+  pub carried_out : (old new : Held S) (cached : Office) (command : Command) (decision : Decision) (changes : List Change) (taken after : Option Office)
       → IsDecision (checks cached command) (reply_to cached command) (changes_of cached command) decision → LeadsTo cached (next cached command) decision.changes.items
       → IsLawful cached → changes ≡ decision.changes.items → is_empty changes ≡ false
       → Follows (state g old) (state g new) → (HasCleanDisk (state g new) → IsTrue (state g new).is_open)
@@ -258,7 +258,7 @@ module _ {S : Type 0} (g : Ghosts S) where
       → taken ≡ Some cached → MatchOption taken (after ≡ None) (λ o. IfSome after (λ n. n ≡ applied_all o changes))
       → IfSome taken (λ o. after ≡ None → changes_allocate o changes ≡ true)
       → HandlesAt g (record { conn = old; cached = Some cached }) (request.Office command) (Reply decision.reply) (record { conn = new; cached = after })
-  desks-carried_out old new cached command decision changes taken after d leads lawful same some follows is_open stored took done lost =
+  carried_out old new cached command decision changes taken after d leads lawful same some follows is_open stored took done lost =
       let is : Reply decision.reply ≡ answer_to cached (request.Office command) = accepted_answer cached command decision.reply d.accepted d.replied in
       let goes : applied_all cached changes ≡ next cached command = ap (applied_all cached) same ∙ leads.leads in
       let changed = changes_something cached command changes d.accepted (same ∙ d.changed) some in
@@ -305,12 +305,12 @@ module _ {S : Type 0} (g : Ghosts S) where
       }
 
   -- a command that changes nothing: it is answered, and no statement runs
-  pub desks-nothing_stored : (desk : DeskState S) (cached : Office) (command : Command) (decision : Decision)
+  pub nothing_stored : (desk : DeskState S) (cached : Office) (command : Command) (decision : Decision)
       → desk.cached ≡ Some cached → IsDecision (checks cached command) (reply_to cached command) (changes_of cached command) decision → LeadsTo cached (next cached command) decision.changes.items
       → IsLawful cached → is_empty decision.changes.items ≡ true → HandlesAt g desk (request.Office command) (Reply decision.reply) desk
-  desks-nothing_stored desk cached command decision is d leads lawful none =
+  nothing_stored desk cached command decision is d leads lawful none =
       let stays : next cached command ≡ cached = sym leads.leads ∙ applied_none cached decision.changes.items none in
       let nothing = changes_none cached command decision.changes.items d.accepted d.changed none in
-      desks-cached_office_answers desk cached (request.Office command) (Reply decision.reply) is lawful
+      cached_office_answers desk cached (request.Office command) (Reply decision.reply) is lawful
       (subst (λ o. Handles cached (request.Office command) (Reply decision.reply) o) stays (accepted_handles cached command decision.reply d.accepted d.replied))
       (λ certain. accepted_answer cached command decision.reply d.accepted d.replied) (λ stored. false_is_not_true (sym stored.1 ∙ nothing))

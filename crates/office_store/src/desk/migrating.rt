@@ -3,38 +3,39 @@ ghost use Rattle.std.specs.Prelude.{◌≡◌, ◌⊎◌, ℤ, false, IfErr, IfO
 ghost use Rattle.sqlite.specs.Held.{state};
 ghost use Rattle.sqlite.specs.State.{HasCleanDisk};
 ghost use Rattle.office_state.specs.declared.office.Office.{Office as AnyOffice};
-ghost use Rattle.office_tables.specs.Layouts.{version_of};
-ghost use Rattle.office_tables.specs.Steps.{Follows, IsIntact};
-ghost use Rattle.office_tables.specs.Tables.{HoldsOfficeIn};
-ghost use Rattle.office_tables.specs.declared.layouts.Layout.{Layout as AnyLayout};
-ghost use Rattle.office_load.specs.Finding.{AreDeclared, AreWhole, names_round};
-ghost use Rattle.office_load.specs.Layout.{layout_in};
-ghost use Rattle.office_migrate.specs.Causes.{AreRowsAsStated, HoldsEarlier, HoldsLayoutVersion, StatesVersion, HoldsEarlierFirst};
-ghost use Rattle.office_load.specs.FirstTables.{BeginsOffice, begins_office};
-ghost use Rattle.office_migrate.specs.Names.{uses_missing_name};
-ghost use Rattle.office_migrate.specs.Versions.{IsEarlierLayout, IsNotEarlier, IsOfVersion};
+ghost use Rattle.office_schema.specs.tables.Layouts.{version_of};
+ghost use Rattle.office_schema.specs.tables.Steps.{Follows, IsIntact};
+ghost use Rattle.office_schema.specs.tables.Tables.{HoldsOfficeIn};
+ghost use Rattle.office_schema.specs.declared.tables.layouts.Layout.{Layout as AnyLayout};
+ghost use Rattle.office_db.specs.loading.Finding.{AreDeclared, AreWhole, names_round};
+ghost use Rattle.office_db.specs.loading.Layout.{layout_in};
+ghost use Rattle.office_db.specs.migration.Causes.{AreRowsAsStated, HoldsEarlier, HoldsLayoutVersion, StatesVersion, HoldsEarlierFirst};
+ghost use Rattle.office_db.specs.loading.FirstTables.{BeginsOffice, begins_office};
+ghost use Rattle.office_db.specs.migration.Names.{uses_missing_name};
+ghost use Rattle.office_db.specs.migration.Versions.{IsEarlierLayout, IsNotEarlier, IsOfVersion};
 ghost use Rattle.office_store.specs.Desk.{Shows};
 ghost use Rattle.office_store.specs.Migrating.{IsFaultOfMigration, MayNotMigrate, MayReturnFault, migrating_fault};
 
 use crate::desk::Desk;
 use crate::desk::faults::{Back, DeskFault};
-use office_migrate::{MigrateFault, migrate};
+use office_db::migration::{MigrateFault, migrate};
 use sqlite::{Alter, Connection};
 use std::alloc::Global;
 
 impl<S: Alter> Desk<S> {
-    /// Opens a desk over a database whose tables are the rows of an office of an earlier version. Makes the tables anew in the
-    /// version of this program, in one transaction. The desk shows the same office, in whichever phase: with no leavers, and
-    /// with no other grades than it had.
+    /// Opens a desk over a database whose tables hold the rows of an office of an earlier version. Recreates the tables
+    /// in the version of this program, in one transaction. The desk shows the same office, whatever its phase: it has
+    /// no leavers, and no grades that it did not have before.
     ///
     /// # Errors
     ///
     /// `NotAnOffice` if nothing has the name of table `round`. Otherwise, if the first tables are those of an office:
-    /// `OtherVersion` only if the row of table `round` holds that version, and it is not an earlier one; `NotAnOffice` only if
-    /// the first tables, in a known order, are not the rows of an office of an earlier version, or the row of table `round` is
-    /// missing; `AlreadyThere` only if the rows are not at fault and something has the name of a table that the version in the
-    /// row lacks. `Unavailable` otherwise, and it may also replace each of these. The tables of an office of an earlier version
-    /// are refused in no other way. The connection is returned. Its tables are unchanged, unless a fault closed it or the disk
+    /// `OtherVersion` only if the row of table `round` holds that version, and it is not an earlier one; `NotAnOffice`
+    /// only if the first tables, in a known order, do not hold the rows of an office of an earlier version, or if the
+    /// row of table `round` is missing; `AlreadyThere` only if the rows are not at fault and something has the name of
+    /// a table that the version in the row lacks. `Unavailable` may take the place of each of these, and is the error
+    /// in all other cases. The tables of an office of an earlier version are refused only as `AlreadyThere` or
+    /// `Unavailable`. The error returns the connection. Its tables are unchanged, unless a fault closed it or the disk
     /// failed to return what was written. If the first tables are not those of an office, no statement has run on it.
     pub fn migrate(alloc: Global, connection: Connection<S>) -> Result<Desk<S>, Back<S>>
         requires { connection.in_transaction ≡ false }

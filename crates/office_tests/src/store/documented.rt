@@ -2,8 +2,8 @@
 use super::adopting::{adopted, tried_after};
 use super::migrating::{ROWS, responds_to_lines};
 use crate::layouts::tables_made;
+use office_schema::tables::layouts::Layout;
 use office_store::{Desk, DeskFault};
-use office_tables::layouts::Layout;
 use sqlite::{Connection, MemStore};
 use std::alloc::Global;
 use std::process::Abort;

@@ -6,8 +6,8 @@ use Rattle.sqlite.specs.Held.{state}
 use Rattle.sqlite.specs.State.{HasCleanDisk}
 use Rattle.sqlite.specs.Steps.{over_memory}
 use Rattle.office_state.specs.declared.office.Office.{Office}
-use Rattle.office_tables.specs.Steps.{Follows}
-use Rattle.office_tables.proofs.statements.Steps.{follows-refl, follows_then}
+use Rattle.office_schema.specs.tables.Steps.{Follows}
+use Rattle.office_schema.proofs.statements.Steps.{follows-refl, follows_then}
 use Rattle.office_store.specs.Desk.{DeskState, HandlesAt, Shows, Represents}
 use Rattle.office_store.specs.Requests.{Handles}
 use Rattle.office_store.proofs.desks.Runs.{step_in_memory}

@@ -243,12 +243,12 @@ module _ (a b : Office) (same : a.rooms ≡ b.rooms) (occupied : (room : Text) �
       unserved route body who answer old new e (inr (inr g)) = g.0
   Authenticates-same route key body answer next agree (inr h) = (b, inr (h.0, refl))
 
-  own_replies-wanted_same : (what : Wanted) (body : List ℕ) (answer : Answer) (next : Office) → ((route : Route) (key : Text) → what ≡ wanted route key → AgreeOnKey a b key)
+  wanted_same : (what : Wanted) (body : List ℕ) (answer : Answer) (next : Office) → ((route : Route) (key : Text) → what ≡ wanted route key → AgreeOnKey a b key)
       → AnswersWanted Handles what body a answer next → Also (λ other. AnswersWanted Handles what body b answer other)
-  own_replies-wanted_same unknown body answer next agree h = (b, (h.0, refl))
-  own_replies-wanted_same (wrong_method allow) body answer next agree h = (b, (h.0, refl))
-  own_replies-wanted_same forbidden body answer next agree h = (b, (h.0, refl))
-  own_replies-wanted_same (wanted route key) body answer next agree h = Authenticates-same route key body answer next (agree route key refl) h
+  wanted_same unknown body answer next agree h = (b, (h.0, refl))
+  wanted_same (wrong_method allow) body answer next agree h = (b, (h.0, refl))
+  wanted_same forbidden body answer next agree h = (b, (h.0, refl))
+  wanted_same (wanted route key) body answer next agree h = Authenticates-same route key body answer next (agree route key refl) h
 
 -- a request that is routed has a key
 keyed : (key : Option Text) (route r : Route) (k : Text) → with_key route key ≡ wanted r k → key ≡ Some k
@@ -270,7 +270,7 @@ replies_by_own_record a b bytes answer next agree (fault status, asks, h) = (b, 
 replies_by_own_record a b bytes answer next agree (ask method path key body used, asks, h) =
     let own = λ (route : Route) (k : Text) (e : wanted_of method path key ≡ wanted route k).
     agree.own method path k body used (subst (λ o. Asks bytes (ask method path o body used)) (keyed_to method path key (route_of path) route k refl e) asks) in
-    let other = own_replies-wanted_same a b agree.rooms agree.occupied agree.number agree.phase (wanted_of method path key) body answer next own h in
+    let other = wanted_same a b agree.rooms agree.occupied agree.number agree.phase (wanted_of method path key) body answer next own h in
     (other.0, (ask method path key body used, asks, other.1))
 
 -- ---- after 503

@@ -2,7 +2,7 @@ use Rattle.std.proofs.Common.{◌≡◌, ◌∙◌, ◌<◌, ℕ, List, [], map,
 use Rattle.clap.specs.Words.{App, HasKind, Kinds, fault_of, found_of, is_simple_and_free, rows_of, subcommand_of}
 use Rattle.clap.specs.Simple.{is_simple}
 use Rattle.office_cli.specs.Usage.{usage}
-use Rattle.office_words.specs.Understanding.{UnderstandsAs}
+use Rattle.office_lines.specs.parse.Understanding.{UnderstandsAs}
 use Rattle.office_cli.specs.Programs.{Line, line_of}
 use Rattle.office_cli.proofs.program_words.Parsed.{entered_is, fault_returned, line_entered, some_words, usage_is_free, usage_is_simple}
 use Rattle.office_cli.proofs.arguments.program.Goals as goal

@@ -16,8 +16,8 @@ use std::alloc::Global;
 ///
 /// # Errors
 ///
-/// `BadRecord` for the first record that cannot be parsed; if all can, for the first whose own command the office refuses.
-/// `OutOfMemory` if an allocation fails.
+/// `BadRecord` for the first record that cannot be parsed. If every record can be parsed, `BadRecord` for the first
+/// whose own command the office refuses. `OutOfMemory` if an allocation fails.
 #[tactic(auto, using(crate::proofs::imports::ListChecks::imports_few_entries, crate::proofs::imports::ListChecks::imports_few_changes))]
 pub fn choices_added(alloc: Global, office: &Office, bytes: &[u8]) -> Result<Vec<Change>, Refusal>
     ensures added { IfOk result

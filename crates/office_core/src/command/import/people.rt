@@ -21,8 +21,8 @@ use std::alloc::Global;
 ///
 /// # Errors
 ///
-/// `BadRecord` for the first record that cannot be parsed; if all can, for the first whose own command the office refuses.
-/// `OutOfMemory` if an allocation fails.
+/// `BadRecord` for the first record that cannot be parsed. If every record can be parsed, `BadRecord` for the first
+/// whose own command the office refuses. `OutOfMemory` if an allocation fails.
 #[tactic(auto, using(crate::proofs::imports::ListChecks::imports_few_entries, crate::proofs::imports::ListChecks::imports_few_changes))]
 pub fn people_added(alloc: Global, office: &Office, bytes: &[u8]) -> Result<Vec<Change>, Refusal>
     ensures added { IfOk result
@@ -34,7 +34,7 @@ pub fn people_added(alloc: Global, office: &Office, bytes: &[u8]) -> Result<Vec<
     each_person_added(alloc, office, people.as_slice())
 }
 
-// Returns a change for each person. Each is checked against the office with those before.
+// Returns a change for each person. Checks each against the office to which all earlier ones were added.
 fn each_person_added(
     alloc: Global,
     office: &Office,
@@ -58,7 +58,7 @@ fn each_person_added(
     Ok(changes)
 }
 
-// Checks that the person may be added to the office, with the people of the register in place of its own.
+// Checks that the person may be added to the office, with the people of the register in place of the office's own.
 fn may_add_person(office: &Office, register: &Register, entry: &PersonEntry) -> Result<(), Refusal>
     requires { IsIndexed register.now }
     ensures { Passes

@@ -2,15 +2,15 @@ use Rattle.std.specs.Prelude.{⊤}
 use Rattle.sqlite.specs.Files.{over_files}
 use Rattle.sqlite_wal.specs.Files.{image_at}
 use Rattle.office_file.specs.Files.{IsOpenedOver}
-use Rattle.office_file.proofs.system_files.Opened.{system_files-begins_found, system_files-file_fault}
+use Rattle.office_file.proofs.system_files.Opened.{begins_found, file_fault}
 use Rattle.office_file.proofs.system.find_over.Goals as goal
 
 pub returns-clause-shows : goal.returns-clause-shows
 returns-clause-shows g c =
     let opened = IsOpenedOver (image_at g.S.Start) in
-    system_files-begins_found over_files opened opened _ _ _ _ _ c.find_in.result c.find_in.ensures.shows
+    begins_found over_files opened opened _ _ _ _ _ c.find_in.result c.find_in.ensures.shows
 
 pub returns-clause-cause : goal.returns-clause-cause
 returns-clause-cause g c =
     let opened = IsOpenedOver (image_at g.S.Start) in
-    system_files-file_fault over_files opened opened (λ _ _ _. ⊤) (λ _ _ _. ⊤) c.new-files.result c.find_in.new.files _ c.find_in.result c.find_in.ensures.cause
+    file_fault over_files opened opened (λ _ _ _. ⊤) (λ _ _ _. ⊤) c.new-files.result c.find_in.new.files _ c.find_in.result c.find_in.ensures.cause

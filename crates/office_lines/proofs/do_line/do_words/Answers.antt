@@ -1,6 +1,6 @@
 use Rattle.std.proofs.Common.{◌≡◌, ◌∙◌, inl, map, sym}
-use Rattle.office_words.proofs.request_words.Names.{joined-texts}
-use Rattle.office_words.specs.Values.{joined}
+use Rattle.office_lines.proofs.request_words.Names.{joined-texts}
+use Rattle.office_lines.specs.parse.Values.{joined}
 use Rattle.office_lines.proofs.do_line.do_words.Goals as goal
 
 pub returns-in-Ok-clause-does : goal.returns-in-Ok-clause-does

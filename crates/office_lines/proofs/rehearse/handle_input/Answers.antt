@@ -4,13 +4,13 @@ use Rattle.std.proofs.lemmas.Grind.{common_steps}
 use Rattle.std.proofs.Math.Bool.{or-true, or-false}
 use Rattle.room_types.specs.Watched.{counted}
 use Rattle.room_types.proofs.watched_bytes.Streams.{counted_one, kept_by_write, or_known, nonempty_buffer}
-use Rattle.office_lines.proofs.handled.Sessions.{handled-InputHandled-nil, handled-InputHandled-more, handled-InputHandled-longer, handled-InputHandled-end, handled-Stopped-halted, handled-Stopped-failed, handled-Stopped-cut, OnlyWhereFailed-since, read_once}
+use Rattle.office_lines.proofs.handled.Sessions.{InputHandled-nil, InputHandled-more, InputHandled-longer, InputHandled-end, Stopped-halted, Stopped-failed, Stopped-cut, OnlyWhereFailed-since, read_once}
 use Rattle.office_lines.proofs.rehearse.handle_input.Goals as goal
 
 pub returns-in_err-take_chunk-in-Ok-clause-stopped : goal.returns-in_err-take_chunk-in-Ok-clause-stopped
 returns-in_err-take_chunk-in-Ok-clause-stopped g c =
     let p = err_from_is_err_and c.from_residual.result c.from_residual.ensures.1 in
-    rw (p.1, p.2) (handled-Stopped-halted _ _ _ _ _ _ _ _ _ _ c.reads.invariant.handled c.in-Ok.ensures.bytes.0 c.in_err-take_chunk-in-Ok.ensures.halted
+    rw (p.1, p.2) (Stopped-halted _ _ _ _ _ _ _ _ _ _ c.reads.invariant.handled c.in-Ok.ensures.bytes.0 c.in_err-take_chunk-in-Ok.ensures.halted
     (grind (arith, common_steps, c.in-Ok.ensures.bound))
     (read_once _ _ _ _ c.in-Ok.ensures.reads c.reads.invariant.count c.reads.invariant.each (omega (arith, c.reads-test.true)))
     (c.in-Ok.ensures.failed ∙ or-false _ ∙ c.reads.invariant.failed))
@@ -21,13 +21,13 @@ returns-in_err-take_chunk-in-Ok-clause-failed g c =
     rw (p.1, p.2) (OnlyWhereFailed-since _ _ _ _ c.reads.invariant.handled.handled.failed c.in_err-take_chunk-in-Ok.ensures.failed)
 
 pub returns-in-Err-clause-stopped : goal.returns-in-Err-clause-stopped
-returns-in-Err-clause-stopped g c = handled-Stopped-failed _ _ _ _ _ _ c.reads.invariant.handled c.in-Err.ensures.bytes
+returns-in-Err-clause-stopped g c = Stopped-failed _ _ _ _ _ _ c.reads.invariant.handled c.in-Err.ensures.bytes
     (read_once _ _ _ _ c.in-Err.ensures.reads c.reads.invariant.count c.reads.invariant.each (omega (arith, c.reads-test.true))) c.reads.invariant.begun (c.in-Err.ensures.failed ∙ or-true _)
 
 pub returns-in-Ok-eq0-clause-handled : goal.returns-in-Ok-eq0-clause-handled
 returns-in-Ok-eq0-clause-handled g c =
     let none : take c.in-Ok-eq0.field-0 c.read.new.buf ≡ [] = ap (λ n. take n c.read.new.buf) c.in-Ok-eq0.field-0-test in
-    handled-InputHandled-end _ _ _ _ _ _ _ c.reads.invariant.handled (rw none at c.in-Ok-eq0.ensures.bytes.0)
+    InputHandled-end _ _ _ _ _ _ _ c.reads.invariant.handled (rw none at c.in-Ok-eq0.ensures.bytes.0)
     (read_once _ _ _ _ c.in-Ok-eq0.ensures.reads c.reads.invariant.count c.reads.invariant.each (omega (arith, c.reads-test.true)))
 
 pub returns-in-Err-clause-failed : goal.returns-in-Err-clause-failed
@@ -35,8 +35,8 @@ returns-in-Err-clause-failed g c = c.reads.invariant.handled.handled.failed
 
 pub reads-preserved : goal.reads-preserved
 reads-preserved g c = record {
-  handled = handled-InputHandled-more _ _ _ _ _ _ _ _ c.reads.invariant.handled c.in-Ok.ensures.bytes.0 c.in_ok-take_chunk-in-Ok.ensures.handled;
-  each = handled-InputHandled-longer _ _ _ _ _ _ _ _ c.reads.invariant.handled c.in-Ok.ensures.bytes.0 c.in_ok-take_chunk-in-Ok.ensures.handled c.reads.counter
+  handled = InputHandled-more _ _ _ _ _ _ _ _ c.reads.invariant.handled c.in-Ok.ensures.bytes.0 c.in_ok-take_chunk-in-Ok.ensures.handled;
+  each = InputHandled-longer _ _ _ _ _ _ _ _ c.reads.invariant.handled c.in-Ok.ensures.bytes.0 c.in_ok-take_chunk-in-Ok.ensures.handled c.reads.counter
       c.reads.invariant.each (grind (arith, common_steps, c.in-Ok.ensures.bound));
   bound = grind (arith, common_steps, c.in_ok-take_chunk-in-Ok.ensures.bound, c.in-Ok.ensures.bound);
   failed = c.in-Ok.ensures.failed ∙ or-false _ ∙ c.reads.invariant.failed;
@@ -50,14 +50,14 @@ reads-preserved g c = record {
 }
 
 pub returns-clause-stopped : goal.returns-clause-stopped
-returns-clause-stopped g c = handled-Stopped-cut _ _ _ _ _ c.reads.invariant.handled (omega (arith, c.reads.invariant.count, c.reads.invariant.each)) c.reads.invariant.begun (inr (omega arith, omega (arith, c.reads.invariant.each)))
+returns-clause-stopped g c = Stopped-cut _ _ _ _ _ c.reads.invariant.handled (omega (arith, c.reads.invariant.count, c.reads.invariant.each)) c.reads.invariant.begun (inr (omega arith, omega (arith, c.reads.invariant.each)))
 
 pub returns-clause-failed : goal.returns-clause-failed
 returns-clause-failed g c = c.reads.invariant.handled.handled.failed
 
 pub reads-init : goal.reads-init
 reads-init g c = record {
-  handled = handled-InputHandled-nil _ _ _;
+  handled = InputHandled-nil _ _ _;
   each = omega arith;
   bound = omega (arith, c.requires.sent);
   count = c.requires.reads;

@@ -1,5 +1,5 @@
 use Rattle.std.proofs.Common.{rules, ◌≡◌, ◌-◌, not, length, arith, ap, ◌∙◌, refl, inl}
-use Rattle.office_texts.specs.Texts.{text_of}
+use Rattle.office_lines.specs.render.Texts.{text_of}
 use Rattle.room_types.proofs.watched_bytes.Streams.{Puts-nil}
 use Rattle.office_lines.proofs.session.Session.answer_line.Goals as goal
 

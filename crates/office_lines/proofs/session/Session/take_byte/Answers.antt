@@ -1,7 +1,7 @@
 use Rattle.std.proofs.Common.{rules, tests, ◌≡◌, ◌≤◌, length, arith, eqb, false}
 use Rattle.std.proofs.lemmas.Result.{MatchResult-weaker}
 use Rattle.office_lines.specs.Lines.{line_limit}
-use Rattle.office_lines.proofs.handled.Sessions.{newline_handled, handled-newline_halted, longer_handled, handled-too_long, no_memory}
+use Rattle.office_lines.proofs.handled.Sessions.{newline_handled, newline_halted, longer_handled, too_long, no_memory}
 use Rattle.office_lines.proofs.session.Session.take_byte.Goals as goal
 
 pub returns-then-byte-eq10-clause-handled : goal.returns-then-byte-eq10-clause-handled
@@ -16,13 +16,13 @@ returns-then-byte-eq10-clause-halted g c =
     let line = c.args.self.now.partial_line in
     let short : length line.items ≤ line_limit = omega (arith, line.ok.0, c.args.self.now.short) in
     MatchResult-weaker c.answer_line.result c.answer_line.ensures.broken
-    (λ x h. tt) (λ e h. handled-newline_halted _ _ _ _ c.args.byte e c.if-byte-eq10.true short h)
+    (λ x h. tt) (λ e h. newline_halted _ _ _ _ c.args.byte e c.if-byte-eq10.true short h)
 
 pub returns-then-len-ge-LINE_LIMIT-clause-halted : goal.returns-then-len-ge-LINE_LIMIT-clause-halted
 returns-then-len-ge-LINE_LIMIT-clause-halted g c =
     let other : eqb c.args.byte 10 ≡ false = search (rules, tests) in
     let line = c.args.self.now.partial_line in
-    handled-too_long _ _ c.args.byte other (omega (arith, line.ok.0, c.len.ensures, c.if-len-ge-LINE_LIMIT.true, c.args.self.now.short))
+    too_long _ _ c.args.byte other (omega (arith, line.ok.0, c.len.ensures, c.if-len-ge-LINE_LIMIT.true, c.args.self.now.short))
 
 pub returns-in-Ok-clause-handled : goal.returns-in-Ok-clause-handled
 returns-in-Ok-clause-handled g c =

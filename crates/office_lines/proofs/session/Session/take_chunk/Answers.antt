@@ -1,7 +1,7 @@
 use Rattle.std.proofs.Common.{◌≡◌, ◌+◌, ◌∷◌, ◌++◌, [], take, drop, get_or, arith, ap, sym, ◌∙◌}
 use Rattle.std.proofs.lemmas.List.{take_more, take-append-drop}
 use Rattle.std.proofs.lemmas.Result.{err_from_is_err_and}
-use Rattle.office_lines.proofs.handled.Sessions.{handled-Handled-append, handled-Handled-Halted, handled-Halted-more, OnlyWhereFailed-since}
+use Rattle.office_lines.proofs.handled.Sessions.{Handled-append, Handled-Halted, Halted-more, OnlyWhereFailed-since}
 use Rattle.office_lines.proofs.session.Session.take_chunk.Goals as goal
 
 pub returns-in_err-take_byte-clause-halted : goal.returns-in_err-take_byte-clause-halted
@@ -11,7 +11,7 @@ returns-in_err-take_byte-clause-halted g c =
     let chunk = c.args.chunk.now in
     let all : (take i chunk ++ get_or chunk i 0 ∷ []) ++ drop (i + 1) chunk ≡ chunk =
     ap (λ l. l ++ drop (i + 1) chunk) (sym (take_more chunk i 0 (omega arith))) ∙ take-append-drop (i + 1) chunk in
-    rw (p.1, p.2) (rw all at (handled-Halted-more _ _ _ _ _ _ (drop (i + 1) chunk) (handled-Handled-Halted _ _ _ _ _ _ (take i chunk) _ c.loop-byte.invariant.handled c.in_err-take_byte.ensures.halted)))
+    rw (p.1, p.2) (rw all at (Halted-more _ _ _ _ _ _ (drop (i + 1) chunk) (Handled-Halted _ _ _ _ _ _ (take i chunk) _ c.loop-byte.invariant.handled c.in_err-take_byte.ensures.halted)))
 
 pub returns-in_err-take_byte-clause-failed : goal.returns-in_err-take_byte-clause-failed
 returns-in_err-take_byte-clause-failed g c =
@@ -24,7 +24,7 @@ loop-byte-preserved g c =
     let chunk = c.args.chunk.now in
     let more : take (i + 1) chunk ≡ take i chunk ++ get_or chunk i 0 ∷ [] = take_more chunk i 0 (omega arith) in
     record {
-      handled = rw more (handled-Handled-append _ _ _ _ (take i chunk) _ c.loop-byte.invariant.handled c.in_ok-take_byte.ensures.handled);
+      handled = rw more (Handled-append _ _ _ _ (take i chunk) _ c.loop-byte.invariant.handled c.in_ok-take_byte.ensures.handled);
       bound = omega (arith, c.in_ok-take_byte.ensures.bound);
       stops = λ e. c.take_byte.ensures.no_wasted_write (c.loop-byte.invariant.handled.failed ∙ e) ∙ c.loop-byte.invariant.stops e;
       ready = c.take_byte.ensures.ready;

@@ -1,7 +1,7 @@
 use Rattle.std.proofs.Common.{sym, subst}
 use Rattle.sqlite.specs.Effect.{Database}
-use Rattle.office_load.proofs.found_offices.Versions.{same_some}
-use Rattle.office_tables.specs.Tables.{HoldsOffice}
+use Rattle.office_db.proofs.found_offices.Versions.{same_some}
+use Rattle.office_schema.specs.tables.Tables.{HoldsOffice}
 use Rattle.office_store.specs.Desk.{Represents}
 use Rattle.office_store.proofs.desk.Desk.ensure_cached.Goals as goal
 

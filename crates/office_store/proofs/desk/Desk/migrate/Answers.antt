@@ -1,7 +1,7 @@
 use Rattle.std.proofs.Common.{Err, Some, inl, inr, sym, ap, ◌∙◌, subst}
 use Rattle.office_store.specs.Desk.{Shows}
 use Rattle.office_store.specs.Migrating.{migrating_fault}
-use Rattle.office_tables.specs.Layouts.{version_of}
+use Rattle.office_schema.specs.tables.Layouts.{version_of}
 use Rattle.office_store.proofs.desks.Migrated.{shows_migrated, desks-there}
 use Rattle.office_store.proofs.desk.Desk.migrate.Goals as goal
 

@@ -1,4 +1,4 @@
-use Rattle.office_load.proofs.found_offices.Versions.{same_some}
+use Rattle.office_db.proofs.found_offices.Versions.{same_some}
 use Rattle.office_store.proofs.desk.adopting.renew_office.Goals as goal
 
 pub returns-clause-stored : goal.returns-clause-stored

@@ -1,1 +1,0 @@
-mod cell_texts

@@ -1,2 +1,0 @@
-pub mod alike_tables
-pub mod changed_rows

@@ -1,0 +1,22 @@
+-- The actions at the desk of an office file.
+use Rattle.std.specs.Prelude.{ℕ, List, map}
+use Rattle.office_cli.specs.declared.actions.Action.{Action as DeskAction}
+use Rattle.office_cli.specs.declared.actions.Action.TheVariants as desk
+use Rattle.office_lists.specs.declared.exports.ExportKind.{ExportKind}
+use Rattle.room_types.specs.Texts.{Text}
+use Rattle.room_types.specs.declared.kinds.ListKind.{ListKind}
+
+-- What is done at the desk of an office file: handle words as a line; import a list of a kind under a label, from the file at
+-- a path; export the office; serve a number of connections on a port.
+pub data Action : Type 0 where
+  does : List Text → Action
+  imports : ListKind → Text → Text → Action
+  exports : ExportKind → Action
+  serves : ℕ → ℕ → Action
+
+-- `Action` without places in memory
+abbrev pub action_of : DeskAction → Action
+action_of (desk.Line words) = does (map (λ word. word.now) words.items)
+action_of (desk.Import kind label list) = imports kind label list.now
+action_of (desk.Export kind) = exports kind
+action_of (desk.Serve port count) = serves port count

@@ -1,0 +1,55 @@
+-- Lists that are tested element by element.
+use Rattle.std.proofs.Common.{◌≡◌, ◌≢◌, ◌<◌, ◌+◌, ℕ, suc, Bool, true, false, ◌&&◌, List, [], ◌∷◌, length, drop, map, get_or, refl, sym, ap, ap₂, ◌∙◌, arith}
+use Rattle.std.proofs.lemmas.List.{drop_more, get_or-map, length-map}
+use Rattle.office_db.specs.loading.Layout.{pass_all}
+
+module _ {X Y : Type 0} (test : Y → X → Bool) where
+  -- Lists of different lengths do not pass.
+  found_offices-uneven : (owns : List Y) (xs : List X) → length xs ≢ length owns → pass_all test owns xs ≡ false
+  found_offices-uneven [] [] uneven = absurd (uneven refl)
+  found_offices-uneven [] (x ∷ xs) uneven = refl
+  found_offices-uneven (own ∷ owns) [] uneven = refl
+  found_offices-uneven (own ∷ owns) (x ∷ xs) uneven =
+      ap (λ b. test own x && b) (found_offices-uneven owns xs (λ e. uneven (ap suc e))) ∙ never (test own x)
+    where
+      never : (b : Bool) → (b && false) ≡ false
+      never true = refl
+      never false = refl
+
+  -- the rest of both lists from a place on, where both have one more element
+  one_place : (owns : List Y) (xs : List X) (i : ℕ) (own : Y) (x : X) → i < length owns → i < length xs
+      → get_or owns i own ≡ own → x ≡ get_or xs i x
+      → pass_all test (drop i owns) (drop i xs) ≡ (test own x && pass_all test (drop (i + 1) owns) (drop (i + 1) xs))
+  one_place owns xs i own x low lower is here =
+      ap₂ (pass_all test)
+      (drop_more owns i own low ∙ ap (λ y. y ∷ drop (i + 1) owns) is)
+      (drop_more xs i x lower ∙ ap (λ y. y ∷ drop (i + 1) xs) (sym here))
+
+-- Each element is tested against its counterpart.
+module _ {X Y O : Type 0} (f : O → Y) (test : Y → X → Bool) (owns : List O) (xs : List X) where
+  -- The lengths are compared first.
+  pub too_few : length xs ≢ length owns → pass_all test (map f owns) xs ≡ false
+  too_few uneven = found_offices-uneven test (map f owns) xs (λ e. uneven (e ∙ length-map owns f))
+
+  module _ (i : ℕ) (d : O) (x : X) (even : length xs ≡ length owns) (low : i < length owns) (here : x ≡ get_or xs i x) where
+    from_place : pass_all test (drop i (map f owns)) (drop i xs)
+        ≡ (test (f (get_or owns i d)) x && pass_all test (drop (i + 1) (map f owns)) (drop (i + 1) xs))
+    from_place =
+        one_place test (map f owns) xs i (f (get_or owns i d)) x
+        (omega (arith, low, length-map owns f)) (omega (arith, low, even))
+        (get_or-map f owns i d (f (get_or owns i d)) low) here
+
+    -- This element does not pass.
+    pub fails_at : test (f (get_or owns i d)) x ≡ false
+        → pass_all test (drop i (map f owns)) (drop i xs) ≡ pass_all test (map f owns) xs → pass_all test (map f owns) xs ≡ false
+    fails_at fails left =
+        sym left ∙ from_place
+        ∙ ap (λ b. b && pass_all test (drop (i + 1) (map f owns)) (drop (i + 1) xs)) fails
+
+    -- This element passes.
+    pub passes_at : test (f (get_or owns i d)) x ≡ true
+        → pass_all test (drop i (map f owns)) (drop i xs) ≡ pass_all test (map f owns) xs
+        → pass_all test (drop (i + 1) (map f owns)) (drop (i + 1) xs) ≡ pass_all test (map f owns) xs
+    passes_at passes left =
+        sym (ap (λ b. b && pass_all test (drop (i + 1) (map f owns)) (drop (i + 1) xs)) passes)
+        ∙ sym from_place ∙ left

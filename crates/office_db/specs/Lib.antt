@@ -1,0 +1,4 @@
+pub mod creation
+pub mod changes
+pub mod loading
+pub mod migration

@@ -1,0 +1,59 @@
+-- What an office of an earlier version may hold.
+use Rattle.std.specs.Prelude.{◌≡◌, ◌≢◌, ◌<◌, ◌⊎◌, ℕ, ℤ, pos, Bool, true, false, IsSome, Option, Some, None}
+use Rattle.std.specs.List.{list_all}
+use Rattle.std.specs.Option.{is_some}
+use Rattle.std.specs.FinMap as map
+use Rattle.room_types.specs.Texts.{Text}
+use Rattle.room_types.specs.declared.kinds.ListKind.TheVariants.{Rooms, People, Choices, Grades}
+use Rattle.office_state.specs.Office.Moves.{moves_of}
+use Rattle.office_state.specs.declared.office.stored_import.StoredImport.{StoredImport}
+use Rattle.office_state.specs.declared.office.moves.Moved.{Moved}
+use Rattle.office_state.specs.declared.office.moves.RoundMoves.{RoundMoves}
+use Rattle.office_state.specs.declared.office.Office.{Office}
+use Rattle.office_schema.specs.tables.Layouts.{version_of}
+use Rattle.office_schema.specs.declared.tables.layouts.Layout.{Layout}
+
+-- Nobody has a grade, and no imported list is one of grades.
+pub record LacksGrades (office : Office) : Type 0 where
+  pub grades : office.grades ≡ map.empty
+  pub kinds : (label : Text) (kept : StoredImport) → map.get office.lists label ≡ Some kept
+      → kept.kind ≢ Grades
+
+-- Nobody leaves, and each recorded move goes into a room.
+pub record LacksLeavers (office : Office) : Type 0 where
+  pub going : office.going ≡ map.empty
+  pub arrived : (round : ℕ) (p : Text) (moved : Moved)
+      → map.get (moves_of office.moves round) p ≡ Some moved → IsSome moved.to
+
+-- Grades came with version 2, and leavers with version 3.
+abbrev pub IsOfVersion : ℕ → Office → Type 0
+IsOfVersion version office =
+    (version < 2 → LacksGrades office) × (version < 3 → LacksLeavers office)
+
+-- The version is one before that of this program.
+abbrev pub IsEarlier : ℕ → Type 0
+IsEarlier version = (version ≡ 1) ⊎ (version ≡ 2)
+
+-- The layout is of such a version.
+abbrev pub IsEarlierLayout : Option Layout → Type 0
+IsEarlierLayout None = ⊥
+IsEarlierLayout (Some layout) = IsEarlier (version_of layout)
+
+-- The number is no such version.
+abbrev pub IsNotEarlier : ℤ → Type 0
+IsNotEarlier version = (version ≢ pos 1) × (version ≢ pos 2)
+
+-- ---- the tests
+
+-- whether an imported list is not one of grades
+abbrev pub is_not_grades : StoredImport → Bool
+is_not_grades kept = elim kept.kind [
+  | Rooms ↦ true
+  | People ↦ true
+  | Choices ↦ true
+  | Grades ↦ false
+]
+
+-- whether each move of a round goes into a room
+abbrev pub do_all_arrive : RoundMoves → Bool
+do_all_arrive kept = list_all (λ e. is_some e.1.to) (map.entries kept.by_person)

@@ -1,0 +1,51 @@
+//! Storing preference lists.
+ghost use Rattle.std.specs.Prelude.{◌≡◌, OnOk};
+ghost use Rattle.sqlite.specs.Held.{state};
+ghost use Rattle.office_state.specs.declared.change.Change.TheVariants.{PutChoices};
+ghost use Rattle.office_schema.specs.tables.Steps.{StaysInside};
+ghost use Rattle.office_db.specs.changes.StoresChanges.{StoresAlways, Turns};
+ghost use Rattle.office_db.specs.changes.Inner.Choosing.{with_choices};
+
+use crate::changes::lemmas::lemma_text;
+use office_schema::tables::choices::{add_choice, drop_choices};
+use room_types::{Choices, PersonId};
+use sqlite::{Alter, Error, Transaction};
+
+/// Replaces a person's list. An empty list leaves no row.
+pub(crate) fn put_choices<S: Alter>(
+    tx: &mut Transaction<'_, S>,
+    person: &PersonId,
+    choices: &Choices,
+) -> Result<(), Error>
+    ensures same_reference { tx.new.conn.ghost_name ≡ tx.old.conn.ghost_name }
+    ensures made { OnOk result
+        (StoresAlways (state S.Store tx.old.conn.now) (state S.Store tx.new.conn.now)
+        (PutChoices person.now choices.now)) }
+    ensures inside { StaysInside (state S.Store tx.old.conn.now) (state S.Store tx.new.conn.now) }
+{
+    drop_choices(tx, person)?;
+    add_choices(tx, person, choices)
+}
+
+// Adds a row for each room, the best at place 0.
+fn add_choices<S: Alter>(
+    tx: &mut Transaction<'_, S>,
+    person: &PersonId,
+    choices: &Choices,
+) -> Result<(), Error>
+    ensures same_reference { tx.new.conn.ghost_name ≡ tx.old.conn.ghost_name }
+    ensures made { OnOk result
+        (Turns (state S.Store tx.old.conn.now) (state S.Store tx.new.conn.now)
+        (with_choices person.now 0 choices.now)) }
+    ensures inside { StaysInside (state S.Store tx.old.conn.now) (state S.Store tx.new.conn.now) }
+{
+    lemma_text(person);
+    let rooms = choices.as_slice();
+    let mut place = 0;
+    for room in rooms {
+        lemma_text(room);
+        add_choice(tx, person, place, room)?;
+        place += 1;
+    }
+    Ok(())
+}

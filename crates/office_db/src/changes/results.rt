@@ -1,0 +1,41 @@
+//! Storing results and moves.
+ghost use Rattle.std.specs.Prelude.{◌≡◌, OnOk};
+ghost use Rattle.sqlite.specs.Held.{state};
+ghost use Rattle.office_state.specs.declared.change.Change.TheVariants.{PutResult, AddMove};
+ghost use Rattle.office_schema.specs.tables.Steps.{StaysInside};
+ghost use Rattle.office_db.specs.changes.StoresChanges.{StoresAlways};
+
+use crate::changes::lemmas::{lemma_move, lemma_optional_text, lemma_text};
+use office_schema::tables::moves::add_move;
+use office_schema::tables::results::add_result;
+use room_types::{Move, PersonId, RoomCode};
+use sqlite::{Alter, Error, Transaction};
+
+/// Adds the result of a person who has none yet: this room, or none.
+pub(crate) fn put_result<S: Alter>(
+    tx: &mut Transaction<'_, S>,
+    person: &PersonId,
+    room: &Option<RoomCode>,
+) -> Result<(), Error>
+    ensures same_reference { tx.new.conn.ghost_name ≡ tx.old.conn.ghost_name }
+    ensures made { OnOk result
+        (StoresAlways (state S.Store tx.old.conn.now) (state S.Store tx.new.conn.now)
+        (PutResult person.now room.now)) }
+    ensures inside { StaysInside (state S.Store tx.old.conn.now) (state S.Store tx.new.conn.now) }
+{
+    lemma_text(person);
+    lemma_optional_text(room);
+    add_result(tx, person, room)
+}
+
+/// Adds a move.
+pub(crate) fn record_move<S: Alter>(tx: &mut Transaction<'_, S>, moved: &Move) -> Result<(), Error>
+    ensures same_reference { tx.new.conn.ghost_name ≡ tx.old.conn.ghost_name }
+    ensures made { OnOk result
+        (StoresAlways (state S.Store tx.old.conn.now) (state S.Store tx.new.conn.now)
+        (AddMove moved.now)) }
+    ensures inside { StaysInside (state S.Store tx.old.conn.now) (state S.Store tx.new.conn.now) }
+{
+    lemma_move(moved);
+    add_move(tx, moved)
+}

@@ -1,0 +1,112 @@
+//! Storing all changes of a command in one transaction.
+ghost use Rattle.std.specs.Prelude.{◌≡◌, false, OnOk, OnErr, IsTrue};
+ghost use Rattle.sqlite.specs.Held.{state};
+ghost use Rattle.sqlite.specs.State.{HasCleanDisk};
+ghost use Rattle.office_schema.specs.tables.Steps.{IsIntact, Follows, StaysInside};
+ghost use Rattle.office_db.specs.changes.StoresChanges.{StoresChange, StoresChanges};
+
+use crate::changes::choices::put_choices;
+use crate::changes::grades::{put_going, put_grade};
+use crate::changes::imports::keep_list;
+use crate::changes::people::{put_home, put_person, put_withdrawn, remove_person};
+use crate::changes::results::{put_result, record_move};
+use crate::changes::rooms::put_room;
+use crate::changes::round::{clear_round, put_round};
+use crate::changes::words::put_word;
+use office_state::{Change, Office};
+use sqlite::{Alter, Connection, Error, Transaction};
+use std::alloc::Global;
+
+/// Stores changes of the office whose rows the tables hold: all of them in one transaction, or none.
+///
+/// On `Ok` the connection is open, and if the changes fit, the tables hold the rows of the office after them. On an
+/// error the tables are unchanged, unless a fault closed the connection. Both presuppose a disk that returns what was
+/// written to it.
+///
+/// # Errors
+///
+/// Fails if the disk or an allocation fails, or if the tables refuse a change.
+pub fn store_changes<S: Alter>(
+    alloc: Global,
+    conn: &mut Connection<S>,
+    office: &Office,
+    changes: &[Change],
+) -> Result<(), Error>
+    requires { conn.old.in_transaction ≡ false }
+    ensures outside { conn.new.in_transaction ≡ false }
+    ensures follows { Follows (state S.Store conn.old) (state S.Store conn.new) }
+    ensures stored { OnOk result
+        (StoresChanges office.now (state S.Store conn.old) (state S.Store conn.new) changes.now) }
+    ensures is_open { OnOk result (HasCleanDisk (state S.Store conn.new)
+        → IsTrue (state S.Store conn.new).is_open) }
+    ensures undone { OnErr result
+        (IsIntact (state S.Store conn.new)
+        → (state S.Store conn.new).now ≡ (state S.Store conn.old).now) }
+{
+    let outside = conn.is_autocommit();
+    prove!(outside);
+    let mut tx = conn.transaction();
+    apply_changes(alloc, &mut tx, office, changes)?;
+    tx.commit()?;
+    Ok(())
+}
+
+// Applies the changes in order.
+fn apply_changes<S: Alter>(
+    alloc: Global,
+    tx: &mut Transaction<'_, S>,
+    first: &Office,
+    changes: &[Change],
+) -> Result<(), Error>
+    ensures same_reference { tx.new.conn.ghost_name ≡ tx.old.conn.ghost_name }
+    ensures made { OnOk result
+        (StoresChanges first.now (state S.Store tx.old.conn.now) (state S.Store tx.new.conn.now)
+        changes.now) }
+    ensures inside { StaysInside (state S.Store tx.old.conn.now) (state S.Store tx.new.conn.now) }
+{
+    for change in changes {
+        apply_change(alloc, tx, first, change)?;
+    }
+    Ok(())
+}
+
+// Applies one change.
+fn apply_change<S: Alter>(
+    alloc: Global,
+    tx: &mut Transaction<'_, S>,
+    first: &Office,
+    change: &Change,
+) -> Result<(), Error>
+    ensures same_reference { tx.new.conn.ghost_name ≡ tx.old.conn.ghost_name }
+    ensures made { OnOk result
+        (StoresChange first.now (state S.Store tx.old.conn.now) (state S.Store tx.new.conn.now)
+        change.now) }
+    ensures inside { StaysInside (state S.Store tx.old.conn.now) (state S.Store tx.new.conn.now) }
+{
+    match change {
+        Change::PutRoom { room, shut } => put_room(tx, first, room, *shut),
+        Change::PutPerson {
+            person,
+            name,
+            key,
+            home,
+        } => put_person(tx, person, name, key, home),
+        Change::DropPerson { person } => remove_person(tx, person),
+        Change::PutHome { person, home } => put_home(tx, person, home),
+        Change::PutWithdrawn { person } => put_withdrawn(tx, person),
+        Change::PutChoices { person, choices } => put_choices(tx, person, choices),
+        Change::PutWord { person, word } => put_word(alloc, tx, person, *word),
+        Change::PutResult { person, room } => put_result(tx, person, room),
+        Change::AddMove(moved) => record_move(tx, moved),
+        Change::PutRound { number, phase } => put_round(tx, *number, *phase),
+        Change::ClearRound => clear_round(tx),
+        Change::KeepList {
+            label,
+            kind,
+            bytes,
+            count,
+        } => keep_list(tx, label, *kind, bytes, *count),
+        Change::PutGrade { person, grade } => put_grade(tx, person, *grade),
+        Change::PutGoing { person } => put_going(tx, person),
+    }
+}

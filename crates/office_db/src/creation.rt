@@ -1,0 +1,6 @@
+//! Creating an empty office in a database where nothing is declared.
+
+pub mod empty;
+mod names;
+
+pub use crate::creation::empty::{CreateFault, create};

@@ -1,0 +1,189 @@
+//! Finds the office in a database that the caller hands in.
+ghost use Rattle.std.specs.Prelude.{◌≡◌, ◌⊎◌, false, Some, Err, IfErr, IfOk, IsErrAnd, IsTrue, MatchResult, OnOk};
+ghost use Rattle.sqlite.specs.Held.{state};
+ghost use Rattle.sqlite.specs.State.{HasCleanDisk};
+ghost use Rattle.office_state.specs.Office.Invariants.{IsLawful};
+ghost use Rattle.office_state.specs.declared.office.Office.{Office as Books};
+ghost use Rattle.office_schema.specs.rows.Tables.{own_version, rows_of};
+ghost use Rattle.office_schema.specs.cells.WellFormed.{IsWellFormed};
+ghost use Rattle.office_db.specs.loading.Numbers.{IsLaidOut};
+ghost use Rattle.office_schema.specs.tables.Layouts.{schema_of, version_of};
+ghost use Rattle.office_schema.specs.tables.Steps.{Follows, IsIntact};
+ghost use Rattle.office_schema.specs.tables.Tables.{HoldsOfficeIn};
+ghost use Rattle.office_schema.specs.declared.tables.layouts.Layout.{Layout as AnyLayout};
+ghost use Rattle.office_db.specs.loading.Causes.{HasCause, HasCauseIn, IsAllowed, IsNotOwn, version_fault};
+ghost use Rattle.office_db.specs.loading.Finding.{AreDeclared, AreWhole, HoldsOtherVersion, names_round};
+ghost use Rattle.office_db.specs.loading.FirstTables.{BeginsOffice, begins_office};
+ghost use Rattle.office_db.specs.loading.Layout.{layout_in};
+ghost use Rattle.office_db.specs.loading.Reading.{OnlyReads};
+
+use crate::loading::first_tables::begins_office;
+use crate::loading::holding::held;
+use crate::loading::layout::{layout_in, names_round};
+use crate::loading::versions::other_version;
+use office_schema::tables::layouts::Layout;
+use office_state::Office;
+use sqlite::{Alter, Connection};
+use std::alloc::Global;
+
+/// Why no office was found.
+#[derive(Clone, Copy, Debug, PartialEq, Eq)]
+pub enum FindFault {
+    /// The database failed or memory ran out; or something has the name of table `round`, no other version was read
+    /// from its row, and the schema is in no known layout. A known layout is exactly the tables of an office, of this
+    /// or an earlier version, in a known order. The schema is in none if a table is absent or not understood, if the
+    /// tables were made in another order, or if the schema has something else.
+    Unavailable,
+    /// Nothing has the name of table `round`, or the tables do not hold the rows of a lawful office of this version. A
+    /// database that has exactly the tables of an earlier version also gets this fault, unless the row of table `round`
+    /// holds another version.
+    NotAnOffice,
+    /// The row of table `round` holds this version, which is not the version of this program. What follows the first three
+    /// tables does not matter.
+    OtherVersion(i64),
+}
+
+/// An office that was found.
+#[derive(Drop)]
+pub struct Found {
+    pub office: Office,
+    /// The layout of its tables, which are of the version of this program.
+    pub layout: Layout,
+}
+
+/// Finds the lawful office whose rows the tables hold, and the layout of the tables. Presupposes that each table with
+/// one of the ten names is declared as that table of an office. Changes no table. On `Ok` the connection is open.
+///
+/// # Errors
+///
+/// `NotAnOffice` if nothing has the name of table `round`; otherwise, `NotAnOffice` only if the row of that table holds
+/// no other version and the tables do not hold the rows of a lawful office. `OtherVersion` only if the row of table
+/// `round` holds that version; what follows the first three tables does not matter. `Unavailable` if the database fails
+/// or memory runs out, and if something has the name of table `round`, no other version is read from its row, and the
+/// schema is not exactly the tables of a known layout. If the first three tables are not those of an office, no
+/// statement runs.
+pub fn find<S: Alter>(alloc: Global, conn: &mut Connection<S>) -> Result<Found, FindFault>
+    requires { conn.old.in_transaction ≡ false }
+    ensures outside { conn.new.in_transaction ≡ false }
+    ensures follows { Follows (state S.Store conn.old) (state S.Store conn.new) }
+    ensures same { IsIntact (state S.Store conn.new)
+        → (state S.Store conn.new).now ≡ (state S.Store conn.old).now }
+    ensures is_open { OnOk result (HasCleanDisk (state S.Store conn.new)
+        → IsTrue (state S.Store conn.new).is_open) }
+    ensures lawful { IfOk result (λ found. IsLawful found.office) }
+    ensures held { IfOk result (λ found. HasCleanDisk (state S.Store conn.new)
+        → AreDeclared (state S.Store conn.old).now.schema
+        → AreWhole found.layout (state S.Store conn.old).now.trees
+        → HoldsOfficeIn found.layout (state S.Store conn.old).now found.office
+        × IsWellFormed (rows_of found.office)) }
+    ensures laid { IfOk result (λ found.
+        layout_in (state S.Store conn.old).now.schema ≡ Some found.layout) }
+    ensures own { IfOk result (λ found. version_of found.layout ≡ own_version) }
+    ensures cause { IfErr result (λ fault. HasCleanDisk (state S.Store conn.new)
+        → AreDeclared (state S.Store conn.old).now.schema
+        → HasCause (state S.Store conn.old).now fault) }
+    ensures allowed { IfErr result (IsAllowed (state S.Store conn.old).now.schema) }
+    ensures absent { names_round (state S.Store conn.old).now.schema ≡ false
+        → (result ≡ Err FindFault.NotAnOffice) × (conn.new ≡ conn.old) }
+    ensures unread { begins_office (state S.Store conn.old).now.schema ≡ false → conn.new ≡ conn.old }
+    ensures found { HasCleanDisk (state S.Store conn.new) → (layout : AnyLayout)
+        → version_of layout ≡ own_version → (office : Books) → IsLawful office
+        → IsWellFormed (rows_of office) → HoldsOfficeIn layout (state S.Store conn.old).now office
+        → MatchResult result (λ found. (found.office ≡ office) × (found.layout ≡ layout))
+        (λ fault. fault ≡ FindFault.Unavailable) }
+    ensures other { HasCleanDisk (state S.Store conn.new) → (version : _)
+        → BeginsOffice (state S.Store conn.old).now.schema
+        → HoldsOtherVersion (state S.Store conn.old).now version
+        → IsErrAnd result (λ fault.
+        (fault ≡ FindFault.Unavailable) ⊎ (fault ≡ FindFault.OtherVersion version)) }
+{
+    if !names_round(conn.schema()) {
+        return Err(FindFault::NotAnOffice);
+    }
+    let Some(layout) = layout_in(conn.schema()) else {
+        return Err(unknown_layout_fault(conn));
+    };
+    match read(alloc, conn, layout) {
+        Ok(office) => Ok(Found { office, layout }),
+        Err(fault) => Err(fault),
+    }
+}
+
+// Returns the fault for tables in no known layout.
+fn unknown_layout_fault<S: Alter>(conn: &mut Connection<S>) -> FindFault
+    requires { conn.old.in_transaction ≡ false }
+    ensures outside { conn.new.in_transaction ≡ false }
+    ensures reads { OnlyReads (state S.Store conn.old) (state S.Store conn.new) }
+    ensures cause { HasCleanDisk (state S.Store conn.new)
+        → AreDeclared (state S.Store conn.old).now.schema
+        → HasCause (state S.Store conn.old).now result }
+    ensures allowed { IsAllowed (state S.Store conn.old).now.schema result }
+    ensures unread { begins_office (state S.Store conn.old).now.schema ≡ false → conn.new ≡ conn.old }
+    ensures other { HasCleanDisk (state S.Store conn.new) → (version : _)
+        → BeginsOffice (state S.Store conn.old).now.schema
+        → HoldsOtherVersion (state S.Store conn.old).now version
+        → (result ≡ FindFault.Unavailable) ⊎ (result ≡ FindFault.OtherVersion version) }
+{
+    if !begins_office(conn.schema()) {
+        return FindFault::Unavailable;
+    }
+    match other_version(conn) {
+        Ok(found) => version_fault(found),
+        Err(_) => FindFault::Unavailable,
+    }
+}
+
+// Returns `OtherVersion` for another version, and `Unavailable` for none.
+fn version_fault(found: Option<i64>) -> FindFault
+    ensures { result ≡ version_fault found }
+{
+    match found {
+        Some(version) => FindFault::OtherVersion(version),
+        None => FindFault::Unavailable,
+    }
+}
+
+// Reads the office from a schema that has exactly the tables of the layout.
+fn read<S: Alter>(
+    alloc: Global,
+    conn: &mut Connection<S>,
+    layout: Layout,
+) -> Result<Office, FindFault>
+    requires { conn.old.in_transaction ≡ false }
+    ensures outside { conn.new.in_transaction ≡ false }
+    ensures reads { OnlyReads (state S.Store conn.old) (state S.Store conn.new) }
+    ensures is_open { OnOk result (HasCleanDisk (state S.Store conn.new)
+        → IsTrue (state S.Store conn.new).is_open) }
+    ensures lawful { IfOk result IsLawful }
+    ensures own { OnOk result (version_of layout ≡ own_version) }
+    ensures held { IfOk result (λ office. HasCleanDisk (state S.Store conn.new)
+        → IsLaidOut layout (state S.Store conn.old).now
+        → HoldsOfficeIn layout (state S.Store conn.old).now office × IsWellFormed (rows_of office)) }
+    ensures cause { IfErr result (λ fault. HasCleanDisk (state S.Store conn.new)
+        → (state S.Store conn.old).now.schema ≡ schema_of layout
+        → HasCauseIn layout (state S.Store conn.old).now fault) }
+    ensures number { IfErr result IsNotOwn }
+    ensures found { HasCleanDisk (state S.Store conn.new) → version_of layout ≡ own_version
+        → (office : Books) → IsLawful office → IsWellFormed (rows_of office)
+        → HoldsOfficeIn layout (state S.Store conn.old).now office
+        → MatchResult result (λ found. found ≡ office) (λ fault. fault ≡ FindFault.Unavailable) }
+    ensures other { HasCleanDisk (state S.Store conn.new) → (version : _)
+        → BeginsOffice (state S.Store conn.old).now.schema
+        → HoldsOtherVersion (state S.Store conn.old).now version
+        → IsErrAnd result (λ fault.
+        (fault ≡ FindFault.Unavailable) ⊎ (fault ≡ FindFault.OtherVersion version)) }
+{
+    match other_version(conn) {
+        Ok(None) => {}
+        Ok(Some(version)) => return Err(FindFault::OtherVersion(version)),
+        Err(_) => return Err(FindFault::Unavailable),
+    }
+    if layout.version() != 3 {
+        return Err(FindFault::NotAnOffice);
+    }
+    match held(alloc, conn, layout) {
+        Ok(Some(office)) => Ok(office),
+        Ok(None) => Err(FindFault::NotAnOffice),
+        Err(_) => Err(FindFault::Unavailable),
+    }
+}

@@ -1,0 +1,259 @@
+//! Parses the words of a line into a request.
+ghost use Rattle.std.specs.Prelude.{false, map};
+ghost use Rattle.office_lines.specs.parse.Understanding.{Understands, OutOfMemoryOnlyIf};
+ghost use Rattle.office_lines.specs.parse.Requests.{add_person, add_room, without_arguments, ask_me, ask_moves, ask_what_if, draw, going, leave, remove, reopen, request_after_word, request_of, set_choices, set_grade, set_home, shut, withdraw};
+ghost use Rattle.office_lines.specs.parse.Requests.{copies, allocates};
+ghost use Rattle.office_lines.specs.declared.parse.verbs.Verb.TheVariants as verb;
+
+use crate::parse::values::{
+    choices_in, drawn_words, grade_of, name_of, only_value, round_number, value_of,
+};
+use crate::parse::verbs::{Verb, verb_of};
+use crate::parse::word_fault::WordFault;
+use office_core::{Command, Query};
+use office_store::Request;
+use std::alloc::Global;
+
+/// Parses the words of a line into a request.
+///
+/// # Errors
+///
+/// `NotUnderstood`, only if the words are not a request. `OutOfMemory`, only if the number of words fits the request
+/// and the first value is in its grammar; never for a request without values, and never for `moves`.
+pub fn words_to_command(alloc: Global, words: &[&str]) -> Result<Request, WordFault>
+    ensures understands { Understands (request_of (map (λ word. word.now) words.now)) result }
+    ensures memory { OutOfMemoryOnlyIf (allocates (map (λ word. word.now) words.now)) result }
+{
+    let [first, rest @ ..] = words else {
+        return Err(WordFault::NotUnderstood);
+    };
+    match verb_of(first) {
+        Some(verb) => request_after_word(alloc, verb, rest),
+        None => Err(WordFault::NotUnderstood),
+    }
+}
+
+// Parses the words after the first one.
+fn request_after_word(alloc: Global, verb: Verb, rest: &[&str]) -> Result<Request, WordFault>
+    ensures understands { Understands
+        (request_after_word verb (map (λ word. word.now) rest.now)) result }
+    ensures memory { OutOfMemoryOnlyIf (copies verb (map (λ word. word.now) rest.now)) result }
+{
+    match verb {
+        Verb::Room => parse_add_room(alloc, rest),
+        Verb::Person => parse_add_person(alloc, rest),
+        Verb::Home => parse_set_home(alloc, rest),
+        Verb::Leave => parse_leave(alloc, rest),
+        Verb::Remove => parse_remove(alloc, rest),
+        Verb::Grade => parse_set_grade(alloc, rest),
+        Verb::Shut => parse_shut(alloc, rest),
+        Verb::Reopen => parse_reopen(alloc, rest),
+        Verb::Open => without_arguments(rest, Request::Office(Command::OpenRound)),
+        Verb::Close => without_arguments(rest, Request::Office(Command::CloseRound)),
+        Verb::Run => without_arguments(rest, Request::Office(Command::Run)),
+        Verb::Publish => without_arguments(rest, Request::Office(Command::Publish)),
+        Verb::Settle => without_arguments(rest, Request::Office(Command::Settle)),
+        Verb::Cancel => without_arguments(rest, Request::Office(Command::Cancel)),
+        Verb::Choose => parse_set_choices(alloc, rest),
+        Verb::Withdraw => parse_withdraw(alloc, rest),
+        Verb::Going => parse_going(alloc, rest),
+        Verb::Draw => parse_draw(alloc, rest),
+        Verb::Rooms => without_arguments(rest, Request::Ask(Query::Rooms)),
+        Verb::People => without_arguments(rest, Request::Ask(Query::People)),
+        Verb::Round => without_arguments(rest, Request::Ask(Query::Round)),
+        Verb::Order => without_arguments(rest, Request::Ask(Query::Order)),
+        Verb::Results => without_arguments(rest, Request::Ask(Query::Results)),
+        Verb::Moves => parse_moves(rest),
+        Verb::Me => parse_me(alloc, rest),
+        Verb::WhatIf => parse_what_if(alloc, rest),
+    }
+}
+
+fn parse_add_room(alloc: Global, words: &[&str]) -> Result<Request, WordFault>
+    ensures understands { Understands (add_room (map (λ word. word.now) words.now)) result }
+    ensures memory { OutOfMemoryOnlyIf (copies verb.Room (map (λ word. word.now) words.now))
+        result }
+{
+    let room = only_value(alloc, words)?;
+    Ok(Request::Office(Command::AddRoom { room }))
+}
+
+// The words after the key, joined by one space, are the name.
+fn parse_add_person(alloc: Global, words: &[&str]) -> Result<Request, WordFault>
+    ensures understands { Understands (add_person (map (λ word. word.now) words.now)) result }
+    ensures memory { OutOfMemoryOnlyIf (copies verb.Person (map (λ word. word.now) words.now))
+        result }
+{
+    match words {
+        [person, key, name @ ..] if !name.is_empty() => {
+            let person = value_of(alloc, person)?;
+            let key = value_of(alloc, key)?;
+            let name = name_of(alloc, name)?;
+            Ok(Request::Office(Command::AddPerson {
+                person,
+                name,
+                key,
+                home: None,
+            }))
+        }
+        _ => Err(WordFault::NotUnderstood),
+    }
+}
+
+fn parse_set_home(alloc: Global, words: &[&str]) -> Result<Request, WordFault>
+    ensures understands { Understands (set_home (map (λ word. word.now) words.now)) result }
+    ensures memory { OutOfMemoryOnlyIf (copies verb.Home (map (λ word. word.now) words.now))
+        result }
+{
+    match words {
+        [person, room] => {
+            let person = value_of(alloc, person)?;
+            let room = value_of(alloc, room)?;
+            Ok(Request::Office(Command::SetHome { person, room }))
+        }
+        _ => Err(WordFault::NotUnderstood),
+    }
+}
+
+fn parse_leave(alloc: Global, words: &[&str]) -> Result<Request, WordFault>
+    ensures understands { Understands (leave (map (λ word. word.now) words.now)) result }
+    ensures memory { OutOfMemoryOnlyIf (copies verb.Leave (map (λ word. word.now) words.now))
+        result }
+{
+    let person = only_value(alloc, words)?;
+    Ok(Request::Office(Command::Leave { person }))
+}
+
+fn parse_remove(alloc: Global, words: &[&str]) -> Result<Request, WordFault>
+    ensures understands { Understands (remove (map (λ word. word.now) words.now)) result }
+    ensures memory { OutOfMemoryOnlyIf (copies verb.Remove (map (λ word. word.now) words.now))
+        result }
+{
+    let person = only_value(alloc, words)?;
+    Ok(Request::Office(Command::Remove { person }))
+}
+
+fn parse_set_grade(alloc: Global, words: &[&str]) -> Result<Request, WordFault>
+    ensures understands { Understands (set_grade (map (λ word. word.now) words.now)) result }
+    ensures memory { OutOfMemoryOnlyIf (copies verb.Grade (map (λ word. word.now) words.now))
+        result }
+{
+    match words {
+        [person, grade] => {
+            let person = value_of(alloc, person)?;
+            let grade = grade_of(grade)?;
+            Ok(Request::Office(Command::SetGrade { person, grade }))
+        }
+        _ => Err(WordFault::NotUnderstood),
+    }
+}
+
+fn parse_shut(alloc: Global, words: &[&str]) -> Result<Request, WordFault>
+    ensures understands { Understands (shut (map (λ word. word.now) words.now)) result }
+    ensures memory { OutOfMemoryOnlyIf (copies verb.Shut (map (λ word. word.now) words.now))
+        result }
+{
+    let room = only_value(alloc, words)?;
+    Ok(Request::Office(Command::Shut { room }))
+}
+
+fn parse_reopen(alloc: Global, words: &[&str]) -> Result<Request, WordFault>
+    ensures understands { Understands (reopen (map (λ word. word.now) words.now)) result }
+    ensures memory { OutOfMemoryOnlyIf (copies verb.Reopen (map (λ word. word.now) words.now))
+        result }
+{
+    let room = only_value(alloc, words)?;
+    Ok(Request::Office(Command::Reopen { room }))
+}
+
+fn parse_set_choices(alloc: Global, words: &[&str]) -> Result<Request, WordFault>
+    ensures understands { Understands (set_choices (map (λ word. word.now) words.now)) result }
+    ensures memory { OutOfMemoryOnlyIf (copies verb.Choose (map (λ word. word.now) words.now))
+        result }
+{
+    match words {
+        [person, rooms @ ..] => {
+            let person = value_of(alloc, person)?;
+            let choices = choices_in(alloc, rooms)?;
+            Ok(Request::Office(Command::SetChoices { person, choices }))
+        }
+        [] => Err(WordFault::NotUnderstood),
+    }
+}
+
+fn parse_withdraw(alloc: Global, words: &[&str]) -> Result<Request, WordFault>
+    ensures understands { Understands (withdraw (map (λ word. word.now) words.now)) result }
+    ensures memory { OutOfMemoryOnlyIf (copies verb.Withdraw (map (λ word. word.now) words.now))
+        result }
+{
+    let person = only_value(alloc, words)?;
+    Ok(Request::Office(Command::Withdraw { person }))
+}
+
+fn parse_going(alloc: Global, words: &[&str]) -> Result<Request, WordFault>
+    ensures understands { Understands (going (map (λ word. word.now) words.now)) result }
+    ensures memory { OutOfMemoryOnlyIf (copies verb.Going (map (λ word. word.now) words.now))
+        result }
+{
+    let person = only_value(alloc, words)?;
+    Ok(Request::Office(Command::Going { person }))
+}
+
+fn parse_draw(alloc: Global, words: &[&str]) -> Result<Request, WordFault>
+    ensures understands { Understands (draw (map (λ word. word.now) words.now)) result }
+    ensures memory { OutOfMemoryOnlyIf (copies verb.Draw (map (λ word. word.now) words.now))
+        result }
+{
+    let words = drawn_words(alloc, words)?;
+    Ok(Request::Office(Command::Draw { words }))
+}
+
+fn parse_moves(words: &[&str]) -> Result<Request, WordFault>
+    ensures understands { Understands (ask_moves (map (λ word. word.now) words.now)) result }
+    ensures memory { OutOfMemoryOnlyIf (copies verb.Moves (map (λ word. word.now) words.now))
+        result }
+{
+    match words {
+        [round] => {
+            let round = round_number(round)?;
+            Ok(Request::Ask(Query::Moves(round)))
+        }
+        _ => Err(WordFault::NotUnderstood),
+    }
+}
+
+fn parse_me(alloc: Global, words: &[&str]) -> Result<Request, WordFault>
+    ensures understands { Understands (ask_me (map (λ word. word.now) words.now)) result }
+    ensures memory { OutOfMemoryOnlyIf (copies verb.Me (map (λ word. word.now) words.now)) result }
+{
+    let key = only_value(alloc, words)?;
+    Ok(Request::Ask(Query::Me(key)))
+}
+
+fn parse_what_if(alloc: Global, words: &[&str]) -> Result<Request, WordFault>
+    ensures understands { Understands (ask_what_if (map (λ word. word.now) words.now)) result }
+    ensures memory { OutOfMemoryOnlyIf (copies verb.WhatIf (map (λ word. word.now) words.now))
+        result }
+{
+    match words {
+        [person, rooms @ ..] => {
+            let person = value_of(alloc, person)?;
+            let choices = choices_in(alloc, rooms)?;
+            Ok(Request::Ask(Query::WhatIf(person, choices)))
+        }
+        [] => Err(WordFault::NotUnderstood),
+    }
+}
+
+// Returns the request if no words follow its first one.
+fn without_arguments(words: &[&str], request: Request) -> Result<Request, WordFault>
+    ensures understands { Understands
+        (without_arguments request (map (λ word. word.now) words.now)) result }
+    ensures memory { OutOfMemoryOnlyIf false result }
+{
+    if words.is_empty() {
+        Ok(request)
+    } else {
+        Err(WordFault::NotUnderstood)
+    }
+}

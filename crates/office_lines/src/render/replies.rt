@@ -1,0 +1,166 @@
+//! Prints replies.
+ghost use Rattle.std.specs.Prelude.{◌≡◌, ◌<◌, ◌++◌, [], ◌∷◌, IfOk, OnErr, OnOk, length, string_bytes};
+ghost use Rattle.office_core.specs.Replies.{RowsAscend};
+ghost use Rattle.office_lines.specs.render.OutputLines.{line_of};
+ghost use Rattle.office_lines.specs.render.Replies.{going_text, reply_text, result_text, spaced, standing_text, yes_or_no};
+
+use crate::render::order_lines::order_text;
+use crate::render::output_lines::owned_line;
+use office_core::{Reply, Standing};
+use office_lists::{move_day_text, or_none, people_text, results_text, rooms_text};
+use room_types::{OutOfMemory, PersonId, Phase, RoomCode};
+use std::alloc::{AllocError, Global};
+
+/// Returns the lines of a reply. The rows of the reply must ascend, as in the replies of `answer` and `decide`.
+///
+/// # Errors
+///
+/// `OutOfMemory`, only if the text is not empty.
+pub fn reply_text(alloc: Global, reply: &Reply) -> Result<String, OutOfMemory>
+    requires ascending { RowsAscend reply.now }
+    ensures text { IfOk result (λ text. string_bytes text ≡ reply_text reply.now) }
+    ensures memory { OnErr result (0 < length (reply_text reply.now)) }
+{
+    match reply {
+        Reply::Done => owned_line(alloc, "ok\n"),
+        Reply::Shut { displaced } => text_of_shut(alloc, displaced),
+        Reply::Opened { round } => Ok(format!(in alloc; "round {round} open\n")?),
+        Reply::Chosen { choices } => text_of_chosen(alloc, choices.as_slice()),
+        Reply::Withdrawn => owned_line(alloc, "withdrawn\n"),
+        Reply::Closed { participants } => Ok(format!(in alloc; "closed {participants}\n")?),
+        Reply::Drawn { participants } => Ok(format!(in alloc; "drawn {participants}\n")?),
+        Reply::Ran { participants } => Ok(format!(in alloc; "ran {participants}\n")?),
+        Reply::Published { participants } => Ok(format!(in alloc; "published {participants}\n")?),
+        Reply::Settled { moves } => Ok(format!(in alloc; "settled {moves}\n")?),
+        Reply::Cancelled => owned_line(alloc, "cancelled\n"),
+        Reply::Added { count } => Ok(format!(in alloc; "added {count}\n")?),
+        Reply::Rooms(rows) => rooms_text(alloc, rows.as_slice()),
+        Reply::People(rows) => people_text(alloc, rows.as_slice()),
+        Reply::Round {
+            number,
+            phase,
+            people,
+            withdrawn,
+            going,
+        } => text_of_round(alloc, *number, *phase, *people, *withdrawn, *going),
+        Reply::Order(rows) => order_text(alloc, rows.as_slice()),
+        Reply::Results(rows) => results_text(alloc, rows.as_slice()),
+        Reply::Moves(rows) => move_day_text(alloc, rows.as_slice()),
+        Reply::Me(standing) => standing_text(alloc, standing),
+        Reply::WouldGet(room) => text_of_room(alloc, room),
+        Reply::Going => owned_line(alloc, "going\n"),
+    }
+}
+
+fn text_of_shut(alloc: Global, displaced: &Option<PersonId>) -> Result<String, OutOfMemory>
+    ensures { IfOk result (λ text. string_bytes text ≡ reply_text (Reply.Shut displaced.now)) }
+{
+    match displaced {
+        Some(person) => Ok(format!(in alloc; "shut displaced {person}\n")?),
+        None => owned_line(alloc, "shut\n"),
+    }
+}
+
+fn text_of_chosen(alloc: Global, rooms: &[RoomCode]) -> Result<String, OutOfMemory>
+    ensures { IfOk result (λ text. string_bytes text ≡ reply_text (Reply.Chosen rooms.now)) }
+{
+    let mut text = String::new(alloc);
+    push_rooms(&mut text, "chosen", rooms)?;
+    Ok(text)
+}
+
+fn text_of_room(alloc: Global, room: &Option<RoomCode>) -> Result<String, OutOfMemory>
+    ensures { IfOk result (λ text. string_bytes text ≡ reply_text (Reply.WouldGet room.now)) }
+{
+    let mut text = String::new(alloc);
+    push_line(&mut text, "would get ", or_none(room))?;
+    Ok(text)
+}
+
+fn text_of_round(
+    alloc: Global,
+    number: u16,
+    phase: Phase,
+    people: usize,
+    withdrawn: usize,
+    going: usize,
+) -> Result<String, OutOfMemory>
+    ensures { IfOk result (λ text. string_bytes text
+        ≡ reply_text (Reply.Round number phase people withdrawn going)) }
+{
+    let mut text = format!(in alloc;
+        "round {number} {phase} people {people} withdrawn {withdrawn}"
+    )?;
+    push_going(&mut text, going)?;
+    text.push_str("\n")?;
+    Ok(text)
+}
+
+// Appends how many people leave the college, if anybody does.
+fn push_going(text: &mut String, going: usize) -> Result<(), AllocError>
+    ensures { OnOk result (string_bytes text.new ≡ string_bytes text.old ++ going_text going) }
+{
+    if going == 0 {
+        return Ok(());
+    }
+    write!(text, " going {going}")
+}
+
+// Returns the eight lines that a person sees.
+fn standing_text(alloc: Global, standing: &Standing) -> Result<String, OutOfMemory>
+    ensures { IfOk result (λ text. string_bytes text ≡ standing_text standing.now) }
+{
+    let round = standing.round;
+    let phase = standing.phase;
+    let mut text = String::new(alloc);
+    push_line(&mut text, "person ", standing.person.as_str())?;
+    push_line(&mut text, "name ", standing.name.as_str())?;
+    push_line(&mut text, "home ", or_none(&standing.home))?;
+    writeln!(text, "round {round} {phase}")?;
+    push_rooms(&mut text, "choices", standing.choices.as_slice())?;
+    push_line(&mut text, "withdrawn ", yes_or_no(standing.withdrawn))?;
+    push_line(&mut text, "going ", yes_or_no(standing.going))?;
+    push_line(&mut text, "result ", result_text(standing))?;
+    Ok(text)
+}
+
+fn yes_or_no(answer: bool) -> &'static str
+    ensures { result.now ≡ yes_or_no answer }
+{
+    if answer { "yes" } else { "no" }
+}
+
+// Returns the room or `none`, or `hidden` if the result is not shown.
+fn result_text(standing: &Standing) -> &str
+    ensures { result.now ≡ result_text standing.now }
+{
+    if standing.shown {
+        or_none(&standing.result)
+    } else {
+        "hidden"
+    }
+}
+
+// Appends a line of a heading and a value.
+fn push_line(text: &mut String, heading: &str, value: &str) -> Result<(), AllocError>
+    ensures { OnOk result
+        (string_bytes text.new ≡ string_bytes text.old ++ line_of (heading.now ∷ value.now ∷ [])) }
+{
+    text.push_str(heading)?;
+    text.push_str(value)?;
+    text.push_str("\n")
+}
+
+// Appends a line of a heading and room codes, each after a space.
+fn push_rooms(text: &mut String, heading: &str, rooms: &[RoomCode]) -> Result<(), AllocError>
+    ensures { OnOk result
+        (string_bytes text.new
+        ≡ string_bytes text.old ++ line_of (heading.now ∷ spaced rooms.now ∷ [])) }
+{
+    text.push_str(heading)?;
+    for room in rooms {
+        text.push_str(" ")?;
+        text.push_str(room.as_str())?;
+    }
+    text.push_str("\n")
+}

@@ -1,9 +1,0 @@
-use Rattle.std.proofs.Common.{rules, ◌≡◌, sym, ◌∙◌}
-use Rattle.office_load.specs.FirstTables.{begins_with}
-use Rattle.office_load.proofs.found_offices.LayoutTests.{begins_is}
-use Rattle.office_load.proofs.first_tables.begins_with.Goals as goal
-
-pub returns-then-has_first_tables-clause-whole : goal.returns-then-has_first_tables-clause-whole
-returns-then-has_first_tables-clause-whole c all declared =
-    let tested : c.has_first_indexes.result ≡ begins_with c.args.layout c.args.schema.now = search rules in
-    begins_is c.args.layout c.args.schema.now declared (sym tested ∙ all)

@@ -1,8 +1,0 @@
-use Rattle.std.proofs.Common.{◌≡◌, drop}
-use Rattle.std.specs.FinMap as map
-use Rattle.office_rows.specs.Inner.Gathered.{gathered}
-use Rattle.office_rows.proofs.choices.gather.Given as goal
-
--- Gathering all rows from nothing is gathering the remaining rows from the lists so far.
-abbrev pub invariant-loop-row : goal.invariant-loop-row
-invariant-loop-row l = gathered map.empty l.rows ≡ gathered l.lists (drop l.row-index l.rows)

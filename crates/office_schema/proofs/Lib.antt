@@ -1,0 +1,3 @@
+pub mod rows_read
+mod cell_texts
+pub mod statements

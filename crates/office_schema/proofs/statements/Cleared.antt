@@ -1,0 +1,331 @@
+-- Dropping tables and creating them again.
+use Rattle.std.proofs.Common.{◌≡◌, ◌⊎◌, ◌≤◌, ◌<◌, ◌+◌, ℕ, zero, suc, List, [], ◌∷◌, drop, take, slice_get, Some, refl, sym, ◌∙◌, subst, inl, inr, arith}
+use Rattle.std.specs.List.{AllByRecursion}
+use Rattle.sqlite_schema.specs.declared.schema.Schema.{Schema}
+use Rattle.sqlite_schema.specs.declared.schema.Table.{Table}
+use Rattle.sqlite_trees.specs.Tree.{Trees}
+use Rattle.sqlite_catalog.specs.Change.{next_tree, KeepsRows}
+use Rattle.sqlite.specs.Effect.{Database}
+use Rattle.sqlite.specs.State.{State, HasCleanDisk}
+use Rattle.office_schema.specs.cells.Columns as columns
+use Rattle.office_schema.specs.tables.Inner.Declaring.{DropsTooFew, Rebuilds}
+use Rattle.office_schema.specs.tables.Declaring.{DeclaresFirst, LeavesFirst, CreatesTooFew, MayLackTables, ChangesSchema}
+use Rattle.office_schema.specs.tables.Inner.Texts.{drop_text}
+use Rattle.office_schema.specs.tables.Layouts.{schema_of, table_count, tables_of}
+use Rattle.office_schema.specs.declared.tables.layouts.Layout.{Layout}
+use Rattle.office_schema.specs.declared.tables.layouts.Layout.TheVariants.{Own, Documented, DocumentedSecond, DocumentedFirst, EarlierFirst}
+use Rattle.sqlite_value.specs.Order.{Row}
+use Rattle.office_schema.specs.tables.Edits as edit
+use Rattle.office_schema.specs.tables.Holds.{Holds}
+use Rattle.office_schema.specs.tables.Makes.{Makes}
+use Rattle.office_schema.specs.tables.Schema.{office_schema, documented_schema, earlier_schema, documented_tables, first_tables}
+use Rattle.office_schema.specs.tables.Schema as schema
+use Rattle.office_schema.specs.tables.Steps.{HasRun, StaysInside, RollsBack, IsIntact, IsUndone}
+use Rattle.office_schema.proofs.statements.Held.{none_held}
+use Rattle.office_schema.proofs.statements.OneTable.{stays}
+use Rattle.office_schema.proofs.statements.Declared.{IsDeclaredBy, IsDroppedBy, gains, loses, room_declared, person_declared, round_declared, move_declared, list_declared, grade_declared, word_declared, result_declared, choice_declared, going_declared, own_move_dropped, own_list_dropped, own_grade_dropped, own_word_dropped, own_result_dropped, own_choice_dropped, own_going_dropped, documented_choice_dropped, documented_word_dropped, documented_result_dropped, documented_move_dropped, documented_list_dropped, documented_grade_dropped, documented_going_dropped, earlier_move_dropped, earlier_list_dropped, earlier_word_dropped, earlier_result_dropped, earlier_choice_dropped}
+
+abbrev pub IsEmptyIn : Trees → List Table → Type 0
+IsEmptyIn trees = AllByRecursion (λ t. trees t.tree ≡ [])
+
+keeps_then : (tables : List Table) (a b c : Trees) → KeepsRows tables a b → KeepsRows tables b c → KeepsRows tables a c
+keeps_then [] a b c p q = tt
+keeps_then (t ∷ tables) a b c p q = (q.0 ∙ p.0, keeps_then tables a b c p.1 q.1)
+
+keeps_same : (tables : List Table) (a : Trees) → KeepsRows tables a a
+keeps_same [] a = tt
+keeps_same (t ∷ tables) a = (refl, keeps_same tables a)
+
+pub keeps_fewer : (few many : ℕ) (tables : List Table) (a b : Trees) → few ≤ many → KeepsRows (take many tables) a b → KeepsRows (take few tables) a b
+keeps_fewer zero many [] a b low p = tt
+keeps_fewer zero many (t ∷ tables) a b low p = tt
+keeps_fewer (suc few) many [] a b low p = tt
+keeps_fewer (suc few) zero (t ∷ tables) a b low p = absurd (omega (arith, low))
+keeps_fewer (suc few) (suc many) (t ∷ tables) a b low p = (p.0, keeps_fewer few many tables a b (omega (arith, low)) p.1)
+
+keeps_later : (few : ℕ) (tables : List Table) (a b : Trees) → KeepsRows tables a b → KeepsRows (drop few tables) a b
+keeps_later zero [] a b p = tt
+keeps_later zero (t ∷ tables) a b p = p
+keeps_later (suc few) [] a b p = tt
+keeps_later (suc few) (t ∷ tables) a b p = keeps_later few tables a b p.1
+
+empty_still : (tables : List Table) (a b : Trees) → KeepsRows tables a b → IsEmptyIn a tables → IsEmptyIn b tables
+empty_still [] a b p e = tt
+empty_still (t ∷ tables) a b p e = (p.0 ∙ e.0, empty_still tables a b p.1 e.1)
+
+pub none_past : (P : Table → Type 0) (n : ℕ) (tables : List Table) → AllByRecursion P (drop n (take n tables))
+none_past P zero [] = tt
+none_past P zero (t ∷ tables) = tt
+none_past P (suc n) [] = tt
+none_past P (suc n) (t ∷ tables) = none_past P n tables
+
+one_more : (P : Table → Type 0) (few n : ℕ) (tables : List Table) (t : Table) → slice_get tables n ≡ Some t → few ≤ n → AllByRecursion P (drop few (take n tables)) → P t → AllByRecursion P (drop few (take (suc n) tables))
+one_more P few n [] t here low all p = cc
+one_more P zero zero (x ∷ tables) t here low all p = let same : x ≡ t = cc in (subst P (sym same) p, tt)
+one_more P (suc few) zero (x ∷ tables) t here low all p = absurd (omega (arith, low))
+one_more P zero (suc n) (x ∷ tables) t here low all p = (all.0, from_first (one_more P zero n tables t here (omega arith) (to_first all.1) p))
+  where
+    from_first : AllByRecursion P (drop zero (take (suc n) tables)) → AllByRecursion P (take (suc n) tables)
+    from_first h = h
+
+    to_first : AllByRecursion P (take n tables) → AllByRecursion P (drop zero (take n tables))
+    to_first h = h
+one_more P (suc few) (suc n) (x ∷ tables) t here low all p = one_more P few n tables t here (omega (arith, low)) all p
+
+module _ (old mid new : State) (early : HasCleanDisk new → HasCleanDisk mid) where
+  -- A first effect still holds after a second one that does not touch its tables.
+  pub and_then : (a b c : Schema) (many few fresh later : List Table) → ((x y : Trees) → KeepsRows many x y → KeepsRows few x y) → ChangesSchema a b many fresh old mid → ChangesSchema b c few later mid new → ChangesSchema a c few later old new
+  and_then a b c many few fresh later narrow first second = record {
+    shown = λ clean has.
+        let p = first.shown (early clean) has in
+        let q = second.shown clean p.0 in
+        (q.0, keeps_then few old.now.trees mid.now.trees new.now.trees (narrow old.now.trees mid.now.trees p.1) q.1, q.2);
+    mode = λ clean. second.mode clean ∙ first.mode (early clean);
+  }
+
+  -- One more table is created.
+  pub one_made : (before : Schema) (kept few n : ℕ) (t : Table) → slice_get office_schema.tables n ≡ Some t → few ≤ n → kept ≤ n
+      → ChangesSchema before (first_tables n) (take kept office_schema.tables) (drop few (take n office_schema.tables)) old mid
+      → ChangesSchema (first_tables n) (first_tables (suc n)) (take n office_schema.tables) (t ∷ []) mid new
+      → ChangesSchema before (first_tables (suc n)) (take kept office_schema.tables) (drop few (take (suc n) office_schema.tables)) old new
+  one_made before kept few n t here low lower first second = record {
+    shown = λ clean has.
+        let p = first.shown (early clean) has in
+        let q = second.shown clean p.0 in
+        let tables = take n office_schema.tables in
+        let still = empty_still (drop few tables) mid.now.trees new.now.trees (keeps_later few tables mid.now.trees new.now.trees q.1) p.2 in (
+          q.0,
+          keeps_then (take kept office_schema.tables) old.now.trees mid.now.trees new.now.trees p.1 (keeps_fewer kept n office_schema.tables mid.now.trees new.now.trees lower q.1),
+          one_more (λ x. new.now.trees x.tree ≡ []) few n office_schema.tables t here low still q.2.0,
+        );
+    mode = λ clean. second.mode clean ∙ first.mode (early clean);
+  }
+
+  -- A statement is refused or fails after others.
+  pub cut_short : (a b : Schema) (kept fresh : List Table) → StaysInside old mid → StaysInside mid new → ChangesSchema a b kept fresh old mid → IsUndone mid new → IsIntact new → ChangesSchema a b kept fresh old new ⊎ RollsBack old new
+  cut_short a b kept fresh before later first undone intact =
+      elim (undone intact) [
+        | inl same ↦ inl (record {
+          shown = λ clean has.
+              subst (λ (d : Database). (d.schema ≡ b) × KeepsRows kept old.now.trees d.trees × IsEmptyIn d.trees fresh)
+              (sym same.0) (first.shown (early clean) has);
+          mode = λ clean. same.1 ∙ first.mode (early clean);
+        })
+        | inr rolled ↦
+            let was_open = (later.kept intact.0).was_open intact.1 in
+            inr (rolled.0 ∙ (before.kept (early intact.0)).committed was_open, rolled.1)
+      ]
+
+-- A rollback goes back to the state before all of it.
+pub rolled_before : (old mid new : State) → StaysInside old mid → StaysInside mid new → IsIntact new → RollsBack mid new → RollsBack old new
+rolled_before old mid new before later intact rolled =
+    let early : HasCleanDisk mid = omega (arith, intact.0, later.survives.clean) in
+    (rolled.0 ∙ (before.kept early).committed ((later.kept intact.0).was_open intact.1), rolled.1)
+
+-- The tables of a round were dropped, and one of them could not be created again.
+pub made_too_few : (old mid new : State) → StaysInside old mid → StaysInside mid new → LeavesFirst Own 6 old mid → CreatesTooFew 6 mid new → MayLackTables old new
+made_too_few old mid new before later lost few intact =
+    let early : HasCleanDisk new → HasCleanDisk mid = λ clean. omega (arith, clean, later.survives.clean) in
+    elim (few intact) [
+      | inl some ↦ inl (inr (some.0, some.1, some.2, and_then old mid new early (first_tables 10) (first_tables 6) (first_tables some.0) (take 6 office_schema.tables) (take 6 office_schema.tables) _ (drop 6 (take some.0 office_schema.tables)) (λ x y h. h) lost some.3))
+      | inr rolled ↦ inr (rolled_before old mid new before later intact rolled)
+    ]
+
+-- Not all of them could be dropped.
+pub dropped_too_few : (old new : State) → DropsTooFew Own 6 old new → MayLackTables old new
+dropped_too_few old new few intact = elim (few intact) [ inl some ↦ inl (inl some) | inr rolled ↦ inr rolled ]
+
+-- Nothing has been done yet.
+pub schema_unchanged : (schema : Schema) (kept fresh : List Table) (state : State) → ((trees : Trees) → IsEmptyIn trees fresh) → ChangesSchema schema schema kept fresh state state
+schema_unchanged schema kept fresh state none = record {
+  shown = λ clean has. (has, keeps_same kept state.now.trees, none state.now.trees);
+  mode = λ clean. refl;
+}
+
+-- ---- dropping one table after another
+
+-- The remaining tables keep their rows when one goes.
+keeps_one_fewer : (layout : Layout) (n : ℕ) (x y : Trees) → KeepsRows (tables_of layout (suc n)).tables x y → KeepsRows (tables_of layout n).tables x y
+keeps_one_fewer Own n x y h = keeps_fewer n (suc n) office_schema.tables x y (omega arith) h
+keeps_one_fewer Documented n x y h = keeps_fewer n (suc n) documented_schema.tables x y (omega arith) h
+keeps_one_fewer DocumentedSecond n x y h = keeps_fewer n (suc n) documented_schema.tables x y (omega arith) h
+keeps_one_fewer DocumentedFirst n x y h = keeps_fewer n (suc n) documented_schema.tables x y (omega arith) h
+keeps_one_fewer EarlierFirst n x y h = keeps_fewer n (suc n) earlier_schema.tables x y (omega arith) h
+
+-- All tables of a layout are there before any is dropped.
+pub whole_layout : (layout : Layout) (state : State) → LeavesFirst layout (table_count layout) state state
+whole_layout Own state = schema_unchanged office_schema office_schema.tables [] state (λ trees. tt)
+whole_layout Documented state = schema_unchanged documented_schema documented_schema.tables [] state (λ trees. tt)
+whole_layout DocumentedSecond state = schema_unchanged (documented_tables 9) (documented_tables 9).tables [] state (λ trees. tt)
+whole_layout DocumentedFirst state = schema_unchanged (documented_tables 8) (documented_tables 8).tables [] state (λ trees. tt)
+whole_layout EarlierFirst state = schema_unchanged earlier_schema earlier_schema.tables [] state (λ trees. tt)
+
+module _ (old mid new : State) (early : HasCleanDisk new → HasCleanDisk mid) where
+  abbrev Fewer : Layout → ℕ → Type 0
+  Fewer layout n = (HasCleanDisk new → HasRun (drop_text layout n) [] mid new) → LeavesFirst layout (suc n) old mid → LeavesFirst layout n old new
+
+  fewer_by : (layout : Layout) (text : List ℕ) (n : ℕ) (t : Table) → IsDroppedBy text (tables_of layout (suc n)) (tables_of layout n) n t → (HasCleanDisk new → HasRun text [] mid new) → LeavesFirst layout (suc n) old mid → LeavesFirst layout n old new
+  fewer_by layout text n t it runs first =
+      and_then old mid new early (schema_of layout) (tables_of layout (suc n)) (tables_of layout n) (tables_of layout (suc n)).tables (tables_of layout n).tables [] []
+      (keeps_one_fewer layout n) first (loses text (tables_of layout (suc n)) (tables_of layout n) n t it mid new runs)
+
+  -- There is one table less.
+  pub one_fewer : (layout : Layout) (n : ℕ) → 3 ≤ n → n < table_count layout → Fewer layout n
+  one_fewer Own (suc (suc (suc zero))) high low = fewer_by Own _ 3 _ own_move_dropped
+  one_fewer Own (suc (suc (suc (suc zero)))) high low = fewer_by Own _ 4 _ own_list_dropped
+  one_fewer Own (suc (suc (suc (suc (suc zero))))) high low = fewer_by Own _ 5 _ own_grade_dropped
+  one_fewer Own (suc (suc (suc (suc (suc (suc zero)))))) high low = fewer_by Own _ 6 _ own_word_dropped
+  one_fewer Own (suc (suc (suc (suc (suc (suc (suc zero))))))) high low = fewer_by Own _ 7 _ own_result_dropped
+  one_fewer Own (suc (suc (suc (suc (suc (suc (suc (suc zero)))))))) high low = fewer_by Own _ 8 _ own_choice_dropped
+  one_fewer Own (suc (suc (suc (suc (suc (suc (suc (suc (suc zero))))))))) high low = fewer_by Own _ 9 _ own_going_dropped
+  one_fewer Own zero high low = absurd (omega (arith, high))
+  one_fewer Own (suc zero) high low = absurd (omega (arith, high))
+  one_fewer Own (suc (suc zero)) high low = absurd (omega (arith, high))
+  one_fewer Own (suc (suc (suc (suc (suc (suc (suc (suc (suc (suc n)))))))))) high low = absurd (omega (arith, low))
+  one_fewer Documented (suc (suc (suc zero))) high low = fewer_by Documented _ 3 _ documented_choice_dropped
+  one_fewer Documented (suc (suc (suc (suc zero)))) high low = fewer_by Documented _ 4 _ documented_word_dropped
+  one_fewer Documented (suc (suc (suc (suc (suc zero))))) high low = fewer_by Documented _ 5 _ documented_result_dropped
+  one_fewer Documented (suc (suc (suc (suc (suc (suc zero)))))) high low = fewer_by Documented _ 6 _ documented_move_dropped
+  one_fewer Documented (suc (suc (suc (suc (suc (suc (suc zero))))))) high low = fewer_by Documented _ 7 _ documented_list_dropped
+  one_fewer Documented (suc (suc (suc (suc (suc (suc (suc (suc zero)))))))) high low = fewer_by Documented _ 8 _ documented_grade_dropped
+  one_fewer Documented (suc (suc (suc (suc (suc (suc (suc (suc (suc zero))))))))) high low = fewer_by Documented _ 9 _ documented_going_dropped
+  one_fewer Documented zero high low = absurd (omega (arith, high))
+  one_fewer Documented (suc zero) high low = absurd (omega (arith, high))
+  one_fewer Documented (suc (suc zero)) high low = absurd (omega (arith, high))
+  one_fewer Documented (suc (suc (suc (suc (suc (suc (suc (suc (suc (suc n)))))))))) high low = absurd (omega (arith, low))
+  one_fewer DocumentedSecond (suc (suc (suc zero))) high low = fewer_by DocumentedSecond _ 3 _ documented_choice_dropped
+  one_fewer DocumentedSecond (suc (suc (suc (suc zero)))) high low = fewer_by DocumentedSecond _ 4 _ documented_word_dropped
+  one_fewer DocumentedSecond (suc (suc (suc (suc (suc zero))))) high low = fewer_by DocumentedSecond _ 5 _ documented_result_dropped
+  one_fewer DocumentedSecond (suc (suc (suc (suc (suc (suc zero)))))) high low = fewer_by DocumentedSecond _ 6 _ documented_move_dropped
+  one_fewer DocumentedSecond (suc (suc (suc (suc (suc (suc (suc zero))))))) high low = fewer_by DocumentedSecond _ 7 _ documented_list_dropped
+  one_fewer DocumentedSecond (suc (suc (suc (suc (suc (suc (suc (suc zero)))))))) high low = fewer_by DocumentedSecond _ 8 _ documented_grade_dropped
+  one_fewer DocumentedSecond zero high low = absurd (omega (arith, high))
+  one_fewer DocumentedSecond (suc zero) high low = absurd (omega (arith, high))
+  one_fewer DocumentedSecond (suc (suc zero)) high low = absurd (omega (arith, high))
+  one_fewer DocumentedSecond (suc (suc (suc (suc (suc (suc (suc (suc (suc n))))))))) high low = absurd (omega (arith, low))
+  one_fewer DocumentedFirst (suc (suc (suc zero))) high low = fewer_by DocumentedFirst _ 3 _ documented_choice_dropped
+  one_fewer DocumentedFirst (suc (suc (suc (suc zero)))) high low = fewer_by DocumentedFirst _ 4 _ documented_word_dropped
+  one_fewer DocumentedFirst (suc (suc (suc (suc (suc zero))))) high low = fewer_by DocumentedFirst _ 5 _ documented_result_dropped
+  one_fewer DocumentedFirst (suc (suc (suc (suc (suc (suc zero)))))) high low = fewer_by DocumentedFirst _ 6 _ documented_move_dropped
+  one_fewer DocumentedFirst (suc (suc (suc (suc (suc (suc (suc zero))))))) high low = fewer_by DocumentedFirst _ 7 _ documented_list_dropped
+  one_fewer DocumentedFirst zero high low = absurd (omega (arith, high))
+  one_fewer DocumentedFirst (suc zero) high low = absurd (omega (arith, high))
+  one_fewer DocumentedFirst (suc (suc zero)) high low = absurd (omega (arith, high))
+  one_fewer DocumentedFirst (suc (suc (suc (suc (suc (suc (suc (suc n)))))))) high low = absurd (omega (arith, low))
+  one_fewer EarlierFirst (suc (suc (suc zero))) high low = fewer_by EarlierFirst _ 3 _ earlier_move_dropped
+  one_fewer EarlierFirst (suc (suc (suc (suc zero)))) high low = fewer_by EarlierFirst _ 4 _ earlier_list_dropped
+  one_fewer EarlierFirst (suc (suc (suc (suc (suc zero))))) high low = fewer_by EarlierFirst _ 5 _ earlier_word_dropped
+  one_fewer EarlierFirst (suc (suc (suc (suc (suc (suc zero)))))) high low = fewer_by EarlierFirst _ 6 _ earlier_result_dropped
+  one_fewer EarlierFirst (suc (suc (suc (suc (suc (suc (suc zero))))))) high low = fewer_by EarlierFirst _ 7 _ earlier_choice_dropped
+  one_fewer EarlierFirst zero high low = absurd (omega (arith, high))
+  one_fewer EarlierFirst (suc zero) high low = absurd (omega (arith, high))
+  one_fewer EarlierFirst (suc (suc zero)) high low = absurd (omega (arith, high))
+  one_fewer EarlierFirst (suc (suc (suc (suc (suc (suc (suc (suc n)))))))) high low = absurd (omega (arith, low))
+
+-- ---- creating one table after another
+
+below_ten : (P : ℕ → Type 0) → P 0 → P 1 → P 2 → P 3 → P 4 → P 5 → P 6 → P 7 → P 8 → P 9 → (i : ℕ) → i < 10 → P i
+below_ten P a b c d e f g h i j zero low = a
+below_ten P a b c d e f g h i j (suc zero) low = b
+below_ten P a b c d e f g h i j (suc (suc zero)) low = c
+below_ten P a b c d e f g h i j (suc (suc (suc zero))) low = d
+below_ten P a b c d e f g h i j (suc (suc (suc (suc zero)))) low = e
+below_ten P a b c d e f g h i j (suc (suc (suc (suc (suc zero))))) low = f
+below_ten P a b c d e f g h i j (suc (suc (suc (suc (suc (suc zero)))))) low = g
+below_ten P a b c d e f g h i j (suc (suc (suc (suc (suc (suc (suc zero))))))) low = h
+below_ten P a b c d e f g h i j (suc (suc (suc (suc (suc (suc (suc (suc zero)))))))) low = i
+below_ten P a b c d e f g h i j (suc (suc (suc (suc (suc (suc (suc (suc (suc zero))))))))) low = j
+below_ten P a b c d e f g h i j (suc (suc (suc (suc (suc (suc (suc (suc (suc (suc n)))))))))) low = absurd (omega arith)
+
+module _ (old mid new : State) (early : HasCleanDisk new → HasCleanDisk mid) (before : Schema) (kept few : ℕ) where
+  abbrev More : ℕ → Type 0
+  More n =
+      kept ≤ n → few ≤ n → (HasCleanDisk new → HasRun (schema.table_text n) [] mid new)
+      → ChangesSchema before (first_tables n) (take kept office_schema.tables) (drop few (take n office_schema.tables)) old mid
+      → ChangesSchema before (first_tables (n + 1)) (take kept office_schema.tables) (drop few (take (n + 1) office_schema.tables)) old new
+
+  more_by : (text : List ℕ) (n : ℕ) (declared t : Table) → slice_get office_schema.tables n ≡ Some t → record declared { tree = next_tree (first_tables n) } ≡ t
+      → IsDeclaredBy text (first_tables n) (first_tables (suc n)) declared → kept ≤ n → few ≤ n → (HasCleanDisk new → HasRun text [] mid new)
+      → ChangesSchema before (first_tables n) (take kept office_schema.tables) (drop few (take n office_schema.tables)) old mid
+      → ChangesSchema before (first_tables (suc n)) (take kept office_schema.tables) (drop few (take (suc n) office_schema.tables)) old new
+  more_by text n declared t here is it lower low runs first =
+      one_made old mid new early before kept few n t here low lower first
+      (subst (λ x. ChangesSchema (first_tables n) (first_tables (suc n)) (take n office_schema.tables) (x ∷ []) mid new) is (gains text (first_tables n) (first_tables (suc n)) declared it mid new runs))
+
+  -- There is one more table, without rows.
+  pub one_more_made : (n : ℕ) → n < 10 → More n
+  one_more_made = below_ten More
+      (more_by _ 0 (schema.room 0) (schema.room 0) refl refl room_declared)
+      (more_by _ 1 (schema.person 0) (schema.person 2) refl refl person_declared)
+      (more_by _ 2 (schema.round 0) (schema.round 6) refl refl round_declared)
+      (more_by _ 3 (schema.move 0) (schema.move 7) refl refl move_declared)
+      (more_by _ 4 (schema.list 0) (schema.list 9) refl refl list_declared)
+      (more_by _ 5 (schema.grade 0) (schema.grade 11) refl refl grade_declared)
+      (more_by _ 6 (schema.word 0) (schema.word 13) refl refl word_declared)
+      (more_by _ 7 (schema.result 0) (schema.result 15) refl refl result_declared)
+      (more_by _ 8 (schema.choice 0) (schema.choice 18) refl refl choice_declared)
+      (more_by _ 9 (schema.going 0) (schema.going 21) refl refl going_declared)
+
+-- ---- all tables together
+
+empty_is : (trees : Trees) {X : Type 0} (columns : X → Row) (tree : ℕ) → trees tree ≡ [] → Holds columns (trees tree) []
+empty_is trees columns tree none = subst (λ l. Holds columns l []) (sym none) (none_held columns)
+
+-- The tables of a round are there, without rows.
+pub clears : (old new : State) → DeclaresFirst 10 10 6 old new → Makes old new edit.without_round_tables
+unfolding edit.without_round_tables
+clears old new change = record {
+  shown = λ tables clean was.
+      let all = change.shown clean was.schema in
+      let kept = all.1 in
+      let none = all.2 in
+      record {
+        schema = all.0;
+        rows = record {
+          rooms = stays columns.room_columns tables.rooms (old.now.trees 0) (new.now.trees 0) kept.0 was.rows.rooms;
+          people = stays columns.person_columns tables.people (old.now.trees 2) (new.now.trees 2) kept.1.0 was.rows.people;
+          rounds = stays columns.round_columns tables.rounds (old.now.trees 6) (new.now.trees 6) kept.1.1.0 was.rows.rounds;
+          moves = stays columns.move_columns tables.moves (old.now.trees 7) (new.now.trees 7) kept.1.1.1.0 was.rows.moves;
+          lists = stays columns.list_columns tables.lists (old.now.trees 9) (new.now.trees 9) kept.1.1.1.1.0 was.rows.lists;
+          grades = stays columns.grade_columns tables.grades (old.now.trees 11) (new.now.trees 11) kept.1.1.1.1.1.0 was.rows.grades;
+          words = empty_is new.now.trees columns.word_columns 13 none.0;
+          results = empty_is new.now.trees columns.result_columns 15 none.1.0;
+          choices = empty_is new.now.trees columns.choice_columns 18 none.1.1.0;
+          going = empty_is new.now.trees columns.going_columns 21 none.1.1.1.0;
+        };
+      };
+  mode = change.mode;
+}
+
+-- The first three tables have the same places in every layout.
+pub first_three : (layout : Layout) (old new : State) → LeavesFirst layout 3 old new → ChangesSchema (schema_of layout) (first_tables 3) (take 3 office_schema.tables) [] old new
+first_three Own old new h = h
+first_three Documented old new h = h
+first_three DocumentedSecond old new h = h
+first_three DocumentedFirst old new h = h
+first_three EarlierFirst old new h = h
+
+-- The tables after the first three are those that this program creates, and empty.
+pub rebuilds : (layout : Layout) (old new : State) → ChangesSchema (schema_of layout) office_schema (take 3 office_schema.tables) (drop 3 office_schema.tables) old new → Rebuilds layout old new
+rebuilds layout old new change = record {
+  shown = λ tables clean was.
+      let all = change.shown clean was.schema in
+      let kept = all.1 in
+      let none = all.2 in
+      record {
+        schema = all.0;
+        rows = record {
+          rooms = stays columns.room_columns tables.rooms (old.now.trees 0) (new.now.trees 0) kept.0 was.rows.rooms;
+          people = stays columns.person_columns tables.people (old.now.trees 2) (new.now.trees 2) kept.1.0 was.rows.people;
+          rounds = stays columns.round_columns tables.rounds (old.now.trees 6) (new.now.trees 6) kept.1.1.0 was.rows.rounds;
+          moves = empty_is new.now.trees columns.move_columns 7 none.0;
+          lists = empty_is new.now.trees columns.list_columns 9 none.1.0;
+          grades = empty_is new.now.trees columns.grade_columns 11 none.1.1.0;
+          words = empty_is new.now.trees columns.word_columns 13 none.1.1.1.0;
+          results = empty_is new.now.trees columns.result_columns 15 none.1.1.1.1.0;
+          choices = empty_is new.now.trees columns.choice_columns 18 none.1.1.1.1.1.0;
+          going = empty_is new.now.trees columns.going_columns 21 none.1.1.1.1.1.1.0;
+        };
+      };
+  mode = change.mode;
+}

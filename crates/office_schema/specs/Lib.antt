@@ -1,0 +1,3 @@
+pub mod rows
+pub mod cells
+pub mod tables

@@ -1,0 +1,13 @@
+-- People with their withdrawals, and the rows of both.
+use Rattle.std.specs.Prelude.{List}
+use Rattle.office_schema.specs.rows.Rows.{AreValidPeople, person_rows}
+use Rattle.office_schema.specs.declared.rows.people.People.{People}
+use Rattle.office_schema.specs.declared.rows.records.PersonRecord.{PersonRecord}
+
+-- a row for each person
+abbrev pub people_rows : People → List PersonRecord
+people_rows p = person_rows p.people p.withdrawn
+
+-- Everybody who has withdrawn is known.
+abbrev pub AreValid : People → Type 0
+AreValid p = AreValidPeople p.people p.withdrawn

@@ -1,0 +1,11 @@
+pub mod Declaring
+pub mod Edits
+pub mod Holds
+pub mod Inner
+pub mod Layouts
+pub mod Makes
+pub mod Refilling
+pub mod Schema
+pub mod Steps
+pub mod Tables
+pub mod Queries

@@ -1,0 +1,41 @@
+-- The effect of creating one table, of dropping some, and of dropping and creating all.
+use Rattle.std.specs.Prelude.{◌≡◌, ◌⊎◌, ◌≤◌, ℕ, []}
+use Rattle.sqlite_schema.specs.declared.schema.Table.{Table}
+use Rattle.sqlite_catalog.specs.Change.{created, next_tree, KeepsRows}
+use Rattle.sqlite.specs.Effect.{Database}
+use Rattle.sqlite.specs.State.{State, HasCleanDisk}
+use Rattle.office_schema.specs.rows.Tables.{Tables}
+use Rattle.office_schema.specs.tables.Layouts.{table_count}
+use Rattle.office_schema.specs.tables.Steps.{IsIntact, RollsBack}
+use Rattle.office_schema.specs.tables.Tables.{HasTables, HasTablesIn}
+use Rattle.office_schema.specs.declared.tables.layouts.Layout.{Layout}
+use Rattle.office_schema.specs.tables.Declaring.{LeavesFirst}
+
+-- There is one more table, without rows, and the others are unchanged.
+pub record Adds (table : Table) (old new : Database) : Type 0 where
+  pub schema : new.schema ≡ created old.schema table
+  pub empty : new.trees (next_tree old.schema) ≡ []
+  pub others : KeepsRows old.schema.tables old.trees new.trees
+
+-- What is left if dropping all but the first `left` tables of the layout fails: more than these may be there, or the
+-- transaction is rolled back.
+abbrev pub DropsTooFew : Layout → ℕ → State → State → Type 0
+DropsTooFew layout left old new =
+    IsIntact new
+    → ((after : ℕ) × (left ≤ after) × (after ≤ table_count layout) × LeavesFirst layout after old new)
+    ⊎ RollsBack old new
+
+-- The tables of the layout are replaced by those that this program creates. Rooms, people and the round have the same
+-- rows, and the other tables have none.
+pub record Rebuilds (layout : Layout) (old new : State) : Type 0 where
+  pub shown : (tables : Tables) → HasCleanDisk new → HasTablesIn layout old.now tables
+      → HasTables new.now (record tables {
+        choices = [];
+        words = [];
+        results = [];
+        moves = [];
+        lists = [];
+        grades = [];
+        going = [];
+      })
+  pub mode : HasCleanDisk new → new.in_transaction ≡ old.in_transaction

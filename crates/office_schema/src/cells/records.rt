@@ -1,0 +1,49 @@
+//! Reading all rows of a table into their records.
+ghost use Rattle.std.specs.Prelude.{◌≡◌, map, IfOk, IfSome, MatchOption, OnErr};
+ghost use Rattle.std.specs.List.{All};
+ghost use Rattle.sqlite_value.specs.Order.{Row as Values};
+ghost use Rattle.office_schema.specs.cells.Allocation.{Allocates};
+
+use room_types::OutOfMemory;
+use sqlite::Row;
+use std::alloc::Global;
+
+/// A record of a table, read from its row.
+pub trait Record: Drop {
+    /// The form of a row that holds a record.
+    ghost is_form: { Values → Type 0 };
+    /// The columns of a row that are read.
+    ghost front: { Values → Values };
+    /// The columns of a record.
+    ghost columns: { Self → Values };
+    /// The rows for which reading may allocate.
+    ghost may_allocate: { Values → Type 0 };
+
+    /// Reads a row into a record. Returns `None` if the row has another form. Allocates only for the rows in `may_allocate`.
+    /// Fails only if an allocation does.
+    fn from_row(alloc: Global, row: &Row) -> Result<Option<Self>, OutOfMemory>
+        ensures returned { IfOk result (λ found. MatchOption found (¬ is_form row.now)
+            (λ record_. front row.now ≡ columns record_)) }
+        ensures formed { IfOk result (λ found. IfSome found (λ _. is_form row.now)) }
+        ensures memory { OnErr result (may_allocate row.now) };
+}
+
+/// Reads all rows into records, in order. Returns `None` if a row has another form.
+///
+/// Fails only if an allocation does. The allocation is for a row whose predecessors all have the form, and which has
+/// the form itself or is one for which reading may allocate.
+pub fn records_in<R: Record>(alloc: Global, rows: &[Row]) -> Result<Option<Vec<R>>, OutOfMemory>
+    ensures returned { IfOk result (λ found. MatchOption found (¬ All R.is_form rows.now)
+        (λ records. map R.columns records.items ≡ map R.front rows.now)) }
+    ensures formed { IfOk result (λ found. IfSome found (λ _. All R.is_form rows.now)) }
+    ensures memory { OnErr result (Allocates R.may_allocate R.is_form rows.now) }
+{
+    let mut records = Vec::new(alloc);
+    for row in rows {
+        let Some(record) = R::from_row(alloc, row)? else {
+            return Ok(None);
+        };
+        records.push(record)?;
+    }
+    Ok(Some(records))
+}

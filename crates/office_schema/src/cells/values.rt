@@ -1,0 +1,169 @@
+//! Reading cells as typed values. A cell of another form gives `None`. Reading a number or a flag does not allocate.
+ghost use Rattle.std.specs.Prelude.{◌≡◌, ◌⊎◌, ◌<◌, ℕ, length, pos, IfOk, IfSome, IsUtf8, MatchOption, OnErr, Option};
+ghost use Rattle.std.specs.Bool.{Decides};
+ghost use Rattle.sqlite_value.specs.Order.{column};
+ghost use Rattle.sqlite_value.specs.declared.value.Value.TheVariants.{Blob as blob_value, Int, Null, Text as text_value};
+ghost use Rattle.office_schema.specs.cells.Cells.{IsTextOf, IsOptionalTextOf, IsString, IsBlob, IsFlag, IsCount};
+ghost use Rattle.office_schema.specs.cells.Cells.{IsFilledBlob, IsShort, IsWave, count_or_null, flag, text_or_null};
+ghost use Rattle.office_schema.specs.cells.Cells.{wave_value};
+
+use room_types::{Grammar, Listing, OutOfMemory, Text, TypeFault, Wave};
+use sqlite::Row;
+use sqlite_value::value::ValueRef;
+use std::alloc::Global;
+use std::str;
+
+/// Reads a column as a text, borrowed from the row. Does not allocate.
+pub fn str_in(row: &Row, at: usize) -> Option<&str>
+    ensures { MatchOption result (¬ IsString (column row.now at))
+        (λ t. (column row.now at ≡ text_value t.now) × IsUtf8 t.now) }
+{
+    match row.get_ref(at) {
+        Ok(ValueRef::Text(bytes)) => str::from_utf8(bytes).ok(),
+        _ => None,
+    }
+}
+
+/// Reads a column as a text of the grammar. Allocates only for such a text. Fails only if an allocation does.
+pub fn text_in<G: Grammar>(
+    alloc: Global,
+    row: &Row,
+    at: usize,
+) -> Result<Option<Text<G>>, OutOfMemory>
+    ensures returned { IfOk result (λ found. MatchOption found
+        (¬ IsTextOf G.is_text (column row.now at))
+        (λ t. column row.now at ≡ text_value t)) }
+    ensures formed { IfOk result
+        (λ found. IfSome found (λ _. IsTextOf G.is_text (column row.now at))) }
+    ensures memory { OnErr result (IsTextOf G.is_text (column row.now at)) }
+{
+    let Some(text) = str_in(row, at) else {
+        return Ok(None);
+    };
+    match Text::read(alloc, text) {
+        Ok(text) => Ok(Some(text)),
+        Err(TypeFault::OutOfMemory) => Err(OutOfMemory {}),
+        Err(_) => Ok(None),
+    }
+}
+
+/// Reads a column as a text of the grammar, or NULL. A column past the end of the row is NULL. Allocates only for a
+/// text of the grammar. Fails only if an allocation does.
+pub fn optional_text_in<G: Grammar>(
+    alloc: Global,
+    row: &Row,
+    at: usize,
+) -> Result<Option<Option<Text<G>>>, OutOfMemory>
+    ensures returned { IfOk result (λ found. MatchOption found
+        (¬ IsOptionalTextOf G.is_text (column row.now at))
+        (λ t. column row.now at ≡ text_or_null t)) }
+    ensures formed { IfOk result
+        (λ found. IfSome found (λ _. IsOptionalTextOf G.is_text (column row.now at))) }
+    ensures memory { OnErr result (IsTextOf G.is_text (column row.now at)) }
+{
+    if is_null(row, at) {
+        return Ok(Some(None));
+    }
+    match text_in(alloc, row, at)? {
+        Some(text) => Ok(Some(Some(text))),
+        None => Ok(None),
+    }
+}
+
+// Returns whether a column is NULL. A column past the end of the row is NULL.
+fn is_null(row: &Row, at: usize) -> bool
+    ensures { Decides result (column row.now at ≡ Null) }
+{
+    matches!(row.get_ref(at), Ok(ValueRef::Null) | Err(_))
+}
+
+/// Reads a column as a blob. Allocates only for a blob that is not empty. Fails only if an allocation does.
+pub fn bytes_in(alloc: Global, row: &Row, at: usize) -> Result<Option<Listing<u8>>, OutOfMemory>
+    ensures returned { IfOk result (λ found. MatchOption found (¬ IsBlob (column row.now at))
+        (λ bytes. column row.now at ≡ blob_value bytes)) }
+    ensures formed { IfOk result (λ found. IfSome found (λ _. IsBlob (column row.now at))) }
+    ensures memory { OnErr result (IsFilledBlob (column row.now at)) }
+{
+    match row.get_ref(at) {
+        Ok(ValueRef::Blob(bytes)) => Ok(Some(copy_bytes(alloc, bytes)?)),
+        _ => Ok(None),
+    }
+}
+
+// Copies the bytes. Does not allocate if there are none.
+fn copy_bytes(alloc: Global, bytes: &[u8]) -> Result<Listing<u8>, OutOfMemory>
+    ensures same { IfOk result (λ copy. copy ≡ bytes.now) }
+    ensures memory { OnErr result (0 < length bytes.now) }
+{
+    if bytes.is_empty() {
+        return Ok(Listing::empty(alloc));
+    }
+    Ok(Listing::new(Vec::from_slice(alloc, bytes)?))
+}
+
+/// Reads a column as an integer from 0 up.
+pub fn u64_in(row: &Row, at: usize) -> Option<u64>
+    ensures returned { MatchOption result (¬ IsCount (column row.now at))
+        (λ n. column row.now at ≡ Int (pos n)) }
+    ensures formed { IfSome result (λ _. IsCount (column row.now at)) }
+{
+    match row.get_ref(at) {
+        Ok(ValueRef::Int(number)) => u64::try_from(number).ok(),
+        _ => None,
+    }
+}
+
+// Reads a column as an integer from 0 up, or NULL. A column past the end of the row is NULL.
+fn optional_u64_in(row: &Row, at: usize) -> Option<Option<u64>>
+    ensures { MatchOption result
+        (¬ ((column row.now at ≡ Null) ⊎ IsCount (column row.now at)))
+        (λ n. column row.now at ≡ count_or_null n) }
+{
+    match row.get_ref(at) {
+        Ok(ValueRef::Int(number)) => match u64::try_from(number) {
+            Ok(number) => Some(Some(number)),
+            Err(_) => None,
+        },
+        Ok(ValueRef::Null) | Err(_) => Some(None),
+        Ok(_) => None,
+    }
+}
+
+/// Reads a column as a flag: 0 or 1.
+pub fn flag_in(row: &Row, at: usize) -> Option<bool>
+    ensures returned { MatchOption result (¬ IsFlag (column row.now at))
+        (λ b. column row.now at ≡ flag b) }
+    ensures formed { IfSome result (λ _. IsFlag (column row.now at)) }
+{
+    match u64_in(row, at) {
+        Some(0) => Some(false),
+        Some(1) => Some(true),
+        _ => None,
+    }
+}
+
+/// Reads a column as an unsigned integer of 16 bits.
+pub fn u16_in(row: &Row, at: usize) -> Option<u16>
+    ensures returned { MatchOption result (¬ IsShort (column row.now at))
+        (λ n. column row.now at ≡ Int (pos n)) }
+    ensures formed { IfSome result (λ _. IsShort (column row.now at)) }
+{
+    let number = u64_in(row, at)?;
+    u16::try_from(number).ok()
+}
+
+/// Reads a column as a wave: NULL for a swap, or the number of a wave, an unsigned integer of 16 bits. A column past
+/// the end of the row is NULL.
+pub fn wave_in(row: &Row, at: usize) -> Option<Wave>
+    ensures returned { MatchOption result (¬ IsWave (column row.now at))
+        (λ w. column row.now at ≡ wave_value w) }
+    ensures formed { IfSome result (λ _. IsWave (column row.now at)) }
+{
+    let Some(number) = optional_u64_in(row, at)? else {
+        return Some(Wave::Swap);
+    };
+    match u16::try_from(number) {
+        Ok(number) => Some(Wave::Nth(number)),
+        Err(_) => None,
+    }
+}

@@ -1,0 +1,93 @@
+//! Rebuilding an office from the rows of all its tables.
+ghost use Rattle.std.specs.Prelude.{◌<◌, IfOk, OnErr};
+ghost use Rattle.office_schema.specs.rows.Inner.BuildsOffice.{BuildsOffice};
+ghost use Rattle.office_schema.specs.rows.ReadsOffice.{ReadsOffice, Allocates, count_outside_round};
+
+use crate::rows::choices::read_choices;
+use crate::rows::moves::read_moves;
+use crate::rows::people::read_people;
+use crate::rows::records::OfficeRecords;
+use crate::rows::round::read_round;
+use crate::rows::tables::{read_keys, read_table};
+use office_state::{Office, sound};
+use room_types::OutOfMemory;
+use std::alloc::Global;
+
+/// Rebuilds the lawful office that has exactly these rows, in any order, in tables of this version. Returns `None` if
+/// there is no such office; otherwise the result is unique. Takes O(n log n) time, plus the time of one run of the
+/// round to recompute results.
+///
+/// Fails only if an allocation does. If no table other than the round's has a row, it allocates only to recompute
+/// results.
+pub fn read_office(
+    alloc: Global,
+    records: OfficeRecords,
+    version: u16,
+) -> Result<Option<Office>, OutOfMemory>
+    ensures reads { IfOk result (λ found. ReadsOffice version records found) }
+    ensures memory { OnErr result (Allocates version records) }
+{
+    let Some(office) = build_office(alloc, records, version)? else {
+        return Ok(None);
+    };
+    if !sound(alloc, &office)? {
+        return Ok(None);
+    }
+    Ok(Some(office))
+}
+
+// Rebuilds an office with these rows, lawful or not. Returns `None` only if no lawful office has them.
+#[tactic(auto, unfolding(crate::specs::rows::Tables::rows_at))]
+fn build_office(
+    alloc: Global,
+    records: OfficeRecords,
+    version: u16,
+) -> Result<Option<Office>, OutOfMemory>
+    ensures makes { IfOk result (λ made. BuildsOffice version records made) }
+    ensures memory { OnErr result (0 < count_outside_round records) }
+{
+    let Some(rooms) = read_table(alloc, records.rooms)? else {
+        return Ok(None);
+    };
+    let Some(people) = read_people(alloc, records.people)? else {
+        return Ok(None);
+    };
+    let Some(round) = read_round(records.rounds.as_slice(), version) else {
+        return Ok(None);
+    };
+    let Some(choices) = read_choices(alloc, records.choices)? else {
+        return Ok(None);
+    };
+    let Some(words) = read_table(alloc, records.words)? else {
+        return Ok(None);
+    };
+    let Some(results) = read_table(alloc, records.results)? else {
+        return Ok(None);
+    };
+    let Some(moves) = read_moves(alloc, records.moves)? else {
+        return Ok(None);
+    };
+    let Some(lists) = read_table(alloc, records.lists)? else {
+        return Ok(None);
+    };
+    let Some(grades) = read_table(alloc, records.grades)? else {
+        return Ok(None);
+    };
+    let Some(going) = read_keys(alloc, records.going)? else {
+        return Ok(None);
+    };
+    Ok(Some(Office {
+        rooms,
+        people: people.people,
+        choices,
+        withdrawn: people.withdrawn,
+        words,
+        results,
+        moves,
+        lists,
+        grades,
+        going,
+        number: round.number,
+        phase: round.phase,
+    }))
+}

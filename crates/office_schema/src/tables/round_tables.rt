@@ -1,0 +1,28 @@
+//! The tables of a round: its words, results, choices and leavers, which are cleared together.
+ghost use Rattle.std.specs.Prelude.{◌≡◌, OnOk, OnErr};
+ghost use Rattle.sqlite.specs.Held.{state};
+ghost use Rattle.office_schema.specs.tables.Declaring.{MayLackTables};
+ghost use Rattle.office_schema.specs.tables.Edits.{without_round_tables};
+ghost use Rattle.office_schema.specs.tables.Makes.{Makes};
+ghost use Rattle.office_schema.specs.tables.Steps.{StaysInside};
+
+use crate::tables::creating::create_tables_from;
+use crate::tables::dropping::drop_tables_to;
+use crate::tables::layouts::Layout;
+use sqlite::{Alter, Error, Transaction};
+
+/// Deletes all words, results, choices and leavers. Drops the four tables and creates them again in the same places,
+/// since the store in memory scans the whole table for each row that it deletes. If this fails, some of the tables may
+/// be missing for the rest of the transaction.
+pub fn clear_round_tables<S: Alter>(tx: &mut Transaction<'_, S>) -> Result<(), Error>
+    ensures same_reference { tx.new.conn.ghost_name ≡ tx.old.conn.ghost_name }
+    ensures made { OnOk result
+        (Makes (state S.Store tx.old.conn.now) (state S.Store tx.new.conn.now)
+        (without_round_tables)) }
+    ensures undone { OnErr result
+        (MayLackTables (state S.Store tx.old.conn.now) (state S.Store tx.new.conn.now)) }
+    ensures inside { StaysInside (state S.Store tx.old.conn.now) (state S.Store tx.new.conn.now) }
+{
+    drop_tables_to(tx, Layout::Own, 6)?;
+    create_tables_from(tx, 6)
+}

@@ -1,8 +1,0 @@
-use Rattle.std.proofs.lemmas.Result.{on_ok_weaker}
-use Rattle.sqlite.specs.Held.{state}
-use Rattle.office_tables.proofs.statements.Made.{statements-makes_none_withdrawn}
-use Rattle.office_tables.proofs.people.clear_withdrawn.Goals as goal
-
-pub returns-clause-made : goal.returns-clause-made
-returns-clause-made g c =
-    on_ok_weaker _ (λ ran. statements-makes_none_withdrawn (state g.S.Store c.args.tx.now.conn.now) (state g.S.Store c.run.new.tx.conn.now) (λ clean. ran clean)) c.run.ensures.ran

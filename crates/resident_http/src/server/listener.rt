@@ -1,0 +1,114 @@
+//! Ports and listeners: they accept residents' connections and close them.
+ghost use Rattle.std.specs.Prelude.{⊤};
+ghost use Rattle.room_types.specs.Streams.{output_of};
+
+use office_store::Unavailable;
+use room_types::{Stream, Watched};
+use std::io::Write;
+use std::net::{Ipv4Addr, SocketAddr, TcpListener, TcpStream};
+
+/// A listening socket. The contract of each call is a relation between the states of the socket before and after it.
+/// Generic code can establish that relation only by making the call.
+pub trait Listener {
+    ghost use Rattle.std.specs.Prelude.{IfSome, Option, ⊤};
+    ghost use Rattle.resident_http.specs.server.Unused.{IsUnused};
+    ghost use Rattle.room_types.specs.Streams.{Output};
+    ghost use Rattle.room_types.specs.declared.watched.Watched.{Watched};
+
+    type Stream: Stream + Drop;
+
+    /// From the first state, with this output written before, accepting returned this connection or none, and led to the
+    /// second state.
+    ghost accepts: { Self → Output → Option (Watched Self.Stream) → Self → Type 0 } = { λ _ _ _ _. ⊤ };
+
+    /// From the first state, with this output written before, closing this connection led to the second state.
+    ghost closes: { Self → Output → Watched Self.Stream → Self → Type 0 } = { λ _ _ _ _. ⊤ };
+
+    /// Waits for the next connection and returns it, or `None` if it could not be accepted. The connection is `Watched`
+    /// from the start, and unused. `printed` is the output written before.
+    fn accept<W: Write>(&mut self, printed: &Watched<W>) -> Option<Watched<Self::Stream>>
+        ensures accepts { accepts self.old (output_of W.contents printed.now) result self.new }
+        ensures unused { IfSome result IsUnused };
+
+    /// Closes a connection. `printed` is the output written before.
+    fn close<W: Write>(&mut self, connection: Watched<Self::Stream>, printed: &Watched<W>)
+        ensures { closes self.old (output_of W.contents printed.now) connection self.new };
+}
+
+impl Listener for TcpListener {
+    type Stream = TcpStream;
+
+    fn accept<W: Write>(&mut self, _printed: &Watched<W>) -> Option<Watched<TcpStream>> {
+        match TcpListener::accept(self) {
+            Ok((stream, _peer)) => Some(Watched::new(stream)),
+            Err(_) => None,
+        }
+    }
+
+    fn close<W: Write>(&mut self, connection: Watched<TcpStream>, _printed: &Watched<W>)
+        ensures { ⊤ }
+    {
+        drop(connection);
+    }
+}
+
+/// The ports that residents connect to. The contract of each call is a relation between the states of the ports before
+/// and after it. Generic code can establish that relation only by making the call.
+pub trait Ports {
+    ghost use Rattle.std.specs.Prelude.{ℕ, IfOk, OnErr, ⊤};
+
+    type Socket: Listener;
+
+    /// Listening on this port returned this socket and led from the first state to the second.
+    ghost listens: { Self → ℕ → Self.Socket → Self → Type 0 } = { λ _ _ _ _. ⊤ };
+
+    /// Listening on this port failed and led from the first state to the second.
+    ghost fails: { Self → ℕ → Self → Type 0 } = { λ _ _ _. ⊤ };
+
+    /// Closing this socket led from the first state to the second.
+    ghost stops: { Self → Self.Socket → Self → Type 0 } = { λ _ _ _. ⊤ };
+
+    /// Listens on a port.
+    ///
+    /// # Errors
+    ///
+    /// `Unavailable` if it can't listen on the port.
+    fn listen(&mut self, port: u16) -> Result<Self::Socket, Unavailable>
+        ensures listening { IfOk result (λ socket. listens self.old port socket self.new) }
+        ensures failed { OnErr result (fails self.old port self.new) };
+
+    /// Closes a listening socket.
+    fn stop(&mut self, socket: Self::Socket)
+        ensures { stops self.old socket self.new };
+}
+
+/// The ports of 127.0.0.1, which no other machine can reach. Only this type holds the runtime, so code that is generic in
+/// the ports can't reach others.
+#[derive(Drop)]
+pub struct Loopback<'a> {
+    rt: &'a HostRuntime,
+}
+
+impl<'a> Loopback<'a> {
+    /// Returns the ports of 127.0.0.1, listening on none.
+    pub fn new(rt: &'a HostRuntime) -> Self {
+        Loopback { rt }
+    }
+}
+
+impl<'a> Ports for Loopback<'a> {
+    type Socket = TcpListener;
+
+    fn listen(&mut self, port: u16) -> Result<TcpListener, Unavailable> {
+        match TcpListener::bind(self.rt, SocketAddr::from((Ipv4Addr::LOCALHOST, port))) {
+            Ok(listener) => Ok(listener),
+            Err(_) => Err(Unavailable),
+        }
+    }
+
+    fn stop(&mut self, socket: TcpListener)
+        ensures { ⊤ }
+    {
+        drop(socket);
+    }
+}

@@ -1,0 +1,123 @@
+//! Accepts connections one after another and serves a resident on each.
+ghost use Rattle.std.specs.Prelude.{◌≡◌, IfOk, string_bytes};
+ghost use Rattle.room_types.specs.Streams.{output_of};
+ghost use Rattle.room_types.specs.Watched.{StopsAtFailure};
+ghost use Rattle.resident_http.specs.server.Network.{network_of};
+ghost use Rattle.resident_http.specs.server.Serving.{ServesEach, ServesNext, ServesAll, ServesPort};
+ghost use Rattle.resident_http.specs.server.Texts.{listening_text, served_text};
+
+use crate::serve_one;
+use crate::server::listener::{Listener, Ports};
+use office_lines::print::print;
+use office_lines::render::{ACCEPTED, UNAVAILABLE};
+use office_store::{Desk, Unavailable};
+use room_types::Watched;
+use sqlite::Alter;
+use std::alloc::{AllocError, Global};
+use std::io::Write;
+
+/// Listens on this port, serves residents as `serve_listener` does, and closes the listener. If it can't listen on the
+/// port, it prints `unavailable`. Returns the exit status.
+pub fn serve_port<S: Alter, P: Ports, W: Write>(
+    alloc: Global,
+    desk: &mut Desk<S>,
+    ports: &mut P,
+    port: u16,
+    count: u32,
+    output: &mut Watched<W>,
+) -> u8
+    ensures no_wasted_write { StopsAtFailure output.old output.new }
+    ensures serves { let network = network_of
+        P.Socket.Stream.reads P.Socket.Stream.writes P.Socket.Stream.flushes
+        P.Socket.Stream.remaining P.Socket.Stream.contents
+        P.Socket.accepts P.Socket.closes P.listens P.fails P.stops in
+        ServesPort S.Store network ports.old desk.old ports.new desk.new port count result
+        (output_of W.contents output.old) (output_of W.contents output.new) }
+{
+    match ports.listen(port) {
+        Ok(listener) => {
+            let mut listener = listener;
+            let status = serve_listener(alloc, desk, &mut listener, port, count, output);
+            ports.stop(listener);
+            status
+        }
+        Err(Unavailable) => print(output, "unavailable\n", UNAVAILABLE),
+    }
+}
+
+/// Prints `listening on 127.0.0.1:PORT`, accepts and serves `count` connections one after another, and prints
+/// `served COUNT` once the last one is closed. Allocates both lines first: an allocation for them fails before anybody
+/// is served, or not at all. If the first line can't be printed, accepts no connection. Returns the exit status.
+pub fn serve_listener<S: Alter, L: Listener, W: Write>(
+    alloc: Global,
+    desk: &mut Desk<S>,
+    listener: &mut L,
+    port: u16,
+    count: u32,
+    output: &mut Watched<W>,
+) -> u8
+    ensures no_wasted_write { StopsAtFailure output.old output.new }
+    ensures serves { ServesAll S.Store L.Stream.Stream.own L.Stream.remaining L.Stream.contents
+        L.accepts L.closes listener.old desk.old listener.new desk.new port count result
+        (output_of W.contents output.old) (output_of W.contents output.new) }
+{
+    let Ok(lines) = prepare_lines(alloc, port, count) else {
+        return print(output, "unavailable\n", UNAVAILABLE);
+    };
+    if print(output, lines.listening.as_str(), ACCEPTED) != ACCEPTED {
+        return UNAVAILABLE;
+    }
+    serve_each(alloc, desk, listener, output, count);
+    print(output, lines.served.as_str(), ACCEPTED)
+}
+
+/// Accepts `count` connections one after another, and serves a resident on each. A connection that could not be
+/// accepted also counts. `printed` is the output written before.
+pub fn serve_each<S: Alter, L: Listener, W: Write>(
+    alloc: Global,
+    desk: &mut Desk<S>,
+    listener: &mut L,
+    printed: &Watched<W>,
+    count: u32,
+)
+    ensures serves { ServesEach S.Store L.Stream.Stream.own L.Stream.remaining L.Stream.contents
+        L.accepts L.closes (output_of W.contents printed.now) listener.old desk.old count listener.new desk.new }
+{
+    'connections: for _ in 0..count {
+        serve_next(alloc, desk, listener, printed);
+    }
+}
+
+// Accepts one connection and, if that succeeds, serves a resident on it and closes it.
+fn serve_next<S: Alter, L: Listener, W: Write>(
+    alloc: Global,
+    desk: &mut Desk<S>,
+    listener: &mut L,
+    printed: &Watched<W>,
+)
+    ensures serves { ServesNext S.Store L.Stream.Stream.own L.Stream.remaining L.Stream.contents
+        L.accepts L.closes (output_of W.contents printed.now) listener.old desk.old listener.new desk.new }
+{
+    let mut connection = match listener.accept(printed) {
+        Some(connection) => connection,
+        None => return,
+    };
+    let _served = serve_one(alloc, desk, &mut connection);
+    listener.close(connection, printed);
+}
+
+// The lines printed before the first connection and after the last.
+#[derive(Drop)]
+struct Lines {
+    listening: String,
+    served: String,
+}
+
+fn prepare_lines(alloc: Global, port: u16, count: u32) -> Result<Lines, AllocError>
+    ensures listening { IfOk result (λ lines. string_bytes lines.listening ≡ listening_text port) }
+    ensures served { IfOk result (λ lines. string_bytes lines.served ≡ served_text count) }
+{
+    let listening = format!(in alloc; "listening on 127.0.0.1:{port}\n")?;
+    let served = format!(in alloc; "served {count}\n")?;
+    Ok(Lines { listening, served })
+}
